@@ -1,0 +1,16 @@
+/// A reference to an area: a loaded instance of a module, or a complex constant.
+///
+/// The serial says which area it is; definitions read it alone. The block says where its words stand.
+#[derive(Clone, Copy, Debug, PartialEq, Eq)]
+pub struct AreaRef {
+    /// Numbered from 1 in the order of loading; never used again.
+    pub serial: u64,
+    pub block: u32,
+}
+
+/// A function of a loaded instance, by its place in the instance's function table, counted from 0.
+#[derive(Clone, Copy, Debug, PartialEq, Eq)]
+pub struct CodeRef {
+    pub area: AreaRef,
+    pub function: u32,
+}
