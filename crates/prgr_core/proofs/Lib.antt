@@ -1,0 +1,11 @@
+pub mod Frames
+pub mod Changes
+pub mod GraceHolds
+pub mod Parts
+pub mod Sound
+pub mod Runs
+pub mod Texts
+pub mod Numerals
+pub mod EventLines
+pub mod Grammars
+pub mod FirstFaults

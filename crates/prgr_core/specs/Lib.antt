@@ -1,0 +1,9 @@
+pub mod Members
+pub mod Needs
+pub mod Machine
+pub mod Invariant
+pub mod Step
+pub mod EventText
+pub mod Reading
+pub mod Examples
+pub mod Faults

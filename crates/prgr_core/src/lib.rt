@@ -1,0 +1,26 @@
+//! The thread progress machine of members: its states, its events, and the text of event lists.
+#![tactic(auto)]
+
+mod event;
+mod fault;
+mod laws;
+mod lists;
+mod member;
+mod progress;
+mod reading;
+mod state;
+
+pub use event::{EventList, Events, PrgrEvent};
+pub use fault::{EventFault, NoMemory, ReplayFault, StepFault};
+pub use laws::{breaking_runs_stop, events_keep_the_invariant, grace_follows};
+pub use lists::{MemberList, NeedMap, RetirementList, WatcherList};
+pub use member::{
+    ENTERING, LAST_VALUE, Loaded, MOST_MEMBERS, Member, OPENING_COUNTER, OPENING_WORD, Phase,
+    Retirement, Role, Scans, WAITING, Watcher,
+};
+pub use progress::Progress;
+pub use reading::read_events;
+pub use state::{PrgrState, replay, step};
+
+#[cfg(test)]
+mod tests;

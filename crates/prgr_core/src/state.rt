@@ -1,0 +1,113 @@
+//! A state of the machine, its single events and its runs.
+
+ghost use Rattle.std.specs.Prelude.{◌≡◌, ◌≤◌, ◌↔◌, IsErrOf, IfOk, IfErr, OnOk, OnErr, Some, None};
+ghost use Rattle.prgr_core.specs.declared.fault.StepFault.TheVariants.{NotEnabled};
+ghost use Rattle.prgr_core.specs.declared.fault.StepFault.TheVariants as steps;
+ghost use Rattle.prgr_core.specs.Step.{LacksMemory, after, after_all, opening, opening_members, StopsBy, IsSound};
+
+use crate::event::{EventList, PrgrEvent};
+use crate::fault::{NoMemory, ReplayFault, StepFault};
+use crate::lists::{MemberList, NeedMap, RetirementList, WatcherList};
+use crate::member::{Member, OPENING_COUNTER};
+use crate::progress::{Progress, apply};
+use std::alloc::Global;
+use std::marker::Model;
+
+/// A state of the machine that meets the progress invariant.
+#[derive(Debug, Drop)]
+pub struct PrgrState {
+    progress: Progress,
+}
+
+impl Model for PrgrState {
+    ghost use Rattle.prgr_core.specs.declared.progress.Progress.{Progress};
+    ghost use Rattle.prgr_core.specs.Step.{IsSound};
+
+    ghost Value = { Progress };
+
+    ghost view = { λ s. s.progress };
+
+    ghost invariant = { λ s. IsSound s.progress };
+}
+
+impl PrgrState {
+    /// The state in which a list of events begins: each member awake, holding generation 0.
+    /// There are no watchers yet.
+    pub fn new(alloc: Global, members: u32, watchers: u32) -> Result<PrgrState, NoMemory>
+        requires one { 1 ≤ members }
+        requires few { members ≤ 16 }
+        requires unwatched { watchers ≡ 0 }
+        ensures ok { IfOk result (λ state. state ≡ opening members) }
+        ensures sound { IfOk result (λ state. IsSound state) }
+    {
+        let _ = watchers;
+        let members = opening_members(alloc, members)?;
+        Ok(PrgrState {
+            progress: Progress {
+                counter: OPENING_COUNTER,
+                generation: 0,
+                leader: None,
+                members,
+                delay_even: 0,
+                delay_odd: 0,
+                watchers: WatcherList::new(alloc),
+                needs: NeedMap::new(alloc),
+                retired: RetirementList::new(alloc),
+            },
+        })
+    }
+
+    /// The progress counter.
+    pub fn counter(&self) -> u64
+        ensures { result ≡ self.now.counter }
+    {
+        self.progress.counter
+    }
+
+    /// The generation that the root has.
+    pub fn generation(&self) -> u64
+        ensures { result ≡ self.now.generation }
+    {
+        self.progress.generation
+    }
+}
+
+/// As many members as begin, numbered from 0.
+fn opening_members(alloc: Global, count: u32) -> Result<MemberList, NoMemory>
+    ensures { IfOk result (λ members. members ≡ opening_members count) }
+{
+    let mut members = MemberList::new(alloc);
+    for number in 0..count {
+        members.push(Member::new(number))?;
+    }
+    Ok(members)
+}
+
+/// Makes one event. Where it is not enabled, nothing changes, and neither does it where memory is
+/// refused.
+pub fn step(state: &mut PrgrState, event: PrgrEvent) -> Result<(), StepFault>
+    ensures ok { OnOk result (after state.old event ≡ Some state.new) }
+    ensures not_enabled { IsErrOf result NotEnabled ↔ (after state.old event ≡ None) }
+    ensures err { OnErr result (state.new ≡ state.old) }
+    ensures sound { IsSound state.new }
+    // Memory is refused at a retirement alone, and at the last generation that there is.
+    ensures memory { IsErrOf result steps.NoMemory → LacksMemory state.old event }
+{
+    apply(&mut state.progress, event)
+}
+
+/// Makes the events in turn, up to the first that is not enabled or finds no memory.
+pub fn replay(state: &mut PrgrState, events: &EventList) -> Result<(), ReplayFault>
+    ensures ok { OnOk result (after_all state.old events.now ≡ Some state.new) }
+    ensures fault { IfErr result (λ fault. StopsBy state.old events.now fault state.new) }
+{
+    for (place, event) in events.as_slice().iter().enumerate() {
+        let index = place as u64 + 1;
+        match step(state, *event) {
+            Ok(()) => {}
+            Err(StepFault::NotEnabled) => return Err(ReplayFault::NotEnabled { index }),
+            Err(StepFault::NoMemory) => return Err(ReplayFault::NoMemory { index }),
+        }
+    }
+    Ok(())
+}
