@@ -1,0 +1,2 @@
+pub mod OneFunction
+pub mod Places

@@ -1,0 +1,3 @@
+pub mod Module
+pub mod ModuleImage
+pub mod ModuleText

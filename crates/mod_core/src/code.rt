@@ -1,0 +1,104 @@
+ghost use Rattle.std.specs.Prelude.{◌≡◌, IfOk};
+
+use std::alloc::Global;
+use term_core::{AtomId, Items, NoMemory, Term};
+
+/// How many registers a frame has.
+pub const REGISTERS: u32 = 16;
+
+/// How many arguments a function takes at most.
+pub const MOST_ARGUMENTS: u32 = 15;
+
+/// The greatest version of a module; the least is 1.
+pub const GREATEST_VERSION: u32 = 999_999;
+
+/// How many functions a module has at most.
+pub const MOST_FUNCTIONS: usize = 16;
+
+/// How many words the image of an instance has at most.
+pub const LONGEST_IMAGE: usize = 1024;
+
+/// What an instruction reads: a register of its frame or a constant.
+#[derive(Clone, Debug, Drop, PartialEq, Eq)]
+pub enum Operand {
+    /// A register, 0 to 15.
+    Reg(u32),
+    Const(Term),
+}
+
+/// An instruction of the call machine.
+#[derive(Clone, Debug, Drop, PartialEq, Eq)]
+pub enum Instr {
+    /// The register becomes the value.
+    Move { from: Operand, to: u32 },
+    /// The register becomes the sum of two integers.
+    Add { a: Operand, b: Operand, to: u32 },
+    /// Leaves the frame with the value.
+    Ret { value: Operand },
+    /// Makes a line of the value.
+    Print { value: Operand },
+}
+
+/// The instructions of a function, in order.
+pub type InstrList = Items<Instr>;
+
+/// A function of a module. Past its last instruction it returns `ok`.
+#[derive(Debug, Drop)]
+pub struct Function {
+    pub name: AtomId,
+    /// At most 15.
+    pub arity: u32,
+    /// Whether other modules may call it.
+    pub exported: bool,
+    pub code: InstrList,
+}
+
+/// The functions of a module, in the order of its text.
+pub type FunctionList = Items<Function>;
+
+/// A version of a module.
+#[derive(Debug, Drop)]
+pub struct Module {
+    pub name: AtomId,
+    /// From 1 to 999,999.
+    pub version: u32,
+    pub functions: FunctionList,
+}
+
+/// Modules in a row, as the texts of a script.
+pub type ModuleList = Items<Module>;
+
+impl Function {
+    /// An equal function.
+    fn copy(&self, alloc: Global) -> Result<Function, NoMemory>
+        ensures { IfOk result (λ copy. copy ≡ self.now) }
+    {
+        let mut code = InstrList::new(alloc);
+        for instr in self.code.as_slice() {
+            code.push(instr.clone()?)?;
+        }
+        Ok(Function {
+            name: self.name,
+            arity: self.arity,
+            exported: self.exported,
+            code,
+        })
+    }
+}
+
+impl Module {
+    /// An equal module.
+    pub fn copy(&self, alloc: Global) -> Result<Module, NoMemory>
+        ensures { IfOk result (λ copy. copy ≡ self.now) }
+    {
+        let mut functions = FunctionList::new(alloc);
+        for function in self.functions.as_slice() {
+            functions.push(function.copy(alloc)?)?;
+        }
+        Ok(Module {
+            name: self.name,
+            version: self.version,
+            functions,
+        })
+    }
+}
