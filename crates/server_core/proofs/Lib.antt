@@ -1,0 +1,3 @@
+pub mod CurrentCode
+pub mod GivenTexts
+pub mod Loads

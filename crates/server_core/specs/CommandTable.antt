@@ -1,0 +1,100 @@
+-- The command table: for each command the first case that holds decides the reply, the new state and whether it is published.
+-- Source: the manual pages `code` and `erlang`; the order of the cases and the limit are this project's own.
+use Rattle.std.specs.Prelude.{◌≡◌, ℕ, ◌+◌, ◌<◌, ◌&&◌, ◌==◌, nat_lt, List, [], ◌∷◌, ◌++◌, length, map, filter, find, Option, Some, None, is_some, option_and_then, option_map, slice_get, All, if◌then◌else◌}
+use Rattle.std.specs.List.{list_any}
+use Rattle.term_core.specs.declared.atom.AtomId.{AtomId}
+use Rattle.mod_core.specs.declared.code.Module.{Module}
+use Rattle.mod_core.specs.Module.{IsModule}
+use Rattle.server_core.specs.declared.command.TheConstants.{MOST_INSTANCES}
+use Rattle.server_core.specs.declared.command.ModRef.{ModRef}
+use Rattle.server_core.specs.declared.command.Cmd.{Cmd}
+use Rattle.server_core.specs.declared.command.Cmd.TheVariants.{Load, Spawn}
+use Rattle.server_core.specs.declared.command.Limit.TheVariants.{Instances}
+use Rattle.server_core.specs.declared.command.Reply.{Reply}
+use Rattle.server_core.specs.declared.command.Reply.TheVariants as replies
+use Rattle.server_core.specs.declared.command.Applied.{Applied}
+use Rattle.server_core.specs.ServerState.{ServerState, Versions, current_of, old_of, live_count}
+
+-- the modules that can be loaded: each is one, and no two agree in name and version
+pub record AreTexts (texts : List Module) : Type 0 where
+  pub sound : All IsModule texts
+  pub apart : (i j : ℕ) (m n : Module) → i < j → slice_get texts i ≡ Some m → slice_get texts j ≡ Some n → m.name ≡ n.name → m.version ≡ n.version → ⊥
+
+-- the state that a command leaves, and what it answers
+pub record Outcome : Type 0 where
+  pub state : ServerState
+  pub answer : Applied
+
+-- an answer that changes nothing
+abbrev pub unchanged : ServerState → Reply → Outcome
+unchanged s reply = record { state = s; answer = record { reply = reply; published = None } }
+
+-- an answer whose state is the next generation
+abbrev pub published : ServerState → Reply → Outcome
+published s reply =
+    record {
+      state = record s { generation = s.generation + 1 };
+      answer = record { reply = reply; published = Some (s.generation + 1) };
+    }
+
+-- the text with this name and version
+abbrev pub text_of : List Module → ModRef → Option Module
+text_of texts to = find (λ m. m.name.0 == to.name.0 && m.version == to.version) texts
+
+-- the texts of a list, or none where one is not given
+abbrev pub texts_of : List Module → List ModRef → Option (List Module)
+texts_of texts [] = Some []
+texts_of texts (to ∷ refs) = option_and_then (λ m. option_map (λ ms. m ∷ ms) (texts_of texts refs)) (text_of texts to)
+
+-- the first name that repeats one that stands before it
+abbrev pub repeated_after : List ℕ → List AtomId → Option AtomId
+repeated_after before [] = None
+repeated_after before (name ∷ names) = if list_any (λ n. name.0 == n) before then Some name else repeated_after (before ++ name.0 ∷ []) names
+
+-- the modules of a list, in order
+abbrev pub names_of : List ModRef → List AtomId
+names_of refs = map (λ r. r.name) refs
+
+-- the modules of a list that have old code, in order
+abbrev pub not_purged : ServerState → List ModRef → List AtomId
+not_purged s refs = filter (λ name. is_some (old_of s name.0)) (names_of refs)
+
+-- a module's versions take the place of those that it had
+abbrev pub with_versions : List Versions → Versions → List Versions
+with_versions [] new = new ∷ []
+with_versions (v ∷ vs) new = if new.name == v.name then new ∷ vs else v ∷ with_versions vs new
+
+-- a module becomes the current code of its name, and what was current becomes old
+abbrev pub with_loaded : ServerState → Module → ServerState
+with_loaded s m =
+    record s {
+      next_serial = s.next_serial + 1;
+      instances = s.instances ++ (record { serial = s.next_serial; code = m }) ∷ [];
+      versions = with_versions s.versions (record { name = m.name.0; current = Some s.next_serial; old = current_of s m.name.0 });
+    }
+
+-- the modules come in one after another, within one generation
+abbrev pub with_all : ServerState → List Module → ServerState
+with_all s [] = s
+with_all s (m ∷ ms) = with_all (with_loaded s m) ms
+
+-- a load that has old code to keep, or too many instances, or else comes in
+abbrev pub admitted : ServerState → List ModRef → List Module → Outcome
+admitted s refs modules =
+    if nat_lt 0 (length (not_purged s refs)) then unchanged s (replies.NotPurged (not_purged s refs))
+    else if nat_lt MOST_INSTANCES (live_count s.versions + length refs) then unchanged s (replies.SystemLimit Instances)
+    else published (with_all s modules) replies.Ok
+
+-- the cases of a load whose texts are given
+abbrev pub loaded : ServerState → List ModRef → List Module → Option AtomId → Outcome
+loaded s refs modules None = admitted s refs modules
+loaded s refs modules (Some name) = unchanged s (replies.Duplicated name)
+
+-- what a load gives; none where a text is not given
+abbrev pub load_of : List Module → ServerState → List ModRef → Option Outcome
+load_of texts s refs = option_map (λ modules. loaded s refs modules (repeated_after [] (names_of refs))) (texts_of texts refs)
+
+-- what the command gives in this state, with these texts to load from; none where no case holds
+abbrev pub apply_of : List Module → ServerState → Cmd → Option Outcome
+apply_of texts s (Load refs) = load_of texts s refs
+apply_of texts s (Spawn target args) = Some (unchanged s replies.Ok)

@@ -1,0 +1,5 @@
+pub mod ServerState
+pub mod CommandTable
+pub mod Rooms
+pub mod VersionTable
+pub mod Tables

@@ -1,0 +1,111 @@
+-- The state of the code server: per module a current and an old instance, and the module of each instance.
+-- Source: the manual page `code`, and erts internal documentation, CodeLoading. Plain lists; the code has tables, and later blocks.
+use Rattle.std.specs.Prelude.{◌≡◌, ℕ, ◌+◌, ◌<◌, ◌≤◌, Bool, ◌&&◌, ◌==◌, List, [], ◌∷◌, drop, Option, Some, None, is_some, IfSome, IsSomeAnd, option_map, option_and_then, slice_get, position, if◌then◌else◌}
+use Rattle.term_core.specs.declared.area.CodeRef.{CodeRef}
+use Rattle.term_core.specs.declared.atom.Mfa.{Mfa}
+use Rattle.mod_core.specs.declared.code.Function.{Function}
+use Rattle.mod_core.specs.declared.code.Module.{Module}
+use Rattle.mod_core.specs.Module.{IsModule}
+use Rattle.mod_core.specs.ModuleImage.{module_image}
+use Rattle.server_core.specs.declared.command.TheConstants.{MOST_INSTANCES}
+
+-- a loaded instance of a module; serials are numbered from 1 and never used again
+pub record Instance : Type 0 where
+  pub serial : ℕ
+  pub code : Module
+
+-- the serials of a module's current and old code
+pub record Versions : Type 0 where
+  pub name : ℕ
+  pub current : Option ℕ
+  pub old : Option ℕ
+
+-- the state of the server after so many generations
+pub record ServerState : Type 0 where
+  pub generation : ℕ
+  pub next_serial : ℕ
+  -- every instance that was loaded, the oldest first
+  pub instances : List Instance
+  -- one for each module that was ever loaded, in the order of their first load
+  pub versions : List Versions
+
+-- generation 0: nothing is loaded
+abbrev pub empty_state : ServerState
+empty_state = record { generation = 0; next_serial = 1; instances = []; versions = [] }
+
+-- the current code of a module among these
+abbrev pub current_among : List Versions → ℕ → Option ℕ
+current_among [] name = None
+current_among (v ∷ vs) name = if name == v.name then v.current else current_among vs name
+
+-- the old code of a module among these
+abbrev pub old_among : List Versions → ℕ → Option ℕ
+old_among [] name = None
+old_among (v ∷ vs) name = if name == v.name then v.old else old_among vs name
+
+-- the serial of a module's current code
+abbrev pub current_of : ServerState → ℕ → Option ℕ
+current_of s name = current_among s.versions name
+
+-- the serial of a module's old code
+abbrev pub old_of : ServerState → ℕ → Option ℕ
+old_of s name = old_among s.versions name
+
+-- the module of the instance with a serial among these
+abbrev pub code_among : List Instance → ℕ → Option Module
+code_among [] serial = None
+code_among (i ∷ is) serial = if i.serial == serial then Some i.code else code_among is serial
+
+-- the module of the instance with a serial
+abbrev pub code_of : ServerState → ℕ → Option Module
+code_of s serial = code_among s.instances serial
+
+-- whether a function is exported under this name and arity
+abbrev pub is_export : Mfa → Function → Bool
+is_export to f = f.exported && (f.name.0 == to.name.0 && f.arity == to.arity)
+
+-- a function of an instance: its serial, and the function's place in the module, counted from 0
+pub record Entry : Type 0 where
+  pub serial : ℕ
+  pub function : ℕ
+
+-- the place of the function that a module exports under a name and arity
+abbrev pub export_of : Module → Mfa → Option ℕ
+export_of m to = position (is_export to) m.functions
+
+-- the function that a reference names, where its words stand left out
+abbrev pub entry_of : CodeRef → Entry
+entry_of at = record { serial = at.area.serial; function = at.function }
+
+-- what a call of m:f/a reaches: the exported function of the current code of m
+abbrev pub dispatch_of : ServerState → Mfa → Option Entry
+dispatch_of s to =
+    option_and_then (λ serial. option_and_then (λ m. option_map (λ i. record { serial = serial; function = i }) (export_of m to)) (code_of s serial)) (current_of s to.«module».0)
+
+-- the words of an instance: its module's image with its serial in the first word
+abbrev pub instance_image : ℕ → Module → List ℕ
+instance_image serial m = serial ∷ drop 1 (module_image m)
+
+-- a word of the instance with a serial
+abbrev pub word_of : ServerState → ℕ → ℕ → Option ℕ
+word_of s serial at = option_and_then (λ m. slice_get (instance_image serial m) at) (code_of s serial)
+
+-- how many instances of a module are live
+abbrev pub live_of : Versions → ℕ
+live_of v = (if is_some v.current then 1 else 0) + (if is_some v.old then 1 else 0)
+
+-- how many instances are live: current or old
+abbrev pub live_count : List Versions → ℕ
+live_count [] = 0
+live_count (v ∷ vs) = live_of v + live_count vs
+
+-- the instance with this serial is one of that module
+abbrev pub IsInstanceOf : ServerState → ℕ → ℕ → Type 0
+IsInstanceOf s name serial = IsSomeAnd (code_of s serial) (λ m. m.name.0 ≡ name)
+
+-- what every state of the server keeps
+pub record IsSound (s : ServerState) : Type 0 where
+  pub modules : (serial : ℕ) → IfSome (code_of s serial) (λ m. IsModule m × (serial < s.next_serial))
+  pub current : (name : ℕ) → IfSome (current_of s name) (IsInstanceOf s name)
+  pub old : (name : ℕ) → IfSome (old_of s name) (IsInstanceOf s name)
+  pub live : live_count s.versions ≤ MOST_INSTANCES

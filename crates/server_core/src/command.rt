@@ -1,0 +1,49 @@
+use term_core::{AtomId, AtomList, Items, Mfa, TermList};
+
+/// How many instances are live at most: current and old ones.
+pub const MOST_INSTANCES: usize = 55;
+
+/// A version of a module, as a `load` names it.
+#[derive(Clone, Copy, Debug, PartialEq, Eq)]
+pub struct ModRef {
+    pub name: AtomId,
+    pub version: u32,
+}
+
+/// The modules of one `load`, in the order of its line.
+pub type RefList = Items<ModRef>;
+
+/// A command of the code server.
+#[derive(Debug, Drop)]
+pub enum Cmd {
+    /// The modules come in at once, each as the current code of its name.
+    Load(RefList),
+    /// A process that will enter the function with these arguments.
+    Spawn { target: Mfa, args: TermList },
+}
+
+/// A limit of the server that a command met.
+#[derive(Clone, Copy, Debug, PartialEq, Eq)]
+pub enum Limit {
+    /// More than 55 live instances.
+    Instances,
+}
+
+/// What the server answers to a command. Replies are answers, not faults.
+#[derive(Debug, Drop)]
+pub enum Reply {
+    Ok,
+    /// These modules still have old code, in the order of the list.
+    NotPurged(AtomList),
+    /// This is the first module that stands in the list again.
+    Duplicated(AtomId),
+    SystemLimit(Limit),
+}
+
+/// What a command gave: its reply, and the generation that it published, if it did.
+#[derive(Debug, Drop)]
+pub struct Applied {
+    pub reply: Reply,
+    /// The number of the generation that the command made, counted from 1.
+    pub published: Option<u64>,
+}

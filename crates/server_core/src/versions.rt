@@ -1,0 +1,105 @@
+ghost use Rattle.std.specs.Prelude.{◌≡◌, ◌+◌, ◌<◌, ◌≤◌, [], OnOk, is_some, option_and_then};
+ghost use Rattle.server_core.specs.Rooms.{with_current};
+ghost use Rattle.server_core.specs.ServerState.{current_among, live_count, old_among};
+
+use crate::command::MOST_INSTANCES;
+use indexmap::IndexMap;
+use std::alloc::Global;
+use std::marker::Model;
+use term_core::{AtomId, NoMemory};
+
+/// The serials of a module's current and old code.
+#[derive(Clone, Copy)]
+pub struct Serials {
+    current: Option<u64>,
+    old: Option<u64>,
+}
+
+/// The current and old code of each module, in the order of the first loads.
+#[derive(Drop)]
+pub struct VersionTable {
+    serials: IndexMap<u32, Serials>,
+    /// How many instances are live: current or old.
+    live: usize,
+}
+
+impl Model for VersionTable {
+    ghost use Rattle.server_core.specs.Rooms.{Rooms};
+
+    ghost Value = { Rooms };
+
+    ghost use Rattle.server_core.specs.VersionTable.{IsCounted, rooms_of};
+
+    ghost view = { rooms_of };
+
+    ghost invariant = { IsCounted };
+}
+
+impl VersionTable {
+    /// No modules. It takes no memory.
+    pub fn new(alloc: Global) -> VersionTable
+        ensures { result.versions ≡ [] }
+    {
+        VersionTable {
+            serials: IndexMap::new(alloc),
+            live: 0,
+        }
+    }
+
+    /// The serial of a module's current code.
+    pub fn current(&self, module: AtomId) -> Option<u64>
+        ensures { result ≡ current_among self.now.versions «module».0 }
+    {
+        self.serials.get(&module.0)?.current
+    }
+
+    /// The serial of a module's old code.
+    pub fn old(&self, module: AtomId) -> Option<u64>
+        ensures { result ≡ old_among self.now.versions «module».0 }
+    {
+        self.serials.get(&module.0)?.old
+    }
+
+    /// How many instances are live: current or old.
+    pub fn live(&self) -> usize
+        ensures { result ≡ live_count self.now.versions }
+    {
+        self.live
+    }
+
+    /// Makes room for more modules. The versions stay as they are, also where memory is refused.
+    pub fn reserve(&mut self, more: usize) -> Result<(), NoMemory>
+        ensures same { self.new.versions ≡ self.old.versions }
+        ensures ok { OnOk result (more ≤ self.new.room) }
+    {
+        self.serials.reserve(more)?;
+        Ok(())
+    }
+
+    /// The instance with this serial is the current code of the module, and what was current is old.
+    pub fn make_current(&mut self, module: AtomId, serial: u64)
+        requires room { 0 < self.old.room }
+        requires place { live_count self.old.versions < MOST_INSTANCES }
+        ensures versions { self.new.versions ≡ with_current self.old.versions «module».0 serial }
+        ensures room { self.old.room ≤ self.new.room + 1 }
+    {
+        let serials = Serials {
+            current: Some(serial),
+            old: self.current(module),
+        };
+        let previous = self.serials.insert(module.0, serials).unwrap();
+        if !has_old(previous) {
+            self.live += 1;
+        }
+    }
+}
+
+/// Whether there was old code.
+fn has_old(serials: Option<Serials>) -> bool
+    ensures { result ≡ is_some (option_and_then (λ s. s.old) serials) }
+{
+    match serials {
+        Some(serials) => serials.old.is_some(),
+        None => false,
+    }
+}
