@@ -1,0 +1,9 @@
+pub mod Decoding
+pub mod Codes
+pub mod Fetching
+pub mod Placing
+pub mod Runs
+pub mod Turns
+pub mod Viewing
+pub mod TurnLaws
+pub mod OneFunction

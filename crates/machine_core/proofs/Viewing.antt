@@ -1,0 +1,62 @@
+-- That the words which the plain server gives are the images of its instances.
+use Rattle.std.proofs.Common.{◌≡◌, ◌<◌, ◌≤◌, ◌+◌, ◌*◌, ◌∙◌, ℕ, zero, suc, refl, arith, ap, [], ◌++◌, length, length-append, slice_get, slice_index, unwrap_or, Option, Some, None, option_map, option_and_then, IfSome, IsSomeAnd}
+use Rattle.std.proofs.lemmas.Option.{unwrap_or-slice_get}
+use Rattle.std.specs.List.{flat_map}
+use Rattle.mod_core.specs.declared.code.Module.{Module}
+use Rattle.mod_core.specs.Module.{IsModule}
+use Rattle.mod_core.specs.ModuleImage.{module_image, function_place, function_words}
+use Rattle.mod_core.proofs.Places.{place_word}
+use Rattle.server_core.specs.ServerState.{ServerState, Entry, IsSound, code_of, instance_image, word_of}
+use Rattle.machine_core.specs.View.{HasFunction, IsImageOf, IsLawful, place_of, shown_of}
+use Rattle.machine_core.proofs.Codes.{IsFunctionAt, function_at, head_of, length-heads}
+
+images_are : (serial : ℕ) (o : Option Module) → IfSome o (λ m. IsImageOf serial m (unwrap_or (option_map (instance_image serial) o) []))
+images_are serial None = tt
+images_are serial (Some m) = λ at place. refl
+
+-- the server's state and images are those of a lawful view
+pub is_lawful : (s : ServerState) → IsSound s → IsLawful (shown_of s)
+is_lawful s sound = record { sound = sound; images = λ serial. images_are serial (code_of s serial) }
+
+word_among : (serial at : ℕ) (o : Option Module) →
+    unwrap_or (option_and_then (λ m. slice_get (instance_image serial m) at) o) 0 ≡ slice_index (unwrap_or (option_map (instance_image serial) o) []) at
+word_among serial at None = refl
+word_among serial at (Some m) = unwrap_or-slice_get (instance_image serial m) at 0
+
+-- a word of the server is one that the view shows
+pub shown_word : (s : ServerState) (serial at : ℕ) → unwrap_or (word_of s serial at) 0 ≡ slice_index ((shown_of s).words serial) at
+shown_word s serial at = word_among serial at (code_of s serial)
+
+-- where a function of an instance is entered
+pub record IsEntry (s : ServerState) (e : Entry) : Type 0 where
+  pub few : e.function < 16
+  pub word : word_of s e.serial (4 + 4 * e.function + 3) ≡ Some (place_of s e)
+  pub within : place_of s e ≤ 1024
+
+image_slice : (serial at : ℕ) (m : Module) → 1 ≤ at → slice_get (instance_image serial m) at ≡ slice_get (module_image m) at
+image_slice serial zero m h = absurd (omega arith)
+image_slice serial (suc at) m h = refl
+
+place_within : (m : Module) (i : ℕ) → IsFunctionAt (4 + 4 * length m.functions) m.functions i → function_place m i ≤ length (module_image m)
+place_within m i r = omega (arith, r.place, ap length r.parts, length-append r.front (function_words r.f ++ r.back), length-append (head_of m) (flat_map function_words m.functions), length-heads (4 + 4 * length m.functions) m.functions)
+
+entry_at : (s : ServerState) (e : Entry) (m : Module) → IsModule m → code_of s e.serial ≡ Some m → e.function < length m.functions → IsEntry s e
+entry_at s e m sound c h = record {
+  few = omega (arith, sound.few);
+  word = rw c (image_slice e.serial (4 + 4 * e.function + 3) m (omega arith) ∙ place_word m e.function h);
+  within = rw c (omega (arith, sound.short, place_within m e.function (function_at (4 + 4 * length m.functions) m.functions e.function h)));
+}
+
+entry_in : (s : ServerState) (e : Entry) (o : Option Module) → code_of s e.serial ≡ o → IfSome o (λ m. IsModule m × (e.serial < s.next_serial)) → IsSomeAnd o (λ m. e.function < length m.functions) → IsEntry s e
+entry_in s e None c sound h = absurd h
+entry_in s e (Some m) c sound h = entry_at s e m sound.0 c h
+
+-- the server has the place of each function of its instances
+pub is_entry : (s : ServerState) (e : Entry) → IsSound s → HasFunction s e → IsEntry s e
+is_entry s e sound h = entry_in s e (code_of s e.serial) refl (sound.modules e.serial) h
+
+-- so what it answers is that place
+pub entry_answered : (s inner : ServerState) (e : Entry) (o : Option ℕ) (answer : ℕ) → IsEntry s e → inner ≡ s → o ≡ word_of inner e.serial (4 + 4 * e.function + 3) → answer ≡ unwrap_or o 0 →
+    answer ≡ place_of s e
+entry_answered s inner e o answer is same word end =
+    end ∙ ap (λ o. unwrap_or o 0) (word ∙ (ap (λ t. word_of t e.serial (4 + 4 * e.function + 3)) same ∙ is.word))

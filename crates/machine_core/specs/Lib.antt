@@ -1,0 +1,4 @@
+pub mod Process
+pub mod View
+pub mod Decode
+pub mod Turn

@@ -1,0 +1,91 @@
+ghost use Rattle.std.specs.Prelude.{◌≡◌, length, IfOk};
+ghost use Rattle.machine_core.specs.Process.{process_of, new_process};
+
+use crate::registers::ValueList;
+use std::alloc::Global;
+use term_core::{CodeRef, Items, Mfa, NoMemory, Term, TermList};
+
+/// The turns that a process has at most; its next turn ends it as `system_limit`.
+pub const MOST_TURNS: u32 = u32::MAX;
+
+/// The instructions that a turn runs at most.
+pub const TURN_INSTRUCTIONS: u32 = 200;
+
+/// What a register holds.
+#[derive(Clone, Debug, Drop, PartialEq, Eq)]
+pub enum Value {
+    /// A term of the process's own.
+    Owned(Term),
+}
+
+/// A call that has not returned.
+#[derive(Debug, Drop)]
+pub struct Frame {
+    pub code: CodeRef,
+    /// The place of the next instruction in the instance's image, counted in words.
+    pub place: u32,
+    /// The register of the caller that gets the value.
+    pub back: u32,
+    pub registers: ValueList,
+}
+
+/// The frames of a process, the topmost last.
+pub type FrameList = Items<Frame>;
+
+/// A process of the call machine. Before its first turn and after its end it has no frames.
+#[derive(Debug, Drop)]
+pub struct Process {
+    /// The number of its spawn.
+    pub number: u32,
+    pub target: Mfa,
+    pub args: TermList,
+    /// How many turns it has had.
+    pub turns: u32,
+    pub frames: FrameList,
+}
+
+/// What a process shows of its run.
+#[derive(Debug, Drop, PartialEq, Eq)]
+pub enum Line {
+    Print(Term),
+}
+
+/// The lines of a process, in order.
+pub type LineList = Items<Line>;
+
+/// How a process ended.
+#[derive(Clone, Copy, Debug, PartialEq, Eq)]
+pub enum End {
+    /// Its first function returned.
+    Normal,
+    /// No current code exports this function.
+    Undef(Mfa),
+    /// A sum of what is no integer.
+    Badarith,
+    /// A number, or the count of turns, that would pass its limit.
+    SystemLimit,
+}
+
+/// How a turn ended.
+#[derive(Clone, Copy, Debug, PartialEq, Eq)]
+pub enum TurnEnd {
+    /// The process goes on in a later turn.
+    Again,
+    Ended(End),
+}
+
+impl Process {
+    /// A process that has had no turn.
+    pub fn new(alloc: Global, number: u32, target: Mfa, args: TermList) -> Result<Process, NoMemory>
+        requires { length args ≡ target.arity }
+        ensures { IfOk result (λ process. process_of process ≡ new_process number target args) }
+    {
+        Ok(Process {
+            number,
+            target,
+            args,
+            turns: 0,
+            frames: Items::new(alloc),
+        })
+    }
+}
