@@ -1,0 +1,23 @@
+-- How the call ended, from how its text was delivered.
+use Rattle.std.proofs.Common.{sym, ◌∙◌, refl, ap, Err}
+use Rattle.beam_tool.specs.TopCall.{misread}
+use Rattle.beam_tool.proofs.TopCalls.{ends_of, not_stopped, is_form, ends_source, ends_memory}
+use Rattle.beam_tool.proofs.top.ended.Goals as goal
+
+pub returns-in-None-clause-ends : goal.returns-in-None-clause-ends
+returns-in-None-clause-ends g c = ends_of _ _ _ _ _ _ _ _ _ _ _ _ _ _ _ _ (sym c.form_of.ensures ∙ c.in-None.is) c.deliver.ensures.log refl misread c.deliver.ensures.delivered
+
+pub returns-in-Ok-clause-ends : goal.returns-in-Ok-clause-ends
+returns-in-Ok-clause-ends g c = ends_of _ _ _ _ _ _ _ _ _ _ _ _ _ _ _ _ (sym c.form_of.ensures ∙ c.in-Some.is) c.deliver-in-Ok.ensures.log c.as_slice.ensures c.in-Ok.ensures.verdict c.deliver-in-Ok.ensures.delivered
+
+pub returns-in-Ok-clause-unwritten_at_source_fault : goal.returns-in-Ok-clause-unwritten_at_source_fault
+returns-in-Ok-clause-unwritten_at_source_fault g c e = absurd ((not_stopped c.in-Ok.ensures.verdict c.deliver-in-Ok.ensures.delivered).0 e)
+
+pub returns-in-Ok-clause-unwritten_at_no_memory : goal.returns-in-Ok-clause-unwritten_at_no_memory
+returns-in-Ok-clause-unwritten_at_no_memory g c e = absurd ((not_stopped c.in-Ok.ensures.verdict c.deliver-in-Ok.ensures.delivered).1 e)
+
+pub returns-in-Err-SourceFault-clause-ends : goal.returns-in-Err-SourceFault-clause-ends
+returns-in-Err-SourceFault-clause-ends g c = ends_source _ _ _ _ _ _ _ _ _ _ _ (is_form _ _ (sym c.form_of.ensures ∙ c.in-Some.is)) (c.in-Err-SourceFault.ensures.failed (ap Err c.in-Err-SourceFault.field-0-is)) c.stopped.ensures
+
+pub returns-in-Err-NoMemory-clause-ends : goal.returns-in-Err-NoMemory-clause-ends
+returns-in-Err-NoMemory-clause-ends g c = ends_memory _ _ _ _ _ _ _ _ _ _ _ (is_form _ _ (sym c.form_of.ensures ∙ c.in-Some.is)) c.stopped-in-Err-NoMemory.ensures

@@ -1,0 +1,162 @@
+-- What the top call comes to: the form of its words, and for each status what it was answered for and what was written.
+-- What is said of the source's or the sink's bytes holds where these are told.
+-- Source: this project's command line.
+use Rattle.std.specs.Prelude.{◌≡◌, ◌≢◌, ℕ, ◌<◌, ◌≤◌, ◌&&◌, List, [], ◌∷◌, ◌++◌, length, Some, None, IfSome, OnSome, bytes_eq, codes, decimal, if◌then◌else◌}
+use Rattle.std.specs.declared.option.Option.{Option}
+use Rattle.std.specs.declared.result.Result.TheVariants.{Err}
+use Rattle.std.specs.Io.KnownBytes.{Appends}
+use Rattle.prgr_core.specs.declared.event.Events.{Events}
+use Rattle.prgr_core.specs.declared.progress.Progress.{Progress}
+use Rattle.prgr_core.specs.EventText.{EventText}
+use Rattle.prgr_core.specs.Reading.{reading}
+use Rattle.prgr_core.specs.Step.{after_all, opening, StopsAt}
+use Rattle.beam_tool.specs.declared.form.Form.{Form}
+use Rattle.beam_tool.specs.declared.form.Form.TheVariants as forms
+use Rattle.beam_tool.specs.declared.fault.ReadFault.{ReadFault}
+use Rattle.beam_tool.specs.declared.fault.ReadFault.TheVariants.{Failed, NoMemory}
+use Rattle.beam_tool.specs.declared.answer.Stop.{Stop}
+use Rattle.beam_tool.specs.declared.answer.Stop.TheVariants as stops
+use Rattle.beam_tool.specs.declared.answer.Stop.TheVariants.{SourceFault}
+use Rattle.beam_tool.specs.declared.script.TheConstants.{LONGEST_SCRIPT}
+use Rattle.beam_tool.specs.declared.script.Script.{Script}
+use Rattle.beam_tool.specs.declared.run_log.RunLog.{RunLog}
+use Rattle.beam_tool.specs.Outside.{Rose, GetsPrefix}
+use Rattle.beam_tool.specs.ScriptText.{ScriptText}
+use Rattle.beam_tool.specs.Report.{rendering_of, line_of}
+use Rattle.beam_tool.specs.Legal.{Legal}
+
+-- the form that these words have, if any: `run --schedulers 1` or `progress`
+abbrev pub form_of : List (List ℕ) → Option Form
+form_of (command ∷ option ∷ count ∷ []) =
+    if bytes_eq command (codes "run") && (bytes_eq option (codes "--schedulers") && bytes_eq count (codes "1")) then Some forms.Run else None
+form_of (command ∷ []) = if bytes_eq command (codes "progress") then Some forms.Progress else None
+form_of [] = None
+form_of (command ∷ option ∷ []) = None
+form_of (command ∷ option ∷ count ∷ more ∷ rest) = None
+
+-- the line for words of no form
+abbrev pub not_understood_text : List ℕ
+not_understood_text = line_of (codes "words not understood")
+
+-- the line for bytes that are no script's text
+abbrev pub refusal_text : List ℕ
+refusal_text = line_of (codes "refused 0 syntax")
+
+-- the line for an event list that is over the limit
+abbrev pub too_long_text : List ℕ
+too_long_text = line_of (codes "refused 0 file_too_long")
+
+-- the line for an event list whose first faulty line this is
+abbrev pub fault_text : ℕ → List ℕ
+fault_text line = line_of (codes "refused " ++ decimal line ++ codes " syntax")
+
+-- the line for an event that is not enabled
+abbrev pub not_enabled_text : ℕ → List ℕ
+not_enabled_text index = line_of (codes "not enabled " ++ decimal index)
+
+-- the line for a list whose events were all made
+abbrev pub done_text : ℕ → Progress → List ℕ
+done_text events state = line_of (codes "done events " ++ decimal events ++ codes " counter " ++ decimal state.counter ++ codes " generation " ++ decimal state.generation)
+
+-- the bytes are the text of no script
+abbrev pub IsRefused : List ℕ → Type 0
+IsRefused bytes = (s : Script) → ScriptText bytes s → ⊥
+
+-- what was left of the source is over the limit
+abbrev pub IsTooLong : Option (List ℕ) → Type 0
+IsTooLong left = IfSome left (λ bytes. LONGEST_SCRIPT < length bytes)
+
+-- the source was read to its end, and these are its bytes, within the limit
+pub record WasRead (left left_after : Option (List ℕ)) (bytes : List ℕ) : Type 0 where
+  pub told : IfSome left (λ told. told ≡ bytes)
+  pub to_end : OnSome left (left_after ≡ Some [])
+  pub short : length bytes ≤ LONGEST_SCRIPT
+
+-- an event list that the machine can be given: 1 to 16 members, and no watchers so far
+pub record IsReplayable (events : Events) : Type 0 where
+  pub some_member : 1 ≤ events.members
+  pub few_members : events.members ≤ 16
+  pub no_watchers : events.watchers ≡ 0
+
+-- the answer of one line under a status
+pub record IsLine (wanted : ℕ) (line : List ℕ) (status : ℕ) (log : Option RunLog) (text : List ℕ) : Type 0 where
+  pub status_is : status ≡ wanted
+  pub log_is : log ≡ None
+  pub text_is : text ≡ line
+
+-- the answer to a script: a history of one code server for it, and its report
+pub data ReportOf (s : Script) : ℕ → Option RunLog → List ℕ → Type 0 where
+  made : (log : RunLog) (text : List ℕ) → Legal s log → text ≡ rendering_of s.names log → ReportOf s 0 (Some log) text
+
+-- the answer of a run to the bytes that it read: the report of the script that they are, or a refusal
+pub data ScriptVerdict (bytes : List ℕ) : ℕ → Option RunLog → List ℕ → Type 0 where
+  report : (s : Script) (status : ℕ) (log : Option RunLog) (text : List ℕ) → ScriptText bytes s → ReportOf s status log text → ScriptVerdict bytes status log text
+  refusal : IsRefused bytes → ScriptVerdict bytes 3 None refusal_text
+
+-- the answer to an event list: all events were made, or the first that is not enabled
+pub data ReplayOf (events : Events) : ℕ → Option RunLog → List ℕ → Type 0 where
+  all_made : (state : Progress) → after_all (opening events.members) events.list ≡ Some state → ReplayOf events 0 None (done_text (length events.list) state)
+  stopped : (index : ℕ) (state : Progress) → StopsAt (opening events.members) events.list index state → ReplayOf events 1 None (not_enabled_text index)
+
+-- the answer of a replay to the bytes that it read: that to the event list that they are, or the first faulty line
+pub data ListVerdict (bytes : List ℕ) : ℕ → Option RunLog → List ℕ → Type 0 where
+  replay : (events : Events) (status : ℕ) (log : Option RunLog) (text : List ℕ) → EventText bytes events → ReplayOf events status log text → ListVerdict bytes status log text
+  fault : (line : ℕ) → reading bytes ≡ Err line → ListVerdict bytes 3 None (fault_text line)
+
+-- what a form that reads comes to apart from writing: what its bytes come to, or the line for a text over the limit
+pub data ReadVerdict (left left_after : Option (List ℕ)) (P : List ℕ → ℕ → Option RunLog → List ℕ → Type 0) (long : List ℕ) : ℕ → Option RunLog → List ℕ → Type 0 where
+  whole_text : (bytes : List ℕ) (status : ℕ) (log : Option RunLog) (text : List ℕ) → WasRead left left_after bytes → P bytes status log text → ReadVerdict left left_after P long status log text
+  long_text : IsTooLong left → ReadVerdict left left_after P long 3 None long
+
+-- what a call comes to apart from writing, by the form of its words: status, log and text
+pub data Verdict (left left_after : Option (List ℕ)) : Option Form → ℕ → Option RunLog → List ℕ → Type 0 where
+  misread : Verdict left left_after None 2 None not_understood_text
+  run : (status : ℕ) (log : Option RunLog) (text : List ℕ) → ReadVerdict left left_after ScriptVerdict refusal_text status log text → Verdict left left_after (Some forms.Run) status log text
+  progress : (status : ℕ) (log : Option RunLog) (text : List ℕ) → ReadVerdict left left_after ListVerdict too_long_text status log text → Verdict left left_after (Some forms.Progress) status log text
+
+-- statuses 0 to 3: the text of what the call came to was written whole
+pub record Answered (form : Option Form) (left left_after got got_after : Option (List ℕ)) (status : ℕ) (log : Option RunLog) : Type 0 where
+  pub text : List ℕ
+  pub verdict : Verdict left left_after form status log text
+  pub written : Appends got got_after text
+
+-- status 0 of a run, the headline: the whole source is a script's text, the log is lawful for it, and its report was written
+pub record Reported (left left_after got got_after : Option (List ℕ)) (answered : Option RunLog) : Type 0 where
+  pub bytes : List ℕ
+  pub script : Script
+  pub log : RunLog
+  pub read : WasRead left left_after bytes
+  pub text : ScriptText bytes script
+  pub answered_is : answered ≡ Some log
+  pub legal : Legal script log
+  pub written : Appends got got_after (rendering_of script.names log)
+
+-- status 4: a form that reads, and a source that failed
+pub record SourceFailed (form : Option Form) (faults faults_after : ℕ) : Type 0 where
+  pub reads : form ≢ None
+  pub rose : Rose faults faults_after
+
+-- status 5: a sink that failed within the text of what the call came to
+pub record SinkFailed (form : Option Form) (left left_after got got_after : Option (List ℕ)) (faults faults_after : ℕ) (log : Option RunLog) : Type 0 where
+  pub rose : Rose faults faults_after
+  pub status : ℕ
+  pub text : List ℕ
+  pub verdict : Verdict left left_after form status log text
+  pub prefix : GetsPrefix got got_after text
+
+-- a text was written whole under its status, or the sink failed within it
+pub data Delivered (got got_after : Option (List ℕ)) (faults faults_after : ℕ) (status : ℕ) (text : List ℕ) : ℕ → Type 0 where
+  whole : Appends got got_after text → Delivered got got_after faults faults_after status text status
+  cut : Rose faults faults_after → GetsPrefix got got_after text → Delivered got got_after faults faults_after status text 5
+
+-- how a call ended: its text was written whole, or the sink or the source failed, or memory was refused
+pub data Ends (form : Option Form) (left left_after : Option (List ℕ)) (source_faults source_faults_after : ℕ) (got got_after : Option (List ℕ)) (sink_faults sink_faults_after : ℕ) : ℕ → Option RunLog → Type 0 where
+  written : (status : ℕ) (log : Option RunLog) (text : List ℕ) → Verdict left left_after form status log text → Appends got got_after text → Ends form left left_after source_faults source_faults_after got got_after sink_faults sink_faults_after status log
+  cut_off : (status : ℕ) (log : Option RunLog) (text : List ℕ) → Verdict left left_after form status log text → Rose sink_faults sink_faults_after → GetsPrefix got got_after text → Ends form left left_after source_faults source_faults_after got got_after sink_faults sink_faults_after 5 log
+  source_failed : form ≢ None → Rose source_faults source_faults_after → Ends form left left_after source_faults source_faults_after got got_after sink_faults sink_faults_after 4 None
+  no_memory : form ≢ None → Ends form left left_after source_faults source_faults_after got got_after sink_faults sink_faults_after 6 None
+
+-- why a call stops that found this fault of its source
+abbrev pub StopsFor : ReadFault → Stop → Type 0
+StopsFor Failed stop = stop ≡ SourceFault
+StopsFor NoMemory stop = stop ≡ stops.NoMemory

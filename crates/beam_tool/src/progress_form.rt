@@ -1,0 +1,97 @@
+ghost use Rattle.std.specs.Prelude.{◌≡◌, IfOk, IsErrOf};
+ghost use Rattle.prgr_core.specs.EventText.{EventText};
+ghost use Rattle.beam_tool.specs.Outside.{Rose};
+ghost use Rattle.beam_tool.specs.TopCall.{ReadVerdict, ListVerdict, ReplayOf, IsReplayable, IsLine, too_long_text, fault_text, not_enabled_text, done_text};
+
+use crate::answer::{Answer, DONE, NOT_ENABLED, REFUSED, Stop, line_answer};
+use crate::script::LONGEST_SCRIPT;
+use crate::source::Source;
+use crate::transfer::{Input, read_whole};
+use prgr_core::{EventFault, Events, PrgrState, ReplayFault, read_events, replay};
+use std::alloc::Global;
+use term_core::{ByteList, NoMemory, print_number};
+
+/// What the replay of an event list comes to apart from writing.
+pub fn progress_answer<S: Source>(alloc: Global, source: &mut S) -> Result<Answer, Stop>
+    ensures verdict { IfOk result
+        (λ a. ReadVerdict (S.left source.old) (S.left source.new) ListVerdict too_long_text a.status a.log a.text) }
+    ensures failed { IsErrOf result Stop.SourceFault
+        → Rose (S.faults source.old) (S.faults source.new) }
+{
+    match read_whole(alloc, source, LONGEST_SCRIPT)? {
+        Input::Whole(bytes) => Ok(judged(alloc, bytes.as_slice())?),
+        Input::TooLong => Ok(line_answer(alloc, REFUSED, b"refused 0 file_too_long\n")?),
+    }
+}
+
+/// The answer to bytes that were read whole.
+fn judged(alloc: Global, bytes: &[u8]) -> Result<Answer, NoMemory>
+    ensures { IfOk result (λ a. ListVerdict bytes.now a.status a.log a.text) }
+{
+    match read_events(alloc, bytes) {
+        Ok(events) => replayed(alloc, &events),
+        Err(EventFault::Syntax { line }) => faulty(alloc, line),
+        Err(EventFault::NoMemory) => Err(NoMemory),
+    }
+}
+
+/// The answer to an event list.
+fn replayed(alloc: Global, events: &Events) -> Result<Answer, NoMemory>
+    requires { IsReplayable events.now }
+    ensures { IfOk result (λ a. ReplayOf events.now a.status a.log a.text) }
+{
+    let Ok(mut state) = PrgrState::new(alloc, events.members, events.watchers) else {
+        return Err(NoMemory);
+    };
+    match replay(&mut state, &events.list) {
+        Ok(()) => done(alloc, events.list.len() as u64, &state),
+        Err(ReplayFault::NotEnabled { index }) => not_enabled(alloc, index),
+        Err(ReplayFault::NoMemory { .. }) => Err(NoMemory),
+    }
+}
+
+/// The line of a list whose events were all made.
+fn done(alloc: Global, events: u64, state: &PrgrState) -> Result<Answer, NoMemory>
+    ensures { IfOk result (λ a. IsLine DONE (done_text events state.now) a.status a.log a.text) }
+{
+    let mut text = ByteList::from_slice(alloc, b"done events ")?;
+    print_number(events, &mut text)?;
+    text.extend_from_slice(b" counter ")?;
+    print_number(state.counter(), &mut text)?;
+    text.extend_from_slice(b" generation ")?;
+    print_number(state.generation(), &mut text)?;
+    text.push(b'\n')?;
+    Ok(Answer {
+        status: DONE,
+        log: None,
+        text,
+    })
+}
+
+/// The line of an event that is not enabled.
+fn not_enabled(alloc: Global, index: u64) -> Result<Answer, NoMemory>
+    ensures { IfOk result (λ a. IsLine NOT_ENABLED (not_enabled_text index) a.status a.log a.text) }
+{
+    let mut text = ByteList::from_slice(alloc, b"not enabled ")?;
+    print_number(index, &mut text)?;
+    text.push(b'\n')?;
+    Ok(Answer {
+        status: NOT_ENABLED,
+        log: None,
+        text,
+    })
+}
+
+/// The line of a text whose first faulty line this is.
+fn faulty(alloc: Global, line: u32) -> Result<Answer, NoMemory>
+    ensures { IfOk result (λ a. IsLine REFUSED (fault_text line) a.status a.log a.text) }
+{
+    let mut text = ByteList::from_slice(alloc, b"refused ")?;
+    print_number(u64::from(line), &mut text)?;
+    text.extend_from_slice(b" syntax\n")?;
+    Ok(Answer {
+        status: REFUSED,
+        log: None,
+        text,
+    })
+}

@@ -1,0 +1,148 @@
+ghost use Rattle.std.specs.Prelude.{◌≡◌, ◌≢◌, ◌≤◌, ◌<◌, ◌⊎◌, ℕ, List, Some, None, Err, IfOk, IsErrOf, length, map, string_bytes};
+ghost use Rattle.prgr_core.specs.EventText.{EventText};
+ghost use Rattle.prgr_core.specs.Reading.{reading};
+ghost use Rattle.prgr_core.specs.declared.event.Events.{Events};
+ghost use Rattle.beam_tool.specs.Outside.{Rose};
+ghost use Rattle.beam_tool.specs.ScriptText.{ScriptText};
+ghost use Rattle.beam_tool.specs.declared.script.Script.{Script};
+ghost use Rattle.beam_tool.specs.TopCall.{form_of as the_form_of, Verdict, IsRefused, Answered, Reported, SourceFailed, SinkFailed, Delivered, Ends};
+
+use crate::answer::{
+    Answer, DONE, NO_MEMORY, NOT_UNDERSTOOD, REFUSED, SINK_FAULT, SOURCE_FAULT, Stop,
+};
+use crate::form::{Form, form_of};
+use crate::gate::Gate;
+use crate::progress_form::progress_answer;
+use crate::run_form::run_answer;
+use crate::run_log::RunLog;
+use crate::script::LONGEST_SCRIPT;
+use crate::sink::Sink;
+use crate::source::Source;
+use crate::transfer::write_whole;
+use std::alloc::Global;
+use std::sync::Wait;
+use std::thread::Threads;
+
+/// How a call ended: its status, and the log of the run that it made.
+#[derive(Debug, Drop)]
+pub struct Finish {
+    pub status: u8,
+    pub log: Option<RunLog>,
+}
+
+/// All that the program does: it takes the words after the program's name, reads the source where their form
+/// reads, and writes the answer to the sink. All text is made in memory before the first write.
+pub fn beam_top<R: Threads + Wait + Sync, S: Source, K: Sink, G: Gate>(
+    rt: &R,
+    alloc: Global,
+    words: &[String],
+    source: &mut S,
+    sink: &mut K,
+    gate: &G,
+) -> Finish
+    ensures known { result.status ≤ NO_MEMORY }
+
+    // The headline: a run that is reported is a history of one code server.
+    ensures headline { the_form_of (map string_bytes words.now) ≡ Some Form.Run → result.status ≡ DONE
+        → Reported (S.left source.old) (S.left source.new) (K.got sink.old) (K.got sink.new) result.log }
+
+    // Statuses 0 to 3 come only for what the words, the bytes and the definitions give, and their text is written.
+    ensures answered { result.status ≤ REFUSED → Answered (the_form_of (map string_bytes words.now))
+        (S.left source.old) (S.left source.new) (K.got sink.old) (K.got sink.new) result.status result.log }
+
+    // A fault is answered only where a count of faults rose in this call.
+    ensures source_fault { result.status ≡ SOURCE_FAULT → SourceFailed (the_form_of (map string_bytes words.now))
+        (S.faults source.old) (S.faults source.new) }
+    ensures sink_fault { result.status ≡ SINK_FAULT → SinkFailed (the_form_of (map string_bytes words.now))
+        (S.left source.old) (S.left source.new) (K.got sink.old) (K.got sink.new)
+        (K.faults sink.old) (K.faults sink.new) result.log }
+
+    // What is not read, not written and not logged.
+    ensures unread { the_form_of (map string_bytes words.now) ≡ None → source.new ≡ source.old }
+    ensures unwritten_at_source_fault { result.status ≡ SOURCE_FAULT → sink.new ≡ sink.old }
+    ensures unwritten_at_no_memory { result.status ≡ NO_MEMORY → sink.new ≡ sink.old }
+    ensures no_log { result.status ≢ DONE → result.status ≢ SINK_FAULT → result.log ≡ None }
+
+    // Where no count rose, the status is the one whose condition holds, or memory was refused.
+    ensures complete_words { the_form_of (map string_bytes words.now) ≡ None
+        → Rose (K.faults sink.old) (K.faults sink.new) ⊎ (result.status ≡ NOT_UNDERSTOOD) }
+    ensures complete_run { (bytes : List ℕ) (s : Script) → the_form_of (map string_bytes words.now) ≡ Some Form.Run
+        → S.left source.old ≡ Some bytes → ScriptText bytes s
+        → (Rose (S.faults source.old) (S.faults source.new) → ⊥) → (Rose (K.faults sink.old) (K.faults sink.new) → ⊥)
+        → (result.status ≡ DONE) ⊎ (result.status ≡ NO_MEMORY) }
+    ensures complete_refusal { (bytes : List ℕ) → the_form_of (map string_bytes words.now) ≡ Some Form.Run
+        → S.left source.old ≡ Some bytes → IsRefused bytes
+        → (Rose (S.faults source.old) (S.faults source.new) → ⊥) → (Rose (K.faults sink.old) (K.faults sink.new) → ⊥)
+        → (result.status ≡ REFUSED) ⊎ (result.status ≡ NO_MEMORY) }
+    ensures complete_replay { (bytes : List ℕ) (events : Events) → the_form_of (map string_bytes words.now) ≡ Some Form.Progress
+        → S.left source.old ≡ Some bytes → length bytes ≤ LONGEST_SCRIPT → EventText bytes events
+        → (Rose (S.faults source.old) (S.faults source.new) → ⊥) → (Rose (K.faults sink.old) (K.faults sink.new) → ⊥)
+        → (result.status ≤ 1) ⊎ (result.status ≡ NO_MEMORY) }
+    ensures complete_fault { (bytes : List ℕ) (line : ℕ) → the_form_of (map string_bytes words.now) ≡ Some Form.Progress
+        → S.left source.old ≡ Some bytes → (LONGEST_SCRIPT < length bytes) ⊎ (reading bytes ≡ Err line)
+        → (Rose (S.faults source.old) (S.faults source.new) → ⊥) → (Rose (K.faults sink.old) (K.faults sink.new) → ⊥)
+        → (result.status ≡ REFUSED) ⊎ (result.status ≡ NO_MEMORY) }
+{
+    let _ = rt;
+    let _ = gate;
+    ended(alloc, words, source, sink)
+}
+
+/// The whole call, without the threads and the gate that later forms use.
+fn ended<S: Source, K: Sink>(
+    alloc: Global,
+    words: &[String],
+    source: &mut S,
+    sink: &mut K,
+) -> Finish
+    ensures ends { Ends (the_form_of (map string_bytes words.now)) (S.left source.old) (S.left source.new)
+        (S.faults source.old) (S.faults source.new) (K.got sink.old) (K.got sink.new)
+        (K.faults sink.old) (K.faults sink.new) result.status result.log }
+    ensures unread { the_form_of (map string_bytes words.now) ≡ None → source.new ≡ source.old }
+    ensures unwritten_at_source_fault { result.status ≡ SOURCE_FAULT → sink.new ≡ sink.old }
+    ensures unwritten_at_no_memory { result.status ≡ NO_MEMORY → sink.new ≡ sink.old }
+{
+    match form_of(words) {
+        None => deliver(sink, NOT_UNDERSTOOD, b"words not understood\n", None),
+        Some(form) => match form_answer(alloc, form, source) {
+            Ok(Answer { status, log, text }) => deliver(sink, status, text.as_slice(), log),
+            Err(Stop::SourceFault) => stopped(SOURCE_FAULT),
+            Err(Stop::NoMemory) => stopped(NO_MEMORY),
+        },
+    }
+}
+
+/// A call that wrote nothing.
+fn stopped(status: u8) -> Finish
+    ensures { (result.status ≡ status) × (result.log ≡ None) }
+{
+    Finish { status, log: None }
+}
+
+/// What a form comes to apart from writing.
+fn form_answer<S: Source>(alloc: Global, form: Form, source: &mut S) -> Result<Answer, Stop>
+    ensures verdict { IfOk result
+        (λ a. Verdict (S.left source.old) (S.left source.new) (Some form) a.status a.log a.text) }
+    ensures failed { IsErrOf result Stop.SourceFault
+        → Rose (S.faults source.old) (S.faults source.new) }
+{
+    match form {
+        Form::Run => run_answer(alloc, source),
+        Form::Progress => progress_answer(alloc, source),
+    }
+}
+
+/// Writes the text whole and answers the status, or the sink's fault.
+fn deliver<K: Sink>(sink: &mut K, status: u8, text: &[u8], log: Option<RunLog>) -> Finish
+    ensures delivered { Delivered (K.got sink.old) (K.got sink.new)
+        (K.faults sink.old) (K.faults sink.new) status text.now result.status }
+    ensures log { result.log ≡ log }
+{
+    match write_whole(sink, text) {
+        Ok(()) => Finish { status, log },
+        Err(_) => Finish {
+            status: SINK_FAULT,
+            log,
+        },
+    }
+}
