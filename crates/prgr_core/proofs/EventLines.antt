@@ -1,16 +1,17 @@
 -- The line of an event is read as the event, and no other line is.
-use Rattle.std.proofs.Common.{◌≡◌, ℕ, ◌<◌, ◌≤◌, ◌^◌, Bool, true, false, List, [], ◌∷◌, ◌++◌, Option, Some, None, refl, ◌∙◌, ap, subst, arith, decimal, codes, ◌⊎◌, inl, inr, eqb}
+use Rattle.std.proofs.Common.{◌≡◌, ℕ, ◌<◌, ◌≤◌, ◌^◌, Bool, true, false, List, [], ◌∷◌, ◌++◌, Option, Some, None, refl, ◌∙◌, ap, subst, arith, decimal, codes, eqb, not}
 use Rattle.std.specs.Prelude.{if◌then◌else◌, nat_lt, ◌==◌, option_map}
+use Rattle.std.specs.List.{list_all}
 use Rattle.std.specs.Option.{option_and_then}
 use Rattle.std.specs.Str.{bytes_eq}
 use Rattle.std.proofs.lemmas.Bool.{ltb-true, lt-ltb, eqb-false, ne_eqb}
 use Rattle.std.proofs.lemmas.Slice.Eq.{bytes_eq-Decides}
-use Rattle.prgr_core.specs.declared.member.TheConstants.{MOST_MEMBERS}
+use Rattle.prgr_core.specs.declared.watcher.TheConstants.{DELAY_COUNTS}
 use Rattle.prgr_core.specs.declared.event.PrgrEvent.{PrgrEvent}
 use Rattle.prgr_core.specs.declared.event.PrgrEvent.TheVariants.{LoadCounter, LoadRoot, Report, Lead, Scan, ScanDelay, Advance, GiveUp, Wait, Enter, Publish, Retire, Release, WatchLoad, WatchAdd, WatchRoot, WatchSub}
-use Rattle.prgr_core.specs.EventText.{space, worded, event_text, IsAllowed}
-use Rattle.prgr_core.specs.Reading.{with_first, cut_at, number_of, member_of, member_words, by_word, scan_by, event_by, event_of}
-use Rattle.prgr_core.proofs.Parts.{and_then_some, if_some, some_same}
+use Rattle.prgr_core.specs.EventText.{space, line_feed, worded, worded_twice, event_text, IsAllowed}
+use Rattle.prgr_core.specs.Reading.{with_first, cut_at, number_of, number_below, numbers_by, numbers_below, member_words, by_word, worded_event, event_by, event_of}
+use Rattle.prgr_core.proofs.Parts.{and_then_some, if_some, some_same, both_true}
 use Rattle.prgr_core.proofs.Numerals.{number_of_sound, number_of_decimal, Lacks, decimal_lacks}
 use Rattle.prgr_core.proofs.Texts.{cut_parts}
 
@@ -30,131 +31,220 @@ pub lacks_append : (c : ℕ) (xs ys : List ℕ) → Lacks c xs → Lacks c ys �
 lacks_append c [] ys first second = second
 lacks_append c (x ∷ xs) ys first second = (first.0, lacks_append c xs ys first.1 second)
 
+not_true : (b : Bool) → not b ≡ true → b ≡ false
+not_true false e = refl
+not_true true e = absurd (cc)
+
+-- a text lacks a byte that is none of its bytes
+pub lacks_plain : (c : ℕ) (xs : List ℕ) → list_all (λ b. not (eqb b c)) xs ≡ true → Lacks c xs
+lacks_plain c [] e = tt
+lacks_plain c (x ∷ xs) e =
+    let both = both_true (not (eqb x c)) (list_all (λ b. not (eqb b c)) xs) e in
+    (eqb-false x c (not_true (eqb x c) both.0), lacks_plain c xs both.1)
+
+-- a word and a number have no line feed
+pub worded_lacks : (word : List ℕ) (n : ℕ) → list_all (λ b. not (eqb b line_feed)) word ≡ true → n < 2 ^ 64 → Lacks line_feed (worded word n)
+worded_lacks word n plain small = lacks_append line_feed word (space ∷ decimal n) (lacks_plain line_feed word plain) (λ e. (cc), decimal_lacks line_feed n (omega arith) small)
+
+-- nor have a word and two numbers
+worded_twice_lacks : (word : List ℕ) (n k : ℕ) → list_all (λ b. not (eqb b line_feed)) word ≡ true → n < 2 ^ 64 → k < 2 ^ 64 → Lacks line_feed (worded_twice word n k)
+worded_twice_lacks word n k plain small small_too =
+    lacks_append line_feed word (space ∷ (decimal n ++ space ∷ decimal k)) (lacks_plain line_feed word plain)
+    (λ e. (cc), lacks_append line_feed (decimal n) (space ∷ decimal k) (decimal_lacks line_feed n (omega arith) small) (λ e. (cc), decimal_lacks line_feed k (omega arith) small_too))
+
 -- ---- from an event to its line and back
 
-member_read : (members m : ℕ) → members ≤ MOST_MEMBERS → m < members → member_of members (decimal m) ≡ Some m
-member_read members m few below =
-    let small : m < 2 ^ 64 = omega (arith, few, below) in
-    ap (option_and_then (λ n. if nat_lt n members then Some n else None)) (number_of_decimal m small) ∙ ap (λ (t : Bool). if t then Some m else None) (lt-ltb m members below)
+number_read : (count n : ℕ) → n < count → n < 2 ^ 64 → number_below count (decimal n) ≡ Some n
+number_read count n below small = ap (option_and_then (λ m. if nat_lt m count then Some m else None)) (number_of_decimal n small) ∙ ap (λ (t : Bool). if t then Some n else None) (lt-ltb n count below)
 
-scan_read : (members m k : ℕ) → members ≤ MOST_MEMBERS → m < members → k < members → scan_by members (cut_at space (decimal m ++ space ∷ decimal k)) ≡ Some (Scan m k)
-scan_read members m k few below below_too =
-    let small : m < 2 ^ 64 = omega (arith, few, below) in
-    ap (scan_by members) (cut_here space (decimal m) (decimal k) (decimal_lacks space m (omega arith) small))
-    ∙ ap (option_and_then (λ n. option_map (λ j. Scan n j) (member_of members (decimal k)))) (member_read members m few below)
-    ∙ ap (option_map (λ j. Scan m j)) (member_read members k few below_too)
+numbers_read : (first second n k : ℕ) → n < first → k < second → n < 2 ^ 64 → k < 2 ^ 64 → numbers_below first second (decimal n ++ space ∷ decimal k) ≡ Some (n, k)
+numbers_read first second n k below below_too small small_too =
+    ap (numbers_by first second) (cut_here space (decimal n) (decimal k) (decimal_lacks space n (omega arith) small))
+    ∙ ap (option_and_then (λ m. option_map (λ (j : ℕ). (m, j)) (number_below second (decimal k)))) (number_read first n below small)
+    ∙ ap (option_map (λ (j : ℕ). (n, j))) (number_read second k below_too small_too)
+
+-- there are no more than the numbers that a text may have
+abbrev pub IsFew : ℕ → Type 0
+IsFew count = count ≤ 2 ^ 64
+
+small_below : (count n : ℕ) → IsFew count → n < count → n < 2 ^ 64
+small_below count n few below = omega (arith, few, below)
+
+small_delay : (k : ℕ) → k < DELAY_COUNTS → k < 2 ^ 64
+small_delay k below = omega (arith, below)
 
 -- the line of an event that a list may have is read as the event
-pub event_read : (members : ℕ) (event : PrgrEvent) → members ≤ MOST_MEMBERS → IsAllowed members event → event_of members (event_text event) ≡ Some event
-event_read members (LoadCounter m) few below = ap (option_and_then (by_word member_words (codes "load_counter"))) (member_read members m few below)
-event_read members (LoadRoot m) few below = ap (option_and_then (by_word member_words (codes "load_root"))) (member_read members m few below)
-event_read members (Report m) few below = ap (option_and_then (by_word member_words (codes "report"))) (member_read members m few below)
-event_read members (Lead m) few below = ap (option_and_then (by_word member_words (codes "lead"))) (member_read members m few below)
-event_read members (Scan m k) few below = scan_read members m k few below.0 below.1
-event_read members (ScanDelay m) few below = absurd below
-event_read members (Advance m) few below = ap (option_and_then (by_word member_words (codes "advance"))) (member_read members m few below)
-event_read members (GiveUp m) few below = ap (option_and_then (by_word member_words (codes "give_up"))) (member_read members m few below)
-event_read members (Wait m) few below = ap (option_and_then (by_word member_words (codes "wait"))) (member_read members m few below)
-event_read members (Enter m) few below = ap (option_and_then (by_word member_words (codes "enter"))) (member_read members m few below)
-event_read members Publish few below = refl
-event_read members Retire few below = refl
-event_read members (Release g) few below = ap (option_map (λ n. Release n)) (number_of_decimal g below)
-event_read members (WatchLoad w) few below = absurd below
-event_read members (WatchAdd w k) few below = absurd below
-event_read members (WatchRoot w) few below = absurd below
-event_read members (WatchSub w k) few below = absurd below
+pub event_read : (members watchers : ℕ) (event : PrgrEvent) → IsFew members → IsFew watchers → IsAllowed members watchers event → event_of members watchers (event_text event) ≡ Some event
+event_read members watchers event few few_too is = elim event as (λ (e : PrgrEvent). IsAllowed members watchers e → event_of members watchers (event_text e) ≡ Some e) [
+  | LoadCounter m ↦ λ below. by_member (codes "load_counter") m below
+  | LoadRoot m ↦ λ below. by_member (codes "load_root") m below
+  | Report m ↦ λ below. by_member (codes "report") m below
+  | Lead m ↦ λ below. by_member (codes "lead") m below
+  | Scan m k ↦ λ below. ap (option_map (λ (p : ℕ × ℕ). Scan p.0 p.1)) (numbers_read members members m k below.0 below.1 (small_below members m few below.0) (small_below members k few below.1))
+  | ScanDelay m ↦ λ below. by_member (codes "scan_delay") m below
+  | Advance m ↦ λ below. by_member (codes "advance") m below
+  | GiveUp m ↦ λ below. by_member (codes "give_up") m below
+  | Wait m ↦ λ below. by_member (codes "wait") m below
+  | Enter m ↦ λ below. by_member (codes "enter") m below
+  | Publish ↦ λ _. refl
+  | Retire ↦ λ _. refl
+  | Release g ↦ λ small. ap (option_map (λ n. Release n)) (number_of_decimal g small)
+  | WatchLoad w ↦ λ below. ap (option_map (λ n. WatchLoad n)) (number_read watchers w below (small_below watchers w few_too below))
+  | WatchAdd w k ↦ λ below. ap (option_map (λ (p : ℕ × ℕ). WatchAdd p.0 p.1)) (by_delay w k below.0 below.1)
+  | WatchRoot w ↦ λ below. ap (option_map (λ n. WatchRoot n)) (number_read watchers w below (small_below watchers w few_too below))
+  | WatchSub w k ↦ λ below. ap (option_map (λ (p : ℕ × ℕ). WatchSub p.0 p.1)) (by_delay w k below.0 below.1)
+] is
+  where
+    by_member : (word : List ℕ) (m : ℕ) → m < members → option_and_then (by_word member_words word) (number_below members (decimal m)) ≡ by_word member_words word m
+    by_member word m below = ap (option_and_then (by_word member_words word)) (number_read members m below (small_below members m few below))
+
+    by_delay : (w k : ℕ) → w < watchers → k < DELAY_COUNTS → numbers_below watchers DELAY_COUNTS (decimal w ++ space ∷ decimal k) ≡ Some (w, k)
+    by_delay w k below below_too = numbers_read watchers DELAY_COUNTS w k below below_too (small_below watchers w few_too below) (small_delay k below_too)
+
+-- the line of an event has no line feed
+pub event_lacks : (members watchers : ℕ) (event : PrgrEvent) → IsFew members → IsFew watchers → IsAllowed members watchers event → Lacks line_feed (event_text event)
+event_lacks members watchers (LoadCounter m) few few_too below = worded_lacks (codes "load_counter") m refl (small_below members m few below)
+event_lacks members watchers (LoadRoot m) few few_too below = worded_lacks (codes "load_root") m refl (small_below members m few below)
+event_lacks members watchers (Report m) few few_too below = worded_lacks (codes "report") m refl (small_below members m few below)
+event_lacks members watchers (Lead m) few few_too below = worded_lacks (codes "lead") m refl (small_below members m few below)
+event_lacks members watchers (Scan m k) few few_too below = worded_twice_lacks (codes "scan") m k refl (small_below members m few below.0) (small_below members k few below.1)
+event_lacks members watchers (ScanDelay m) few few_too below = worded_lacks (codes "scan_delay") m refl (small_below members m few below)
+event_lacks members watchers (Advance m) few few_too below = worded_lacks (codes "advance") m refl (small_below members m few below)
+event_lacks members watchers (GiveUp m) few few_too below = worded_lacks (codes "give_up") m refl (small_below members m few below)
+event_lacks members watchers (Wait m) few few_too below = worded_lacks (codes "wait") m refl (small_below members m few below)
+event_lacks members watchers (Enter m) few few_too below = worded_lacks (codes "enter") m refl (small_below members m few below)
+event_lacks members watchers Publish few few_too below = lacks_plain line_feed (codes "publish") refl
+event_lacks members watchers Retire few few_too below = lacks_plain line_feed (codes "retire") refl
+event_lacks members watchers (Release g) few few_too below = worded_lacks (codes "release") g refl below
+event_lacks members watchers (WatchLoad w) few few_too below = worded_lacks (codes "watch_load") w refl (small_below watchers w few_too below)
+event_lacks members watchers (WatchAdd w k) few few_too below = worded_twice_lacks (codes "watch_add") w k refl (small_below watchers w few_too below.0) (small_delay k below.1)
+event_lacks members watchers (WatchRoot w) few few_too below = worded_lacks (codes "watch_root") w refl (small_below watchers w few_too below)
+event_lacks members watchers (WatchSub w k) few few_too below = worded_twice_lacks (codes "watch_sub") w k refl (small_below watchers w few_too below.0) (small_delay k below.1)
+
+-- no event has the line `go`
+pub not_go : (event : PrgrEvent) → bytes_eq (event_text event) (codes "go") ≡ false
+not_go (LoadCounter m) = refl
+not_go (LoadRoot m) = refl
+not_go (Report m) = refl
+not_go (Lead m) = refl
+not_go (Scan m k) = refl
+not_go (ScanDelay m) = refl
+not_go (Advance m) = refl
+not_go (GiveUp m) = refl
+not_go (Wait m) = refl
+not_go (Enter m) = refl
+not_go Publish = refl
+not_go Retire = refl
+not_go (Release g) = refl
+not_go (WatchLoad w) = refl
+not_go (WatchAdd w k) = refl
+not_go (WatchRoot w) = refl
+not_go (WatchSub w k) = refl
 
 -- ---- from a line to its event and back
 
 -- the line says the event, and a list may have it
-abbrev pub Says : ℕ → List ℕ → PrgrEvent → Type 0
-Says members line event = (line ≡ event_text event) × IsAllowed members event
+abbrev pub Says : ℕ → ℕ → List ℕ → PrgrEvent → Type 0
+Says members watchers line event = (line ≡ event_text event) × IsAllowed members watchers event
 
-choice_some : {T : Type 0} (b : Bool) (x y : Option T) (t : T) → (if b then x else y) ≡ Some t → ((b ≡ true) × (x ≡ Some t)) ⊎ (y ≡ Some t)
-choice_some true x y t e = inl (refl, e)
-choice_some false x y t e = inr e
+-- a choice that gives an event gives it on one of its sides
+by_choice : {P : Type 0} (b : Bool) (x y : Option PrgrEvent) (event : PrgrEvent) → (b ≡ true → x ≡ Some event → P) → (y ≡ Some event → P) → (if b then x else y) ≡ Some event → P
+by_choice true x y event here later e = here refl e
+by_choice false x y event here later e = later e
 
 pub same_bytes : (xs ys : List ℕ) → bytes_eq xs ys ≡ true → xs ≡ ys
 same_bytes xs ys e = (bytes_eq-Decides xs ys).0 e
-
-member_some : (members : ℕ) (text : List ℕ) (m : ℕ) → member_of members text ≡ Some m → (text ≡ decimal m) × (m < members)
-member_some members text m e =
-    let found = and_then_some (λ n. if nat_lt n members then Some n else None) (number_of text) m e in
-    let made = if_some (nat_lt found.0 members) found.0 m found.2 in
-    let text_is = (number_of_sound text found.0 found.1).0 in
-    (text_is ∙ ap decimal made.1, subst (λ n. n < members) made.1 (ltb-true found.0 members made.0))
-
--- each word of a table is that of its event
-abbrev IsTable : ℕ → List (List ℕ × (ℕ → PrgrEvent)) → Type 0
-IsTable members [] = Unit {0}
-IsTable members (row ∷ rows) = ((m : ℕ) → m < members → Says members (worded row.0 m) (row.1 m)) × IsTable members rows
-
-words_are_table : (members : ℕ) → IsTable members member_words
-words_are_table members = (λ m below. (refl, below), (λ m below. (refl, below), (λ m below. (refl, below), (λ m below. (refl, below), (λ m below. (refl, below), (λ m below. (refl, below), (λ m below. (refl, below), (λ m below. (refl, below), tt))))))))
-
-table_says : (members : ℕ) (rows : List (List ℕ × (ℕ → PrgrEvent))) → IsTable members rows → (line word : List ℕ) (m : ℕ) (event : PrgrEvent) → line ≡ worded word m → m < members → by_word rows word m ≡ Some event → Says members line event
-table_says members [] table line word m event is below e = absurd (cc)
-table_says members (row ∷ rows) table line word m event is below e =
-    elim (choice_some (bytes_eq word row.0) (Some (row.1 m)) (by_word rows word m) event e) as (λ _. Says members line event) [
-      | inl here ↦
-          let says = table.0 m below in
-          let text = is ∙ ap (λ (x : List ℕ). worded x m) (same_bytes word row.0 here.0) ∙ says.0 in
-          subst (Says members line) (some_same (row.1 m) event here.1) (text, says.1)
-      | inr later ↦ table_says members rows table.1 line word m event is below later
-    ]
 
 map_some : {T U : Type 0} (f : T → U) (o : Option T) (u : U) → option_map f o ≡ Some u → (x : T) × (o ≡ Some x) × (f x ≡ u)
 map_some f None u e = absurd (cc)
 map_some f (Some x) u e = (x, refl, some_same (f x) u e)
 
-scan_says : (members : ℕ) (line rest : List ℕ) (o : Option (List ℕ × List ℕ)) (event : PrgrEvent) → line ≡ codes "scan" ++ space ∷ rest → cut_at space rest ≡ o → scan_by members o ≡ Some event → Says members line event
-scan_says members line rest None event is cut e = absurd (cc)
-scan_says members line rest (Some p) event is cut e =
-    let first = and_then_some (λ m. option_map (λ k. Scan m k) (member_of members p.1)) (member_of members p.0) event e in
-    let second = map_some (λ k. Scan first.0 k) (member_of members p.1) event first.2 in
-    let m = member_some members p.0 first.0 first.1 in
-    let k = member_some members p.1 second.0 second.1 in
-    let parts = cut_parts space rest p cut in
-    let text : rest ≡ decimal first.0 ++ space ∷ decimal second.0 = parts ∙ ap (λ (x : List ℕ). x ++ space ∷ p.1) m.0 ∙ ap (λ (x : List ℕ). decimal first.0 ++ space ∷ x) k.0 in
-    subst (Says members line) second.2 (is ∙ ap (λ (x : List ℕ). codes "scan" ++ space ∷ x) text, (m.1, k.1))
+number_some : (count : ℕ) (text : List ℕ) (n : ℕ) → number_below count text ≡ Some n → (text ≡ decimal n) × (n < count)
+number_some count text n e =
+    let found = and_then_some (λ m. if nat_lt m count then Some m else None) (number_of text) n e in
+    let made = if_some (nat_lt found.0 count) found.0 n found.2 in
+    let text_is = (number_of_sound text found.0 found.1).0 in
+    (text_is ∙ ap decimal made.1, subst (λ m. m < count) made.1 (ltb-true found.0 count made.0))
 
-plain_says : (members : ℕ) (line : List ℕ) (event : PrgrEvent) → (if bytes_eq line (codes "publish") then Some Publish else (if bytes_eq line (codes "retire") then Some Retire else None)) ≡ Some event → Says members line event
-plain_says members line event e =
-    let retires : Option PrgrEvent = if bytes_eq line (codes "retire") then Some Retire else None in
-    elim (choice_some (bytes_eq line (codes "publish")) (Some Publish) retires event e) as (λ _. Says members line event) [
-      | inl publish ↦ subst (Says members line) (some_same Publish event publish.1) (same_bytes line (codes "publish") publish.0, tt)
-      | inr other ↦
-          let retire = if_some (bytes_eq line (codes "retire")) Retire event other in
-          subst (Says members line) retire.1 (same_bytes line (codes "retire") retire.0, tt)
-    ]
+numbers_some : (first second : ℕ) (text : List ℕ) (o : Option (List ℕ × List ℕ)) (p : ℕ × ℕ) → cut_at space text ≡ o → numbers_by first second o ≡ Some p → (text ≡ decimal p.0 ++ space ∷ decimal p.1) × (p.0 < first) × (p.1 < second)
+numbers_some first second text None p cut e = absurd (cc)
+numbers_some first second text (Some q) p cut e =
+    let front = and_then_some (λ n. option_map (λ (k : ℕ). (n, k)) (number_below second q.1)) (number_below first q.0) p e in
+    let behind = map_some (λ (k : ℕ). (front.0, k)) (number_below second q.1) p front.2 in
+    let n = number_some first q.0 front.0 front.1 in
+    let k = number_some second q.1 behind.0 behind.1 in
+    let text_is : text ≡ decimal front.0 ++ space ∷ decimal behind.0 = cut_parts space text q cut ∙ ap (λ (x : List ℕ). x ++ space ∷ q.1) n.0 ∙ ap (λ (x : List ℕ). decimal front.0 ++ space ∷ x) k.0 in
+    subst (λ (r : ℕ × ℕ). (text ≡ decimal r.0 ++ space ∷ decimal r.1) × (r.0 < first) × (r.1 < second)) behind.2 (text_is, n.1, k.1)
 
-release_says : (members : ℕ) (line word rest : List ℕ) (event : PrgrEvent) → line ≡ word ++ space ∷ rest → bytes_eq word (codes "release") ≡ true → option_map (λ g. Release g) (number_of rest) ≡ Some event → Says members line event
-release_says members line word rest event is named e =
-    let found = map_some (λ g. Release g) (number_of rest) event e in
-    let number = number_of_sound rest found.0 found.1 in
-    let text : line ≡ worded (codes "release") found.0 = is ∙ ap (λ (x : List ℕ). x ++ space ∷ rest) (same_bytes word (codes "release") named) ∙ ap (λ (x : List ℕ). codes "release" ++ space ∷ x) number.0 in
-    subst (Says members line) found.2 (text, number.1)
+plain_says : (members watchers : ℕ) (line : List ℕ) (event : PrgrEvent) → (if bytes_eq line (codes "publish") then Some Publish else (if bytes_eq line (codes "retire") then Some Retire else None)) ≡ Some event → Says members watchers line event
+plain_says members watchers line event e =
+    by_choice (bytes_eq line (codes "publish")) (Some Publish) (if bytes_eq line (codes "retire") then Some Retire else None) event
+    (λ named is. subst (Says members watchers line) (some_same Publish event is) (same_bytes line (codes "publish") named, tt))
+    (λ other. let retire = if_some (bytes_eq line (codes "retire")) Retire event other in subst (Says members watchers line) retire.1 (same_bytes line (codes "retire") retire.0, tt))
+    e
 
-member_says : (members : ℕ) (line word rest : List ℕ) (event : PrgrEvent) → line ≡ word ++ space ∷ rest → option_and_then (by_word member_words word) (member_of members rest) ≡ Some event → Says members line event
-member_says members line word rest event is e =
-    let found = and_then_some (by_word member_words word) (member_of members rest) event e in
-    let m = member_some members rest found.0 found.1 in
-    table_says members member_words (words_are_table members) line word found.0 event (is ∙ ap (λ (x : List ℕ). word ++ space ∷ x) m.0) m.1 found.2
+-- a line of a word and more
+module _ (members watchers : ℕ) (line word rest : List ℕ) (parts : line ≡ word ++ space ∷ rest) where
+  -- the line, once word and numbers are known
+  line_is : (name numbers : List ℕ) → bytes_eq word name ≡ true → rest ≡ numbers → line ≡ name ++ space ∷ numbers
+  line_is name numbers named is = parts ∙ ap (λ (x : List ℕ). x ++ space ∷ rest) (same_bytes word name named) ∙ ap (λ (x : List ℕ). name ++ space ∷ x) is
 
-event_says : (members : ℕ) (line : List ℕ) (o : Option (List ℕ × List ℕ)) (event : PrgrEvent) → cut_at space line ≡ o → event_by members line o ≡ Some event → Says members line event
-event_says members line None event cut e = plain_says members line event e
-event_says members line (Some p) event cut e =
-    let parts = cut_parts space line p cut in
-    let others : Option PrgrEvent = option_and_then (by_word member_words p.0) (member_of members p.1) in
-    let scans : Option PrgrEvent = if bytes_eq p.0 (codes "scan") then scan_by members (cut_at space p.1) else others in
-    elim (choice_some (bytes_eq p.0 (codes "release")) (option_map (λ g. Release g) (number_of p.1)) scans event e) as (λ _. Says members line event) [
-      | inl release ↦ release_says members line p.0 p.1 event parts release.0 release.1
-      | inr later ↦ elim (choice_some (bytes_eq p.0 (codes "scan")) (scan_by members (cut_at space p.1)) others event later) as (λ _. Says members line event) [
-        | inl scan ↦ scan_says members line p.1 (cut_at space p.1) event (parts ∙ ap (λ (x : List ℕ). x ++ space ∷ p.1) (same_bytes p.0 (codes "scan") scan.0)) refl scan.1
-        | inr member ↦ member_says members line p.0 p.1 event parts member
-      ]
-    ]
+  release_says : (event : PrgrEvent) → bytes_eq word (codes "release") ≡ true → option_map (λ g. Release g) (number_of rest) ≡ Some event → Says members watchers line event
+  release_says event named e =
+      let found = map_some (λ g. Release g) (number_of rest) event e in
+      let number = number_of_sound rest found.0 found.1 in
+      subst (Says members watchers line) found.2 (line_is (codes "release") (decimal found.0) named number.0, number.1)
+
+  number_says : (name : List ℕ) (count : ℕ) (form : ℕ → PrgrEvent) (event : PrgrEvent) → ((n : ℕ) → n < count → Says members watchers (worded name n) (form n)) → bytes_eq word name ≡ true → option_map form (number_below count rest) ≡ Some event → Says members watchers line event
+  number_says name count form event says named e =
+      let found = map_some form (number_below count rest) event e in
+      let number = number_some count rest found.0 found.1 in
+      let said = says found.0 number.1 in
+      subst (Says members watchers line) found.2 (line_is name (decimal found.0) named number.0 ∙ said.0, said.1)
+
+  numbers_say : (name : List ℕ) (first second : ℕ) (form : ℕ → ℕ → PrgrEvent) (event : PrgrEvent) → ((n k : ℕ) → n < first → k < second → Says members watchers (worded_twice name n k) (form n k)) → bytes_eq word name ≡ true → option_map (λ p. form p.0 p.1) (numbers_below first second rest) ≡ Some event → Says members watchers line event
+  numbers_say name first second form event says named e =
+      let found = map_some (λ (p : ℕ × ℕ). form p.0 p.1) (numbers_below first second rest) event e in
+      let numbers = numbers_some first second rest (cut_at space rest) found.0 refl found.1 in
+      let said = says found.0.0 found.0.1 numbers.1 numbers.2 in
+      subst (Says members watchers line) found.2 (line_is name (decimal found.0.0 ++ space ∷ decimal found.0.1) named numbers.0 ∙ said.0, said.1)
+
+  -- each word of a table is that of its event
+  abbrev IsTable : List (List ℕ × (ℕ → PrgrEvent)) → Type 0
+  IsTable [] = Unit {0}
+  IsTable (row ∷ rows) = ((m : ℕ) → m < members → Says members watchers (worded row.0 m) (row.1 m)) × IsTable rows
+
+  words_are_table : IsTable member_words
+  words_are_table = (λ m below. (refl, below), (λ m below. (refl, below), (λ m below. (refl, below), (λ m below. (refl, below), (λ m below. (refl, below), (λ m below. (refl, below), (λ m below. (refl, below), (λ m below. (refl, below), (λ m below. (refl, below), tt)))))))))
+
+  table_says : (rows : List (List ℕ × (ℕ → PrgrEvent))) → IsTable rows → (m : ℕ) (event : PrgrEvent) → rest ≡ decimal m → m < members → by_word rows word m ≡ Some event → Says members watchers line event
+  table_says [] table m event is below e = absurd (cc)
+  table_says (row ∷ rows) table m event is below e =
+      by_choice (bytes_eq word row.0) (Some (row.1 m)) (by_word rows word m) event
+      (λ named here. let says = table.0 m below in subst (Says members watchers line) (some_same (row.1 m) event here) (line_is row.0 (decimal m) named is ∙ says.0, says.1))
+      (λ later. table_says rows table.1 m event is below later)
+      e
+
+  member_says : (event : PrgrEvent) → option_and_then (by_word member_words word) (number_below members rest) ≡ Some event → Says members watchers line event
+  member_says event e =
+      let found = and_then_some (by_word member_words word) (number_below members rest) event e in
+      let m = number_some members rest found.0 found.1 in
+      table_says member_words words_are_table found.0 event m.0 m.1 found.2
+
+  worded_says : (event : PrgrEvent) → worded_event members watchers word rest ≡ Some event → Says members watchers line event
+  worded_says event e =
+      by_choice _ _ _ event (λ named is. release_says event named is)
+      (λ e. by_choice _ _ _ event (λ named is. numbers_say (codes "scan") members members (λ m k. Scan m k) event (λ m k below below_too. (refl, (below, below_too))) named is)
+      (λ e. by_choice _ _ _ event (λ named is. number_says (codes "watch_load") watchers (λ w. WatchLoad w) event (λ w below. (refl, below)) named is)
+      (λ e. by_choice _ _ _ event (λ named is. numbers_say (codes "watch_add") watchers DELAY_COUNTS (λ w k. WatchAdd w k) event (λ w k below below_too. (refl, (below, below_too))) named is)
+      (λ e. by_choice _ _ _ event (λ named is. number_says (codes "watch_root") watchers (λ w. WatchRoot w) event (λ w below. (refl, below)) named is)
+      (λ e. by_choice _ _ _ event (λ named is. numbers_say (codes "watch_sub") watchers DELAY_COUNTS (λ w k. WatchSub w k) event (λ w k below below_too. (refl, (below, below_too))) named is)
+      (member_says event) e) e) e) e) e) e
+
+event_says : (members watchers : ℕ) (line : List ℕ) (o : Option (List ℕ × List ℕ)) (event : PrgrEvent) → cut_at space line ≡ o → event_by members watchers line o ≡ Some event → Says members watchers line event
+event_says members watchers line None event cut e = plain_says members watchers line event e
+event_says members watchers line (Some p) event cut e = worded_says members watchers line p.0 p.1 (cut_parts space line p cut) event e
 
 -- what is read as an event is its line
-pub event_of_sound : (members : ℕ) (line : List ℕ) (event : PrgrEvent) → event_of members line ≡ Some event → Says members line event
-event_of_sound members line event e = event_says members line (cut_at space line) event refl e
+pub event_of_sound : (members watchers : ℕ) (line : List ℕ) (event : PrgrEvent) → event_of members watchers line ≡ Some event → Says members watchers line event
+event_of_sound members watchers line event e = event_says members watchers line (cut_at space line) event refl e

@@ -1,10 +1,12 @@
 -- Grace follows from the progress invariant.
-use Rattle.std.proofs.Common.{ℕ, ◌≤◌, inl, inr, sym, subst, arith}
+use Rattle.std.proofs.Common.{◌≡◌, ℕ, ◌≤◌, Some, inl, inr, sym, subst, arith}
 use Rattle.prgr_core.specs.declared.member.Member.{Member}
 use Rattle.prgr_core.specs.Members.{HasLoaded, HasLoadedRoot}
 use Rattle.prgr_core.specs.declared.member.Loaded.{Loaded}
 use Rattle.prgr_core.specs.declared.member.Loaded.TheVariants.{Nothing, Counter, CounterAndRoot}
-use Rattle.prgr_core.specs.Machine.{Machine, Readable, MayRead}
+use Rattle.prgr_core.specs.declared.watcher.Watcher.{Watcher}
+use Rattle.prgr_core.specs.Watchers.{IsClaimed}
+use Rattle.prgr_core.specs.Machine.{Machine, IsWatcher, Readable, MayRead}
 use Rattle.prgr_core.specs.Invariant.{ProgressInvariant, Grace}
 
 -- who has loaded the root has loaded the counter
@@ -24,13 +26,19 @@ module _ (m : Machine) (h : ProgressInvariant m) (n v : ℕ) (was : m.WasRetired
             h.loaded_later member is n v was c enters.1.1 (omega (arith, near))
       ]
 
+  watcher_reads_later : (watcher : Watcher) → IsWatcher m watcher → IsClaimed watcher.phase → (g : ℕ) → watcher.generation ≡ Some g → n ≤ g
+  watcher_reads_later watcher is claimed g root =
+      let each = h.each_watcher watcher is in
+      let near = each.claim_near claimed.0 claimed.1 in
+      each.claim_later n v was claimed.0 g claimed.1 root (omega (arith, near, reached))
+
   pub reads_later : (g : ℕ) → Readable m g → n ≤ g
   reads_later g may =
       elim may as (λ _. n ≤ g) [
         | inl present ↦ subst (λ x. n ≤ x) (sym present) (h.needs_near n v was).0
         | inr others ↦ elim others as (λ _. n ≤ g) [
           | inl by_member ↦ subst (λ x. n ≤ x) by_member.3 (member_reads_later by_member.0 by_member.1 by_member.2)
-          | inr by_watcher ↦ absurd (h.no_watchers by_watcher.0 by_watcher.1)
+          | inr by_watcher ↦ watcher_reads_later by_watcher.0 by_watcher.1 by_watcher.2 g by_watcher.3
         ]
       ]
 

@@ -5,23 +5,20 @@ use Rattle.prgr_core.specs.declared.fault.EventFault.{EventFault}
 use Rattle.std.specs.List.{AllByRecursion}
 use Rattle.std.specs.Option.{option_and_then}
 use Rattle.std.specs.Str.{bytes_eq}
-use Rattle.std.proofs.lemmas.Bool.{eqb-true, eqb-false, leb-true, le-leb}
+use Rattle.std.proofs.lemmas.Bool.{eqb-true, leb-true, le-leb}
 use Rattle.std.proofs.lemmas.List.{append-nil}
-use Rattle.std.proofs.lemmas.Fmt.{decimal_digit}
 use Rattle.std.proofs.lemmas.Slice.Eq.{bytes_eq-Decides}
-use Rattle.std.specs.List.{list_all}
-use Rattle.std.proofs.Common.{not, eqb}
 use Rattle.prgr_core.specs.declared.member.TheConstants.{MOST_MEMBERS}
+use Rattle.prgr_core.specs.declared.watcher.TheConstants.{MOST_WATCHERS}
 use Rattle.prgr_core.specs.declared.event.Events.{Events}
 use Rattle.prgr_core.specs.declared.event.PrgrEvent.{PrgrEvent}
-use Rattle.prgr_core.specs.declared.event.PrgrEvent.TheVariants.{LoadCounter, LoadRoot, Report, Lead, Scan, ScanDelay, Advance, GiveUp, Wait, Enter, Publish, Retire, Release, WatchLoad, WatchAdd, WatchRoot, WatchSub}
 use Rattle.prgr_core.specs.EventText.{space, line_feed, worded, event_text, line_then, list_text, IsAllowed, EventText}
-use Rattle.prgr_core.specs.Reading.{◌>>=◌, Gives, cut_at, Lines, lines, before_lines, lines_of, number_of, event_of, members_by, line_by, line_at, expected, or_fault, members_at, at_end, list_on, list_at, reading}
+use Rattle.prgr_core.specs.Reading.{◌>>=◌, Gives, cut_at, Lines, lines, before_lines, lines_of, number_of, event_of, count_by, line_by, line_at, expected, or_fault, count_at, at_end, list_on, list_at, reading}
 use Rattle.prgr_core.specs.Faults.{joined}
 use Rattle.prgr_core.proofs.Parts.{and_then_some, if_some, both_true}
-use Rattle.prgr_core.proofs.Numerals.{number_of_sound, number_of_decimal, Lacks, decimal_lacks}
+use Rattle.prgr_core.proofs.Numerals.{number_of_sound, number_of_decimal, Lacks}
 use Rattle.prgr_core.proofs.Texts.{cut_parts, lines_of_cut}
-use Rattle.prgr_core.proofs.EventLines.{cut_here, lacks_append, event_read, event_of_sound, same_bytes}
+use Rattle.prgr_core.proofs.EventLines.{cut_here, lacks_plain, worded_lacks, IsFew, event_read, event_lacks, not_go, event_of_sound, same_bytes}
 
 -- ---- what is read is a text of the grammar
 
@@ -54,35 +51,35 @@ expected_ok number wanted text rest e =
     let made = choice_ok (bytes_eq p.0 wanted) p.1 rest number found.2 in
     line_at_ok number text p found.1 ∙ ap (λ (x : List ℕ). line_then x p.1) (same_bytes p.0 wanted made.0) ∙ ap (line_then wanted) made.1
 
--- how many members a second line may give
-abbrev pub IsCount : ℕ → Type 0
-IsCount n = (1 ≤ n) × (n ≤ MOST_MEMBERS)
+-- how many a line may give, from least to most
+abbrev pub IsCount : ℕ → ℕ → ℕ → Type 0
+IsCount least most n = (least ≤ n) × (n ≤ most)
 
 count_ok : (b : Bool) (o : Option ℕ) (n : ℕ) → (if b then o else None) ≡ Some n → (b ≡ true) × (o ≡ Some n)
 count_ok true o n e = (refl, e)
 count_ok false o n e = absurd (cc)
 
-pub members_by_ok : (line : List ℕ) (o : Option (List ℕ × List ℕ)) (n : ℕ) → cut_at space line ≡ o → members_by o ≡ Some n → (line ≡ worded (codes "members") n) × IsCount n
-members_by_ok line None n cut e = absurd (cc)
-members_by_ok line (Some p) n cut e =
-    let made = count_ok (bytes_eq p.0 (codes "members")) _ n e in
-    let found = and_then_some (λ m. if nat_le 1 m && nat_le m MOST_MEMBERS then Some m else None) (number_of p.1) n made.1 in
-    let range = if_some (nat_le 1 found.0 && nat_le found.0 MOST_MEMBERS) found.0 n found.2 in
-    let both = both_true (nat_le 1 found.0) (nat_le found.0 MOST_MEMBERS) range.0 in
+pub count_by_ok : (word : List ℕ) (least most : ℕ) (line : List ℕ) (o : Option (List ℕ × List ℕ)) (n : ℕ) → cut_at space line ≡ o → count_by word least most o ≡ Some n → (line ≡ worded word n) × IsCount least most n
+count_by_ok word least most line None n cut e = absurd (cc)
+count_by_ok word least most line (Some p) n cut e =
+    let made = count_ok (bytes_eq p.0 word) _ n e in
+    let found = and_then_some (λ m. if nat_le least m && nat_le m most then Some m else None) (number_of p.1) n made.1 in
+    let range = if_some (nat_le least found.0 && nat_le found.0 most) found.0 n found.2 in
+    let both = both_true (nat_le least found.0) (nat_le found.0 most) range.0 in
     let number = (number_of_sound p.1 found.0 found.1).0 ∙ ap decimal range.1 in (
-      cut_parts space line p cut ∙ ap (λ (x : List ℕ). x ++ space ∷ p.1) (same_bytes p.0 (codes "members") made.0) ∙ ap (λ (x : List ℕ). codes "members" ++ space ∷ x) number,
-      subst IsCount range.1 (leb-true 1 found.0 both.0, leb-true found.0 MOST_MEMBERS both.1),
+      cut_parts space line p cut ∙ ap (λ (x : List ℕ). x ++ space ∷ p.1) (same_bytes p.0 word made.0) ∙ ap (λ (x : List ℕ). word ++ space ∷ x) number,
+      subst (IsCount least most) range.1 (leb-true least found.0 both.0, leb-true found.0 most both.1),
     )
 
-members_at_ok : (text : List ℕ) (n : ℕ) (rest : List ℕ) → members_at text ≡ Ok (n, rest) → (text ≡ line_then (worded (codes "members") n) rest) × IsCount n
-members_at_ok text n rest e =
-    let found = bind_ok (line_at 2 text) (λ p. or_fault 2 (members_by (cut_at space p.0)) >>= (λ m. Ok (m, p.1))) (n, rest) e in
+count_at_ok : (number : ℕ) (word : List ℕ) (least most : ℕ) (text : List ℕ) (n : ℕ) (rest : List ℕ) → count_at number word least most text ≡ Ok (n, rest) → (text ≡ line_then (worded word n) rest) × IsCount least most n
+count_at_ok number word least most text n rest e =
+    let found = bind_ok (line_at number text) (λ p. or_fault number (count_by word least most (cut_at space p.0)) >>= (λ m. Ok (m, p.1))) (n, rest) e in
     let p = found.0 in
-    let count = bind_ok (or_fault 2 (members_by (cut_at space p.0))) (λ m. Ok (m, p.1)) (n, rest) found.2 in
+    let count = bind_ok (or_fault number (count_by word least most (cut_at space p.0))) (λ m. Ok (m, p.1)) (n, rest) found.2 in
     let same : ◌≡◌ {A = ℕ × List ℕ} (count.0, p.1) (n, rest) = ok_same (count.0, p.1) (n, rest) count.2 in
-    let line = members_by_ok p.0 (cut_at space p.0) count.0 refl (or_fault_ok 2 (members_by (cut_at space p.0)) count.0 count.1) in
-    subst (λ (q : ℕ × List ℕ). (text ≡ line_then (worded (codes "members") q.0) q.1) × IsCount q.0) same
-    (line_at_ok 2 text p found.1 ∙ ap (λ (x : List ℕ). line_then x p.1) line.0, line.1)
+    let line = count_by_ok word least most p.0 (cut_at space p.0) count.0 refl (or_fault_ok number (count_by word least most (cut_at space p.0)) count.0 count.1) in
+    subst (λ (q : ℕ × List ℕ). (text ≡ line_then (worded word q.0) q.1) × IsCount least most q.0) same
+    (line_at_ok number text p found.1 ∙ ap (λ (x : List ℕ). line_then x p.1) line.0, line.1)
 
 joined_before : (b : ℕ) (ended : List (List ℕ)) (tail : List ℕ) → joined (before_lines b ended tail).ended (before_lines b ended tail).tail ≡ b ∷ joined ended tail
 joined_before b [] tail = refl
@@ -97,30 +94,30 @@ joined_lines (b ∷ bs) =
     ] refl
 
 -- more events follow those that were read, and their lines are these
-pub record ReadsOn (members : ℕ) (events all : List PrgrEvent) (text : List ℕ) : Type 0 where
+pub record ReadsOn (members watchers : ℕ) (events all : List PrgrEvent) (text : List ℕ) : Type 0 where
   pub more : List PrgrEvent
   pub whole : all ≡ events ++ more
-  pub allowed : AllByRecursion (IsAllowed members) more
+  pub allowed : AllByRecursion (IsAllowed members watchers) more
   pub spelled : text ≡ list_text more
 
-at_end_ok : (members number : ℕ) (events : List PrgrEvent) (others : List (List ℕ)) (tail : List ℕ) (all : List PrgrEvent) (line : List ℕ) → line ≡ codes "go" → at_end number events others tail ≡ Ok all → ReadsOn members events all (line_then line (joined others tail))
-at_end_ok members number events [] [] all line is e = record { more = []; whole = sym (ok_same events all e) ∙ sym (append-nil events); allowed = tt; spelled = ap (λ (x : List ℕ). line_then x []) is }
-at_end_ok members number events [] (b ∷ tail) all line is e = absurd (cc)
-at_end_ok members number events (other ∷ others) tail all line is e = absurd (cc)
+at_end_ok : (members watchers number : ℕ) (events : List PrgrEvent) (others : List (List ℕ)) (tail : List ℕ) (all : List PrgrEvent) (line : List ℕ) → line ≡ codes "go" → at_end number events others tail ≡ Ok all → ReadsOn members watchers events all (line_then line (joined others tail))
+at_end_ok members watchers number events [] [] all line is e = record { more = []; whole = sym (ok_same events all e) ∙ sym (append-nil events); allowed = tt; spelled = ap (λ (x : List ℕ). line_then x []) is }
+at_end_ok members watchers number events [] (b ∷ tail) all line is e = absurd (cc)
+at_end_ok members watchers number events (other ∷ others) tail all line is e = absurd (cc)
 
 choice_either : {A : Type 0} (b : Bool) (x y : Result A ℕ) (z : A) → (if b then x else y) ≡ Ok z → ((b ≡ true) × (x ≡ Ok z)) ⊎ (y ≡ Ok z)
 choice_either true x y z e = inl (refl, e)
 choice_either false x y z e = inr e
 
-list_on_ok : (members number : ℕ) (events : List PrgrEvent) (ended : List (List ℕ)) (tail : List ℕ) (all : List PrgrEvent) → list_on members number events ended tail ≡ Ok all → ReadsOn members events all (joined ended tail)
-list_on_ok members number events [] tail all e = absurd (cc)
-list_on_ok members number events (line ∷ others) tail all e =
-    elim (choice_either (bytes_eq line (codes "go")) _ _ all e) as (λ _. ReadsOn members events all (line_then line (joined others tail))) [
-      | inl go ↦ at_end_ok members (number + 1) events others tail all line (same_bytes line (codes "go") go.0) go.1
+list_on_ok : (members watchers number : ℕ) (events : List PrgrEvent) (ended : List (List ℕ)) (tail : List ℕ) (all : List PrgrEvent) → list_on members watchers number events ended tail ≡ Ok all → ReadsOn members watchers events all (joined ended tail)
+list_on_ok members watchers number events [] tail all e = absurd (cc)
+list_on_ok members watchers number events (line ∷ others) tail all e =
+    elim (choice_either (bytes_eq line (codes "go")) _ _ all e) as (λ _. ReadsOn members watchers events all (line_then line (joined others tail))) [
+      | inl go ↦ at_end_ok members watchers (number + 1) events others tail all line (same_bytes line (codes "go") go.0) go.1
       | inr event ↦
-          let found = bind_ok (or_fault number (event_of members line)) _ all event in
-          let says = event_of_sound members line found.0 (or_fault_ok number (event_of members line) found.0 found.1) in
-          let rest = list_on_ok members (number + 1) (events ++ found.0 ∷ []) others tail all found.2 in
+          let found = bind_ok (or_fault number (event_of members watchers line)) _ all event in
+          let says = event_of_sound members watchers line found.0 (or_fault_ok number (event_of members watchers line) found.0 found.1) in
+          let rest = list_on_ok members watchers (number + 1) (events ++ found.0 ∷ []) others tail all found.2 in
           record {
             more = found.0 ∷ rest.more;
             whole = rest.whole ∙ append_assoc events (found.0 ∷ []) rest.more;
@@ -129,50 +126,35 @@ list_on_ok members number events (line ∷ others) tail all e =
           }
     ]
 
-list_at_ok : (members : ℕ) (text : List ℕ) (all : List PrgrEvent) → list_at members text ≡ Ok all → (text ≡ list_text all) × AllByRecursion (IsAllowed members) all
-list_at_ok members text all e =
-    let read = list_on_ok members 4 [] (lines_of text).ended (lines_of text).tail all e in
-    (sym (joined_lines text) ∙ read.spelled ∙ ap list_text (sym read.whole), subst (AllByRecursion (IsAllowed members)) (sym read.whole) read.allowed)
-
--- the third line gives no watchers
-pub zero_watchers : codes "watchers 0" ≡ worded (codes "watchers") 0
-zero_watchers = ap (λ (x : List ℕ). codes "watchers" ++ space ∷ x) (sym (decimal_digit 0 (omega arith)))
+list_at_ok : (members watchers : ℕ) (text : List ℕ) (all : List PrgrEvent) → list_at members watchers text ≡ Ok all → (text ≡ list_text all) × AllByRecursion (IsAllowed members watchers) all
+list_at_ok members watchers text all e =
+    let read = list_on_ok members watchers 4 [] (lines_of text).ended (lines_of text).tail all e in
+    (sym (joined_lines text) ∙ read.spelled ∙ ap list_text (sym read.whole), subst (AllByRecursion (IsAllowed members watchers)) (sym read.whole) read.allowed)
 
 -- what is read is a text of the grammar
 pub reading_sound : (text : List ℕ) (events : Events) → reading text ≡ Ok events → EventText text events
 reading_sound text events e =
     let head = bind_ok (expected 1 (codes "beam progress 1") text) _ events e in
-    let members = bind_ok (members_at head.0) _ events head.2 in
-    let watchers = bind_ok (expected 3 (codes "watchers 0") members.0.1) _ events members.2 in
-    let list = bind_ok (list_at members.0.0 watchers.0) _ events watchers.2 in
+    let members = bind_ok (count_at 2 (codes "members") 1 MOST_MEMBERS head.0) _ events head.2 in
+    let watchers = bind_ok (count_at 3 (codes "watchers") 0 MOST_WATCHERS members.0.1) _ events members.2 in
+    let list = bind_ok (list_at members.0.0 watchers.0.0 watchers.0.1) _ events watchers.2 in
     let same = ok_same _ events list.2 in
-    let count = members_at_ok head.0 members.0.0 members.0.1 members.1 in
-    let events_are = list_at_ok members.0.0 watchers.0 list.0 list.1 in
+    let second = count_at_ok 2 (codes "members") 1 MOST_MEMBERS head.0 members.0.0 members.0.1 members.1 in
+    let third = count_at_ok 3 (codes "watchers") 0 MOST_WATCHERS members.0.1 watchers.0.0 watchers.0.1 watchers.1 in
+    let events_are = list_at_ok members.0.0 watchers.0.0 watchers.0.1 list.0 list.1 in
     subst (EventText text) same (record {
-      some_member = count.1.0;
-      few_members = count.1.1;
-      no_watchers = refl;
+      some_member = second.1.0;
+      few_members = second.1.1;
+      few_watchers = third.1.1;
       allowed = events_are.1;
       spelled =
           expected_ok 1 (codes "beam progress 1") text head.0 head.1
           ∙ ap (line_then (codes "beam progress 1"))
-          (count.0 ∙ ap (line_then (worded (codes "members") members.0.0))
-          (expected_ok 3 (codes "watchers 0") members.0.1 watchers.0 watchers.1
-          ∙ ap (λ (x : List ℕ). line_then x watchers.0) zero_watchers
-          ∙ ap (line_then (worded (codes "watchers") 0)) events_are.0));
+          (second.0 ∙ ap (line_then (worded (codes "members") members.0.0))
+          (third.0 ∙ ap (line_then (worded (codes "watchers") watchers.0.0)) events_are.0));
     })
 
 -- ---- every text of the grammar is read
-
-pub not_true : (b : Bool) → not b ≡ true → b ≡ false
-not_true false e = refl
-not_true true e = absurd (cc)
-
-pub lacks_plain : (c : ℕ) (xs : List ℕ) → list_all (λ b. not (eqb b c)) xs ≡ true → Lacks c xs
-lacks_plain c [] e = tt
-lacks_plain c (x ∷ xs) e =
-    let both = both_true (not (eqb x c)) (list_all (λ b. not (eqb b c)) xs) e in
-    (eqb-false x c (not_true (eqb x c) both.0), lacks_plain c xs both.1)
 
 line_here : (number : ℕ) (line rest : List ℕ) → Lacks line_feed line → line_at number (line_then line rest) ≡ Ok (line, rest)
 line_here number line rest lacks = ap (line_by number (line_then line rest)) (cut_here line_feed line rest lacks)
@@ -182,100 +164,67 @@ expected_here number wanted rest lacks =
     ap (λ (r : Result (List ℕ × List ℕ) ℕ). r >>= (λ p. if bytes_eq p.0 wanted then Ok p.1 else Err number)) (line_here number wanted rest lacks)
     ∙ ap (λ (t : Bool). if t then Ok rest else Err number) ((bytes_eq-Decides wanted wanted).1 refl)
 
-pub worded_lacks : (word : List ℕ) (n : ℕ) → list_all (λ b. not (eqb b line_feed)) word ≡ true → n < 2 ^ 64 → Lacks line_feed (worded word n)
-worded_lacks word n plain small = lacks_append line_feed word (space ∷ decimal n) (lacks_plain line_feed word plain) (λ e. (cc), decimal_lacks line_feed n (omega arith) small)
+count_read : (word : List ℕ) (least most n : ℕ) → Lacks space word → IsCount least most n → n < 2 ^ 64 → count_by word least most (cut_at space (worded word n)) ≡ Some n
+count_read word least most n lacks is small =
+    let digits = decimal n in
+    ap (count_by word least most) (cut_here space word digits lacks)
+    ∙ ap (λ (t : Bool). if t then option_and_then (λ m. if nat_le least m && nat_le m most then Some m else None) (number_of digits) else None) ((bytes_eq-Decides word word).1 refl)
+    ∙ ap (option_and_then (λ m. if nat_le least m && nat_le m most then Some m else None)) (number_of_decimal n small)
+    ∙ ap (λ (t : Bool). if t && nat_le n most then Some n else None) (le-leb least n is.0)
+    ∙ ap (λ (t : Bool). if t then Some n else None) (le-leb n most is.1)
 
-count_read : (n : ℕ) → IsCount n → members_by (cut_at space (worded (codes "members") n)) ≡ Some n
-count_read n is =
-    let small : n < 2 ^ 64 = omega (arith, is) in
-    ap (option_and_then (λ m. if nat_le 1 m && nat_le m MOST_MEMBERS then Some m else None)) (number_of_decimal n small)
-    ∙ ap (λ (t : Bool). if t && nat_le n MOST_MEMBERS then Some n else None) (le-leb 1 n is.0)
-    ∙ ap (λ (t : Bool). if t then Some n else None) (le-leb n MOST_MEMBERS is.1)
+count_here : (number : ℕ) (word : List ℕ) (least most n : ℕ) (rest : List ℕ) → Lacks space word → Lacks line_feed (worded word n) → IsCount least most n → n < 2 ^ 64 → count_at number word least most (line_then (worded word n) rest) ≡ Ok (n, rest)
+count_here number word least most n rest lacks lacks_too is small =
+    ap (λ (r : Result (List ℕ × List ℕ) ℕ). r >>= (λ p. or_fault number (count_by word least most (cut_at space p.0)) >>= (λ m. Ok (m, p.1)))) (line_here number (worded word n) rest lacks_too)
+    ∙ ap (λ (o : Option ℕ). or_fault number o >>= (λ m. Ok (m, rest))) (count_read word least most n lacks is small)
 
-members_here : (n : ℕ) (rest : List ℕ) → IsCount n → members_at (line_then (worded (codes "members") n) rest) ≡ Ok (n, rest)
-members_here n rest is =
-    let small : n < 2 ^ 64 = omega (arith, is) in
-    ap (λ (r : Result (List ℕ × List ℕ) ℕ). r >>= (λ p. or_fault 2 (members_by (cut_at space p.0)) >>= (λ m. Ok (m, p.1)))) (line_here 2 (worded (codes "members") n) rest (worded_lacks (codes "members") n refl small))
-    ∙ ap (λ (o : Option ℕ). or_fault 2 o >>= (λ m. Ok (m, rest))) (count_read n is)
-
-event_lacks : (members : ℕ) (event : PrgrEvent) → members ≤ MOST_MEMBERS → IsAllowed members event → Lacks line_feed (event_text event)
-event_lacks members (LoadCounter m) few below = worded_lacks (codes "load_counter") m refl (omega (arith, few, below))
-event_lacks members (LoadRoot m) few below = worded_lacks (codes "load_root") m refl (omega (arith, few, below))
-event_lacks members (Report m) few below = worded_lacks (codes "report") m refl (omega (arith, few, below))
-event_lacks members (Lead m) few below = worded_lacks (codes "lead") m refl (omega (arith, few, below))
-event_lacks members (Scan m k) few below =
-    let small : m < 2 ^ 64 = omega (arith, few, below.0) in
-    let small_too : k < 2 ^ 64 = omega (arith, few, below.1) in
-    lacks_append line_feed (codes "scan") (space ∷ (decimal m ++ space ∷ decimal k)) (lacks_plain line_feed (codes "scan") refl)
-    (λ e. (cc), lacks_append line_feed (decimal m) (space ∷ decimal k) (decimal_lacks line_feed m (omega arith) small) (λ e. (cc), decimal_lacks line_feed k (omega arith) small_too))
-event_lacks members (ScanDelay m) few below = absurd below
-event_lacks members (Advance m) few below = worded_lacks (codes "advance") m refl (omega (arith, few, below))
-event_lacks members (GiveUp m) few below = worded_lacks (codes "give_up") m refl (omega (arith, few, below))
-event_lacks members (Wait m) few below = worded_lacks (codes "wait") m refl (omega (arith, few, below))
-event_lacks members (Enter m) few below = worded_lacks (codes "enter") m refl (omega (arith, few, below))
-event_lacks members Publish few below = lacks_plain line_feed (codes "publish") refl
-event_lacks members Retire few below = lacks_plain line_feed (codes "retire") refl
-event_lacks members (Release g) few below = worded_lacks (codes "release") g refl below
-event_lacks members (WatchLoad w) few below = absurd below
-event_lacks members (WatchAdd w k) few below = absurd below
-event_lacks members (WatchRoot w) few below = absurd below
-event_lacks members (WatchSub w k) few below = absurd below
-
-not_go : (event : PrgrEvent) → bytes_eq (event_text event) (codes "go") ≡ false
-not_go (LoadCounter m) = refl
-not_go (LoadRoot m) = refl
-not_go (Report m) = refl
-not_go (Lead m) = refl
-not_go (Scan m k) = refl
-not_go (ScanDelay m) = refl
-not_go (Advance m) = refl
-not_go (GiveUp m) = refl
-not_go (Wait m) = refl
-not_go (Enter m) = refl
-not_go Publish = refl
-not_go Retire = refl
-not_go (Release g) = refl
-not_go (WatchLoad w) = refl
-not_go (WatchAdd w k) = refl
-not_go (WatchRoot w) = refl
-not_go (WatchSub w k) = refl
-
-list_here : (members number : ℕ) (events more : List PrgrEvent) → members ≤ MOST_MEMBERS → AllByRecursion (IsAllowed members) more → list_on members number events (lines_of (list_text more)).ended (lines_of (list_text more)).tail ≡ Ok (events ++ more)
-list_here members number events [] few allowed = ap (λ (x : List PrgrEvent). Ok x) (sym (append-nil events))
-list_here members number events (event ∷ more) few allowed =
+list_here : (members watchers number : ℕ) (events more : List PrgrEvent) → IsFew members → IsFew watchers → AllByRecursion (IsAllowed members watchers) more → list_on members watchers number events (lines_of (list_text more)).ended (lines_of (list_text more)).tail ≡ Ok (events ++ more)
+list_here members watchers number events [] few few_too allowed = ap (λ (x : List PrgrEvent). Ok x) (sym (append-nil events))
+list_here members watchers number events (event ∷ more) few few_too allowed =
     let rest = list_text more in
     let others = (lines_of rest).ended in
     let tail = (lines_of rest).tail in
-    let cut = cut_here line_feed (event_text event) rest (event_lacks members event few allowed.0) in
-    ap (λ (w : Lines). list_on members number events w.ended w.tail) (lines_of_cut (line_then (event_text event) rest) (event_text event, rest) cut)
-    ∙ ap (λ (t : Bool). if t then at_end (number + 1) events others tail else (or_fault number (event_of members (event_text event)) >>= (λ e. list_on members (number + 1) (events ++ e ∷ []) others tail))) (not_go event)
-    ∙ ap (λ (o : Option PrgrEvent). or_fault number o >>= (λ e. list_on members (number + 1) (events ++ e ∷ []) others tail)) (event_read members event few allowed.0)
-    ∙ list_here members (number + 1) (events ++ event ∷ []) more few allowed.1
+    let cut = cut_here line_feed (event_text event) rest (event_lacks members watchers event few few_too allowed.0) in
+    ap (λ (w : Lines). list_on members watchers number events w.ended w.tail) (lines_of_cut (line_then (event_text event) rest) (event_text event, rest) cut)
+    ∙ ap (λ (t : Bool). if t then at_end (number + 1) events others tail else (or_fault number (event_of members watchers (event_text event)) >>= (λ e. list_on members watchers (number + 1) (events ++ e ∷ []) others tail))) (not_go event)
+    ∙ ap (λ (o : Option PrgrEvent). or_fault number o >>= (λ e. list_on members watchers (number + 1) (events ++ e ∷ []) others tail)) (event_read members watchers event few few_too allowed.0)
+    ∙ list_here members watchers (number + 1) (events ++ event ∷ []) more few few_too allowed.1
     ∙ ap (λ (x : List PrgrEvent). Ok x) (append_assoc events (event ∷ []) more)
 
-abbrev behind_count : ℕ × List ℕ → Result Events ℕ
-behind_count p = expected 3 (codes "watchers 0") p.1 >>= (λ text. list_at p.0 text >>= (λ events. Ok (record { members = p.0; watchers = 0; list = events })))
+-- the second line is read, the third and the list
+members_here : (n : ℕ) (rest : List ℕ) → IsCount 1 MOST_MEMBERS n → count_at 2 (codes "members") 1 MOST_MEMBERS (line_then (worded (codes "members") n) rest) ≡ Ok (n, rest)
+members_here n rest is =
+    let small : n < 2 ^ 64 = omega (arith, is) in
+    count_here 2 (codes "members") 1 MOST_MEMBERS n rest (lacks_plain space (codes "members") refl) (worded_lacks (codes "members") n refl small) is small
+
+watchers_here : (n : ℕ) (rest : List ℕ) → n ≤ MOST_WATCHERS → count_at 3 (codes "watchers") 0 MOST_WATCHERS (line_then (worded (codes "watchers") n) rest) ≡ Ok (n, rest)
+watchers_here n rest few =
+    let small : n < 2 ^ 64 = omega (arith, few) in
+    count_here 3 (codes "watchers") 0 MOST_WATCHERS n rest (lacks_plain space (codes "watchers") refl) (worded_lacks (codes "watchers") n refl small) (omega arith, few) small
+
+abbrev behind_watchers : ℕ → ℕ × List ℕ → Result Events ℕ
+behind_watchers members p = list_at members p.0 p.1 >>= (λ list. Ok (record { members = members; watchers = p.0; list = list }))
+
+abbrev behind_members : ℕ × List ℕ → Result Events ℕ
+behind_members p = count_at 3 (codes "watchers") 0 MOST_WATCHERS p.1 >>= behind_watchers p.0
 
 abbrev behind_head : List ℕ → Result Events ℕ
-behind_head text = members_at text >>= behind_count
-
-text_here : (members : ℕ) (list : List PrgrEvent) → IsCount members → AllByRecursion (IsAllowed members) list → reading (line_then (codes "beam progress 1") (line_then (worded (codes "members") members) (line_then (codes "watchers 0") (list_text list)))) ≡ Ok (record { members = members; watchers = 0; list = list })
-text_here members list is allowed =
-    let behind_members = line_then (codes "watchers 0") (list_text list) in
-    ap (λ (r : Result (List ℕ) ℕ). r >>= behind_head) (expected_here 1 (codes "beam progress 1") (line_then (worded (codes "members") members) behind_members) (lacks_plain line_feed (codes "beam progress 1") refl))
-    ∙ ap (λ (r : Result (ℕ × List ℕ) ℕ). r >>= behind_count) (members_here members behind_members is)
-    ∙ ap (λ (r : Result (List ℕ) ℕ). r >>= (λ text. list_at members text >>= (λ events. Ok (record { members = members; watchers = 0; list = events })))) (expected_here 3 (codes "watchers 0") (list_text list) (lacks_plain line_feed (codes "watchers 0") refl))
-    ∙ ap (λ (r : Result (List PrgrEvent) ℕ). r >>= (λ events. Ok (record { members = members; watchers = 0; list = events }))) (list_here members 4 [] list is.1 allowed)
+behind_head text = count_at 2 (codes "members") 1 MOST_MEMBERS text >>= behind_members
 
 -- every text of the grammar is read
 pub reading_complete : (text : List ℕ) (events : Events) → EventText text events → reading text ≡ Ok events
 reading_complete text events is =
     let m = events.members in
-    let list = events.list in
-    let spelled : text ≡ line_then (codes "beam progress 1") (line_then (worded (codes "members") m) (line_then (codes "watchers 0") (list_text list))) =
-    is.spelled ∙ ap (λ (w : ℕ). line_then (codes "beam progress 1") (line_then (worded (codes "members") m) (line_then (worded (codes "watchers") w) (list_text list)))) is.no_watchers
-    ∙ ap (λ (w : List ℕ). line_then (codes "beam progress 1") (line_then (worded (codes "members") m) (line_then w (list_text list)))) (sym zero_watchers) in
-    ap reading spelled ∙ text_here m list (is.some_member, is.few_members) is.allowed ∙ ap (λ (w : ℕ). Ok (record { members = m; watchers = w; list = list })) (sym is.no_watchers)
+    let w = events.watchers in
+    let third = line_then (worded (codes "watchers") w) (list_text events.list) in
+    let second = line_then (worded (codes "members") m) third in
+    let few : IsFew m = omega (arith, is.few_members) in
+    let few_too : IsFew w = omega (arith, is.few_watchers) in
+    ap reading is.spelled
+    ∙ ap (λ (r : Result (List ℕ) ℕ). r >>= behind_head) (expected_here 1 (codes "beam progress 1") second (lacks_plain line_feed (codes "beam progress 1") refl))
+    ∙ ap (λ (r : Result (ℕ × List ℕ) ℕ). r >>= behind_members) (members_here m third (is.some_member, is.few_members))
+    ∙ ap (λ (r : Result (ℕ × List ℕ) ℕ). r >>= behind_watchers m) (watchers_here w (list_text events.list) is.few_watchers)
+    ∙ ap (λ (r : Result (List PrgrEvent) ℕ). r >>= (λ list. Ok (record { members = m; watchers = w; list = list }))) (list_here m w 4 [] events.list few few_too is.allowed)
 
 -- ---- what a call answered
 

@@ -9,6 +9,11 @@ pub and_then_some : {T U : Type 0} (f : T → Option U) (o : Option T) (u : U) �
 and_then_some f None u e = absurd (cc)
 and_then_some f (Some x) u e = (x, refl, e)
 
+-- what holds of both holds of the one that is chosen
+pub if_each : {T : Type 0} (P : T → Type 0) (b : Bool) (x y : T) → (b ≡ true → P x) → (b ≡ false → P y) → P (if b then x else y)
+if_each P true x y when unless = when refl
+if_each P false x y when unless = unless refl
+
 pub if_some : {T : Type 0} (b : Bool) (x t : T) → (if b then Some x else None) ≡ Some t → (b ≡ true) × (x ≡ t)
 if_some true x t e = (refl, cc)
 if_some false x t e = absurd (cc)

@@ -52,37 +52,37 @@ lines_of_tail (b ∷ bs) e =
 
 -- ---- one line of events
 
-abbrev pub lines_on : ℕ → ℕ → List PrgrEvent → List ℕ → Result (List PrgrEvent) ℕ
-lines_on members number events text = list_on members number events (lines_of text).ended (lines_of text).tail
+abbrev pub lines_on : ℕ → ℕ → ℕ → List PrgrEvent → List ℕ → Result (List PrgrEvent) ℕ
+lines_on members watchers number events text = list_on members watchers number events (lines_of text).ended (lines_of text).tail
 
 -- the list behind one line
-abbrev pub one_line : ℕ → ℕ → List PrgrEvent → List ℕ → Option PrgrEvent → Result (List PrgrEvent) ℕ
-one_line members number events rest None = at_end (number + 1) events (lines_of rest).ended (lines_of rest).tail
-one_line members number events rest (Some event) = lines_on members (number + 1) (events ++ event ∷ []) rest
+abbrev pub one_line : ℕ → ℕ → ℕ → List PrgrEvent → List ℕ → Option PrgrEvent → Result (List PrgrEvent) ℕ
+one_line members watchers number events rest None = at_end (number + 1) events (lines_of rest).ended (lines_of rest).tail
+one_line members watchers number events rest (Some event) = lines_on members watchers (number + 1) (events ++ event ∷ []) rest
 
 -- what the event of the first line says of the rest
-abbrev pub GoesOn : ℕ → ℕ → List PrgrEvent → List ℕ → Result (Option PrgrEvent × List ℕ) ℕ → Type 0
-GoesOn members number events text (Err line) = lines_on members number events text ≡ Err line
-GoesOn members number events text (Ok p) = (length p.1 < length text) × (lines_on members number events text ≡ one_line members number events p.1 p.0)
+abbrev pub GoesOn : ℕ → ℕ → ℕ → List PrgrEvent → List ℕ → Result (Option PrgrEvent × List ℕ) ℕ → Type 0
+GoesOn members watchers number events text (Err line) = lines_on members watchers number events text ≡ Err line
+GoesOn members watchers number events text (Ok p) = (length p.1 < length text) × (lines_on members watchers number events text ≡ one_line members watchers number events p.1 p.0)
 
-by_event : (members number : ℕ) (events : List PrgrEvent) (text line rest : List ℕ) (o : Option PrgrEvent) → length rest < length text → lines_on members number events text ≡ (or_fault number o >>= (λ event. list_on members (number + 1) (events ++ event ∷ []) (lines_of rest).ended (lines_of rest).tail)) → GoesOn members number events text (or_fault number o >>= (λ event. Ok (Some event, rest)))
-by_event members number events text line rest None shorter is = is
-by_event members number events text line rest (Some event) shorter is = (shorter, is)
+by_event : (members watchers number : ℕ) (events : List PrgrEvent) (text line rest : List ℕ) (o : Option PrgrEvent) → length rest < length text → lines_on members watchers number events text ≡ (or_fault number o >>= (λ event. list_on members watchers (number + 1) (events ++ event ∷ []) (lines_of rest).ended (lines_of rest).tail)) → GoesOn members watchers number events text (or_fault number o >>= (λ event. Ok (Some event, rest)))
+by_event members watchers number events text line rest None shorter is = is
+by_event members watchers number events text line rest (Some event) shorter is = (shorter, is)
 
-by_go : (members number : ℕ) (events : List PrgrEvent) (text line rest : List ℕ) (b : Bool) → length rest < length text → lines_on members number events text ≡ (if b then at_end (number + 1) events (lines_of rest).ended (lines_of rest).tail else (or_fault number (event_of members line) >>= (λ event. list_on members (number + 1) (events ++ event ∷ []) (lines_of rest).ended (lines_of rest).tail))) → GoesOn members number events text (if b then Ok (None, rest) else (or_fault number (event_of members line) >>= (λ event. Ok (Some event, rest))))
-by_go members number events text line rest true shorter is = (shorter, is)
-by_go members number events text line rest false shorter is = by_event members number events text line rest (event_of members line) shorter is
+by_go : (members watchers number : ℕ) (events : List PrgrEvent) (text line rest : List ℕ) (b : Bool) → length rest < length text → lines_on members watchers number events text ≡ (if b then at_end (number + 1) events (lines_of rest).ended (lines_of rest).tail else (or_fault number (event_of members watchers line) >>= (λ event. list_on members watchers (number + 1) (events ++ event ∷ []) (lines_of rest).ended (lines_of rest).tail))) → GoesOn members watchers number events text (if b then Ok (None, rest) else (or_fault number (event_of members watchers line) >>= (λ event. Ok (Some event, rest))))
+by_go members watchers number events text line rest true shorter is = (shorter, is)
+by_go members watchers number events text line rest false shorter is = by_event members watchers number events text line rest (event_of members watchers line) shorter is
 
-goes_by : (members number : ℕ) (events : List PrgrEvent) (text : List ℕ) (o : Option (List ℕ × List ℕ)) → cut_at line_feed text ≡ o → GoesOn members number events text (line_by number text o >>= (λ p. if bytes_eq p.0 (codes "go") then Ok (None, p.1) else (or_fault number (event_of members p.0) >>= (λ event. Ok (Some event, p.1)))))
-goes_by members number events text None is = ap (λ (w : Lines). list_on members number events w.ended w.tail) (lines_of_tail text is)
-goes_by members number events text (Some p) is =
+goes_by : (members watchers number : ℕ) (events : List PrgrEvent) (text : List ℕ) (o : Option (List ℕ × List ℕ)) → cut_at line_feed text ≡ o → GoesOn members watchers number events text (line_by number text o >>= (λ p. if bytes_eq p.0 (codes "go") then Ok (None, p.1) else (or_fault number (event_of members watchers p.0) >>= (λ event. Ok (Some event, p.1)))))
+goes_by members watchers number events text None is = ap (λ (w : Lines). list_on members watchers number events w.ended w.tail) (lines_of_tail text is)
+goes_by members watchers number events text (Some p) is =
     let parts = cut_parts line_feed text p is in
     let shorter : length p.1 < length text = rw parts (simp length-append (omega arith)) in
-    by_go members number events text p.0 p.1 (bytes_eq p.0 (codes "go")) shorter (ap (λ (w : Lines). list_on members number events w.ended w.tail) (lines_of_cut text p is))
+    by_go members watchers number events text p.0 p.1 (bytes_eq p.0 (codes "go")) shorter (ap (λ (w : Lines). list_on members watchers number events w.ended w.tail) (lines_of_cut text p is))
 
 -- the event at the front of a text leads on to the rest of it
-pub goes_on : (members number : ℕ) (events : List PrgrEvent) (text : List ℕ) → GoesOn members number events text (event_at members number text)
-goes_on members number events text = goes_by members number events text (cut_at line_feed text) refl
+pub goes_on : (members watchers number : ℕ) (events : List PrgrEvent) (text : List ℕ) → GoesOn members watchers number events text (event_at members watchers number text)
+goes_on members watchers number events text = goes_by members watchers number events text (cut_at line_feed text) refl
 
 -- nothing may follow the last line
 behind_end : (number b : ℕ) (events : List PrgrEvent) (others : List (List ℕ)) (tail : List ℕ) → at_end number events (before_lines b others tail).ended (before_lines b others tail).tail ≡ Err number
@@ -102,17 +102,17 @@ at_end_none number events [] none = refl
 at_end_none number events (b ∷ bs) none = absurd (omega arith)
 
 -- a fault of one line is that of the whole
-pub fault_of_line : (members number : ℕ) (events : List PrgrEvent) (text : List ℕ) (fault : EventFault) (whole : Result (List PrgrEvent) ℕ) → lines_on members number events text ≡ whole → Fails fault (event_at members number text) → Fails fault whole
-fault_of_line members number events text (faults.Syntax line) whole is e = sym is ∙ subst (GoesOn members number events text) e (goes_on members number events text)
-fault_of_line members number events text faults.NoMemory whole is e = tt
+pub fault_of_line : (members watchers number : ℕ) (events : List PrgrEvent) (text : List ℕ) (fault : EventFault) (whole : Result (List PrgrEvent) ℕ) → lines_on members watchers number events text ≡ whole → Fails fault (event_at members watchers number text) → Fails fault whole
+fault_of_line members watchers number events text (faults.Syntax line) whole is e = sym is ∙ subst (GoesOn members watchers number events text) e (goes_on members watchers number events text)
+fault_of_line members watchers number events text faults.NoMemory whole is e = tt
 
 -- an event leads on, to a shorter rest
-pub event_leads : (members number : ℕ) (events : List PrgrEvent) (text rest : List ℕ) (event : PrgrEvent) → event_at members number text ≡ Ok (Some event, rest) → (length rest < length text) × (lines_on members number events text ≡ lines_on members (number + 1) (events ++ event ∷ []) rest)
-event_leads members number events text rest event e = subst (GoesOn members number events text) e (goes_on members number events text)
+pub event_leads : (members watchers number : ℕ) (events : List PrgrEvent) (text rest : List ℕ) (event : PrgrEvent) → event_at members watchers number text ≡ Ok (Some event, rest) → (length rest < length text) × (lines_on members watchers number events text ≡ lines_on members watchers (number + 1) (events ++ event ∷ []) rest)
+event_leads members watchers number events text rest event e = subst (GoesOn members watchers number events text) e (goes_on members watchers number events text)
 
 -- `go` ends the list, unless something follows
-pub go_ends : (members number : ℕ) (events : List PrgrEvent) (text rest : List ℕ) → event_at members number text ≡ Ok (None, rest) → lines_on members number events text ≡ at_end (number + 1) events (lines_of rest).ended (lines_of rest).tail
-go_ends members number events text rest e = let goes : GoesOn members number events text (Ok (None, rest)) = subst (GoesOn members number events text) e (goes_on members number events text) in goes.1
+pub go_ends : (members watchers number : ℕ) (events : List PrgrEvent) (text rest : List ℕ) → event_at members watchers number text ≡ Ok (None, rest) → lines_on members watchers number events text ≡ at_end (number + 1) events (lines_of rest).ended (lines_of rest).tail
+go_ends members watchers number events text rest e = let goes : GoesOn members watchers number events text (Ok (None, rest)) = subst (GoesOn members watchers number events text) e (goes_on members watchers number events text) in goes.1
 
 -- what was found, named
 pub event_is : (o : Option PrgrEvent) (read : Result (Option PrgrEvent × List ℕ) ℕ) (rest : List ℕ) (e : Option PrgrEvent) → read ≡ Ok (o, rest) → o ≡ e → read ≡ Ok (e, rest)

@@ -2,13 +2,16 @@
 use Rattle.std.specs.Prelude.{◌≡◌, ℕ, ◌<◌, ◌≤◌, ◌^◌, List, [], ◌∷◌, ◌++◌, codes, decimal}
 use Rattle.std.specs.List.{AllByRecursion}
 use Rattle.prgr_core.specs.declared.member.TheConstants.{MOST_MEMBERS}
+use Rattle.prgr_core.specs.declared.watcher.TheConstants.{MOST_WATCHERS, DELAY_COUNTS}
 use Rattle.prgr_core.specs.declared.event.Events.{Events}
 use Rattle.prgr_core.specs.declared.event.PrgrEvent.{PrgrEvent}
 use Rattle.prgr_core.specs.declared.event.PrgrEvent.TheVariants.{LoadCounter, LoadRoot, Report, Lead, Scan, ScanDelay, Advance, GiveUp, Wait, Enter, Publish, Retire, Release, WatchLoad, WatchAdd, WatchRoot, WatchSub}
 
+-- the byte between words and numbers
 abbrev pub space : ℕ
 space = 32
 
+-- the byte that ends a line
 abbrev pub line_feed : ℕ
 line_feed = 10
 
@@ -40,25 +43,25 @@ event_text (WatchAdd w k) = worded_twice (codes "watch_add") w k
 event_text (WatchRoot w) = worded (codes "watch_root") w
 event_text (WatchSub w k) = worded_twice (codes "watch_sub") w k
 
--- what a list may say where there are so many members; nothing of watchers and delays until there are watchers
-abbrev pub IsAllowed : ℕ → PrgrEvent → Type 0
-IsAllowed members (LoadCounter m) = m < members
-IsAllowed members (LoadRoot m) = m < members
-IsAllowed members (Report m) = m < members
-IsAllowed members (Lead m) = m < members
-IsAllowed members (Scan m k) = (m < members) × (k < members)
-IsAllowed members (ScanDelay m) = ⊥
-IsAllowed members (Advance m) = m < members
-IsAllowed members (GiveUp m) = m < members
-IsAllowed members (Wait m) = m < members
-IsAllowed members (Enter m) = m < members
-IsAllowed members Publish = Unit {0}
-IsAllowed members Retire = Unit {0}
-IsAllowed members (Release g) = g < 2 ^ 64
-IsAllowed members (WatchLoad w) = ⊥
-IsAllowed members (WatchAdd w k) = ⊥
-IsAllowed members (WatchRoot w) = ⊥
-IsAllowed members (WatchSub w k) = ⊥
+-- what a list may say where there are so many members and watchers: both go by numbers from 0, and so do the delay counts
+abbrev pub IsAllowed : ℕ → ℕ → PrgrEvent → Type 0
+IsAllowed members watchers (LoadCounter m) = m < members
+IsAllowed members watchers (LoadRoot m) = m < members
+IsAllowed members watchers (Report m) = m < members
+IsAllowed members watchers (Lead m) = m < members
+IsAllowed members watchers (Scan m k) = (m < members) × (k < members)
+IsAllowed members watchers (ScanDelay m) = m < members
+IsAllowed members watchers (Advance m) = m < members
+IsAllowed members watchers (GiveUp m) = m < members
+IsAllowed members watchers (Wait m) = m < members
+IsAllowed members watchers (Enter m) = m < members
+IsAllowed members watchers Publish = Unit {0}
+IsAllowed members watchers Retire = Unit {0}
+IsAllowed members watchers (Release g) = g < 2 ^ 64
+IsAllowed members watchers (WatchLoad w) = w < watchers
+IsAllowed members watchers (WatchAdd w k) = (w < watchers) × (k < DELAY_COUNTS)
+IsAllowed members watchers (WatchRoot w) = w < watchers
+IsAllowed members watchers (WatchSub w k) = (w < watchers) × (k < DELAY_COUNTS)
 
 -- a line and what follows it
 abbrev pub line_then : List ℕ → List ℕ → List ℕ
@@ -77,10 +80,10 @@ events_text e =
     (line_then (worded (codes "watchers") e.watchers)
     (list_text e.list)))
 
--- the text is that of these events, which name only what there is; there are no watchers yet
+-- the text is that of these events, which name only what there is
 pub record EventText (text : List ℕ) (e : Events) : Type 0 where
   pub some_member : 1 ≤ e.members
   pub few_members : e.members ≤ MOST_MEMBERS
-  pub no_watchers : e.watchers ≡ 0
-  pub allowed : AllByRecursion (IsAllowed e.members) e.list
+  pub few_watchers : e.watchers ≤ MOST_WATCHERS
+  pub allowed : AllByRecursion (IsAllowed e.members e.watchers) e.list
   pub spelled : text ≡ events_text e

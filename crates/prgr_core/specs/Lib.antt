@@ -1,4 +1,5 @@
 pub mod Members
+pub mod Watchers
 pub mod Needs
 pub mod Machine
 pub mod Invariant

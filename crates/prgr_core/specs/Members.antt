@@ -29,6 +29,7 @@ HasLoadedRoot Nothing c = ⊥
 HasLoadedRoot (Counter d) c = ⊥
 HasLoadedRoot (CounterAndRoot d) c = d ≡ c
 
+-- it leads
 abbrev pub IsLeading : Role → Type 0
 IsLeading Follows = ⊥
 IsLeading (Leads scans) = Unit {0}
@@ -38,6 +39,11 @@ abbrev pub HasScanned : Role → ℕ → Type 0
 HasScanned Follows k = ⊥
 HasScanned (Leads scans) k = slice_get scans.members k ≡ Some true
 
+-- it leads, and has scanned the delay
+abbrev pub HasScannedDelay : Role → Type 0
+HasScannedDelay Follows = ⊥
+HasScannedDelay (Leads scans) = scans.delay ≡ true
+
 -- it leads, and has loaded or raised the counter to c since
 abbrev pub KnowsCounter : Role → ℕ → Type 0
 KnowsCounter Follows c = ⊥
@@ -45,9 +51,11 @@ KnowsCounter (Leads scans) c = scans.counter ≡ Some c
 
 -- ---- tests
 
+-- the word of a member that waits
 abbrev pub is_waiting : ℕ → Bool
 is_waiting word = word == WAITING
 
+-- the word is a value
 abbrev pub is_value : ℕ → Bool
 is_value word = nat_lt ENTERING word && nat_lt word WAITING
 
@@ -55,6 +63,7 @@ is_value word = nat_lt ENTERING word && nat_lt word WAITING
 abbrev pub has_scanned : Scans → ℕ → Bool
 has_scanned scans k = unwrap_or (slice_get scans.members k) false
 
+-- each of the members is scanned
 abbrev pub have_scanned_all : Scans → List Member → Bool
 have_scanned_all scans members = list_all (λ member. has_scanned scans member.number) members
 
@@ -77,6 +86,7 @@ role_knowing c (Leads scans) = Leads (record scans { counter = Some c })
 abbrev pub counter_loaded : ℕ → Member → Member
 counter_loaded counter member = record member { loaded = Counter counter; role = role_knowing counter member.role }
 
+-- what is loaded once the root is, if the counter was
 abbrev pub with_root : Loaded → Loaded
 with_root Nothing = Nothing
 with_root (Counter c) = CounterAndRoot c

@@ -5,7 +5,8 @@ ghost use Rattle.prgr_core.specs.Needs.{need_of, with_need, without_need};
 ghost use Rattle.prgr_core.specs.Members.{have_scanned_all};
 
 use crate::fault::NoMemory;
-use crate::member::{Member, Retirement, Scans, Watcher};
+use crate::member::{Member, Retirement, Scans};
+use crate::watcher::Watcher;
 use std::alloc::Global;
 use std::collections::BTreeMap;
 use std::marker::Model;
@@ -78,7 +79,7 @@ pub struct WatcherList {
 
 impl Model for WatcherList {
     ghost use Rattle.std.specs.Prelude.{List};
-    ghost use Rattle.prgr_core.specs.declared.member.Watcher.{Watcher};
+    ghost use Rattle.prgr_core.specs.declared.watcher.Watcher.{Watcher};
 
     ghost Value = { List Watcher };
 
@@ -98,6 +99,28 @@ impl WatcherList {
         ensures { result ≡ length self.now }
     {
         self.watchers.len()
+    }
+
+    pub fn push(&mut self, watcher: Watcher) -> Result<(), NoMemory>
+        ensures ok { OnOk result (self.new ≡ self.old ++ watcher ∷ []) }
+        ensures err { OnErr result (self.new ≡ self.old) }
+    {
+        self.watchers.push(watcher)?;
+        Ok(())
+    }
+
+    /// The watcher at a place, if there is one.
+    pub fn get(&self, place: u32) -> Option<Watcher>
+        ensures { result ≡ slice_get self.now place }
+    {
+        self.watchers.get(place as usize).copied()
+    }
+
+    pub fn set(&mut self, place: u32, watcher: Watcher)
+        requires { place < length self.old }
+        ensures { self.new ≡ slice_set self.old place watcher }
+    {
+        self.watchers[place as usize] = watcher;
     }
 }
 

@@ -1,4 +1,4 @@
-//! What the machine knows of one member, of one watcher and of one retirement.
+//! What the machine knows of one member and of one retirement.
 
 mod records;
 
@@ -61,38 +61,7 @@ pub struct Member {
     pub role: Role,
 }
 
-/// Where a watcher stands.
-#[derive(Clone, Copy, Debug)]
-pub enum Phase {
-    Idle,
-    /// It has loaded this counter.
-    Loaded(u64),
-    /// It has raised the delay count of this counter.
-    Added(u64),
-    /// The counter went on, and it holds this delay count alone.
-    Moved(u32),
-    /// It holds both delay counts.
-    Both,
-    /// It may read: it holds the delay count of this counter.
-    Claimed(u64),
-    Leaving,
-}
-
-/// A thread that is no member, and delays progress while it reads.
-#[derive(Clone, Copy, Debug)]
-pub struct Watcher {
-    /// Watchers are numbered from 0.
-    pub number: u32,
-    pub phase: Phase,
-    /// Whether it holds delay count 0.
-    pub holds_even: bool,
-    /// Whether it holds delay count 1.
-    pub holds_odd: bool,
-    /// The generation that the root had when it loaded it in its present claim.
-    pub generation: Option<u64>,
-}
-
-/// What was retired: no member reads a generation below this one once the counter has reached
+/// What was retired: no thread reads a generation below this one once the counter has reached
 /// the need.
 #[derive(Clone, Copy, Debug)]
 pub struct Retirement {

@@ -2,18 +2,21 @@
 
 mod leader;
 mod members;
+mod watchers;
 mod writer;
 
 ghost use Rattle.std.specs.Prelude.{◌≡◌, ◌↔◌, IsErrOf, OnOk, OnErr, Some, None};
 ghost use Rattle.prgr_core.specs.declared.fault.StepFault.TheVariants.{NotEnabled, NoMemory};
-ghost use Rattle.prgr_core.specs.Step.{after, delay_count, may_advance, LacksMemory, IsSound};
+ghost use Rattle.prgr_core.specs.Step.{after, delay_count, with_delay_count, may_advance, LacksMemory, IsSound};
 
 use crate::event::PrgrEvent;
 use crate::fault::StepFault;
 use crate::lists::{MemberList, NeedMap, RetirementList, WatcherList};
 use crate::member::{LAST_VALUE, Scans};
+use crate::watcher::Delay;
 use leader::{advance, give_up, lead, scan, scan_delay};
 use members::{enter, load_counter, load_root, report, wait};
+use watchers::{watch_add, watch_load, watch_root, watch_sub};
 use writer::{publish, release, retire};
 
 /// What a state of the machine is made of.
@@ -38,14 +41,23 @@ pub struct Progress {
 }
 
 impl Progress {
-    /// The delay count on which the raise to this value depends.
-    pub fn delay_before(&self, value: u64) -> u64
-        ensures { result ≡ delay_count self.now value }
+    /// The count of this delay counter.
+    pub fn delay_count(&self, delay: Delay) -> u64
+        ensures { result ≡ delay_count self.now delay }
     {
-        if value % 2 == 0 {
-            self.delay_even
-        } else {
-            self.delay_odd
+        match delay {
+            Delay::Even => self.delay_even,
+            Delay::Odd => self.delay_odd,
+        }
+    }
+
+    /// Makes this the count of this delay counter.
+    pub fn set_delay_count(&mut self, delay: Delay, count: u64)
+        ensures { self.new ≡ with_delay_count self.old delay count }
+    {
+        match delay {
+            Delay::Even => self.delay_even = count,
+            Delay::Odd => self.delay_odd = count,
         }
     }
 
@@ -81,9 +93,9 @@ pub fn apply(progress: &mut Progress, event: PrgrEvent) -> Result<(), StepFault>
         PrgrEvent::Publish => publish(progress),
         PrgrEvent::Retire => retire(progress),
         PrgrEvent::Release { generation } => release(progress, generation),
-        PrgrEvent::WatchLoad { .. }
-        | PrgrEvent::WatchAdd { .. }
-        | PrgrEvent::WatchRoot { .. }
-        | PrgrEvent::WatchSub { .. } => Err(StepFault::NotEnabled),
+        PrgrEvent::WatchLoad { watcher } => watch_load(progress, watcher),
+        PrgrEvent::WatchAdd { watcher, which } => watch_add(progress, watcher, which),
+        PrgrEvent::WatchRoot { watcher } => watch_root(progress, watcher),
+        PrgrEvent::WatchSub { watcher, which } => watch_sub(progress, watcher, which),
     }
 }

@@ -4,11 +4,12 @@ ghost use Rattle.std.specs.Prelude.{◌≡◌, ◌≤◌, ◌<◌, ℕ, ◌+◌,
 ghost use Rattle.prgr_core.specs.declared.event.Events.{Events as EventsValue};
 ghost use Rattle.prgr_core.specs.EventText.{EventText};
 ghost use Rattle.prgr_core.specs.Faults.{IsFaultOf};
-ghost use Rattle.prgr_core.specs.Reading.{Gives, Fails, cut_at, with_digit, number_of, member_of, member_words, by_word, scan_by, event_of, members_by, line_at, expected, members_at, event_at, list_at, reading};
+ghost use Rattle.prgr_core.specs.Reading.{Gives, Fails, cut_at, with_digit, number_of, number_below, numbers_below, member_words, by_word, worded_event, event_of, count_by, line_at, expected, count_at, event_at, list_at, reading};
 
 use crate::event::{EventList, Events, PrgrEvent};
 use crate::fault::EventFault;
 use crate::member::MOST_MEMBERS;
+use crate::watcher::{DELAY_COUNTS, MOST_WATCHERS};
 use std::alloc::Global;
 
 /// What stands before and behind the first such byte, if there is one.
@@ -49,16 +50,24 @@ fn number_of(text: &[u8]) -> Option<u64>
     Some(number)
 }
 
-/// The number of a member, where there are so many.
-fn member_of(text: &[u8], members: u32) -> Option<u32>
-    ensures { result ≡ member_of members text.now }
+/// The number, where it is one of so many from 0.
+fn number_below(text: &[u8], count: u32) -> Option<u32>
+    ensures { result ≡ number_below count text.now }
 {
     let number = number_of(text)?;
-    if number < members as u64 {
+    if number < count as u64 {
         Some(number as u32)
     } else {
         None
     }
+}
+
+/// Two numbers with a space between them, where there are so many of each.
+fn numbers_below(text: &[u8], first: u32, second: u32) -> Option<(u32, u32)>
+    ensures { result ≡ numbers_below first second text.now }
+{
+    let (front, behind) = cut_at(text, b' ')?;
+    Some((number_below(front, first)?, number_below(behind, second)?))
 }
 
 /// The event of a word that names one member.
@@ -73,6 +82,8 @@ fn by_word(word: &[u8], member: u32) -> Option<PrgrEvent>
         Some(PrgrEvent::Report { member })
     } else if word == b"lead".as_slice() {
         Some(PrgrEvent::Lead { member })
+    } else if word == b"scan_delay".as_slice() {
+        Some(PrgrEvent::ScanDelay { member })
     } else if word == b"advance".as_slice() {
         Some(PrgrEvent::Advance { member })
     } else if word == b"give_up".as_slice() {
@@ -86,19 +97,36 @@ fn by_word(word: &[u8], member: u32) -> Option<PrgrEvent>
     }
 }
 
-/// The event `scan` of two members.
-fn scan_of(text: &[u8], members: u32) -> Option<PrgrEvent>
-    ensures { result ≡ scan_by members (cut_at 32 text.now) }
+/// The event of a word and what follows it.
+fn worded_event(word: &[u8], rest: &[u8], members: u32, watchers: u32) -> Option<PrgrEvent>
+    ensures { result ≡ worded_event members watchers word.now rest.now }
 {
-    let (first, second) = cut_at(text, b' ')?;
-    let member = member_of(first, members)?;
-    let other = member_of(second, members)?;
-    Some(PrgrEvent::Scan { member, other })
+    if word == b"release".as_slice() {
+        let generation = number_of(rest)?;
+        Some(PrgrEvent::Release { generation })
+    } else if word == b"scan".as_slice() {
+        let (member, other) = numbers_below(rest, members, members)?;
+        Some(PrgrEvent::Scan { member, other })
+    } else if word == b"watch_load".as_slice() {
+        let watcher = number_below(rest, watchers)?;
+        Some(PrgrEvent::WatchLoad { watcher })
+    } else if word == b"watch_add".as_slice() {
+        let (watcher, which) = numbers_below(rest, watchers, DELAY_COUNTS)?;
+        Some(PrgrEvent::WatchAdd { watcher, which })
+    } else if word == b"watch_root".as_slice() {
+        let watcher = number_below(rest, watchers)?;
+        Some(PrgrEvent::WatchRoot { watcher })
+    } else if word == b"watch_sub".as_slice() {
+        let (watcher, which) = numbers_below(rest, watchers, DELAY_COUNTS)?;
+        Some(PrgrEvent::WatchSub { watcher, which })
+    } else {
+        by_word(word, number_below(rest, members)?)
+    }
 }
 
 /// The event of a line.
-fn event_of(line: &[u8], members: u32) -> Option<PrgrEvent>
-    ensures { result ≡ event_of members line.now }
+fn event_of(line: &[u8], members: u32, watchers: u32) -> Option<PrgrEvent>
+    ensures { result ≡ event_of members watchers line.now }
 {
     match cut_at(line, b' ') {
         None => {
@@ -110,30 +138,21 @@ fn event_of(line: &[u8], members: u32) -> Option<PrgrEvent>
                 None
             }
         }
-        Some((word, rest)) => {
-            if word == b"release".as_slice() {
-                let generation = number_of(rest)?;
-                Some(PrgrEvent::Release { generation })
-            } else if word == b"scan".as_slice() {
-                scan_of(rest, members)
-            } else {
-                by_word(word, member_of(rest, members)?)
-            }
-        }
+        Some((word, rest)) => worded_event(word, rest, members, watchers),
     }
 }
 
-/// How many members a line gives.
-fn members_of(line: &[u8]) -> Option<u32>
-    ensures { result ≡ members_by (cut_at 32 line.now) }
+/// How many a line gives behind this word, from least to most.
+fn count_of(line: &[u8], word: &[u8], least: u32, most: u32) -> Option<u32>
+    ensures { result ≡ count_by word.now least most (cut_at 32 line.now) }
 {
-    let (word, rest) = cut_at(line, b' ')?;
-    if word != b"members".as_slice() {
+    let (found, rest) = cut_at(line, b' ')?;
+    if found != word {
         return None;
     }
-    let members = number_of(rest)?;
-    if 1 <= members && members <= MOST_MEMBERS as u64 {
-        Some(members as u32)
+    let count = number_of(rest)?;
+    if least as u64 <= count && count <= most as u64 {
+        Some(count as u32)
     } else {
         None
     }
@@ -165,14 +184,20 @@ fn expected<'a>(text: &'a [u8], number: u32, wanted: &[u8]) -> Result<&'a [u8], 
     }
 }
 
-/// The number of members that the second line gives, and what follows it.
-fn members_at(text: &[u8]) -> Result<(u32, &[u8]), EventFault>
-    ensures { Gives (λ p. (p.0, p.1.now)) result (members_at text.now) }
+/// How many the line of this number gives behind this word, and what follows it.
+fn count_at<'a>(
+    text: &'a [u8],
+    number: u32,
+    word: &[u8],
+    least: u32,
+    most: u32,
+) -> Result<(u32, &'a [u8]), EventFault>
+    ensures { Gives (λ p. (p.0, p.1.now)) result (count_at number word.now least most text.now) }
 {
-    let (line, rest) = line_at(text, 2)?;
-    match members_of(line) {
-        Some(members) => Ok((members, rest)),
-        None => Err(EventFault::Syntax { line: 2 }),
+    let (line, rest) = line_at(text, number)?;
+    match count_of(line, word, least, most) {
+        Some(count) => Ok((count, rest)),
+        None => Err(EventFault::Syntax { line: number }),
     }
 }
 
@@ -181,14 +206,15 @@ fn event_at(
     text: &[u8],
     number: u32,
     members: u32,
+    watchers: u32,
 ) -> Result<(Option<PrgrEvent>, &[u8]), EventFault>
-    ensures { Gives (λ p. (p.0, p.1.now)) result (event_at members number text.now) }
+    ensures { Gives (λ p. (p.0, p.1.now)) result (event_at members watchers number text.now) }
 {
     let (line, rest) = line_at(text, number)?;
     if line == b"go".as_slice() {
         return Ok((None, rest));
     }
-    match event_of(line, members) {
+    match event_of(line, members, watchers) {
         Some(event) => Ok((Some(event), rest)),
         None => Err(EventFault::Syntax { line: number }),
     }
@@ -196,14 +222,14 @@ fn event_at(
 
 /// The events of the lines from the fourth on. A text of more lines than a `u32` counts is
 /// refused as want of memory.
-fn list_at(alloc: Global, members: u32, text: &[u8]) -> Result<EventList, EventFault>
-    ensures { Gives (λ events. events) result (list_at members text.now) }
+fn list_at(alloc: Global, members: u32, watchers: u32, text: &[u8]) -> Result<EventList, EventFault>
+    ensures { Gives (λ events. events) result (list_at members watchers text.now) }
 {
     let mut events = EventList::new(alloc);
     let mut rest = text;
     let mut number = 4u32;
     'lines: loop {
-        let (found, behind) = event_at(rest, number, members)?;
+        let (found, behind) = event_at(rest, number, members, watchers)?;
         if number == u32::MAX {
             return Err(EventFault::NoMemory);
         }
@@ -226,12 +252,24 @@ fn text_events(alloc: Global, text: &[u8]) -> Result<Events, EventFault>
     ensures { Gives (λ read. read) result (reading text.now) }
 {
     let behind_head = expected(text, 1, b"beam progress 1".as_slice())?;
-    let (members, behind_members) = members_at(behind_head)?;
-    let behind_watchers = expected(behind_members, 3, b"watchers 0".as_slice())?;
-    let list = list_at(alloc, members, behind_watchers)?;
+    let (members, behind_members) = count_at(
+        behind_head,
+        2,
+        b"members".as_slice(),
+        1,
+        MOST_MEMBERS as u32,
+    )?;
+    let (watchers, behind_watchers) = count_at(
+        behind_members,
+        3,
+        b"watchers".as_slice(),
+        0,
+        MOST_WATCHERS as u32,
+    )?;
+    let list = list_at(alloc, members, watchers, behind_watchers)?;
     Ok(Events {
         members,
-        watchers: 0,
+        watchers,
         list,
     })
 }

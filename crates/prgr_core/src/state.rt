@@ -3,13 +3,14 @@
 ghost use Rattle.std.specs.Prelude.{◌≡◌, ◌≤◌, ◌↔◌, IsErrOf, IfOk, IfErr, OnOk, OnErr, Some, None};
 ghost use Rattle.prgr_core.specs.declared.fault.StepFault.TheVariants.{NotEnabled};
 ghost use Rattle.prgr_core.specs.declared.fault.StepFault.TheVariants as steps;
-ghost use Rattle.prgr_core.specs.Step.{LacksMemory, after, after_all, opening, opening_members, StopsBy, IsSound};
+ghost use Rattle.prgr_core.specs.Step.{LacksMemory, after, after_all, opening, opening_members, opening_watchers, StopsBy, IsSound};
 
 use crate::event::{EventList, PrgrEvent};
 use crate::fault::{NoMemory, ReplayFault, StepFault};
 use crate::lists::{MemberList, NeedMap, RetirementList, WatcherList};
 use crate::member::{Member, OPENING_COUNTER};
 use crate::progress::{Progress, apply};
+use crate::watcher::Watcher;
 use std::alloc::Global;
 use std::marker::Model;
 
@@ -31,17 +32,17 @@ impl Model for PrgrState {
 }
 
 impl PrgrState {
-    /// The state in which a list of events begins: each member awake, holding generation 0.
-    /// There are no watchers yet.
+    /// The state in which a list of events begins: each member awake, holding generation 0, and
+    /// each watcher idle.
     pub fn new(alloc: Global, members: u32, watchers: u32) -> Result<PrgrState, NoMemory>
         requires one { 1 ≤ members }
         requires few { members ≤ 16 }
-        requires unwatched { watchers ≡ 0 }
-        ensures ok { IfOk result (λ state. state ≡ opening members) }
+        requires watched { watchers ≤ 4 }
+        ensures ok { IfOk result (λ state. state ≡ opening members watchers) }
         ensures sound { IfOk result (λ state. IsSound state) }
     {
-        let _ = watchers;
         let members = opening_members(alloc, members)?;
+        let watchers = opening_watchers(alloc, watchers)?;
         Ok(PrgrState {
             progress: Progress {
                 counter: OPENING_COUNTER,
@@ -50,7 +51,7 @@ impl PrgrState {
                 members,
                 delay_even: 0,
                 delay_odd: 0,
-                watchers: WatcherList::new(alloc),
+                watchers,
                 needs: NeedMap::new(alloc),
                 retired: RetirementList::new(alloc),
             },
@@ -81,6 +82,17 @@ fn opening_members(alloc: Global, count: u32) -> Result<MemberList, NoMemory>
         members.push(Member::new(number))?;
     }
     Ok(members)
+}
+
+/// As many watchers as begin, numbered from 0.
+fn opening_watchers(alloc: Global, count: u32) -> Result<WatcherList, NoMemory>
+    ensures { IfOk result (λ watchers. watchers ≡ opening_watchers count) }
+{
+    let mut watchers = WatcherList::new(alloc);
+    for number in 0..count {
+        watchers.push(Watcher::new(number))?;
+    }
+    Ok(watchers)
 }
 
 /// Makes one event. Where it is not enabled, nothing changes, and neither does it where memory is

@@ -23,10 +23,10 @@ fn outcome_of(alloc: Global, text: &[u8]) -> Outcome {
         Err(EventFault::Syntax { line }) => return Outcome::Refused(line),
         Err(EventFault::NoMemory) => return Outcome::NoMemory,
     };
-    if events.members < 1 || 16 < events.members || events.watchers != 0 {
+    if events.members < 1 || 16 < events.members || 4 < events.watchers {
         return Outcome::Refused(0);
     }
-    let mut state = match PrgrState::new(alloc, events.members, 0) {
+    let mut state = match PrgrState::new(alloc, events.members, events.watchers) {
         Ok(state) => state,
         Err(NoMemory) => return Outcome::NoMemory,
     };
@@ -78,6 +78,36 @@ fn replays_lists(rt: HostRuntime) {
     }
 }
 
+/// How many members, watchers and events a text gives, if it is read.
+fn sizes_of(alloc: Global, text: &[u8]) -> Option<(u32, u32, usize)> {
+    let events = read_events(alloc, text).ok()?;
+    Some((events.members, events.watchers, events.list.len()))
+}
+
+#[test]
+fn reads_texts(rt: HostRuntime) {
+    let cases = [
+        (
+            b"beam progress 1\nmembers 1\nwatchers 1\ngo\n".as_slice(),
+            (1, 1, 0),
+            "a watcher and no event",
+        ),
+        (
+            b"beam progress 1\nmembers 16\nwatchers 4\nwatch_load 3\nwatch_add 0 1\nwatch_root 3\nwatch_sub 0 0\ngo\n".as_slice(),
+            (16, 4, 4),
+            "events of watchers",
+        ),
+        (
+            b"beam progress 1\nmembers 2\nwatchers 0\nscan_delay 0\ngo\n".as_slice(),
+            (2, 0, 1),
+            "a delay without watchers",
+        ),
+    ];
+    for (text, wanted, shown) in cases {
+        assert_eq!(rt; sizes_of(rt.alloc(), text), Some(wanted), "{shown}");
+    }
+}
+
 #[test]
 fn refuses_texts(rt: HostRuntime) {
     let cases = [
@@ -88,9 +118,9 @@ fn refuses_texts(rt: HostRuntime) {
             "too many members",
         ),
         (
-            b"beam progress 1\nmembers 1\nwatchers 1\ngo\n".as_slice(),
+            b"beam progress 1\nmembers 1\nwatchers 5\ngo\n".as_slice(),
             3,
-            "a watcher",
+            "too many watchers",
         ),
         (
             b"beam progress 1\nmembers 1\nwatchers 0\npublish\n".as_slice(),
@@ -114,9 +144,19 @@ fn refuses_texts(rt: HostRuntime) {
             "a leading zero",
         ),
         (
-            b"beam progress 1\nmembers 2\nwatchers 0\nscan_delay 0\ngo\n".as_slice(),
+            b"beam progress 1\nmembers 2\nwatchers 0\nscan_delay 2\ngo\n".as_slice(),
             4,
-            "a delay",
+            "a delay scanned by a member out of range",
+        ),
+        (
+            b"beam progress 1\nmembers 1\nwatchers 1\nwatch_load 0\nwatch_load 1\ngo\n".as_slice(),
+            5,
+            "a watcher out of range",
+        ),
+        (
+            b"beam progress 1\nmembers 1\nwatchers 1\nwatch_add 0 2\ngo\n".as_slice(),
+            4,
+            "a delay count out of range",
         ),
         (
             b"beam progress 1\nmembers 2\nwatchers 0\npublish\nrelease 18446744073709551616\ngo\n".as_slice(),

@@ -8,6 +8,7 @@ ghost use Rattle.prgr_core.specs.Step.{after, scan_of_other, IsSound};
 use crate::fault::StepFault;
 use crate::member::{Member, Role, Scans, WAITING};
 use crate::progress::Progress;
+use crate::watcher::Delay;
 
 /// The leader looks at the word of a member, if there is one.
 fn scan_other(
@@ -94,7 +95,8 @@ pub fn scan_delay(progress: &mut Progress, number: u32) -> Result<(), StepFault>
         Some(member) => match member.role {
             Role::Follows => Err(StepFault::NotEnabled),
             Role::Leads(scans) => {
-                let count = progress.delay_before(progress.counter + 1);
+                let next = Delay::of(progress.counter + 1);
+                let count = progress.delay_count(next);
                 let scans = scans.with_delay(count);
                 progress
                     .members
@@ -105,7 +107,8 @@ pub fn scan_delay(progress: &mut Progress, number: u32) -> Result<(), StepFault>
     }
 }
 
-/// The leader that has scanned every member raises the counter by one.
+/// The leader that has scanned every member, and the delay where there are watchers, raises the
+/// counter by one.
 pub fn advance(progress: &mut Progress, number: u32) -> Result<(), StepFault>
     ensures ok { OnOk result (after progress.old (events.Advance number) ≡ Some progress.new) }
     ensures not_enabled { IsErrOf result NotEnabled ↔ (after progress.old (events.Advance number) ≡ None) }

@@ -4,7 +4,7 @@ use Rattle.prgr_core.proofs.reading.list_at.Given as goal
 
 -- what is left goes on as the whole does
 abbrev pub invariant-lines : goal.invariant-lines
-invariant-lines l = list_on l.members l.number l.events (lines_of l.rest).ended (lines_of l.rest).tail ≡ list_at l.members l.fn.text
+invariant-lines l = list_on l.members l.watchers l.number l.events (lines_of l.rest).ended (lines_of l.rest).tail ≡ list_at l.members l.watchers l.fn.text
 
 abbrev pub decreases-lines : goal.decreases-lines
 decreases-lines l = length l.rest

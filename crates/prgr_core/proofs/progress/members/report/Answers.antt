@@ -1,6 +1,6 @@
 use Rattle.std.proofs.Common.{arith, sym}
 use Rattle.std.proofs.lemmas.Option.{slice_get_within}
-use Rattle.prgr_core.proofs.Sound.{loaded_in_range}
+use Rattle.prgr_core.proofs.SoundMembers.{loaded_in_range}
 use Rattle.prgr_core.proofs.progress.members.report.Goals as goal
 
 -- the counter that was loaded is in range
