@@ -1,13 +1,12 @@
 -- Lemmas on names as they grow: each text keeps its number, and each term its text.
-use Rattle.std.proofs.Common.{◌≡◌, ℕ, ◌<◌, ◌≤◌, Bool, true, false, cond, ◌⊎◌, List, [], ◌∷◌, ◌++◌, length, Option, None, Some, is_some, unwrap_or, slice_get, IsSome, refl, sym, ap, ◌∙◌, subst, inl, inr, arith}
+use Rattle.std.proofs.Common.{◌≡◌, ℕ, ◌<◌, ◌≤◌, Bool, true, false, cond, ◌⊎◌, List, [], ◌∷◌, ◌++◌, length, Option, None, Some, is_some, unwrap_or, slice_get, IsSome, refl, sym, ap, ◌∙◌, subst, inl, inr}
 use Rattle.std.proofs.lemmas.List.{append-nil, append_assoc}
 use Rattle.std.proofs.lemmas.Option.{slice_get_within}
-use Rattle.term_core.specs.declared.term.Term.{Term}
-use Rattle.term_core.specs.declared.term.Term.TheVariants.{Int, Atom}
 use Rattle.term_core.specs.Names.{IsNames, AtomText, Extends, number_of, names_with}
-use Rattle.term_core.specs.TermText.{TermText, IsTerm, IsHeld, atom_text, term_text}
+use Rattle.term_core.specs.TermText.{atom_text}
 use Rattle.term_core.proofs.NameTables.{slice_get-number_of, number_of-slice_get, texts_are_atoms, AtomText-known, names_with-IsNames}
 use Rattle.term_core.proofs.Places.{slice_get-append}
+use Rattle.term_core.proofs.Truths.{some_inside, three_ways}
 
 -- names extend themselves
 pub Extends-refl : (names : List (List ℕ)) → Extends names names
@@ -38,20 +37,10 @@ names_with-Extends names text = joins names text (is_some (number_of names text)
 pub AtomText-Extends : (before : List (List ℕ)) (text : List ℕ) (atom : ℕ) (after : List (List ℕ)) → AtomText before text atom after → Extends before after
 AtomText-Extends before text atom after t = subst (Extends before) (sym t.named) (names_with-Extends before text)
 
--- and so does a term's
-pub TermText-Extends : (before : List (List ℕ)) (text : List ℕ) (term : Term) (after : List (List ℕ)) → TermText before text term after → Extends before after
-TermText-Extends before text (Int z) after t = subst (Extends before) (sym t.same) (Extends-refl before)
-TermText-Extends before text (Atom a) after t = AtomText-Extends before text a.0 after t
-
 -- after an atom's text the names are a table again
 pub AtomText-IsNames : (before : List (List ℕ)) (text : List ℕ) (atom : ℕ) (after : List (List ℕ)) → IsNames before → AtomText before text atom after → IsNames after
 AtomText-IsNames before text atom after sound t =
     subst IsNames (sym t.named) (names_with-IsNames before text sound t.form (subst (λ (names : List (List ℕ)). length names ≤ 4096) t.named t.room))
-
--- and after a term's
-pub TermText-IsNames : (before : List (List ℕ)) (text : List ℕ) (term : Term) (after : List (List ℕ)) → IsNames before → TermText before text term after → IsNames after
-TermText-IsNames before text (Int z) after sound t = subst IsNames (sym t.same) sound
-TermText-IsNames before text (Atom a) after sound t = AtomText-IsNames before text a.0 after sound t
 
 -- the text of an atom that was read stands at its number
 pub slice_get-AtomText : (before : List (List ℕ)) (text : List ℕ) (atom : ℕ) (after : List (List ℕ)) → AtomText before text atom after → slice_get after atom ≡ Some text
@@ -61,62 +50,17 @@ slice_get-AtomText before text atom after t = slice_get-number_of after text ato
 pub atom_text-AtomText : (before : List (List ℕ)) (text : List ℕ) (atom : ℕ) (after : List (List ℕ)) → AtomText before text atom after → atom_text after atom ≡ text
 atom_text-AtomText before text atom after t = ap (λ o. unwrap_or o []) (slice_get-AtomText before text atom after t)
 
--- and what is printed of a term that was read is the text that it was read from
-pub term_text-TermText : (before : List (List ℕ)) (text : List ℕ) (term : Term) (after : List (List ℕ)) → TermText before text term after → term_text after term ≡ text
-term_text-TermText before text (Int z) after t = sym t.digits
-term_text-TermText before text (Atom a) after t = atom_text-AtomText before text a.0 after t
-
--- a value is there
-is_some_at : {X : Type 0} (o : Option X) (x : X) → o ≡ Some x → IsSome o
-is_some_at o x e = ap is_some e
-
--- a term that was read is one of the names after
-pub IsTerm-TermText : (before : List (List ℕ)) (text : List ℕ) (term : Term) (after : List (List ℕ)) → TermText before text term after → IsTerm after term
-IsTerm-TermText before text (Int z) after t = t.range
-IsTerm-TermText before text (Atom a) after t = is_some_at (slice_get after a.0) text (slice_get-AtomText before text a.0 after t)
-
--- the atoms of a term are held
-pub IsHeld-IsTerm : (names : List (List ℕ)) (term : Term) → IsTerm names term → IsHeld names term
-IsHeld-IsTerm names (Int z) h = tt
-IsHeld-IsTerm names (Atom a) h = h
-
--- what is there has a value
-some_inside : {X : Type 0} (o : Option X) → IsSome o → (x : X) × (o ≡ Some x)
-some_inside None h = cc
-some_inside (Some x) h = (x, refl)
-
 -- an atom's text stays as the names grow
 pub atom_text-Extends : (before after : List (List ℕ)) (atom : ℕ) → Extends before after → IsSome (slice_get before atom) → atom_text after atom ≡ atom_text before atom
 atom_text-Extends before after atom grown held =
     let inside = some_inside (slice_get before atom) held in
     ap (λ o. unwrap_or o []) (slice_get-Extends before after atom inside.0 grown inside.1 ∙ sym inside.1)
 
--- a term's atoms stay held
-pub IsHeld-Extends : (before after : List (List ℕ)) (term : Term) → Extends before after → IsHeld before term → IsHeld after term
-IsHeld-Extends before after (Int z) grown held = tt
-IsHeld-Extends before after (Atom a) grown held =
-    let inside = some_inside (slice_get before a.0) held in
-    is_some_at (slice_get after a.0) inside.0 (slice_get-Extends before after a.0 inside.0 grown inside.1)
-
--- it stays a term
-pub IsTerm-Extends : (before after : List (List ℕ)) (term : Term) → Extends before after → IsTerm before term → IsTerm after term
-IsTerm-Extends before after (Int z) grown is = is
-IsTerm-Extends before after (Atom a) grown is = IsHeld-Extends before after (Atom a) grown is
-
--- and its text stays
-pub term_text-Extends : (before after : List (List ℕ)) (term : Term) → Extends before after → IsHeld before term → term_text after term ≡ term_text before term
-term_text-Extends before after (Int z) grown held = refl
-term_text-Extends before after (Atom a) grown held = atom_text-Extends before after a.0 grown held
-
 -- a text stands at one place of a table
 nowhere_else : (names : List (List ℕ)) (text : List ℕ) (m n : ℕ) → IsNames names → slice_get names m ≡ Some text → slice_get names n ≡ Some text → (m < n) ⊎ ((n < m) ⊎ (m ≡ n)) → m ≡ n
 nowhere_else names text m n sound at there (inl less) = absurd (sound.apart m n less (slice_get_within names n text there) (at ∙ sym there))
 nowhere_else names text m n sound at there (inr (inl more)) = absurd (sound.apart n m more (slice_get_within names m text at) (there ∙ sym at))
 nowhere_else names text m n sound at there (inr (inr e)) = e
-
--- two numbers are in one of two orders or equal
-three_ways : (m n : ℕ) → (m < n) ⊎ ((n < m) ⊎ (m ≡ n))
-three_ways m n = grind arith
 
 -- what stands there has its number, by what the look-up finds
 numbered : (names : List (List ℕ)) (text : List ℕ) (n : ℕ) → IsNames names → slice_get names n ≡ Some text → (o : Option ℕ) → number_of names text ≡ o → o ≡ Some n
@@ -135,8 +79,3 @@ AtomText-atom_text names atom sound held =
     let is : atom_text names atom ≡ inside.0 = ap (λ o. unwrap_or o []) inside.1 in
     subst (λ (text : List ℕ). AtomText names text atom names) (sym is)
     (AtomText-known names inside.0 atom sound (texts_are_atoms names inside.0 atom sound inside.1) (number_of-at names inside.0 atom sound inside.1))
-
--- the text of a term is read as that term
-pub TermText-term_text : (names : List (List ℕ)) (term : Term) → IsNames names → IsTerm names term → TermText names (term_text names term) term names
-TermText-term_text names (Int z) sound is = record { digits = refl; range = is; same = refl }
-TermText-term_text names (Atom a) sound is = AtomText-atom_text names a.0 sound is

@@ -11,7 +11,7 @@ use Rattle.std.proofs.lemmas.Fmt.{decimal-digits_value, digits_decimal, digits_v
 use Rattle.std.proofs.lemmas.Int.{ints}
 use Rattle.std.proofs.lemmas.Str.Ascii.{IsAscii-cons, IsAscii-nil}
 use Rattle.std.proofs.lemmas.Str.Parse.{IsNumeralModel, numerals_by_value, parse_signed_minus, parse_signed_plain}
-use Rattle.term_core.specs.TermText.{IsTermInteger, is_positive_text, is_integer_text, integer_of}
+use Rattle.term_core.specs.Written.{IsTermInteger, is_positive_text, is_integer_text, integer_of}
 use Rattle.term_core.proofs.Truths.{both}
 
 -- the digits of `decimal`, as std asks for them

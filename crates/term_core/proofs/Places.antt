@@ -71,3 +71,15 @@ slice_get-append (x ∷ xs) ys (suc i) less = slice_get-append xs ys i (omega ar
 pub slice_get-append_one : {X : Type 0} (xs : List X) (y : X) → slice_get (xs ++ y ∷ []) (length xs) ≡ Some y
 slice_get-append_one [] y = refl
 slice_get-append_one (x ∷ xs) y = slice_get-append_one xs y
+
+-- what is found in front stays there
+found_first : {X : Type 0} (p : X → Bool) (x : X) (xs ys : List X) (n : ℕ) (b : Bool) → p x ≡ b → ((m : ℕ) → position p xs ≡ Some m → position p (xs ++ ys) ≡ Some m) → (o : Option ℕ) → position p xs ≡ o → cond b (Some 0) (option_map (λ i. i + 1) o) ≡ Some n → cond b (Some 0) (option_map (λ i. i + 1) (position p (xs ++ ys))) ≡ Some n
+found_first p x xs ys n true e later o at h = h
+found_first p x xs ys n false e later None at h = cc
+found_first p x xs ys n false e later (Some m) at h = ap (option_map (λ i. i + 1)) (later m at) ∙ h
+
+-- so a list behind changes no place that is found
+pub position-append_found : {X : Type 0} (p : X → Bool) (xs ys : List X) (n : ℕ) → position p xs ≡ Some n → position p (xs ++ ys) ≡ Some n
+position-append_found p [] ys n h = cc
+position-append_found p (x ∷ xs) ys n h =
+    position-cons p x (xs ++ ys) ∙ found_first p x xs ys n (p x) refl (λ m at. position-append_found p xs ys m at) (position p xs) refl (sym (position-cons p x xs) ∙ h)

@@ -1,28 +1,30 @@
--- Lemmas on the bytes of the texts of atoms, numbers and terms: names' bytes and the minus, and so none that separates.
-use Rattle.std.proofs.Common.{◌≡◌, ℕ, suc, ◌<◌, ◌≤◌, ◌^◌, Bool, true, false, ◌&&◌, ◌||◌, ◌==◌, List, [], ◌∷◌, length, get_or, decimal, ℤ, pos, negsuc, slice_get, IsSome, IsTrue, refl, sym, ap, ◌∙◌, subst, arith}
+-- Lemmas on the bytes of the texts of atoms, numbers and terms: names' bytes, the minus, the comma and the brackets of terms.
+use Rattle.std.proofs.Common.{◌≡◌, ℕ, ◌<◌, ◌≤◌, ◌^◌, Bool, true, false, ◌&&◌, ◌||◌, ◌==◌, ◌⊎◌, ◌++◌, List, [], ◌∷◌, length, get_or, decimal, slice_get, IsSome, IsTrue, refl, ap, ◌∙◌, arith}
 use Rattle.std.specs.Char.{is_ascii_digit, is_ascii_lowercase}
-use Rattle.std.specs.Fmt.{signed_decimal}
 use Rattle.std.specs.List.{list_all}
 use Rattle.std.proofs.lemmas.Bool.Decides.{nat_tests}
-use Rattle.std.proofs.lemmas.Fmt.{digits_decimal, decimal_nonempty}
+use Rattle.std.proofs.lemmas.Fmt.{digits_decimal}
 use Rattle.std.proofs.lemmas.List.Sums.{AllPass-from_list_all}
 use Rattle.term_core.specs.declared.term.Term.{Term}
-use Rattle.term_core.specs.declared.term.Term.TheVariants.{Int, Atom}
 use Rattle.term_core.specs.Names.{IsNames, AtomText, is_name_byte, is_atom_text}
-use Rattle.term_core.specs.TermText.{TermText, IsTermInteger, IsTerm, atom_text, term_text}
-use Rattle.term_core.proofs.GrownNames.{AtomText-atom_text, TermText-term_text}
-use Rattle.term_core.proofs.IntegerTexts.{own, range_pos, range_negsuc}
+use Rattle.term_core.specs.PlainTerm.{TermOf, RowOf, integer_leaf, atom_leaf, tuple_of, list_of, no_terms, term_then}
+use Rattle.term_core.specs.TermText.{TermText, IsTerm, atom_text, term_text}
+use Rattle.term_core.specs.Written.{WrittenTerm, written, parted, behind, is_integer_text, HasLeafTexts}
+use Rattle.term_core.proofs.GrownNames.{AtomText-atom_text}
+use Rattle.term_core.proofs.GrownTerms.{TermText-term_text}
+use Rattle.term_core.proofs.IntegerTexts.{own, Zero, Minus, Plain, shape_of, Positive-from}
+use Rattle.term_core.proofs.WrittenTokens.{RowHasLeafTexts}
 use Rattle.term_core.proofs.Truths.{both}
 
 -- what may stand in a term's text
 abbrev pub is_term_byte : ℕ → Bool
-is_term_byte b = is_name_byte b || b == 45
+is_term_byte b = is_name_byte b || (b == 45 || (b == 44 || (b == 91 || (b == 93 || (b == 123 || b == 125)))))
 
--- such a byte is the minus or from 48 on, and no colon
+-- such a byte is the comma, the minus or from 48 on, and no colon
 pub record TermByte (b : ℕ) : Type 0 where
-  pub low : b < 48 → b ≡ 45
+  pub low : b < 48 → (b ≡ 44) ⊎ (b ≡ 45)
   pub no_colon : b ≡ 58 → ⊥
-  pub high : b < 123
+  pub high : b < 126
 
 -- by the test of a byte
 pub TermByte-from : (b : ℕ) → is_term_byte b ≡ true → TermByte b
@@ -79,17 +81,44 @@ pub term_bytes-names : (text : List ℕ) → list_all is_name_byte text ≡ true
 term_bytes-names [] h = refl
 term_bytes-names (c ∷ rest) h =
     let parts = both (is_name_byte c) (list_all is_name_byte rest) h in
-    ap (λ b. b && list_all is_term_byte rest) (or_left (is_name_byte c) (c == 45) parts.0) ∙ term_bytes-names rest parts.1
+    ap (λ b. b && list_all is_term_byte rest) (or_left (is_name_byte c) _ parts.0) ∙ term_bytes-names rest parts.1
 
 -- each byte of an integer's text is a term's
-term_bytes-integer : (z : ℤ) → IsTermInteger z → list_all is_term_byte (signed_decimal z) ≡ true
-term_bytes-integer (pos n) range = term_bytes-names (decimal n) (name_bytes-decimal n (omega (arith, range_pos n range)))
-term_bytes-integer (negsuc n) range = term_bytes-names (decimal (suc n)) (name_bytes-decimal (suc n) (omega (arith, range_negsuc n range)))
+term_bytes-integer : (text : List ℕ) → IsTrue (is_integer_text text) → list_all is_term_byte text ≡ true
+term_bytes-integer text h = elim (shape_of text h) [
+  | Zero e ↦ ap (list_all is_term_byte) e
+  | Minus digits e p ↦ ap (list_all is_term_byte) e ∙ term_bytes-names digits (name_bytes-digits digits (Positive-from digits p).digits)
+  | Plain p ↦ term_bytes-names text (name_bytes-digits text (Positive-from text p).digits)
+]
+
+-- the bytes of two texts
+term_bytes-append : (xs ys : List ℕ) → list_all is_term_byte xs ≡ true → list_all is_term_byte ys ≡ true → list_all is_term_byte (xs ++ ys) ≡ true
+term_bytes-append [] ys h k = k
+term_bytes-append (c ∷ xs) ys h k =
+    let parts = both (is_term_byte c) (list_all is_term_byte xs) h in
+    ap (λ b. b && list_all is_term_byte (xs ++ ys)) parts.0 ∙ term_bytes-append xs ys parts.1 k
+
+-- each byte of a written term's text is a term's
+mutual
+  pub term_bytes-written : (t : TermOf (List ℕ) (List ℕ)) → HasLeafTexts t → list_all is_term_byte (written t) ≡ true
+  term_bytes-written (integer_leaf text) h = term_bytes-integer text h
+  term_bytes-written (atom_leaf text) h = term_bytes-names text (name_bytes-atom text h)
+  term_bytes-written (tuple_of row) h = term_bytes-append (parted row) (125 ∷ []) (term_bytes-parted row h) refl
+  term_bytes-written (list_of row) h = term_bytes-append (parted row) (93 ∷ []) (term_bytes-parted row h) refl
+
+  -- the same of a row
+  term_bytes-parted : (row : RowOf (List ℕ) (List ℕ)) → RowHasLeafTexts row → list_all is_term_byte (parted row) ≡ true
+  term_bytes-parted no_terms h = refl
+  term_bytes-parted (term_then t row) h = term_bytes-append (written t) (behind row) (term_bytes-written t h.0) (term_bytes-behind row h.1)
+
+  -- and of a row behind a term
+  term_bytes-behind : (row : RowOf (List ℕ) (List ℕ)) → RowHasLeafTexts row → list_all is_term_byte (behind row) ≡ true
+  term_bytes-behind no_terms h = refl
+  term_bytes-behind (term_then t row) h = term_bytes-append (written t) (behind row) (term_bytes-written t h.0) (term_bytes-behind row h.1)
 
 -- each byte of a term's text is a term's
 pub term_bytes-TermText : (before : List (List ℕ)) (text : List ℕ) (term : Term) (after : List (List ℕ)) → TermText before text term after → list_all is_term_byte text ≡ true
-term_bytes-TermText before text (Int z) after t = ap (list_all is_term_byte) t.digits ∙ term_bytes-integer z t.range
-term_bytes-TermText before text (Atom a) after t = term_bytes-names text (name_bytes-atom text t.form)
+term_bytes-TermText before text term after t = ap (list_all is_term_byte) t.whole ∙ term_bytes-written t.form t.leaves
 
 -- and of what is printed of a term
 pub term_bytes-term_text : (names : List (List ℕ)) (term : Term) → IsNames names → IsTerm names term → list_all is_term_byte (term_text names term) ≡ true
@@ -113,14 +142,20 @@ atom_is_some [] h = cc
 atom_is_some (c ∷ rest) h = omega arith
 
 -- an integer has a byte
-integer_is_some : (z : ℤ) → IsTermInteger z → 0 < length (signed_decimal z)
-integer_is_some (pos n) range = decimal_nonempty n (omega (arith, range_pos n range))
-integer_is_some (negsuc n) range = omega arith
+integer_is_some : (text : List ℕ) → IsTrue (is_integer_text text) → 0 < length text
+integer_is_some [] h = cc
+integer_is_some (c ∷ rest) h = omega arith
+
+-- no written term's text is empty
+nonempty-written : (t : WrittenTerm) → HasLeafTexts t → 0 < length (written t)
+nonempty-written (integer_leaf text) h = integer_is_some text h
+nonempty-written (atom_leaf text) h = atom_is_some text h
+nonempty-written (tuple_of row) h = omega arith
+nonempty-written (list_of row) h = omega arith
 
 -- no term's text is empty
 pub nonempty-TermText : (before : List (List ℕ)) (text : List ℕ) (term : Term) (after : List (List ℕ)) → TermText before text term after → 0 < length text
-nonempty-TermText before text (Int z) after t = subst (λ (s : List ℕ). 0 < length s) (sym t.digits) (integer_is_some z t.range)
-nonempty-TermText before text (Atom a) after t = atom_is_some text t.form
+nonempty-TermText before text term after t = omega (arith, ap length t.whole, nonempty-written t.form t.leaves)
 
 -- nor is an atom's
 pub nonempty-AtomText : (before : List (List ℕ)) (text : List ℕ) (atom : ℕ) (after : List (List ℕ)) → AtomText before text atom after → 0 < length text

@@ -1,5 +1,5 @@
 -- Small facts on tests and options.
-use Rattle.std.proofs.Common.{◌≡◌, Bool, true, false, ◌&&◌, Option, None, Some, refl}
+use Rattle.std.proofs.Common.{◌≡◌, ℕ, ◌<◌, ◌⊎◌, Bool, true, false, ◌&&◌, Option, None, Some, is_some, IsSome, refl, ap, arith}
 
 -- where `&&` is true, so are both sides
 pub both : (a b : Bool) → (a && b) ≡ true → (a ≡ true) × (b ≡ true)
@@ -15,3 +15,25 @@ not_both false h k = cc
 pub none_is_not_some : {X : Type 0} (o : Option X) (x : X) → o ≡ None → o ≡ Some x → ⊥
 none_is_not_some None x e h = cc
 none_is_not_some (Some y) x e h = cc
+
+-- what is false is not true
+pub false_is_no_true : false ≡ true → ⊥
+false_is_no_true h = cc
+
+-- what is not true is false
+pub false_unless : (b : Bool) → (b ≡ true → ⊥) → b ≡ false
+false_unless true h = absurd (h refl)
+false_unless false h = refl
+
+-- what has a value is there
+pub is_some_at : {X : Type 0} (o : Option X) (x : X) → o ≡ Some x → IsSome o
+is_some_at o x e = ap is_some e
+
+-- what is there has a value
+pub some_inside : {X : Type 0} (o : Option X) → IsSome o → (x : X) × (o ≡ Some x)
+some_inside None h = cc
+some_inside (Some x) h = (x, refl)
+
+-- two numbers are in one of two orders or equal
+pub three_ways : (m n : ℕ) → (m < n) ⊎ ((n < m) ⊎ (m ≡ n))
+three_ways m n = grind arith

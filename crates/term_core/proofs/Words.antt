@@ -2,9 +2,9 @@
 use Rattle.std.proofs.Common.{◌≡◌, ℕ, ◌+◌, ◌-◌, ◌*◌, ◌/◌, ◌%◌, ◌<◌, ◌≤◌, true, false, cond, ◌==◌, nat_lt, ℤ, pos, negsuc, refl, sym, ap, ◌∙◌, arith}
 use Rattle.std.proofs.lemmas.Bool.Decides.{nat_tests}
 use Rattle.term_core.specs.declared.term.Term.{Term}
-use Rattle.term_core.specs.declared.term.Term.TheVariants.{Int, Atom}
+use Rattle.term_core.specs.declared.term.Term.TheVariants.{Int, Atom, Tuple, List as ListOf}
 use Rattle.term_core.specs.Image.{IsImmediate, HasSmallAtoms, low_bits, immediate_word, integer_of_bits, term_of_word}
-use Rattle.term_core.specs.TermText.{IsTermInteger}
+use Rattle.term_core.specs.Written.{IsTermInteger}
 use Rattle.term_core.proofs.IntegerTexts.{range_pos, range_negsuc}
 
 -- the bits of an integer from zero up are its own
@@ -48,6 +48,8 @@ term_of_word-immediate_word (Int z) is small =
 term_of_word-immediate_word (Atom a) is small =
     let parts = tagged a.0 2 (omega arith) in
     atom_tag (immediate_word (Atom a)) a.0 parts.0 parts.1 small
+term_of_word-immediate_word (Tuple ts) is small = absurd is
+term_of_word-immediate_word (ListOf ts) is small = absurd is
 
 -- two terms with one word are the same
 pub immediate_word-injective : (t u : Term) → IsImmediate t → IsImmediate u → HasSmallAtoms t → HasSmallAtoms u → immediate_word t ≡ immediate_word u → t ≡ u

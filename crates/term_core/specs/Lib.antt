@@ -1,5 +1,17 @@
+pub mod Bytes
+pub mod Faults
 pub mod Gives
 pub mod Image
 pub mod Names
+pub mod Plain
+pub mod PlainTerm
+pub mod Printing
 pub mod Reading
+pub mod Same
+pub mod Scanning
+pub mod TermCode
+pub mod TermSize
 pub mod TermText
+pub mod Tokens
+pub mod Tops
+pub mod Written

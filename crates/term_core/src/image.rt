@@ -1,9 +1,11 @@
-ghost use Rattle.std.specs.Prelude.{◌≡◌, ◌<◌};
-ghost use Rattle.term_core.specs.TermText.{IsTermInteger};
+ghost use Rattle.std.specs.Prelude.{◌≡◌, ◌<◌, ◌^◌};
+ghost use Rattle.term_core.specs.Plain.{plain};
+ghost use Rattle.term_core.specs.PlainTerm.{row_of, term_words, row_words};
+ghost use Rattle.term_core.specs.Written.{IsTermInteger};
 ghost use Rattle.term_core.specs.Image.{IsImmediate, HasSmallAtoms, low_bits, immediate_word, integer_of_bits, term_of_word};
 
 use crate::atom::AtomId;
-use crate::term::Term;
+use crate::term::{Term, TermList};
 
 /// The low four bits of a word are its tag, which says what the others are.
 const TAG_COUNT: u64 = 16;
@@ -52,6 +54,7 @@ impl Term {
         match self {
             Term::Int(number) => low_bits(*number) * TAG_COUNT + INTEGER_TAG,
             Term::Atom(atom) => u64::from(atom.0) * TAG_COUNT + ATOM_TAG,
+            Term::Tuple(_) | Term::List(_) => unreachable!("a tuple and a list have more words"),
         }
     }
 
@@ -72,3 +75,27 @@ impl Term {
 pub fn words_read_back()
     ensures { (term : Term) → IsImmediate term → HasSmallAtoms term → term_of_word (immediate_word term) ≡ term }
 {}
+
+/// How many words the image of a term has.
+#[cycle(words)]
+pub fn image_len(term: &Term) -> u64
+    requires { term_words (plain term.now) < 2 ^ 64 }
+    ensures { result ≡ term_words (plain term.now) }
+{
+    match term {
+        Term::Int(_) | Term::Atom(_) => 1,
+        Term::Tuple(terms) | Term::List(terms) => 1 + row_len(terms),
+    }
+}
+
+#[cycle(words)]
+fn row_len(terms: &TermList) -> u64
+    requires { row_words (row_of terms.now) < 2 ^ 64 }
+    ensures { result ≡ row_words (row_of terms.now) }
+{
+    let mut words = 0;
+    for term in &terms.items {
+        words += image_len(term);
+    }
+    words
+}

@@ -1,11 +1,10 @@
 ghost use Rattle.std.specs.Prelude.{◌≡◌, IsTrue, MatchOption};
 ghost use Rattle.std.specs.Char.{is_ascii_digit};
 ghost use Rattle.std.specs.List.{list_all};
-ghost use Rattle.term_core.specs.TermText.{IsTermInteger, is_positive_text, is_integer_text, integer_of};
-ghost use Rattle.term_core.specs.Reading.{integer_reading};
+ghost use Rattle.term_core.specs.Tokens.{is_outside};
+ghost use Rattle.term_core.specs.Written.{IsTermInteger, is_positive_text, is_integer_text, integer_of};
 
 use crate::names::ascii_text;
-use crate::term_fault::TermFault;
 
 /// The least integer that is a term.
 pub const LEAST_INTEGER: i64 = -576460752303423488;
@@ -47,14 +46,24 @@ fn parsed_integer(text: &[u8]) -> Option<i64>
     ascii_text(text).parse::<i64>().ok()
 }
 
-pub(crate) fn read_integer(text: &[u8]) -> Result<i64, TermFault>
-    ensures { result ≡ integer_reading text.now }
+/// The integer of a text whose integer is a term.
+pub(crate) fn term_integer(text: &[u8]) -> i64
+    requires form { IsTrue (is_integer_text text.now) }
+    requires range { IsTermInteger (integer_of text.now) }
+    ensures { result ≡ integer_of text.now }
+{
+    parsed_integer(text).unwrap()
+}
+
+/// Whether this is an integer's text, and the integer is no term.
+pub(crate) fn is_outside(text: &[u8]) -> bool
+    ensures { result ≡ is_outside text.now }
 {
     if !is_integer_text(text) {
-        return Err(TermFault::Syntax);
+        return false;
     }
     match parsed_integer(text) {
-        Some(number) if LEAST_INTEGER <= number && number <= GREATEST_INTEGER => Ok(number),
-        _ => Err(TermFault::IntRange),
+        Some(number) => number < LEAST_INTEGER || GREATEST_INTEGER < number,
+        None => true,
     }
 }

@@ -3,7 +3,6 @@ ghost use Rattle.std.specs.Option.{option_copied};
 
 use crate::atom::AtomId;
 use crate::no_memory::NoMemory;
-use crate::term::Term;
 use std::alloc::Global;
 use std::marker::Model;
 
@@ -18,9 +17,6 @@ pub type AtomList = Items<AtomId>;
 
 /// Bytes of a text.
 pub type ByteList = Items<u8>;
-
-/// Terms in a row, as the arguments of a call.
-pub type TermList = Items<Term>;
 
 /// Counts in a row.
 pub type CountList = Items<u64>;

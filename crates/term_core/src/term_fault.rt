@@ -4,11 +4,13 @@ use crate::no_memory::NoMemory;
 /// Why a text was not read as a term.
 #[derive(Clone, Copy, Debug, PartialEq, Eq)]
 pub enum TermFault {
-    /// It is the text of no integer and of no atom.
-    Syntax,
-    /// It is the text of an integer of more than 60 bits.
-    IntRange,
-    /// It is an atom that is new, and the table of names is full.
+    /// It is the text of no term, with numbers of any size. No term's text begins with the bytes up to `at`, counted from 0; it is the text's length where the text only stops too early.
+    Syntax { at: usize },
+    /// It has a number out of range. The leftmost such number begins at `at`.
+    IntRange { at: usize },
+    /// It is the text of a term whose image has more than 64 words.
+    TooLong,
+    /// It has more new atoms than the table of names has room for.
     Names,
     /// Memory was refused. No clause says when.
     NoMemory,

@@ -57,74 +57,175 @@ fn a_full_table_takes_no_new_name(rt: HostRuntime) {
     assert!(rt; is_atom_text(b"more"));
     assert!(rt; names.add(b"more") == Err(NameFault::Full));
     assert!(rt; read_term(&mut names, b"more") == Err(TermFault::Names));
+    assert!(rt; read_term(&mut names, b"{n3,more}") == Err(TermFault::Names));
     assert!(rt; read_term(&mut names, b"n3") == Ok(Term::Atom(AtomId(3))));
     assert!(rt; read_term(&mut names, b"3") == Ok(Term::Int(3)));
 }
 
+fn reads_back(rt: &(impl AllocGlobal + Abort), names: &mut Names, text: &[u8], words: u64) -> Term {
+    let term = read_term(names, text).expect(rt, "a term");
+    assert_eq!(rt; image_len(&term), words);
+    let mut out = ByteList::new(rt.alloc());
+    print_term(names, &term, &mut out).expect(rt, "a text");
+    assert!(rt; out.as_slice() == text);
+    let copy = term.copy(rt.alloc()).expect(rt, "a copy");
+    assert!(rt; copy == term);
+    term
+}
+
 #[test]
-fn texts_are_terms(rt: HostRuntime) {
+fn integers_and_atoms_are_read(rt: HostRuntime) {
     let cases = [
         ("0", Term::Int(0)),
         ("-1", Term::Int(-1)),
-        ("1024", Term::Int(1024)),
         ("576460752303423487", Term::Int(576460752303423487)),
         ("-576460752303423488", Term::Int(-576460752303423488)),
         ("ok", Term::Atom(AtomId::OK)),
         (AT_LIMIT, Term::Atom(AtomId(3))),
-        ("false", Term::Atom(AtomId::FALSE)),
         ("m", Term::Atom(AtomId(4))),
     ];
     let mut names = Names::new(rt.alloc()).expect(&rt, "the given names");
     for (text, term) in cases {
-        assert!(rt;
-            read_term(&mut names, text.as_bytes()) == Ok(term),
-            "at {text}"
-        );
+        let read = reads_back(&rt, &mut names, text.as_bytes(), 1);
+        assert!(rt; read == term, "at {text}");
     }
 }
 
 #[test]
-fn other_texts_have_their_fault(rt: HostRuntime) {
-    let out_of_range = [
-        "576460752303423488",
-        "-576460752303423489",
-        "9223372036854775808",
-        "-1234567890123456789012345678901234567890123456789012345678901234567890",
-    ];
-    let of_no_form = [
-        "01", "00", "-0", "-01", "-", "--1", "+1", "1a", "1 ", "", "a B", "Ok", "\u{e9}",
-        PAST_LIMIT,
+fn tuples_and_lists_are_read(rt: HostRuntime) {
+    let cases = [
+        ("{}", 1),
+        ("[]", 1),
+        ("{ok,[1,-1]}", 5),
+        ("[[],{},[{a_B9}]]", 6),
+        ("{1,{2,{3,{4,5}}}}", 9),
     ];
     let mut names = Names::new(rt.alloc()).expect(&rt, "the given names");
-    for text in out_of_range {
-        assert!(rt;
-            read_term(&mut names, text.as_bytes()) == Err(TermFault::IntRange),
-            "at {text}"
-        );
+    for (text, words) in cases {
+        let term = reads_back(&rt, &mut names, text.as_bytes(), words);
+        let clone = term.clone().expect(&rt, "a clone");
+        assert!(rt; clone == term, "at {text}");
     }
-    for text in of_no_form {
-        assert!(rt;
-            read_term(&mut names, text.as_bytes()) == Err(TermFault::Syntax),
-            "at {text}"
-        );
-    }
+    let list = read_term(&mut names, b"[]").expect(&rt, "a list");
+    assert!(rt; list == Term::List(TermList::new(rt.alloc())));
+    let mut pair = TermList::new(rt.alloc());
+    pair.push(Term::Int(7)).expect(&rt, "a term");
+    pair.push(Term::Atom(AtomId::OK)).expect(&rt, "a term");
+    assert_eq!(rt; pair.len(), 2);
+    assert!(rt; pair.get(1).is_some());
+    let tuple = read_term(&mut names, b"{7,ok}").expect(&rt, "a tuple");
+    assert!(rt; tuple == Term::Tuple(pair));
+    assert!(rt; list != tuple);
 }
 
-fn shows(rt: &(impl AllocGlobal + Abort), names: &Names, term: &Term, text: &str, word: u64)
-    requires immediate { IsImmediate term.now }
-{
-    let mut out = ByteList::new(rt.alloc());
-    print_term(names, term, &mut out).expect(rt, "a text");
-    assert!(rt; out.as_slice() == text.as_bytes(), "at {text}");
-    assert_eq!(rt; term.word(), word, "at {text}");
-    assert!(rt; Term::of_word(word) == *term, "at {text}");
+// A list of as many ones.
+fn list_of_ones(rt: &(impl AllocGlobal + Abort), count: u64) -> ByteList {
+    let mut text = ByteList::new(rt.alloc());
+    text.push(b'[').expect(rt, "a byte");
+    for at in 0..count {
+        if at > 0 {
+            text.push(b',').expect(rt, "a byte");
+        }
+        text.push(b'1').expect(rt, "a byte");
+    }
+    text.push(b']').expect(rt, "a byte");
+    text
 }
 
 #[test]
-fn terms_have_a_text_and_a_word(rt: HostRuntime) {
-    let names = Names::new(rt.alloc()).expect(&rt, "the given names");
-    shows(&rt, &names, &Term::Int(1), "1", 17);
-    shows(&rt, &names, &Term::Int(2), "2", 33);
-    shows(&rt, &names, &Term::Int(-1), "-1", 18446744073709551601);
-    shows(&rt, &names, &Term::Atom(AtomId::OK), "ok", 34);
+fn a_term_has_64_words_at_most(rt: HostRuntime) {
+    let mut names = Names::new(rt.alloc()).expect(&rt, "the given names");
+    let most = list_of_ones(&rt, 63);
+    let _ = reads_back(&rt, &mut names, most.as_slice(), 64);
+    let more = list_of_ones(&rt, 64);
+    assert!(rt; read_term(&mut names, more.as_slice()) == Err(TermFault::TooLong));
+}
+
+fn refuses(rt: &(impl AllocGlobal + Abort), text: &str, fault: TermFault) {
+    let mut names = Names::new(rt.alloc()).expect(rt, "the given names");
+    assert!(rt;
+        read_term(&mut names, text.as_bytes()) == Err(fault),
+        "at {text}"
+    );
+}
+
+#[test]
+fn integers_out_of_range_have_their_place(rt: HostRuntime) {
+    let cases = [
+        ("576460752303423488", 0),
+        ("-576460752303423489", 0),
+        ("9223372036854775808", 0),
+        ("{1,576460752303423488}", 3),
+        ("[{},-9999999999999999999999,1152921504606846976]", 4),
+    ];
+    for (text, at) in cases {
+        refuses(&rt, text, TermFault::IntRange { at });
+    }
+}
+
+#[test]
+fn other_texts_have_their_place(rt: HostRuntime) {
+    let cases = [
+        ("", 0),
+        ("{1,", 3),
+        ("[1", 2),
+        ("-", 1),
+        ("01", 1),
+        ("-0", 1),
+        ("{,}", 1),
+        ("{1}}", 3),
+        ("[1}", 2),
+        ("{1,2}x", 5),
+    ];
+    for (text, at) in cases {
+        refuses(&rt, text, TermFault::Syntax { at });
+    }
+}
+
+#[test]
+fn other_bytes_have_their_place(rt: HostRuntime) {
+    let cases = [
+        ("a B", 1),
+        ("Ok", 0),
+        ("--1", 1),
+        ("1 ", 1),
+        ("1a", 1),
+        ("{[],_}", 4),
+        (PAST_LIMIT, 32),
+    ];
+    for (text, at) in cases {
+        refuses(&rt, text, TermFault::Syntax { at });
+    }
+}
+
+fn opened(rt: &(impl AllocGlobal + Abort), count: usize) -> ByteList {
+    let mut text = ByteList::new(rt.alloc());
+    for _ in 0..count {
+        text.push(b'[').expect(rt, "a byte");
+    }
+    text
+}
+
+#[test]
+fn a_million_brackets_are_refused(rt: HostRuntime) {
+    let mut names = Names::new(rt.alloc()).expect(&rt, "the given names");
+    let text = opened(&rt, 1048576);
+    let at = text.len();
+    assert!(rt; read_term(&mut names, text.as_slice()) == Err(TermFault::Syntax { at }));
+    assert_eq!(rt; at, 1048576);
+}
+
+fn shows(rt: &(impl AllocGlobal + Abort), term: &Term, word: u64)
+    requires immediate { IsImmediate term.now }
+{
+    assert_eq!(rt; term.word(), word);
+    assert!(rt; Term::of_word(word) == *term);
+}
+
+#[test]
+fn terms_of_one_word_have_it(rt: HostRuntime) {
+    shows(&rt, &Term::Int(1), 17);
+    shows(&rt, &Term::Int(2), 33);
+    shows(&rt, &Term::Int(-1), 18446744073709551601);
+    shows(&rt, &Term::Atom(AtomId::OK), 34);
 }

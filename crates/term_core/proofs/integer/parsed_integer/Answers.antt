@@ -1,7 +1,7 @@
 -- What `parse` says of an integer's text.
 use Rattle.std.proofs.Common.{◌≡◌, sym, subst, Option, MatchOption, ℤ, List, ℕ, w64}
 use Rattle.std.specs.Str.Parse.{ParsesSigned}
-use Rattle.term_core.specs.TermText.{IsTermInteger, integer_of}
+use Rattle.term_core.specs.Written.{IsTermInteger, integer_of}
 use Rattle.term_core.proofs.IntegerTexts.{IsAscii-integer, parsed}
 use Rattle.term_core.proofs.integer.parsed_integer.Goals as goal
 
