@@ -1,7 +1,7 @@
 ghost use Rattle.std.specs.Prelude.{◌≡◌, IfOk};
 
 use std::alloc::Global;
-use term_core::{AtomId, Items, NoMemory, Term};
+use term_core::{AtomId, Items, Mfa, NoMemory, Term};
 
 /// How many registers a frame has.
 pub const REGISTERS: u32 = 16;
@@ -27,16 +27,33 @@ pub enum Operand {
 }
 
 /// An instruction of the call machine.
+///
+/// A target is the number of an instruction of the same function, from 0, or the number of its instructions.
 #[derive(Clone, Debug, Drop, PartialEq, Eq)]
 pub enum Instr {
     /// The register becomes the value.
     Move { from: Operand, to: u32 },
     /// The register becomes the sum of two integers.
     Add { a: Operand, b: Operand, to: u32 },
+    /// The register becomes the first integer less the second.
+    Sub { a: Operand, b: Operand, to: u32 },
+    /// Goes to the target if the terms are equal.
+    Eq { a: Operand, b: Operand, target: u32 },
+    /// Goes to the target if the first integer is less than the second.
+    Less { a: Operand, b: Operand, target: u32 },
+    /// Goes to the target.
+    Jump { target: u32 },
+    /// Enters a function of the same instance, by its number in the module. Its arguments stand in the registers
+    /// from `at` on; its value comes into `at`.
+    Call { function: u32, at: u32 },
+    /// Enters a function of a current instance, as an external call of Erlang does.
+    CallExt { to: Mfa, at: u32 },
     /// Leaves the frame with the value.
     Ret { value: Operand },
     /// Makes a line of the value.
     Print { value: Operand },
+    /// Ends the turn.
+    Yield,
 }
 
 /// The instructions of a function, in order.
@@ -68,6 +85,15 @@ pub struct Module {
 /// Modules in a row, as the texts of a script.
 pub type ModuleList = Items<Module>;
 
+impl Instr {
+    /// An equal instruction.
+    fn copy(&self) -> Result<Instr, NoMemory>
+        ensures { IfOk result (λ copy. copy ≡ self.now) }
+    {
+        Ok(self.clone()?)
+    }
+}
+
 impl Function {
     /// An equal function.
     fn copy(&self, alloc: Global) -> Result<Function, NoMemory>
@@ -75,7 +101,7 @@ impl Function {
     {
         let mut code = InstrList::new(alloc);
         for instr in self.code.as_slice() {
-            code.push(instr.clone()?)?;
+            code.push(instr.copy()?)?;
         }
         Ok(Function {
             name: self.name,

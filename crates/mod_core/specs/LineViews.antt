@@ -1,0 +1,51 @@
+-- The forms of lines whose words are slices of a text.
+use Rattle.std.specs.Prelude.{ℕ, List, map, Option, option_map}
+use Rattle.std.specs.Borrow.{Bor}
+use Rattle.std.specs.Option.{option_to_list}
+use Rattle.mod_core.specs.declared.text.written.WrittenOperand.{WrittenOperand}
+use Rattle.mod_core.specs.declared.text.written.WrittenOperand.TheVariants.{Register, Integer, Atom}
+use Rattle.mod_core.specs.declared.text.written.WrittenInstr.{WrittenInstr}
+use Rattle.mod_core.specs.declared.text.written.WrittenInstr.TheVariants.{Move, Add, Sub, Eq, Less, Jump, Call, CallExt, Ret, Print, Yield}
+use Rattle.mod_core.specs.declared.text.written.WrittenLine.{WrittenLine}
+use Rattle.mod_core.specs.declared.text.written.WrittenLine.TheVariants.{Title, Header, Label, Instr, End}
+use Rattle.mod_core.specs.ModuleLine.{OperandForm, register, integer, atom, InstrForm, move, add, sub, eq, less, jump, call, call_ext, ret, print, yield, LineForm, title, header, label, instr, end}
+
+abbrev pub operand_form : WrittenOperand → OperandForm
+operand_form (Register digits) = register digits.now
+operand_form (Integer text) = integer text.now
+operand_form (Atom text) = atom text.now
+
+abbrev pub instr_form : WrittenInstr → InstrForm
+instr_form (Move from to) = move (operand_form from) to.now
+instr_form (Add a b to) = add (operand_form a) (operand_form b) to.now
+instr_form (Sub a b to) = sub (operand_form a) (operand_form b) to.now
+instr_form (Eq a b target) = eq (operand_form a) (operand_form b) target.now
+instr_form (Less a b target) = less (operand_form a) (operand_form b) target.now
+instr_form (Jump target) = jump target.now
+instr_form (Call name arity at) = call name.now arity.now at.now
+instr_form (CallExt m name arity at) = call_ext m.now name.now arity.now at.now
+instr_form (Ret value) = ret (operand_form value)
+instr_form (Print value) = print (operand_form value)
+instr_form Yield = yield
+
+abbrev pub line_form : WrittenLine → LineForm
+line_form (Title name version) = title name.now version.now
+line_form (Header exported name arity) = header exported name.now arity.now
+line_form (Label name) = label name.now
+line_form (Instr i) = instr (instr_form i)
+line_form End = end
+
+abbrev pub forms_of : List WrittenLine → List LineForm
+forms_of lines = map line_form lines
+
+-- the text of a word, if there is one
+abbrev pub word_of : Option (Bor (List ℕ)) → List (List ℕ)
+word_of word = option_to_list (option_map (λ text. text.now) word)
+
+-- names and arities
+abbrev pub headers_of : List (Bor (List ℕ) × Bor (List ℕ)) → List (List ℕ × List ℕ)
+headers_of headers = map (λ h. (h.0.now, h.1.now)) headers
+
+-- words in a row
+abbrev pub words_of : List (Bor (List ℕ)) → List (List ℕ)
+words_of words = map (λ word. word.now) words
