@@ -18,8 +18,11 @@ impl Model for LoadedModule {
     ghost use Rattle.std.specs.Prelude.{◌≡◌};
     ghost use Rattle.mod_core.specs.declared.code.Module.{Module};
     ghost use Rattle.mod_core.specs.ModuleImage.{module_image};
+    ghost use Rattle.mod_core.specs.contracts.code.Module as module_contracts;
 
     ghost Value = { Module };
+
+    ghost coded = { module_contracts.the_row.coded };
 
     ghost view = { λ it. it.code };
 

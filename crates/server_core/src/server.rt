@@ -26,9 +26,13 @@ pub struct Server {
 }
 
 impl Model for Server {
+    ghost use Rattle.std.specs.Coded.{codes};
+    ghost use Rattle.mod_core.specs.contracts.code.Module as module_contracts;
     ghost use Rattle.server_core.specs.ServerState.{ServerState};
 
     ghost Value = { ServerState };
+
+    ghost coded = { Prim.hlevel (codes, module_contracts.the_row.coded) };
 
     ghost use Rattle.server_core.specs.Tables.{HoldsSound, state_of};
 

@@ -13,6 +13,7 @@ const MAIN: AtomId = AtomId(900);
 
 // A module of one function, the exported `main/1`.
 fn text(alloc: Global, name: u32, version: u32) -> Result<Module, NoMemory>
+    requires numbered { name < 4096 }
     requires least { 1 ≤ version }
     requires greatest { version ≤ 999999 }
     ensures sound { IfOk result IsModule }
