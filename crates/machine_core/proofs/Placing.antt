@@ -1,106 +1,203 @@
--- That a turn leaves each frame at an instruction.
-use Rattle.std.proofs.Common.{◌≡◌, ◌<◌, ◌+◌, ℕ, zero, suc, refl, arith, sym, ◌∙◌, subst, List, [], ◌∷◌, ◌++◌, length, length-append, append_assoc, Some, Result, Ok, Err}
-use Rattle.std.proofs.lemmas.Grind.{flat_map-append}
+-- That a turn leaves each frame at an instruction, with its area held.
+use Rattle.std.proofs.Common.{◌≡◌, ◌<◌, ◌≤◌, ◌+◌, ℕ, zero, suc, refl, arith, sym, ap, ◌∙◌, subst, Bool, true, false, ◌||◌, ◌==◌, nat_le, if◌then◌else◌, List, [], ◌∷◌, length, length-append, take, slice_get, Option, Some, None, IsTrue, IsSomeAnd, Result, Ok, Err}
+use Rattle.std.proofs.lemmas.Bool.Decides.{nat_tests}
 use Rattle.std.specs.List.{flat_map}
+use Rattle.term_core.specs.declared.atom.Mfa.{Mfa}
+use Rattle.term_core.specs.declared.hold.Kind.TheVariants.{Frame}
 use Rattle.term_core.specs.declared.term.Term.{Term}
+use Rattle.mod_core.specs.declared.code.Function.{Function}
 use Rattle.mod_core.specs.declared.code.Instr.{Instr}
 use Rattle.mod_core.specs.declared.code.Instr.TheVariants as instrs
 use Rattle.mod_core.specs.declared.code.Module.{Module}
-use Rattle.mod_core.specs.ModuleImage.{instr_words, instr_len, function_place}
-use Rattle.server_core.specs.ServerState.{ServerState, code_of}
-use Rattle.machine_core.specs.declared.process.Value.{Value}
-use Rattle.machine_core.specs.declared.process.Line.{Line}
+use Rattle.mod_core.specs.Module.{IsInstr}
+use Rattle.mod_core.specs.ModuleImage.{function_place, instr_len, instr_words, place_in, placed}
+use Rattle.mod_core.proofs.Places.{numbered}
+use Rattle.server_core.specs.ServerState.{ServerState, Entry, IsSound, code_of, dispatch_of}
+use Rattle.machine_core.specs.declared.process.TheConstants.{MOST_FRAMES}
 use Rattle.machine_core.specs.declared.process.End.{End}
-use Rattle.machine_core.specs.Process.{PlainFrame}
-use Rattle.machine_core.specs.Turn.{IsPlaced, ArePlaced, Step, goes_on, ends, runs, after_step, code_at, executed, instr_at, returned, run_of, stand_after, step_of, sum_of, summed, term_of, value_of, moved_past}
-use Rattle.machine_core.proofs.Codes.{next_of}
-use Rattle.machine_core.proofs.Fetching.{instr_at-next}
+use Rattle.machine_core.specs.declared.process.Value.{Value}
+use Rattle.machine_core.specs.Holds.{Holds, is_among, is_full, is_held, with_hold}
+use Rattle.machine_core.specs.View.{HasFunction}
+use Rattle.machine_core.specs.Process.{PlainFrame, first_registers}
+use Rattle.machine_core.specs.Turn.{ArePlaced, IsPlaced, Step, branched, called, called_by_name, called_out, code_at, computed, ends, executed, frame_at, goes_on, instr_at, is_same, less_of, difference_of, moved_past, operand_term, returned, stacked, step_of, sum_of, tested, value_of, yields}
+use Rattle.machine_core.specs.Stand.{AreHeld, AreStanding}
+use Rattle.machine_core.proofs.Calling.{dispatch_reaches}
+use Rattle.machine_core.proofs.Fetching.{IsNext, is_instr, is_next, placed_words}
+use Rattle.machine_core.proofs.SerialLists.{among-with}
+use Rattle.machine_core.proofs.Steps.{callee_of}
 
 -- an instruction behind which the frame stands next, since it does not leave the frame
 IsGoing : Instr → Type 0
 IsGoing (instrs.Ret value) = ⊥
-IsGoing (instrs.Move from to) = Unit {0}
-IsGoing (instrs.Add a b to) = Unit {0}
-IsGoing (instrs.Print value) = Unit {0}
+IsGoing i = Unit {0}
+
+-- such an instruction is one of the code, not the return past its end
+going_inside : (code : List Instr) (number : ℕ) → IsGoing (numbered code number) → number < length code
+unfolding IsGoing
+going_inside [] zero h = absurd h
+going_inside [] (suc number) h = absurd h
+going_inside (i ∷ is) zero h = omega arith
+going_inside (i ∷ is) (suc number) h = let r = going_inside is number h in omega arith
+
+-- the place behind an instruction
+place_in-suc : (start : ℕ) (code : List Instr) (number : ℕ) → number < length code → place_in start code (number + 1) ≡ place_in start code number + instr_len (numbered code number)
+place_in-suc start [] number h = absurd (omega arith)
+place_in-suc start (i ∷ is) zero h = omega (arith, length-append (instr_words i) [])
+place_in-suc start (i ∷ is) (suc number) h =
+    let r = place_in-suc start is number (omega arith) in
+    let e : suc number + 1 ≡ suc (number + 1) = omega arith in
+    rw e (omega (arith, length-append (instr_words i) (flat_map instr_words (take (number + 1) is)), length-append (instr_words i) (flat_map instr_words (take number is))))
+
+code_found : (m : Module) (function : ℕ) (g : Function) → slice_get m.functions function ≡ Some g → code_at m function ≡ g.code
+code_found m function g e = rw e
+
+get_within : (fs : List Function) (k : ℕ) (g : Function) → slice_get fs k ≡ Some g → k < length fs
+get_within [] k g e = absurd (cc)
+get_within (f ∷ fs) zero g e = omega arith
+get_within (f ∷ fs) (suc k) g e = let r = get_within fs k g e in omega arith
 
 module _ (s : ServerState) where
+  -- a frame at another place of its function, with other registers
+  placed_at : (f : PlainFrame) (n : IsNext s f) (number place : ℕ) (registers : List Value) → f.back < 16 → number ≤ length n.function.code →
+      place ≡ place_in (function_place n.m f.function) n.function.code number → IsPlaced s (record f { place = place; registers = registers })
+  placed_at f n number place registers back within at =
+      let code = code_found n.m f.function n.function n.found in
+      record {
+        m = n.m;
+        number = number;
+        loaded = n.loaded;
+        known = get_within n.m.functions f.function n.function n.found;
+        within = subst (λ is. number ≤ length is) (sym code) within;
+        at = at ∙ ap (λ is. place_in (function_place n.m f.function) is number) (sym code);
+        back = back;
+      }
+
   -- the registers do not say where a frame stands
   placed_with : (f : PlainFrame) (registers : List Value) → IsPlaced s f → IsPlaced s (record f { registers = registers })
-  placed_with f registers p = record { m = p.m; before = p.before; behind = p.behind; loaded = p.loaded; known = p.known; parts = p.parts; at = p.at }
-
-  past_parts : (before : List Instr) (i : Instr) (is : List Instr) → before ++ (i ∷ is) ≡ (before ++ i ∷ []) ++ is
-  past_parts before i is = sym (append_assoc before (i ∷ []) is)
-
-  past_at : (start place : ℕ) (before : List Instr) (i : Instr) → place ≡ start + length (flat_map instr_words before) →
-      place + instr_len i ≡ start + length (flat_map instr_words (before ++ i ∷ []))
-  past_at start place before i e = rw (flat_map-append instr_words before (i ∷ [])) (omega (arith, e, length-append (flat_map instr_words before) (flat_map instr_words (i ∷ [])), length-append (instr_words i) []))
-
-  placed_past : (f : PlainFrame) (m : Module) (before : List Instr) (i : Instr) (is : List Instr) → code_of s f.serial ≡ Some m → f.function < length m.functions →
-      code_at m f.function ≡ before ++ (i ∷ is) → f.place ≡ function_place m f.function + length (flat_map instr_words before) → IsPlaced s (moved_past f i)
-  placed_past f m before i is loaded known parts at = record {
-    m = m;
-    before = before ++ i ∷ [];
-    behind = is;
-    loaded = loaded;
-    known = known;
-    parts = parts ∙ past_parts before i is;
-    at = past_at (function_place m f.function) f.place before i at;
-  }
-
-  placed_behind : (f : PlainFrame) (i : Instr) (m : Module) (before behind : List Instr) → code_of s f.serial ≡ Some m → f.function < length m.functions →
-      code_at m f.function ≡ before ++ behind → f.place ≡ function_place m f.function + length (flat_map instr_words before) →
-      next_of behind ≡ i → IsGoing i → IsPlaced s (moved_past f i)
-  unfolding IsGoing
-  placed_behind f i m before [] loaded known parts at e going = absurd (subst IsGoing (sym e) going)
-  placed_behind f i m before (j ∷ is) loaded known parts at e going = rw (← e) (placed_past f m before j is loaded known parts at)
+  placed_with f registers p = record { m = p.m; number = p.number; loaded = p.loaded; known = p.known; within = p.within; at = p.at; back = p.back }
 
   -- past an instruction that does not leave the frame stands the next
-  moved_placed : (f : PlainFrame) (i : Instr) → IsPlaced s f → instr_at s f ≡ i → IsGoing i → IsPlaced s (moved_past f i)
-  moved_placed f i p e going = placed_behind f i p.m p.before p.behind p.loaded p.known p.parts p.at (sym (instr_at-next s f p) ∙ e) going
+  moved_with : (f : PlainFrame) (n : IsNext s f) (i : Instr) (len : ℕ) (registers : List Value) → f.back < 16 → numbered n.function.code n.number ≡ i → IsGoing i → len ≡ instr_len i →
+      IsPlaced s (record f { place = f.place + len; registers = registers })
+  moved_with f n i len registers back e going l =
+      let inside = going_inside n.function.code n.number (subst IsGoing (sym e) going) in
+      let next = place_in-suc (function_place n.m f.function) n.function.code n.number inside in
+      placed_at f n (n.number + 1) (f.place + len) registers back (omega arith) (omega (arith, n.place, next, l, ap instr_len e))
 
-  Keeps : Step → Type 0
-  Keeps (goes_on frames line) = ArePlaced s frames
-  Keeps (ends end) = Unit {0}
+  -- a function that is entered stands at its first instruction
+  entered_at : (e : Entry) (back : ℕ) (registers : List Value) (m : Module) → code_of s e.serial ≡ Some m → e.function < length m.functions → back < 16 → IsPlaced s (frame_at s e back registers)
+  entered_at e back registers m c h b = record { m = m; number = 0; loaded = c; known = h; within = omega arith; at = rw c (omega arith); back = b }
 
-  returned_keeps : (below : List PlainFrame) (back : ℕ) (value : Value) → ArePlaced s below → Keeps (returned below back value)
+  entered_in : (e : Entry) (back : ℕ) (registers : List Value) (o : Option Module) → code_of s e.serial ≡ o → IsSomeAnd o (λ m. e.function < length m.functions) → back < 16 → IsPlaced s (frame_at s e back registers)
+  entered_in e back registers None c h b = absurd h
+  entered_in e back registers (Some m) c h b = entered_at e back registers m c h b
+
+  -- what is held stays held with one more
+  pub held_more : (held : Holds) (serial : ℕ) (frames : List PlainFrame) → AreHeld held frames → AreHeld (with_hold held serial Frame) frames
+  held_more held serial [] h = tt
+  held_more held serial (f ∷ below) h = (among-with held.frames serial f.serial ∙ or_true (serial == f.serial) (is_among held.frames f.serial) h.0, held_more held serial below h.1)
+    where
+      or_true : (a b : Bool) → b ≡ true → (a || b) ≡ true
+      or_true true b e = refl
+      or_true false b e = e
+
+  -- what was just held is
+  pub held_first : (held : Holds) (serial : ℕ) → IsTrue (is_held (with_hold held serial Frame) serial Frame)
+  held_first held serial = among-with held.frames serial serial ∙ same_first serial (is_among held.frames serial)
+    where
+      same_first : (n : ℕ) (b : Bool) → (n == n || b) ≡ true
+      same_first n b = grind (arith, nat_tests)
+
+  -- what a step keeps
+  unfoldable pub Keeps : Holds → Step → Type 0
+  Keeps held (goes_on frames now line) = AreStanding s now frames
+  Keeps held (yields frames) = AreStanding s held frames
+  Keeps held (ends end) = Unit {0}
+
+  standing : (held : Holds) (f : PlainFrame) (below : List PlainFrame) → IsPlaced s f → IsTrue (is_held held f.serial Frame) → ArePlaced s below → AreHeld held below → AreStanding s held (f ∷ below)
+  standing held f below p h ps hs = record { some = λ e. cc; placed = (p, ps); named = (h, hs) }
+
+  stacked_keeps : (frames : List PlainFrame) (held : Holds) (e : Entry) (back : ℕ) (registers : List Value) (b c : Bool) → ArePlaced s frames → AreHeld held frames → HasFunction s e → back < 16 →
+      Keeps held (stacked frames held e.serial (if b then None else if c then None else Some (frame_at s e back registers)))
   unfolding Keeps
-  returned_keeps [] back value h = tt
-  returned_keeps (caller ∷ below) back value h = (placed_with caller _ h.0, h.1)
+  stacked_keeps frames held e back registers true c ps hs h b = tt
+  stacked_keeps frames held e back registers false true ps hs h b = tt
+  stacked_keeps frames held e back registers false false ps hs h b =
+      standing (with_hold held e.serial Frame) (frame_at s e back registers) frames (entered_in e back registers (code_of s e.serial) refl h b) (held_first held e.serial) ps (held_more held e.serial frames hs)
 
-  summed_keeps : (f : PlainFrame) (below : List PlainFrame) (i : Instr) (to : ℕ) (sum : Result Term End) → IsPlaced s (moved_past f i) → ArePlaced s below → Keeps (summed f below i to sum)
+  called_keeps : (frames : List PlainFrame) (held : Holds) (e : Entry) (back : ℕ) (args : List Value) → ArePlaced s frames → AreHeld held frames → HasFunction s e → back < 16 → Keeps held (called s frames held e back args)
+  called_keeps frames held e back args ps hs h b = stacked_keeps frames held e back (first_registers args) (nat_le MOST_FRAMES (length frames)) (is_full held e.serial) ps hs h b
+
+  by_name_keeps : (frames : List PlainFrame) (held : Holds) (to : Mfa) (back : ℕ) (args : List Value) (o : Option Entry) → dispatch_of s to ≡ o → ArePlaced s frames → AreHeld held frames → back < 16 →
+      Keeps held (called_by_name s frames held to back args o)
   unfolding Keeps
-  summed_keeps f below i to (Ok term) p h = (placed_with (moved_past f i) _ p, h)
-  summed_keeps f below i to (Err end) p h = tt
+  by_name_keeps frames held to back args None e ps hs b = tt
+  by_name_keeps frames held to back args (Some entry) e ps hs b = called_keeps frames held entry back args ps hs (dispatch_reaches s to entry e).known b
 
-  executed_keeps : (f : PlainFrame) (below : List PlainFrame) (i : Instr) → IsPlaced s f → instr_at s f ≡ i → ArePlaced s below → Keeps (executed f below i)
+  -- an external call
+  pub out_keeps : (frames : List PlainFrame) (held : Holds) (to : Mfa) (back : ℕ) (args : List Value) → ArePlaced s frames → AreHeld held frames → back < 16 → Keeps held (called_out s frames held to back args)
+  out_keeps frames held to back args ps hs b = by_name_keeps frames held to back args (dispatch_of s to) refl ps hs b
+
+  returned_keeps : (below : List PlainFrame) (held : Holds) (back : ℕ) (value : Value) → ArePlaced s below → AreHeld held below → Keeps held (returned below held back value)
+  unfolding Keeps
+  returned_keeps [] held back value ps hs = tt
+  returned_keeps (caller ∷ below) held back value ps hs = standing held (record caller { registers = _ }) below (placed_with caller _ ps.0) hs.0 ps.1 hs.1
+
+  computed_keeps : (f : PlainFrame) (below : List PlainFrame) (held : Holds) (i : Instr) (to : ℕ) (r : Result Term End) →
+      ((registers : List Value) → AreStanding s held (record f { place = f.place + instr_len i; registers = registers } ∷ below)) → Keeps held (computed f below held i to r)
+  unfolding Keeps
+  computed_keeps f below held i to (Ok term) h = h _
+  computed_keeps f below held i to (Err end) h = tt
+
+  branched_keeps : (f : PlainFrame) (below : List PlainFrame) (held : Holds) (i : Instr) (target : ℕ) (b : Bool) →
+      AreStanding s held (moved_past f i ∷ below) → AreStanding s held (record f { place = target } ∷ below) → AreStanding s held (branched f i target b ∷ below)
+  branched_keeps f below held i target true past there = there
+  branched_keeps f below held i target false past there = past
+
+  tested_keeps : (f : PlainFrame) (below : List PlainFrame) (held : Holds) (i : Instr) (target : ℕ) (r : Result Bool End) →
+      AreStanding s held (moved_past f i ∷ below) → AreStanding s held (record f { place = target } ∷ below) → Keeps held (tested f below held i target r)
+  unfolding Keeps
+  tested_keeps f below held i target (Ok b) past there = branched_keeps f below held i target b past there
+  tested_keeps f below held i target (Err end) past there = tt
+
+  going_keeps : (f : PlainFrame) (below : List PlainFrame) (held : Holds) (n : IsNext s f) (i : Instr) (len : ℕ) (registers : List Value) → AreStanding s held (f ∷ below) → f.back < 16 →
+      numbered n.function.code n.number ≡ i → IsGoing i → len ≡ instr_len i → AreStanding s held (record f { place = f.place + len; registers = registers } ∷ below)
+  going_keeps f below held n i len registers h b e going l = standing held (record f { place = f.place + len; registers = registers }) below (moved_with f n i len registers b e going l) h.named.0 h.placed.1 h.named.1
+
+  target_keeps : (f : PlainFrame) (below : List PlainFrame) (held : Holds) (n : IsNext s f) (target : ℕ) → AreStanding s held (f ∷ below) → f.back < 16 → target ≤ length n.function.code →
+      AreStanding s held (record f { place = place_in (function_place n.m f.function) n.function.code target } ∷ below)
+  target_keeps f below held n target h b within =
+      standing held (record f { place = place_in (function_place n.m f.function) n.function.code target }) below (placed_at f n target _ f.registers b within refl) h.named.0 h.placed.1 h.named.1
+
+  instr_keeps : (f : PlainFrame) (below : List PlainFrame) (held : Holds) (n : IsNext s f) (i : Instr) → AreStanding s held (f ∷ below) → f.back < 16 → numbered n.function.code n.number ≡ i →
+      IsInstr n.m.functions (length n.function.code) i → Keeps held (executed s f below held (placed (place_in (function_place n.m f.function) n.function.code) i))
   unfolding Keeps IsGoing
-  executed_keeps f below (instrs.Move from to) p e h = (placed_with (moved_past f (instrs.Move from to)) _ (moved_placed f (instrs.Move from to) p e tt), h)
-  executed_keeps f below (instrs.Add a b to) p e h = summed_keeps f below (instrs.Add a b to) to (sum_of (term_of (value_of f.registers a)) (term_of (value_of f.registers b))) (moved_placed f (instrs.Add a b to) p e tt) h
-  executed_keeps f below (instrs.Ret value) p e h = returned_keeps below f.back (value_of f.registers value) h
-  executed_keeps f below (instrs.Print value) p e h = (moved_placed f (instrs.Print value) p e tt, h)
+  instr_keeps f below held n (instrs.Move from to) h b e p = going_keeps f below held n (instrs.Move from to) 3 _ h b e tt refl
+  instr_keeps f below held n (instrs.Add a c to) h b e p = computed_keeps f below held (instrs.Add a c to) to (sum_of (operand_term f a) (operand_term f c)) (λ registers. going_keeps f below held n (instrs.Add a c to) 4 registers h b e tt refl)
+  instr_keeps f below held n (instrs.Sub a c to) h b e p = computed_keeps f below held (instrs.Sub a c to) to (difference_of (operand_term f a) (operand_term f c)) (λ registers. going_keeps f below held n (instrs.Sub a c to) 4 registers h b e tt refl)
+  instr_keeps f below held n (instrs.Eq a c target) h b e p =
+      tested_keeps f below held (instrs.Eq a c (place_in (function_place n.m f.function) n.function.code target)) (place_in (function_place n.m f.function) n.function.code target) (Ok (is_same (operand_term f a) (operand_term f c)))
+      (going_keeps f below held n (instrs.Eq a c target) 4 f.registers h b e tt refl) (target_keeps f below held n target h b p.2)
+  instr_keeps f below held n (instrs.Less a c target) h b e p =
+      tested_keeps f below held (instrs.Less a c (place_in (function_place n.m f.function) n.function.code target)) (place_in (function_place n.m f.function) n.function.code target) (less_of (operand_term f a) (operand_term f c))
+      (going_keeps f below held n (instrs.Less a c target) 4 f.registers h b e tt refl) (target_keeps f below held n target h b p.2)
+  instr_keeps f below held n (instrs.Jump target) h b e p = target_keeps f below held n target h b p
+  instr_keeps f below held n (instrs.Call function at) h b e p =
+      let caller = going_keeps f below held n (instrs.Call function at) 3 f.registers h b e tt refl in
+      called_keeps (moved_past f (instrs.Call function at) ∷ below) held (record { serial = f.serial; function = function }) at _ caller.placed caller.named
+      (callee_of s f n.m (length n.function.code) (λ k. k) (instrs.Call function at) n.loaded p) (placed_words s f n (instrs.Call function at) p).1
+  instr_keeps f below held n (instrs.CallExt to at) h b e p =
+      let caller = going_keeps f below held n (instrs.CallExt to at) 3 f.registers h b e tt refl in
+      out_keeps (moved_past f (instrs.CallExt to at) ∷ below) held to at _ caller.placed caller.named p.1.back
+  instr_keeps f below held n (instrs.Ret value) h b e p = returned_keeps below held f.back (value_of f.registers value) h.placed.1 h.named.1
+  instr_keeps f below held n (instrs.Print value) h b e p = going_keeps f below held n (instrs.Print value) 2 f.registers h b e tt refl
+  instr_keeps f below held n instrs.Yield h b e p = going_keeps f below held n instrs.Yield 1 f.registers h b e tt refl
 
-  step_keeps : (frames : List PlainFrame) → ArePlaced s frames → Keeps (step_of s frames)
-  unfolding Keeps
-  step_keeps [] h = tt
-  step_keeps (f ∷ below) h = executed_keeps f below (instr_at s f) h.0 refl h.1
+  next_keeps : (f : PlainFrame) (below : List PlainFrame) (held : Holds) (n : IsNext s f) → AreStanding s held (f ∷ below) → f.back < 16 → Keeps held (executed s f below held (instr_at s f))
+  next_keeps f below held n h b =
+      subst (λ i. Keeps held (executed s f below held i)) (sym n.instr) (instr_keeps f below held n (numbered n.function.code n.number) h b refl (is_instr s f n))
 
-  stand_keeps : (made : List Line) (step : Step) → Keeps step → (frames : List PlainFrame) (lines : List Line) → stand_after made step ≡ runs frames lines → ArePlaced s frames
-  unfolding Keeps
-  stand_keeps made (goes_on before line) k frames lines e = let h : before ≡ frames = cc in subst (ArePlaced s) h k
-  stand_keeps made (ends end) k frames lines e = absurd (cc)
-
-  -- a step leaves each frame at an instruction
-  pub placed_after : (made : List Line) (before frames : List PlainFrame) (lines : List Line) → ArePlaced s before → stand_after made (step_of s before) ≡ runs frames lines → ArePlaced s frames
-  placed_after made before frames lines h e = stand_keeps made (step_of s before) (step_keeps before h) frames lines e
-
-  after_keeps : (n : ℕ) (made : List Line) (step : Step) → ((frames : List PlainFrame) (lines : List Line) → ArePlaced s frames → ArePlaced s (run_of s n frames lines).frames) →
-      Keeps step → ArePlaced s (after_step (run_of s n) made step).frames
-  unfolding Keeps
-  after_keeps n made (goes_on frames line) next k = next frames (made ++ line) k
-  after_keeps n made (ends end) next k = tt
-
-  -- so do the instructions of a turn
-  pub run_keeps : (n : ℕ) (frames : List PlainFrame) (made : List Line) → ArePlaced s frames → ArePlaced s (run_of s n frames made).frames
-  unfolding run_of
-  run_keeps zero frames made h = h
-  run_keeps (suc n) frames made h = after_keeps n made (step_of s frames) (run_keeps n) (step_keeps frames h)
+  -- a step keeps frames that stand so
+  pub step_keeps : (held : Holds) (frames : List PlainFrame) → IsSound s → AreStanding s held frames → Keeps held (step_of s frames held)
+  step_keeps held [] sound h = absurd (h.some refl)
+  step_keeps held (f ∷ below) sound h = next_keeps f below held (is_next s f sound h.placed.0) h h.placed.0.back

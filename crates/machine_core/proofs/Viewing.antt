@@ -1,14 +1,13 @@
 -- That the words which the plain server gives are the images of its instances.
-use Rattle.std.proofs.Common.{◌≡◌, ◌<◌, ◌≤◌, ◌+◌, ◌*◌, ◌∙◌, ℕ, zero, suc, refl, arith, ap, [], ◌++◌, length, length-append, slice_get, slice_index, unwrap_or, Option, Some, None, option_map, option_and_then, IfSome, IsSomeAnd}
-use Rattle.std.proofs.lemmas.Option.{unwrap_or-slice_get}
-use Rattle.std.specs.List.{flat_map}
+use Rattle.std.proofs.Common.{◌≡◌, ◌<◌, ◌≤◌, ◌+◌, ◌*◌, ◌∙◌, ℕ, zero, suc, false, refl, arith, ap, [], ◌++◌, length, length-append, slice_get, slice_index, unwrap_or, get_or, Option, Some, None, option_map, option_and_then, IfSome, IsSomeAnd}
+use Rattle.std.proofs.lemmas.Option.{slice_get-get_or, unwrap_or-slice_get}
+use Rattle.mod_core.specs.declared.code.Function.{Function}
 use Rattle.mod_core.specs.declared.code.Module.{Module}
 use Rattle.mod_core.specs.Module.{IsModule}
 use Rattle.mod_core.specs.ModuleImage.{module_image, function_place, function_words}
-use Rattle.mod_core.proofs.Places.{place_word}
+use Rattle.mod_core.proofs.Places.{function_stands, place_word}
 use Rattle.server_core.specs.ServerState.{ServerState, Entry, IsSound, code_of, instance_image, word_of}
 use Rattle.machine_core.specs.View.{HasFunction, IsImageOf, IsLawful, place_of, shown_of}
-use Rattle.machine_core.proofs.Codes.{IsFunctionAt, function_at, head_of, length-heads}
 
 images_are : (serial : ℕ) (o : Option Module) → IfSome o (λ m. IsImageOf serial m (unwrap_or (option_map (instance_image serial) o) []))
 images_are serial None = tt
@@ -37,19 +36,23 @@ image_slice : (serial at : ℕ) (m : Module) → 1 ≤ at → slice_get (instanc
 image_slice serial zero m h = absurd (omega arith)
 image_slice serial (suc at) m h = refl
 
-place_within : (m : Module) (i : ℕ) → IsFunctionAt (4 + 4 * length m.functions) m.functions i → function_place m i ≤ length (module_image m)
-place_within m i r = omega (arith, r.place, ap length r.parts, length-append r.front (function_words r.f ++ r.back), length-append (head_of m) (flat_map function_words m.functions), length-heads (4 + 4 * length m.functions) m.functions)
+place_within : (m : Module) (i : ℕ) (f : Function) → slice_get m.functions i ≡ Some f → function_place m i ≤ length (module_image m)
+place_within m i f found =
+    let at = function_stands m i f found in
+    omega (arith, ap length at.whole_is, at.place_is, length-append at.before (function_words (function_place m i) f ++ at.rest))
 
-entry_at : (s : ServerState) (e : Entry) (m : Module) → IsModule m → code_of s e.serial ≡ Some m → e.function < length m.functions → IsEntry s e
-entry_at s e m sound c h = record {
+entry_at : (s : ServerState) (e : Entry) (m : Module) (f : Function) → IsModule m → code_of s e.serial ≡ Some m → e.function < length m.functions → slice_get m.functions e.function ≡ Some f → IsEntry s e
+entry_at s e m f sound c h found = record {
   few = omega (arith, sound.few);
   word = rw c (image_slice e.serial (4 + 4 * e.function + 3) m (omega arith) ∙ place_word m e.function h);
-  within = rw c (omega (arith, sound.short, place_within m e.function (function_at (4 + 4 * length m.functions) m.functions e.function h)));
+  within = rw c (omega (arith, sound.short, place_within m e.function f found));
 }
 
 entry_in : (s : ServerState) (e : Entry) (o : Option Module) → code_of s e.serial ≡ o → IfSome o (λ m. IsModule m × (e.serial < s.next_serial)) → IsSomeAnd o (λ m. e.function < length m.functions) → IsEntry s e
 entry_in s e None c sound h = absurd h
-entry_in s e (Some m) c sound h = entry_at s e m sound.0 c h
+entry_in s e (Some m) c sound h =
+    let f : Function = get_or m.functions e.function (record { name = m.name; arity = 0; exported = false; code = [] }) in
+    entry_at s e m f sound.0 c h (slice_get-get_or m.functions e.function (record { name = m.name; arity = 0; exported = false; code = [] }) h)
 
 -- the server has the place of each function of its instances
 pub is_entry : (s : ServerState) (e : Entry) → IsSound s → HasFunction s e → IsEntry s e

@@ -1,4 +1,6 @@
+pub mod Holds
 pub mod Process
 pub mod View
 pub mod Decode
 pub mod Turn
+pub mod Stand

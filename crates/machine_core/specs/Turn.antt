@@ -1,28 +1,34 @@
--- A turn of a process under one generation: the function is entered, then instructions run, 200 at most.
--- Source: erts internal documentation, CodeLoading, for external calls; the machine and its numbers are this project's own.
--- The definition steps over the modules of the state; the code reads words of their images.
-use Rattle.std.specs.Prelude.{◌≡◌, ◌<◌, ℕ, zero, suc, ◌+◌, ◌==◌, Bool, ◌&&◌, ℤ, pos, negsuc, ◌+ℤ◌, int_le, List, [], ◌∷◌, ◌++◌, length, Option, Some, None, Result, Ok, Err, unwrap_or, option_map, slice_get, slice_set, if◌then◌else◌}
-use Rattle.std.specs.List.{flat_map}
+-- A turn of a process under one generation: where it has no frames it enters its target, then instructions run, 200 at most.
+-- Source: erts internal documentation, CodeLoading, for external and local calls; the machine and its numbers are this project's own.
+-- The definition steps over the modules of the state; the code reads words of their images. Places count words in both.
+use Rattle.std.specs.Prelude.{◌≡◌, ◌<◌, ◌≤◌, ℕ, zero, suc, ◌+◌, ◌==◌, nat_le, Bool, ◌&&◌, ℤ, pos, negsuc, ◌+ℤ◌, ◌-ℤ◌, int_le, int_lt, List, [], ◌∷◌, ◌++◌, length, Option, Some, None, Result, Ok, Err, unwrap_or, option_map, option_and_then, slice_get, slice_set, if◌then◌else◌}
+use Rattle.term_core.specs.declared.atom.Mfa.{Mfa}
+use Rattle.term_core.specs.declared.hold.Kind.TheVariants.{Frame}
 use Rattle.term_core.specs.declared.term.Term.{Term}
-use Rattle.term_core.specs.declared.term.Term.TheVariants.{Int, Atom}
+use Rattle.term_core.specs.declared.term.Term.TheVariants.{Int, Atom, Tuple, List as ListOf}
+use Rattle.term_core.specs.Plain.{plain}
+use Rattle.term_core.specs.PlainTerm.{PlainTerm}
+use Rattle.term_core.specs.Same as plain_terms
+use Rattle.mod_core.specs.declared.code.TheConstants.{REGISTERS}
 use Rattle.mod_core.specs.declared.code.Operand.{Operand}
 use Rattle.mod_core.specs.declared.code.Operand.TheVariants.{Reg, Const}
+use Rattle.mod_core.specs.declared.code.Function.{Function}
 use Rattle.mod_core.specs.declared.code.Instr.{Instr}
 use Rattle.mod_core.specs.declared.code.Instr.TheVariants as instrs
 use Rattle.mod_core.specs.declared.code.Module.{Module}
-use Rattle.mod_core.specs.ModuleImage.{instr_len, instr_words, return_ok, function_place}
+use Rattle.mod_core.specs.ModuleImage.{function_place, instr_len, place_in, placed, return_ok}
 use Rattle.server_core.specs.ServerState.{ServerState, Entry, code_of, dispatch_of}
-use Rattle.machine_core.specs.declared.process.TheConstants.{MOST_TURNS, TURN_INSTRUCTIONS}
+use Rattle.machine_core.specs.declared.process.TheConstants.{MOST_FRAMES, MOST_TURNS, TURN_INSTRUCTIONS}
 use Rattle.machine_core.specs.declared.process.Value.{Value}
 use Rattle.machine_core.specs.declared.process.Value.TheVariants.{Owned}
 use Rattle.machine_core.specs.declared.process.Line.{Line}
 use Rattle.machine_core.specs.declared.process.Line.TheVariants as lines
 use Rattle.machine_core.specs.declared.process.End.{End}
-use Rattle.machine_core.specs.declared.process.End.TheVariants.{Normal, Undef, Badarith, SystemLimit}
+use Rattle.machine_core.specs.declared.process.End.TheVariants.{Normal, Undef, Badarg, Badarith, SystemLimit}
 use Rattle.machine_core.specs.declared.process.TurnEnd.{TurnEnd}
 use Rattle.machine_core.specs.declared.process.TurnEnd.TheVariants.{Again, Ended}
-use Rattle.term_core.specs.declared.atom.Mfa.{Mfa}
-use Rattle.machine_core.specs.Process.{PlainFrame, PlainProcess, first_registers, register_of}
+use Rattle.machine_core.specs.Holds.{Holds, is_full, with_hold}
+use Rattle.machine_core.specs.Process.{HasNotEnded, PlainFrame, PlainProcess, arguments_at, first_registers, frame_names, names_of, owned_values, register_of}
 use Rattle.machine_core.specs.View.{place_of}
 
 -- the term that a value is
@@ -34,19 +40,54 @@ abbrev pub value_of : List Value → Operand → Value
 value_of registers (Reg register) = register_of registers register
 value_of registers (Const term) = Owned term
 
+-- the term of an operand in a frame
+abbrev pub operand_term : PlainFrame → Operand → Term
+operand_term f operand = term_of (value_of f.registers operand)
+
 -- whether an integer is one of 60 bits
 abbrev pub fits : ℤ → Bool
 fits z = int_le (negsuc 576460752303423487) z && int_le z (pos 576460752303423487)
 
--- the sum of two integers, or the end where it is none of 60 bits
-abbrev pub integer_sum : ℤ → ℤ → Result Term End
-integer_sum x y = if fits (x +ℤ y) then Ok (Int (x +ℤ y)) else Err SystemLimit
+-- the term of an integer, or the end where it is none of 60 bits
+abbrev pub fitting : ℤ → Result Term End
+fitting z = if fits z then Ok (Int z) else Err SystemLimit
+
+-- the integer that a term is, if it is one
+abbrev pub integer_of : Term → Option ℤ
+integer_of (Int z) = Some z
+integer_of (Atom a) = None
+integer_of (Tuple ts) = None
+integer_of (ListOf ts) = None
+
+-- what two integers give; where a term is no integer, the end of the process that asks for it
+abbrev pub of_integers : {A : Type 0} → (ℤ → ℤ → Result A End) → End → Option ℤ → Option ℤ → Result A End
+of_integers give end (Some x) (Some y) = give x y
+of_integers give end (Some x) None = Err end
+of_integers give end None y = Err end
 
 -- the sum of two terms, or the end of the process that asks for it
 abbrev pub sum_of : Term → Term → Result Term End
-sum_of (Int x) (Int y) = integer_sum x y
-sum_of (Int x) (Atom b) = Err Badarith
-sum_of (Atom a) t = Err Badarith
+sum_of a b = of_integers (λ x y. fitting (x +ℤ y)) Badarith (integer_of a) (integer_of b)
+
+-- the first term less the second, or the end of the process that asks for it
+abbrev pub difference_of : Term → Term → Result Term End
+difference_of a b = of_integers (λ x y. fitting (x -ℤ y)) Badarith (integer_of a) (integer_of b)
+
+-- whether the first integer is less than the second, or the end of the process that asks for it
+abbrev pub less_of : Term → Term → Result Bool End
+less_of a b = of_integers (λ x y. Ok (int_lt x y)) Badarg (integer_of a) (integer_of b)
+
+-- whether two terms are equal
+abbrev pub is_same : Term → Term → Bool
+is_same a b = plain_terms.is_same (plain a) (plain b)
+
+-- a function of an instance
+abbrev pub function_of : ServerState → Entry → Option Function
+function_of s e = option_and_then (λ m. slice_get m.functions e.function) (code_of s e.serial)
+
+-- how many arguments a function of an instance takes
+abbrev pub arity_of : ServerState → Entry → ℕ
+arity_of s e = unwrap_or (option_map (λ f. f.arity) (function_of s e)) 0
 
 -- the instruction that stands at a place of code that begins at another; past its end a function returns ok
 abbrev pub instr_from : ℕ → List Instr → ℕ → Instr
@@ -57,97 +98,135 @@ instr_from start (i ∷ is) place = if place == start then i else instr_from (st
 abbrev pub code_at : Module → ℕ → List Instr
 code_at m function = unwrap_or (option_map (λ f. f.code) (slice_get m.functions function)) []
 
--- the instruction that stands at a place of a function of a module
+-- the instruction that stands at a place of a function of a module, its target a place too
 abbrev pub module_instr : Module → ℕ → ℕ → Instr
-module_instr m function place = instr_from (function_place m function) (code_at m function) place
+module_instr m function place = placed (place_in (function_place m function) (code_at m function)) (instr_from (function_place m function) (code_at m function) place)
 
 -- the next instruction of a frame
 abbrev pub instr_at : ServerState → PlainFrame → Instr
 instr_at s f = unwrap_or (option_map (λ m. module_instr m f.function f.place) (code_of s f.serial)) return_ok
 
--- what an instruction comes to: frames and a line or none, or the end of the process
+-- what an instruction comes to: frames, what is then held, and a line or none; the end of the turn with these frames; or the end of the process
 pub data Step : Type 0 where
-  goes_on : List PlainFrame → List Line → Step
+  goes_on : List PlainFrame → Holds → List Line → Step
+  yields : List PlainFrame → Step
   ends : End → Step
-
--- a frame past its instruction, with a register set
-abbrev pub with_register : PlainFrame → Instr → ℕ → Value → PlainFrame
-with_register f i register value = record f { place = f.place + instr_len i; registers = slice_set f.registers register value }
 
 -- a frame past its instruction
 abbrev pub moved_past : PlainFrame → Instr → PlainFrame
 moved_past f i = record f { place = f.place + instr_len i }
 
+-- a frame past its instruction, with a register set
+abbrev pub with_register : PlainFrame → Instr → ℕ → Value → PlainFrame
+with_register f i register value = record f { place = f.place + instr_len i; registers = slice_set f.registers register value }
+
+-- a frame at the place to which its instruction goes where a test holds, else past its instruction
+abbrev pub branched : PlainFrame → Instr → ℕ → Bool → PlainFrame
+branched f i target holds = if holds then record f { place = target } else moved_past f i
+
+-- a register gets what was computed, or the process ends
+abbrev pub computed : PlainFrame → List PlainFrame → Holds → Instr → ℕ → Result Term End → Step
+computed f below held i to (Ok term) = goes_on (with_register f i to (Owned term) ∷ below) held []
+computed f below held i to (Err end) = ends end
+
+-- a test decides the next place, or the process ends
+abbrev pub tested : PlainFrame → List PlainFrame → Holds → Instr → ℕ → Result Bool End → Step
+tested f below held i target (Ok holds) = goes_on (branched f i target holds ∷ below) held []
+tested f below held i target (Err end) = ends end
+
 -- the register of the caller gets the value; the last frame ends the process
-abbrev pub returned : List PlainFrame → ℕ → Value → Step
-returned [] back value = ends Normal
-returned (caller ∷ below) back value = goes_on (record caller { registers = slice_set caller.registers back value } ∷ below) []
+abbrev pub returned : List PlainFrame → Holds → ℕ → Value → Step
+returned [] held back value = ends Normal
+returned (caller ∷ below) held back value = goes_on (record caller { registers = slice_set caller.registers back value } ∷ below) held []
 
--- a sum that was asked for
-abbrev pub summed : PlainFrame → List PlainFrame → Instr → ℕ → Result Term End → Step
-summed f below i to (Ok term) = goes_on (with_register f i to (Owned term) ∷ below) []
-summed f below i to (Err end) = ends end
+-- the frame of a function with these registers, whose value comes into that register of the caller
+abbrev pub frame_at : ServerState → Entry → ℕ → List Value → PlainFrame
+frame_at s e back registers = record { serial = e.serial; function = e.function; place = place_of s e; back = back; registers = registers }
 
--- what an instruction does to the topmost frame and those below it
-abbrev pub executed : PlainFrame → List PlainFrame → Instr → Step
-executed f below (instrs.Move from to) = goes_on (with_register f (instrs.Move from to) to (value_of f.registers from) ∷ below) []
-executed f below (instrs.Add a b to) = summed f below (instrs.Add a b to) to (sum_of (term_of (value_of f.registers a)) (term_of (value_of f.registers b)))
-executed f below (instrs.Ret value) = returned below f.back (value_of f.registers value)
-executed f below (instrs.Print value) = goes_on (moved_past f (instrs.Print value) ∷ below) (lines.Print (term_of (value_of f.registers value)) ∷ [])
+-- the frame of a function that is entered where so many frames stand; none where no more may stand, or where its area cannot be held
+abbrev pub entered : ServerState → ℕ → Holds → Entry → ℕ → List Value → Option PlainFrame
+entered s standing held e back registers =
+    if nat_le MOST_FRAMES standing then None
+    else if is_full held e.serial then None
+    else Some (frame_at s e back registers)
+
+-- the frame of a function that is entered stands on the others, and its area is held for it; or the process ends
+abbrev pub stacked : List PlainFrame → Holds → ℕ → Option PlainFrame → Step
+stacked frames held serial None = ends SystemLimit
+stacked frames held serial (Some f) = goes_on (f ∷ frames) (with_hold held serial Frame) []
+
+-- a function is entered with these arguments, on the frames that stand
+abbrev pub called : ServerState → List PlainFrame → Holds → Entry → ℕ → List Value → Step
+called s frames held e back args = stacked frames held e.serial (entered s (length frames) held e back (first_registers args))
+
+-- the same for the function that a name reaches, if it reaches one
+abbrev pub called_by_name : ServerState → List PlainFrame → Holds → Mfa → ℕ → List Value → Option Entry → Step
+called_by_name s frames held to back args None = ends (Undef to)
+called_by_name s frames held to back args (Some e) = called s frames held e back args
+
+-- an external call: it reaches the function that the current instance exports
+abbrev pub called_out : ServerState → List PlainFrame → Holds → Mfa → ℕ → List Value → Step
+called_out s frames held to back args = called_by_name s frames held to back args (dispatch_of s to)
+
+-- a local call: it enters a function of the frame's own instance, be it current or not
+abbrev pub called_within : ServerState → PlainFrame → List PlainFrame → Holds → Instr → Entry → ℕ → Step
+called_within s f below held i e at = called s (moved_past f i ∷ below) held e at (arguments_at f.registers at (arity_of s e))
+
+-- what an instruction does to the topmost frame, those below it and what is held
+abbrev pub executed : ServerState → PlainFrame → List PlainFrame → Holds → Instr → Step
+executed s f below held (instrs.Move from to) = goes_on (with_register f (instrs.Move from to) to (value_of f.registers from) ∷ below) held []
+executed s f below held (instrs.Add a b to) = computed f below held (instrs.Add a b to) to (sum_of (operand_term f a) (operand_term f b))
+executed s f below held (instrs.Sub a b to) = computed f below held (instrs.Sub a b to) to (difference_of (operand_term f a) (operand_term f b))
+executed s f below held (instrs.Eq a b target) = tested f below held (instrs.Eq a b target) target (Ok (is_same (operand_term f a) (operand_term f b)))
+executed s f below held (instrs.Less a b target) = tested f below held (instrs.Less a b target) target (less_of (operand_term f a) (operand_term f b))
+executed s f below held (instrs.Jump target) = goes_on (record f { place = target } ∷ below) held []
+executed s f below held (instrs.Call function at) = called_within s f below held (instrs.Call function at) (record { serial = f.serial; function = function }) at
+executed s f below held (instrs.CallExt to at) = called_out s (moved_past f (instrs.CallExt to at) ∷ below) held to at (arguments_at f.registers at to.arity)
+executed s f below held (instrs.Ret value) = returned below held f.back (value_of f.registers value)
+executed s f below held (instrs.Print value) = goes_on (moved_past f (instrs.Print value) ∷ below) held (lines.Print (operand_term f value) ∷ [])
+executed s f below held instrs.Yield = yields (moved_past f instrs.Yield ∷ below)
 
 -- what the next instruction of a process comes to
-abbrev pub step_of : ServerState → List PlainFrame → Step
-step_of s [] = ends Normal
-step_of s (f ∷ below) = executed f below (instr_at s f)
+abbrev pub step_of : ServerState → List PlainFrame → Holds → Step
+step_of s [] held = ends Normal
+step_of s (f ∷ below) held = executed s f below held (instr_at s f)
 
--- where a process stands: with these frames and these lines, or ended after these lines
-pub data Stand : Type 0 where
-  runs : List PlainFrame → List Line → Stand
-  over : End → List Line → Stand
-
--- where a process stands after an instruction, whose lines follow those that were made
-abbrev pub stand_after : List Line → Step → Stand
-stand_after made (goes_on frames line) = runs frames (made ++ line)
-stand_after made (ends end) = over end made
-
--- where a process stands that has these frames and lines, if it has not ended
-abbrev pub stand_of : Option End → List PlainFrame → List Line → Stand
-stand_of None frames made = runs frames made
-stand_of (Some end) frames made = over end made
-
--- what is left of a process, the lines that it made, and whether it goes on; an ended process has no frames
+-- what is left of a process, what is held, the lines that it made, and whether it goes on; an ended process has no frames
 pub record Ran : Type 0 where
   pub frames : List PlainFrame
+  pub held : Holds
   pub made : List Line
   pub end : TurnEnd
 
--- an end after these lines
-abbrev pub ended_with : List Line → End → Ran
-ended_with made end = record { frames = []; made = made; end = Ended end }
+-- a turn that ends while the process goes on: just what the process names stays held
+abbrev pub paused : List PlainFrame → List Line → Ran
+paused frames made = record { frames = frames; held = frame_names frames; made = made; end = Again }
+
+-- an end after these lines: what was held then stays held
+abbrev pub ended_with : Holds → List Line → End → Ran
+ended_with held made end = record { frames = []; held = held; made = made; end = Ended end }
 
 -- the instructions that are left, after what one came to
-abbrev pub after_step : (List PlainFrame → List Line → Ran) → List Line → Step → Ran
-after_step rest made (goes_on frames line) = rest frames (made ++ line)
-after_step rest made (ends end) = ended_with made end
+abbrev pub after_step : (List PlainFrame → Holds → List Line → Ran) → Holds → List Line → Step → Ran
+after_step rest held made (goes_on frames now line) = rest frames now (made ++ line)
+after_step rest held made (yields frames) = paused frames made
+after_step rest held made (ends end) = ended_with held made end
 
 -- so many instructions at most, after these lines
-unfoldable pub run_of : ServerState → ℕ → List PlainFrame → List Line → Ran
-run_of s zero frames made = record { frames = frames; made = made; end = Again }
-run_of s (suc n) frames made = after_step (run_of s n) made (step_of s frames)
+unfoldable pub run_of : ServerState → ℕ → List PlainFrame → Holds → List Line → Ran
+run_of s zero frames held made = paused frames made
+run_of s (suc n) frames held made = after_step (run_of s n) held made (step_of s frames held)
 
--- the frame of a function that is entered
-abbrev pub entered : ServerState → List Term → Entry → PlainFrame
-entered s args e = record { serial = e.serial; function = e.function; place = place_of s e; back = 0; registers = first_registers args }
+-- with what a turn begins: its process's frames; where there are none, the target is entered as by an external call
+abbrev pub begun : ServerState → Mfa → List PlainTerm → Holds → List PlainFrame → Step
+begun s target args held [] = called_out s [] held target 0 (owned_values args)
+begun s target args held (f ∷ below) = goes_on (f ∷ below) held []
 
--- the frames from which a turn's instructions run: a process without frames enters its target, if there is one
-abbrev pub begun : ServerState → Mfa → List Term → List PlainFrame → Option (List PlainFrame)
-begun s target args [] = option_map (λ e. entered s args e ∷ []) (dispatch_of s target)
-begun s target args (f ∷ below) = Some (f ∷ below)
-
--- the instructions of a turn
-abbrev pub run_begun : ServerState → Mfa → Option (List PlainFrame) → Ran
-run_begun s target None = ended_with [] (Undef target)
-run_begun s target (Some frames) = run_of s TURN_INSTRUCTIONS frames []
+-- what a turn does to the frames of a process: none runs where it has had as many turns as can be
+abbrev pub ran_of : ServerState → PlainProcess → Ran
+ran_of s p =
+    if p.turns == MOST_TURNS then ended_with (names_of p) [] SystemLimit
+    else after_step (run_of s TURN_INSTRUCTIONS) (names_of p) [] (begun s p.target p.args (names_of p) p.frames)
 
 -- what a turn comes to: the process after it, its lines, and whether it goes on
 pub record Turn : Type 0 where
@@ -155,15 +234,21 @@ pub record Turn : Type 0 where
   pub made : List Line
   pub end : TurnEnd
 
+-- a process whose turn is counted, unless it has had as many as can be
+abbrev pub counted : PlainProcess → PlainProcess
+counted p = if p.turns == MOST_TURNS then p else record p { turns = p.turns + 1 }
+
 -- a process after what its turn left of it
 abbrev pub turn_from : PlainProcess → Ran → Turn
 turn_from p ran = record { process = record p { frames = ran.frames }; made = ran.made; end = ran.end }
 
--- a turn of a process: the count of its turns first, then its instructions
+-- a turn of a process that holds just what it names
 abbrev pub turn_of : ServerState → PlainProcess → Turn
-turn_of s p =
-    if p.turns == MOST_TURNS then turn_from p (ended_with [] SystemLimit)
-    else turn_from (record p { turns = p.turns + 1 }) (run_begun s p.target (begun s p.target p.args p.frames))
+turn_of s p = turn_from (counted p) (ran_of s p)
+
+-- what is held after that turn: what the process then names, or what was held when it ended
+abbrev pub held_after : ServerState → PlainProcess → Holds
+held_after s p = (ran_of s p).held
 
 -- this turn leaves that process and those lines, and ends so
 pub record TurnGives (s : ServerState) (before after : PlainProcess) (lines_before lines_after : List Line) (end : TurnEnd) : Type 0 where
@@ -171,17 +256,23 @@ pub record TurnGives (s : ServerState) (before after : PlainProcess) (lines_befo
   pub lines : lines_after ≡ lines_before ++ (turn_of s before).made
   pub end_is : (turn_of s before).end ≡ end
 
--- the frame stands at an instruction of its function, or at the return past its end
+-- the frame stands at an instruction of its function, or at the return past its end, and its value comes into a register
 pub record IsPlaced (s : ServerState) (f : PlainFrame) : Type 0 where
   pub m : Module
-  pub before : List Instr
-  pub behind : List Instr
+  pub number : ℕ
   pub loaded : code_of s f.serial ≡ Some m
   pub known : f.function < length m.functions
-  pub parts : code_at m f.function ≡ before ++ behind
-  pub at : f.place ≡ function_place m f.function + length (flat_map instr_words before)
+  pub within : number ≤ length (code_at m f.function)
+  pub at : f.place ≡ place_in (function_place m f.function) (code_at m f.function) number
+  pub back : f.back < REGISTERS
 
--- each frame stands at an instruction
+-- each frame stands so
 abbrev pub ArePlaced : ServerState → List PlainFrame → Type 0
 ArePlaced s [] = Unit {0}
 ArePlaced s (f ∷ below) = IsPlaced s f × ArePlaced s below
+
+-- a process may have a turn: it has not ended, just what it names is held, and each frame stands at an instruction
+pub record MayTurn (s : ServerState) (held : Holds) (p : PlainProcess) : Type 0 where
+  pub going : HasNotEnded p
+  pub names : held ≡ names_of p
+  pub placed : ArePlaced s p.frames

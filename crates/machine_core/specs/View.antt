@@ -5,6 +5,7 @@ use Rattle.std.specs.Prelude.{◌≡◌, ℕ, ◌+◌, ◌*◌, ◌<◌, ◌≢�
 use Rattle.mod_core.specs.declared.code.Module.{Module}
 use Rattle.mod_core.specs.ModuleImage.{module_image, function_place}
 use Rattle.server_core.specs.ServerState.{ServerState, Entry, IsSound, code_of, instance_image}
+use Rattle.machine_core.specs.Holds.{Holds}
 
 -- what a view shows: the state of its generation, and the words of the instance with a serial
 pub record Shown : Type 0 where
@@ -40,3 +41,8 @@ pub record IsLawful (shown : Shown) : Type 0 where
 -- what a view shows whose words are the images of the instances, with no breakpoint set
 abbrev pub shown_of : ServerState → Shown
 shown_of s = record { state = s; words = λ serial. unwrap_or (option_map (instance_image serial) (code_of s serial)) [] }
+
+-- what the plain view shows: the state of its server, and what is held
+pub record Viewed : Type 0 where
+  pub state : ServerState
+  pub held : Holds

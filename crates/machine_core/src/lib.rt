@@ -1,14 +1,20 @@
 //! The call machine: a turn of a process over a view of one generation of the code server.
 #![tactic(auto)]
 
+mod areas;
+mod calls;
 mod decode;
 mod fetch;
+mod integers;
+mod layout;
 mod machine;
+mod outcome;
+mod pause;
 mod plain;
 mod process;
 mod registers;
+mod serials;
 mod step;
-mod sum;
 #[cfg(test)]
 mod tests;
 mod view;
@@ -17,4 +23,5 @@ pub use machine::turn;
 pub use plain::PlainView;
 pub use process::{End, Frame, FrameList, Line, LineList, Process, TurnEnd, Value};
 pub use registers::ValueList;
+pub use term_core::{Full, Kind};
 pub use view::CodeView;

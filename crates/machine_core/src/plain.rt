@@ -1,59 +1,111 @@
-ghost use Rattle.std.specs.Prelude.{◌≡◌};
+ghost use Rattle.std.specs.Prelude.{◌≡◌, ◌≤◌, IfOk, not, ◌==◌, ◌&&◌, filter, length};
+ghost use Rattle.machine_core.specs.Holds.{IsIncreasing, area_count, is_among, other_areas, without_serial};
+ghost use Rattle.machine_core.specs.Process.{frames_of, frame_names, names_of, process_of};
 ghost use Rattle.machine_core.specs.View.{IsLawful, shown_of};
 
+use crate::layout::{HEAD_LEN, PLACE_WORD, TABLE_PLACE};
+use crate::process::{Frame, Process};
+use crate::serials::SerialList;
 use crate::view::CodeView;
 use server_core::Server;
+use std::alloc::Global;
 use std::marker::Model;
-use term_core::{AreaRef, CodeRef, Mfa};
+use term_core::{AreaRef, CodeRef, Full, Kind, MOST_AREAS, Mfa, NoMemory};
 
-/// The place of the table of functions in an image, and the words of a function in it.
-const TABLE_PLACE: u32 = 4;
-
-const HEAD_LEN: u32 = 4;
-
-/// Where the place of its first instruction stands among the words of a function.
-const PLACE_WORD: u32 = 3;
-
-/// The view over the plain server, whose state nothing changes meanwhile. Contracts see that state.
+/// The view over the plain server, whose state nothing changes meanwhile. Contracts see that state and what is held.
 #[derive(Drop)]
 pub struct PlainView<'a> {
     server: &'a Server,
-    generation: u64,
+    frames: SerialList,
+    literals: SerialList,
 }
 
 impl<'a> Model for PlainView<'a> {
-    ghost use Rattle.std.specs.Prelude.{◌≡◌};
-    ghost use Rattle.server_core.specs.ServerState.{ServerState};
+    ghost use Rattle.std.specs.Coded.{codes};
+    ghost use Rattle.mod_core.specs.contracts.code.Module as module_contracts;
+    ghost use Rattle.machine_core.specs.View.{Viewed};
 
-    ghost Value = { ServerState };
+    ghost Value = { Viewed };
 
-    ghost view = { λ v. v.server.now };
+    ghost coded = { Prim.hlevel (codes, module_contracts.the_row.coded) };
 
-    ghost invariant = { λ v. v.generation ≡ v.server.now.generation };
+    ghost view = { λ v. record { state = v.server.now; held = record { frames = v.frames; literals = v.literals } } };
 }
 
 impl<'a> PlainView<'a> {
-    /// The view of the server's newest generation. It takes no memory.
-    pub fn new(server: &'a Server) -> PlainView<'a>
-        ensures state { result ≡ server.now }
-        ensures lawful { IsLawful (shown_of result) }
+    /// The view of the server's newest generation for a turn of this process, whose names it holds.
+    ///
+    /// It takes memory for all that the turn may hold.
+    pub fn new(
+        alloc: Global,
+        server: &'a Server,
+        process: &Process,
+    ) -> Result<PlainView<'a>, NoMemory>
+        requires { area_count (names_of (process_of process.now)) ≤ MOST_AREAS }
+        ensures state { IfOk result (λ view. view.state ≡ server.now) }
+        ensures held { IfOk result (λ view. view.held ≡ names_of (process_of process.now)) }
+        ensures lawful { IfOk result (λ view. IsLawful (shown_of view.state)) }
     {
-        PlainView {
+        let _generation = server.generation();
+        Ok(PlainView {
             server,
-            generation: server.generation(),
-        }
+            frames: frame_serials(alloc, process.frames.as_slice())?,
+            literals: SerialList::new(alloc)?,
+        })
     }
 
     /// The number of the generation that it shows.
     pub fn generation(&self) -> u64
-        ensures { result ≡ self.now.generation }
+        ensures { result ≡ self.now.state.generation }
     {
-        self.generation
+        self.server.generation()
+    }
+
+    /// How many other areas are held.
+    fn other_areas(&self, serial: u64) -> usize
+        ensures value { result ≡ other_areas self.now.held serial }
+        ensures increasing { IsIncreasing self.now.held.literals }
+    {
+        other_serials(self.frames.as_slice(), serial)
+            + other_literals(&self.frames, self.literals.as_slice(), serial)
     }
 }
 
+/// The instances of the frames.
+fn frame_serials(alloc: Global, frames: &[Frame]) -> Result<SerialList, NoMemory>
+    requires { area_count (frame_names (frames_of frames.now)) ≤ MOST_AREAS }
+    ensures { IfOk result (λ serials. serials ≡ (frame_names (frames_of frames.now)).frames) }
+{
+    let mut serials = SerialList::new(alloc)?;
+    for frame in frames {
+        serials.insert(frame.code.area.serial);
+    }
+    Ok(serials)
+}
+
+/// How many serials there are besides this one.
+fn other_serials(serials: &[u64], serial: u64) -> usize
+    ensures value { result ≡ length (without_serial serials.now serial) }
+    ensures bound { result ≤ length serials.now }
+{
+    serials.iter().filter(|held| **held != serial).count()
+}
+
+/// How many serials there are besides this one that are not among the frames'.
+fn other_literals(frames: &SerialList, serials: &[u64], serial: u64) -> usize
+    ensures value { result ≡ length (filter (λ n. not (n == serial) && not (is_among frames.now n)) serials.now) }
+    ensures bound { result ≤ length serials.now }
+{
+    serials
+        .iter()
+        .filter(|held| **held != serial && !frames.contains(**held))
+        .count()
+}
+
 impl<'a> CodeView for PlainView<'a> {
-    ghost shown = { shown_of };
+    ghost shown = { λ view. shown_of view.state };
+
+    ghost held = { λ view. view.held };
 
     fn export(&mut self, to: Mfa) -> Option<CodeRef> {
         self.server.dispatch(to)
@@ -66,5 +118,23 @@ impl<'a> CodeView for PlainView<'a> {
 
     fn word(&mut self, area: AreaRef, at: u32) -> u64 {
         self.server.word(area, at).unwrap_or(0)
+    }
+
+    fn hold(&mut self, area: AreaRef, kind: Kind) -> Result<(), Full> {
+        if self.other_areas(area.serial) >= MOST_AREAS {
+            return Err(Full);
+        }
+        match kind {
+            Kind::Frame => self.frames.insert(area.serial),
+            Kind::Literal => self.literals.insert(area.serial),
+        }
+        Ok(())
+    }
+
+    fn drop_hold(&mut self, area: AreaRef, kind: Kind) {
+        match kind {
+            Kind::Frame => self.frames.remove(area.serial),
+            Kind::Literal => self.literals.remove(area.serial),
+        }
     }
 }

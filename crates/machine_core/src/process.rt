@@ -3,10 +3,13 @@ ghost use Rattle.machine_core.specs.Process.{process_of, new_process};
 
 use crate::registers::ValueList;
 use std::alloc::Global;
-use term_core::{CodeRef, Items, Mfa, NoMemory, Term, TermList};
+use term_core::{AreaRef, CodeRef, Items, Mfa, NoMemory, Term, TermList};
 
 /// The turns that a process has at most; its next turn ends it as `system_limit`.
 pub const MOST_TURNS: u32 = u32::MAX;
+
+/// The frames that a process has at most; the call past them ends it as `system_limit`.
+pub const MOST_FRAMES: usize = 64;
 
 /// The instructions that a turn runs at most.
 pub const TURN_INSTRUCTIONS: u32 = 200;
@@ -31,6 +34,9 @@ pub struct Frame {
 
 /// The frames of a process, the topmost last.
 pub type FrameList = Items<Frame>;
+
+/// Areas in a row, as those that a turn holds.
+pub type AreaList = Items<AreaRef>;
 
 /// A process of the call machine. Before its first turn and after its end it has no frames.
 #[derive(Debug, Drop)]
@@ -60,9 +66,11 @@ pub enum End {
     Normal,
     /// No current code exports this function.
     Undef(Mfa),
-    /// A sum of what is no integer.
+    /// An order asked of what is no integer.
+    Badarg,
+    /// A sum or a difference of what is no integer.
     Badarith,
-    /// A number, or the count of turns, that would pass its limit.
+    /// A number, the frames, the held areas or the count of turns would pass their limit.
     SystemLimit,
 }
 

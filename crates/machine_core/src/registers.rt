@@ -1,6 +1,6 @@
-ghost use Rattle.std.specs.Prelude.{◌≡◌, ◌++◌, map, replicate, slice_set, IfOk, OnOk};
-ghost use Rattle.machine_core.specs.declared.process.Value.TheVariants.{Owned};
-ghost use Rattle.machine_core.specs.Process.{first_registers, register_of, no_value};
+ghost use Rattle.std.specs.Prelude.{◌≡◌, ◌++◌, drop, map, replicate, slice_set, take, IfOk, OnOk};
+ghost use Rattle.term_core.specs.Plain.{plain};
+ghost use Rattle.machine_core.specs.Process.{arguments_at, first_registers, no_value, owned_values, register_of};
 
 use crate::process::Value;
 use std::alloc::Global;
@@ -18,22 +18,33 @@ pub struct ValueList {
 
 impl Model for ValueList {
     ghost use Rattle.std.specs.Prelude.{List};
+    ghost use Rattle.std.specs.Coded.{coded_list};
     ghost use Rattle.machine_core.specs.declared.process.Value.{Value as Held};
+    ghost use Rattle.machine_core.specs.contracts.process.Value as held_contracts;
 
     ghost Value = { List Held };
+
+    ghost coded = { coded_list held_contracts.the_row.coded };
 
     ghost view = { λ registers. registers.values.items };
 }
 
 impl ValueList {
-    /// The registers of a function that is entered: its arguments, and 0 in the others.
+    /// The registers of a process's first function: its arguments, and 0 in the others.
     pub fn entered(alloc: Global, args: &TermList) -> Result<ValueList, NoMemory>
-        ensures { IfOk result (λ registers. registers ≡ first_registers args.now) }
+        ensures { IfOk result (λ registers. registers ≡ first_registers (owned_values args.now)) }
     {
-        let mut values = owned_values(alloc, args)?;
-        push_zeros(&mut values)?;
-        values.truncate(REGISTERS);
-        Ok(ValueList { values })
+        filled(owned_values(alloc, args.as_slice())?)
+    }
+
+    /// The registers of a function that is called with so many arguments, which stand here from a register on.
+    pub fn passed(&self, alloc: Global, at: u32, count: u32) -> Result<ValueList, NoMemory>
+        ensures { IfOk result (λ registers. registers ≡ first_registers (arguments_at self.now at count)) }
+    {
+        filled(copies(
+            alloc,
+            arguments(self.values.as_slice(), at as usize, count as usize),
+        )?)
     }
 
     /// What a register holds. Past the last register it is 0.
@@ -56,15 +67,44 @@ impl ValueList {
     }
 }
 
+/// So many of the values from a place on, or fewer where they end before.
+fn arguments(values: &[Value], first: usize, count: usize) -> &[Value]
+    ensures { result.now ≡ take count (drop first values.now) }
+{
+    let from = values.len().min(first);
+    let rest = &values[from..];
+    &rest[..rest.len().min(count)]
+}
+
+/// The values and then zeros, as many as a frame has registers.
+fn filled(mut values: Vec<Value>) -> Result<ValueList, NoMemory>
+    ensures { IfOk result (λ registers. registers ≡ first_registers values.items) }
+{
+    push_zeros(&mut values)?;
+    values.truncate(REGISTERS);
+    Ok(ValueList { values })
+}
+
 /// The terms as values of a process's own.
-fn owned_values(alloc: Global, terms: &TermList) -> Result<Vec<Value>, NoMemory>
-    ensures { IfOk result (λ values. values.items ≡ map Owned terms.now) }
+fn owned_values(alloc: Global, terms: &[Term]) -> Result<Vec<Value>, NoMemory>
+    ensures { IfOk result (λ values. values.items ≡ owned_values (map plain terms.now)) }
 {
     let mut values = Vec::new(alloc);
-    for term in terms.as_slice() {
+    for term in terms {
         values.push(Value::Owned(term.clone()?))?;
     }
     Ok(values)
+}
+
+/// Equal values.
+fn copies(alloc: Global, values: &[Value]) -> Result<Vec<Value>, NoMemory>
+    ensures { IfOk result (λ copies. copies.items ≡ values.now) }
+{
+    let mut copies = Vec::new(alloc);
+    for value in values {
+        copies.push(value.clone()?)?;
+    }
+    Ok(copies)
 }
 
 /// Appends as many zeros as a frame has registers.

@@ -1,35 +1,61 @@
-ghost use Rattle.std.specs.Prelude.{◌≡◌, ℕ, ◌<◌, length, option_map, slice_index};
+ghost use Rattle.std.specs.Prelude.{◌≡◌, ◌↔◌, ℕ, ◌<◌, length, option_map, slice_index, IsErr, IsTrue, OnErr, OnOk};
 ghost use Rattle.server_core.specs.ServerState.{dispatch_of, entry_of};
-ghost use Rattle.mod_core.specs.ModuleImage.{function_place};
+ghost use Rattle.machine_core.specs.Holds.{Holds, MayHold, is_full, is_held, with_hold, without_hold};
 ghost use Rattle.machine_core.specs.View.{Shown, IsLawful, HasFunction, IsReadable, place_of};
 
-use term_core::{AreaRef, CodeRef, Mfa};
+use term_core::{AreaRef, CodeRef, Full, Kind, Mfa};
 
 /// One generation of the code server, as a turn sees it.
 ///
-/// Contracts see the state of the generation and the words of each instance. It is lawful where these words are,
-/// apart from entry words, the images of the instances.
+/// Contracts see the state of the generation and the words of each instance, and what is held. It is lawful where
+/// these words are, apart from entry words, the images of the instances.
 pub trait CodeView {
     /// What the view shows. No call changes it.
     ghost shown: { Self → Shown };
+
+    /// The areas that are held, for frames and for literals. Only `hold` and `drop_hold` change them.
+    ghost held: { Self → Holds };
 
     /// What a call of `m:f/a` reaches.
     fn export(&mut self, to: Mfa) -> Option<CodeRef>
         requires { IsLawful (shown self.old) }
         ensures value { option_map entry_of result ≡ dispatch_of (shown self.old).state to }
-        ensures same { shown self.new ≡ shown self.old };
+        ensures same { shown self.new ≡ shown self.old }
+        ensures holds { held self.new ≡ held self.old };
 
     /// The place of a function's first instruction, in words of the image.
     fn entry(&mut self, at: CodeRef) -> u32
         requires lawful { IsLawful (shown self.old) }
         requires known { HasFunction (shown self.old).state (entry_of at) }
+        requires reached { MayHold (shown self.old).state (held self.old) at.area.serial Kind.Frame }
         ensures value { result ≡ place_of (shown self.old).state (entry_of at) }
-        ensures same { shown self.new ≡ shown self.old };
+        ensures same { shown self.new ≡ shown self.old }
+        ensures holds { held self.new ≡ held self.old };
 
     /// A word of an instance's image. An entry word is not asked for.
     fn word(&mut self, area: AreaRef, at: u32) -> u64
         requires lawful { IsLawful (shown self.old) }
         requires readable { IsReadable (shown self.old).state area.serial at }
+        requires reached { MayHold (shown self.old).state (held self.old) area.serial Kind.Frame }
         ensures value { result ≡ slice_index ((shown self.old).words area.serial) at }
+        ensures same { shown self.new ≡ shown self.old }
+        ensures holds { held self.new ≡ held self.old };
+
+    /// Holds the area for this, so that it is not released before the hold is dropped.
+    ///
+    /// `Full` comes exactly where 16 other areas are held, and then nothing changes. It takes no memory.
+    fn hold(&mut self, area: AreaRef, kind: Kind) -> Result<(), Full>
+        requires lawful { IsLawful (shown self.old) }
+        requires reached { MayHold (shown self.old).state (held self.old) area.serial kind }
+        ensures full { IsErr result ↔ IsTrue (is_full (held self.old) area.serial) }
+        ensures ok { OnOk result (held self.new ≡ with_hold (held self.old) area.serial kind) }
+        ensures err { OnErr result (held self.new ≡ held self.old) }
+        ensures same { shown self.new ≡ shown self.old };
+
+    /// The area is held for this no more. All else stays.
+    fn drop_hold(&mut self, area: AreaRef, kind: Kind)
+        requires lawful { IsLawful (shown self.old) }
+        requires known { IsTrue (is_held (held self.old) area.serial kind) }
+        ensures dropped { held self.new ≡ without_hold (held self.old) area.serial kind }
         ensures same { shown self.new ≡ shown self.old };
 }

@@ -4,4 +4,4 @@ use Rattle.machine_core.specs.declared.process.Value.TheVariants.{Owned}
 use Rattle.machine_core.proofs.registers.owned_values.Given as goal
 
 abbrev pub invariant-loop-term : goal.invariant-loop-term
-invariant-loop-term l = l.values.items ≡ map Owned (take l.term-index l.term-items)
+invariant-loop-term l = l.values.items ≡ map Owned (take l.term-index l.terms)

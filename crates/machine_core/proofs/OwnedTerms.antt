@@ -1,0 +1,24 @@
+-- That terms are the plain terms that they show.
+use Rattle.std.proofs.Common.{◌≡◌, refl, ap, List, [], ◌∷◌, map}
+use Rattle.term_core.specs.declared.term.Term.{Term}
+use Rattle.term_core.specs.declared.term.Term.TheVariants.{Int, Atom, Tuple, List as ListOf}
+use Rattle.term_core.specs.Plain.{plain, term_of}
+use Rattle.term_core.specs.PlainTerm.{TermOf, row_of, terms_of}
+use Rattle.machine_core.specs.declared.process.Value.TheVariants.{Owned}
+use Rattle.machine_core.specs.Process.{owned_values}
+
+terms_of-row_of : {Z A : Type 0} (ts : List (TermOf Z A)) → terms_of (row_of ts) ≡ ts
+terms_of-row_of [] = refl
+terms_of-row_of (t ∷ ts) = ap (λ us. t ∷ us) (terms_of-row_of ts)
+
+-- the term of what a term shows is it
+pub term_of-plain : (t : Term) → term_of (plain t) ≡ t
+term_of-plain (Int z) = refl
+term_of-plain (Atom a) = refl
+term_of-plain (Tuple ts) = ap Tuple (terms_of-row_of ts)
+term_of-plain (ListOf ts) = ap ListOf (terms_of-row_of ts)
+
+-- terms as values are what they show as values
+pub owned_values-plain : (ts : List Term) → owned_values (map plain ts) ≡ map Owned ts
+owned_values-plain [] = refl
+owned_values-plain (t ∷ ts) = cc (term_of-plain t, owned_values-plain ts)

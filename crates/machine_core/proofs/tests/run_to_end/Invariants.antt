@@ -1,0 +1,11 @@
+-- The process may have another turn.
+use Rattle.machine_core.specs.Process.{process_of}
+use Rattle.machine_core.specs.Turn.{MayTurn}
+use Rattle.machine_core.specs.View.{IsLawful, shown_of}
+use Rattle.machine_core.proofs.tests.run_to_end.Given as goal
+
+abbrev pub invariant-loop : goal.invariant-loop
+invariant-loop l = record {
+  lawful : IsLawful (shown_of l.view.state);
+  ready : MayTurn l.view.state l.view.held (process_of l.process);
+}
