@@ -1,0 +1,256 @@
+-- The names of a line, one after another: all get their numbers where the table has room for all of them.
+use Rattle.std.proofs.Common.{◌≡◌, ℕ, ◌+◌, ◌<◌, ◌≤◌, Bool, true, false, cond, not, ◌&&◌, ◌||◌, nat_lt, List, [], ◌∷◌, ◌++◌, length, Option, Some, None, Result, Ok, Err, refl, sym, ap, ◌∙◌, subst, arith}
+use Rattle.std.specs.Prelude.{map}
+use Rattle.std.specs.List.{list_all, list_any, flat_map}
+use Rattle.std.proofs.lemmas.Bool.{and_parts, and_from}
+use Rattle.std.proofs.lemmas.Bool.Decides.{nat_tests}
+use Rattle.std.proofs.lemmas.List.Concat.{flat_map_single}
+use Rattle.std.proofs.lemmas.List.{length-map}
+use Rattle.term_core.specs.declared.atom.Mfa.{Mfa}
+use Rattle.term_core.specs.Names.{Extends, is_atom_text, names_with}
+use Rattle.term_core.specs.PlainTerm.{PlainTerm, integer_leaf, atom_leaf, tuple_of, list_of, atoms_of}
+use Rattle.term_core.specs.TermText.{number_in, names_with_all}
+use Rattle.term_core.specs.Written.{WrittenTerm, integer_of, is_term_integer, is_integer_text}
+use Rattle.term_core.proofs.GrownNames.{Extends-refl}
+use Rattle.mod_core.specs.ModuleLine.{number_value}
+use Rattle.mod_core.specs.ModuleValue.{atom_in}
+use Rattle.mod_core.proofs.Options.{passed, failed}
+use Rattle.mod_core.proofs.LineNames.{names_with_all-append, more_names_all}
+use Rattle.server_core.specs.declared.command.ModRef.{ModRef}
+use Rattle.script_text.specs.declared.fault.Which.TheVariants as which
+use Rattle.script_text.specs.declared.reading.cause.LineCause.{LineCause}
+use Rattle.script_text.specs.declared.reading.cause.LineCause.TheVariants as causes
+use Rattle.script_text.specs.ScriptLine.{RefForm, is_ref_form, is_argument_form}
+use Rattle.script_text.specs.LineReading.{CallForm}
+use Rattle.script_text.specs.ScriptValue.{ref_in, argument_in}
+use Rattle.script_text.specs.LineFaults.{is_wide_argument}
+use Rattle.script_text.specs.WrittenLine.{RefWords, ref_words, ArgumentWords, integer, atom, complex, argument_words, CallWords, call_words}
+use Rattle.script_text.specs.Causes.{◌>>=◌}
+use Rattle.script_text.specs.Naming.{atom_named, each_named, ref_named, refs_named, argument_named, arguments_named, is_wide_word, target_named, call_named}
+use Rattle.script_text.proofs.KeySets.{any-map}
+use Rattle.script_text.proofs.HeldNames.{IsHeldText, held_with, Extends-all, number_in-after}
+
+-- the names after these, if they are not too many
+abbrev pub or_full : {Y : Type 0} → (List (List ℕ) → Y) → List (List ℕ) → Result (Y × List (List ℕ)) LineCause
+or_full value after = cond (nat_lt 4096 (length after)) (Err (causes.Limit which.Names)) (Ok (value after, after))
+
+over_stays : (a b : ℕ) → a ≤ b → nat_lt 4096 a ≡ true → nat_lt 4096 b ≡ true
+over_stays a b le h = grind (arith, nat_tests)
+
+pub atom_named-is : (names : List (List ℕ)) (text : List ℕ) → is_atom_text text ≡ true → atom_named names text ≡ or_full (λ after. number_in after text) (names_with names text)
+atom_named-is names text h = ap (λ t. cond (not t) (Err causes.Syntax) (or_full (λ after. number_in after text) (names_with names text))) h
+
+-- how an item is named: its atoms in order, and then its value by the names
+pub record IsNamer {A X Y : Type 0} (step : List (List ℕ) → X → Result (Y × List (List ℕ)) LineCause) (words : A → X) (atoms : A → List (List ℕ)) (value : List (List ℕ) → A → Y) (ok : A → Bool) : Type 0 where
+  pub one : (names : List (List ℕ)) (a : A) → ok a ≡ true → length names ≤ 4096 → step names (words a) ≡ or_full (λ after. value after a) (names_with_all names (atoms a))
+  pub stays : (names after : List (List ℕ)) (a : A) → ok a ≡ true → Extends (names_with_all names (atoms a)) after → value after a ≡ value (names_with_all names (atoms a)) a
+
+within : (n : ℕ) → nat_lt 4096 n ≡ false → n ≤ 4096
+within n h = grind (arith, nat_tests)
+
+abbrev in_front : {Y : Type 0} → Y → List Y × List (List ℕ) → Result (List Y × List (List ℕ)) LineCause
+in_front y ys = Ok (y ∷ ys.0, ys.1)
+
+abbrev all_named : {Y : Type 0} → Bool → List Y → List (List ℕ) → Result (List Y × List (List ℕ)) LineCause
+all_named t ys after = cond t (Err (causes.Limit which.Names)) (Ok (ys, after))
+
+abbrev join : {Y : Type 0} → Result (Y × List (List ℕ)) LineCause → (List (List ℕ) → Result (List Y × List (List ℕ)) LineCause) → Result (List Y × List (List ℕ)) LineCause
+join first more = first >>= λ y. more y.1 >>= λ ys. Ok (y.0 ∷ ys.0, ys.1)
+
+-- all items are named, or one finds the table full
+pub each_named-is : {A X Y : Type 0} (step : List (List ℕ) → X → Result (Y × List (List ℕ)) LineCause) (words : A → X) (atoms : A → List (List ℕ)) (value : List (List ℕ) → A → Y) (ok : A → Bool) → IsNamer step words atoms value ok → (names : List (List ℕ)) (xs : List A) → list_all ok xs ≡ true → length names ≤ 4096 → each_named step names (map words xs) ≡ or_full (λ after. map (value after) xs) (names_with_all names (flat_map atoms xs))
+unfolding each_named
+each_named-is step words atoms value ok n names [] h room =
+    let not_over : nat_lt 4096 (length names) ≡ false = grind (arith, nat_tests) in
+    sym (ap (λ t. cond {A = Result _ LineCause} t (Err (causes.Limit which.Names)) (Ok ([], names))) not_over)
+each_named-is step words atoms value ok n names (x ∷ xs) h room =
+    let p = and_parts (ok x) (list_all ok xs) h in
+    let between = names_with_all names (atoms x) in
+    ap (λ (r : Result _ LineCause). join r (λ after. each_named step after (map words xs))) (n.one names x p.0 room)
+    ∙ by_room (nat_lt 4096 (length between)) refl p.0 (λ le. each_named-is step words atoms value ok n between xs p.1 le)
+    ∙ ap (λ (after : List (List ℕ)). or_full (λ ns. map (value ns) (x ∷ xs)) after) (sym (names_with_all-append names (atoms x) (flat_map atoms xs)))
+  where
+    by_over : (t : Bool) → ok x ≡ true → (all_named t (map (value (names_with_all (names_with_all names (atoms x)) (flat_map atoms xs))) xs) (names_with_all (names_with_all names (atoms x)) (flat_map atoms xs)) >>= in_front (value (names_with_all names (atoms x)) x))
+        ≡ all_named t (map (value (names_with_all (names_with_all names (atoms x)) (flat_map atoms xs))) (x ∷ xs)) (names_with_all (names_with_all names (atoms x)) (flat_map atoms xs))
+    by_over true ok_x = refl
+    by_over false ok_x =
+        let after = names_with_all (names_with_all names (atoms x)) (flat_map atoms xs) in
+        ap (λ y. all_named false (y ∷ map (value after) xs) after) (sym (n.stays names after x ok_x (Extends-all (names_with_all names (atoms x)) (flat_map atoms xs))))
+
+    by_room : (t : Bool) → nat_lt 4096 (length (names_with_all names (atoms x))) ≡ t → ok x ≡ true → (length (names_with_all names (atoms x)) ≤ 4096 → each_named step (names_with_all names (atoms x)) (map words xs) ≡ or_full (λ after. map (value after) xs) (names_with_all (names_with_all names (atoms x)) (flat_map atoms xs)))
+        → join (cond t (Err (causes.Limit which.Names)) (Ok (value (names_with_all names (atoms x)) x, names_with_all names (atoms x)))) (λ after. each_named step after (map words xs)) ≡ or_full (λ ns. map (value ns) (x ∷ xs)) (names_with_all (names_with_all names (atoms x)) (flat_map atoms xs))
+    by_room true e ok_x more =
+        let over : nat_lt 4096 (length (names_with_all (names_with_all names (atoms x)) (flat_map atoms xs))) ≡ true = over_stays (length (names_with_all names (atoms x))) _ (more_names_all (names_with_all names (atoms x)) (flat_map atoms xs)) e in
+        sym (ap (λ t. all_named t (map (value (names_with_all (names_with_all names (atoms x)) (flat_map atoms xs))) (x ∷ xs)) (names_with_all (names_with_all names (atoms x)) (flat_map atoms xs))) over)
+    by_room false e ok_x more =
+        let le : length (names_with_all names (atoms x)) ≤ 4096 = within (length (names_with_all names (atoms x))) e in
+        ap (λ (r : Result _ LineCause). r >>= in_front (value (names_with_all names (atoms x)) x)) (more le)
+        ∙ by_over (nat_lt 4096 (length (names_with_all (names_with_all names (atoms x)) (flat_map atoms xs)))) ok_x
+
+-- ---- versions of modules
+
+-- an atom's number and the names after it
+abbrev Numbered : Type 0
+Numbered = ℕ × List (List ℕ)
+
+abbrev numbered : Bool → List (List ℕ) → List ℕ → Result Numbered LineCause
+numbered t names text = cond t (Err (causes.Limit which.Names)) (Ok (number_in (names_with names text) text, names_with names text))
+
+abbrev ref_of : ℕ → Numbered → Result (ModRef × List (List ℕ)) LineCause
+ref_of version a = Ok (record { name = record { 0 = a.0 }; version = version }, a.1)
+
+abbrev leaf_of : Numbered → Result (PlainTerm × List (List ℕ)) LineCause
+leaf_of a = Ok (atom_leaf a.0, a.1)
+
+ref_one : (names : List (List ℕ)) (r : RefForm) → is_ref_form r ≡ true → ref_named names (ref_words r) ≡ or_full (λ after. ref_in after r) (names_with names r.name)
+ref_one names r h =
+    let p = and_parts (is_atom_text r.name) _ h in
+    ap (λ (x : Result Numbered LineCause). x >>= ref_of (number_value r.version)) (atom_named-is names r.name p.0) ∙ by_test (nat_lt 4096 (length (names_with names r.name)))
+  where
+    by_test : (t : Bool) → (numbered t names r.name >>= ref_of (number_value r.version)) ≡ cond t (Err (causes.Limit which.Names)) (Ok (ref_in (names_with names r.name) r, names_with names r.name))
+    by_test true = refl
+    by_test false = refl
+
+ref_stays : (names after : List (List ℕ)) (r : RefForm) → Extends (names_with names r.name) after → ref_in after r ≡ ref_in (names_with names r.name) r
+ref_stays names after r e = ap (λ (n : ℕ). let to : ModRef = record { name = record { 0 = n }; version = number_value r.version } in to) (number_in-after (names_with names r.name) after r.name e (held_with names r.name))
+
+ref_namer : IsNamer ref_named ref_words (λ (r : RefForm). r.name ∷ []) ref_in is_ref_form
+ref_namer = record { one = λ names r h room. ref_one names r h; stays = λ names after r h e. ref_stays names after r e }
+
+pub refs_named-is : (names : List (List ℕ)) (refs : List RefForm) → list_all is_ref_form refs ≡ true → length names ≤ 4096 → refs_named names (map ref_words refs) ≡ or_full (λ after. map (ref_in after) refs) (names_with_all names (map (λ r. r.name) refs))
+refs_named-is names refs h room =
+    each_named-is ref_named ref_words (λ (r : RefForm). r.name ∷ []) ref_in is_ref_form ref_namer names refs h room
+    ∙ ap (λ (texts : List (List ℕ)). or_full (λ after. map (ref_in after) refs) (names_with_all names texts)) (flat_map_single (λ (r : RefForm). r.name) refs)
+
+-- ---- arguments
+
+-- an argument whose integer fits
+abbrev pub is_narrow : WrittenTerm → Bool
+is_narrow t = is_argument_form t && not (is_wide_argument t)
+
+argument_one : (names : List (List ℕ)) (t : WrittenTerm) → is_narrow t ≡ true → length names ≤ 4096 → argument_named names (argument_words t) ≡ or_full (λ after. argument_in after t) (names_with_all names (atoms_of t))
+argument_one names (integer_leaf text) h room = by_fit (is_term_integer (integer_of text)) (and_parts (is_integer_text text) _ h).1
+  where
+    by_fit : (b : Bool) → not (not b) ≡ true → argument_named names (integer (cond b (Some (integer_of text)) None)) ≡ or_full (λ after. integer_leaf (integer_of text)) names
+    by_fit true e =
+        let not_over : nat_lt 4096 (length names) ≡ false = grind (arith, nat_tests) in
+        sym (ap (λ t. cond {A = Result _ LineCause} t (Err (causes.Limit which.Names)) (Ok (integer_leaf (integer_of text), names))) not_over)
+    by_fit false e = absurd cc
+argument_one names (atom_leaf text) h room =
+    let p = and_parts (is_atom_text text) _ h in
+    ap (λ (x : Result Numbered LineCause). x >>= leaf_of) (atom_named-is names text p.0) ∙ by_test (nat_lt 4096 (length (names_with names text)))
+  where
+    by_test : (t : Bool) → (numbered t names text >>= leaf_of) ≡ cond t (Err (causes.Limit which.Names)) (Ok (atom_leaf (number_in (names_with names text) text), names_with names text))
+    by_test true = refl
+    by_test false = refl
+argument_one names (tuple_of row) h room = absurd cc
+argument_one names (list_of row) h room = absurd cc
+
+argument_stays : (names after : List (List ℕ)) (t : WrittenTerm) → is_narrow t ≡ true → Extends (names_with_all names (atoms_of t)) after → argument_in after t ≡ argument_in (names_with_all names (atoms_of t)) t
+argument_stays names after (integer_leaf text) h e = refl
+argument_stays names after (atom_leaf text) h e = ap (λ (n : ℕ). let u : PlainTerm = atom_leaf n in u) (number_in-after (names_with names text) after text e (held_with names text))
+argument_stays names after (tuple_of row) h e = absurd cc
+argument_stays names after (list_of row) h e = absurd cc
+
+argument_namer : IsNamer argument_named argument_words atoms_of argument_in is_narrow
+argument_namer = record { one = argument_one; stays = argument_stays }
+
+pub arguments_named-is : (names : List (List ℕ)) (args : List WrittenTerm) → list_all is_narrow args ≡ true → length names ≤ 4096 → arguments_named names (map argument_words args) ≡ or_full (λ after. map (argument_in after) args) (names_with_all names (flat_map atoms_of args))
+arguments_named-is names args h room = each_named-is argument_named argument_words atoms_of argument_in is_narrow argument_namer names args h room
+
+-- ---- calls
+
+-- the target and the arguments of a call, by the names
+abbrev pub target_in : List (List ℕ) → CallForm → Mfa
+target_in names c = record { «module» = atom_in names c.«module»; name = atom_in names c.name; arity = length c.args }
+
+abbrev Called : Type 0
+Called = Mfa × List PlainTerm × List (List ℕ)
+
+abbrev pub call_or_full : List (List ℕ) → CallForm → Result Called LineCause
+call_or_full after c = cond (nat_lt 4096 (length after)) (Err (causes.Limit which.Names)) (Ok (target_in after c, map (argument_in after) c.args, after))
+
+abbrev called : Bool → Mfa → List PlainTerm → List (List ℕ) → Result Called LineCause
+called t to args after = cond t (Err (causes.Limit which.Names)) (Ok (to, args, after))
+
+abbrev with_target : ℕ → ℕ → List PlainTerm × List (List ℕ) → Result Called LineCause
+with_target m f args = Ok (record { «module» = record { 0 = m }; name = record { 0 = f }; arity = length args.0 }, args.0, args.1)
+
+abbrev with_module : List ArgumentWords → ℕ → Numbered → Result Called LineCause
+with_module args m name = arguments_named name.1 args >>= with_target m name.0
+
+abbrev with_call : List ℕ → List ArgumentWords → Numbered → Result Called LineCause
+with_call f args target = atom_named target.1 f >>= with_module args target.0
+
+-- the names after a call's
+abbrev pub names_after_call : List (List ℕ) → CallForm → List (List ℕ)
+names_after_call names c = names_with_all names (c.«module» ∷ c.name ∷ flat_map atoms_of c.args)
+
+target_last : (names : List (List ℕ)) (m f : List ℕ) (args : List WrittenTerm) (t : Bool) → (all_named t (map (argument_in (names_with_all (names_with (names_with names m) f) (flat_map atoms_of args))) args) (names_with_all (names_with (names_with names m) f) (flat_map atoms_of args)) >>= with_target (number_in (names_with names m) m) (number_in (names_with (names_with names m) f) f))
+    ≡ called t (target_in (names_with_all (names_with (names_with names m) f) (flat_map atoms_of args)) (record { «module» = m; name = f; args = args })) (map (argument_in (names_with_all (names_with (names_with names m) f) (flat_map atoms_of args))) args) (names_with_all (names_with (names_with names m) f) (flat_map atoms_of args))
+target_last names m f args true = refl
+target_last names m f args false =
+    let one = names_with names m in
+    let two = names_with one f in
+    let after = names_with_all two (flat_map atoms_of args) in
+    let terms = map (argument_in after) args in
+    let from_one : Extends one after = Extends-all one (f ∷ flat_map atoms_of args) in
+    let from_two : Extends two after = Extends-all two (flat_map atoms_of args) in
+    let m_is : number_in one m ≡ number_in after m = sym (number_in-after one after m from_one (held_with names m)) in
+    let f_is : number_in two f ≡ number_in after f = sym (number_in-after two after f from_two (held_with one f)) in
+    let len : length terms ≡ length args = length-map args (argument_in after) in
+    λ i. called false (record { «module» = record { 0 = m_is i }; name = record { 0 = f_is i }; arity = len i }) terms after
+
+pub target_named-is : (names : List (List ℕ)) (c : CallForm) → is_atom_text c.«module» ≡ true → is_atom_text c.name ≡ true → list_all is_narrow c.args ≡ true → length names ≤ 4096 → target_named names (call_words c) ≡ call_or_full (names_after_call names c) c
+unfolding target_named
+target_named-is names c m_is f_is args_are room =
+    ap (λ (r : Result Numbered LineCause). r >>= with_call c.name (map argument_words c.args)) (atom_named-is names c.«module» m_is)
+    ∙ by_module (nat_lt 4096 (length (names_with names c.«module»))) refl
+  where
+    by_over : (t : Bool) → t ≡ true → called t (target_in (names_after_call names c) c) (map (argument_in (names_after_call names c)) c.args) (names_after_call names c) ≡ Err (causes.Limit which.Names)
+    by_over true e = refl
+    by_over false e = absurd cc
+
+    by_name : (t : Bool) → nat_lt 4096 (length (names_with (names_with names c.«module») c.name)) ≡ t → (numbered t (names_with names c.«module») c.name >>= with_module (map argument_words c.args) (number_in (names_with names c.«module») c.«module»)) ≡ call_or_full (names_after_call names c) c
+    by_name true e = sym (by_over (nat_lt 4096 (length (names_after_call names c))) (over_stays (length (names_with (names_with names c.«module») c.name)) _ (more_names_all (names_with (names_with names c.«module») c.name) (flat_map atoms_of c.args)) e))
+    by_name false e =
+        ap (λ (r : Result _ LineCause). r >>= with_target (number_in (names_with names c.«module») c.«module») (number_in (names_with (names_with names c.«module») c.name) c.name))
+        (arguments_named-is (names_with (names_with names c.«module») c.name) c.args args_are (within (length (names_with (names_with names c.«module») c.name)) e))
+        ∙ target_last names c.«module» c.name c.args (nat_lt 4096 (length (names_after_call names c)))
+
+    by_module : (t : Bool) → nat_lt 4096 (length (names_with names c.«module»)) ≡ t → (numbered t names c.«module» >>= with_call c.name (map argument_words c.args)) ≡ call_or_full (names_after_call names c) c
+    by_module true e = sym (by_over (nat_lt 4096 (length (names_after_call names c))) (over_stays (length (names_with names c.«module»)) _ (more_names_all (names_with names c.«module») (c.name ∷ flat_map atoms_of c.args)) e))
+    by_module false e =
+        ap (λ (r : Result Numbered LineCause). r >>= with_module (map argument_words c.args) (number_in (names_with names c.«module») c.«module»)) (atom_named-is (names_with names c.«module») c.name f_is)
+        ∙ by_name (nat_lt 4096 (length (names_with (names_with names c.«module») c.name))) refl
+
+wide_word : (t : WrittenTerm) → is_wide_argument t ≡ is_wide_word (argument_words t)
+wide_word (integer_leaf text) = by_fit (is_term_integer (integer_of text))
+  where
+    by_fit : (b : Bool) → not b ≡ is_wide_word (integer (cond b (Some (integer_of text)) None))
+    by_fit true = refl
+    by_fit false = refl
+wide_word (atom_leaf text) = refl
+wide_word (tuple_of row) = refl
+wide_word (list_of row) = refl
+
+all_narrow : (args : List WrittenTerm) → list_all is_argument_form args ≡ true → list_any is_wide_argument args ≡ false → list_all is_narrow args ≡ true
+all_narrow [] h k = refl
+all_narrow (t ∷ ts) h k =
+    let p = and_parts (is_argument_form t) (list_all is_argument_form ts) h in
+    let q = or_parts (is_wide_argument t) (list_any is_wide_argument ts) k in
+    and_from (is_narrow t) (list_all is_narrow ts) (and_from (is_argument_form t) (not (is_wide_argument t)) p.0 (ap not q.0)) (all_narrow ts p.1 q.1)
+  where
+    or_parts : (a b : Bool) → (a || b) ≡ false → (a ≡ false) × (b ≡ false)
+    or_parts true b e = absurd cc
+    or_parts false b e = (refl, e)
+
+-- a call is named, or has an integer that is too wide, or finds the table full
+pub call_named-is : (names : List (List ℕ)) (c : CallForm) → is_atom_text c.«module» ≡ true → is_atom_text c.name ≡ true → list_all is_argument_form c.args ≡ true → length names ≤ 4096 → call_named names (call_words c) ≡ cond (list_any is_wide_argument c.args) (Err (causes.Limit which.Integer)) (call_or_full (names_after_call names c) c)
+call_named-is names c m_is f_is args_are room =
+    ap (λ t. cond t (Err (causes.Limit which.Integer)) (target_named names (call_words c))) (sym (any-map is_wide_argument is_wide_word argument_words wide_word c.args))
+    ∙ by_wide (list_any is_wide_argument c.args) refl
+  where
+    by_wide : (t : Bool) → list_any is_wide_argument c.args ≡ t → cond t (Err (causes.Limit which.Integer)) (target_named names (call_words c)) ≡ cond t (Err (causes.Limit which.Integer)) (call_or_full (names_after_call names c) c)
+    by_wide true e = refl
+    by_wide false e = target_named-is names c m_is f_is (all_narrow c.args args_are e) room

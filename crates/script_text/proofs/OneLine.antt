@@ -1,0 +1,104 @@
+-- A text is that of one line of a script at most.
+use Rattle.std.proofs.Common.{◌≡◌, ℕ, Bool, true, false, cond, List, Option, Some, None, option_map, bytes_eq, codes, refl, sym, ap, ◌∙◌}
+use Rattle.term_core.specs.Written.{WrittenTerm}
+use Rattle.mod_core.specs.ModuleLine.{LineForm}
+use Rattle.mod_core.specs.LineReading.{cut_at, parts_reading, line_reading}
+use Rattle.mod_core.proofs.LineAgain.{text_again}
+use Rattle.mod_core.proofs.Options.{some_is, passed, failed, bytes_are, same_bytes}
+use Rattle.script_text.specs.ScriptLine.{RefForm, ScriptLine, head, code, loader, load, spawn, go, IsLine}
+use Rattle.script_text.specs.LineReading.{CallForm, refs_reading, call_reading}
+use Rattle.script_text.proofs.CommandLaws.{load_cut, spawn_cut}
+
+-- ---- a line by its text
+
+abbrev spawn_of : CallForm → ScriptLine
+spawn_of c = spawn c.«module» c.name c.args
+
+abbrev by_parts : List ℕ → Option (List ℕ × List ℕ) → Option ScriptLine
+by_parts text None = option_map (λ l. code l) (line_reading text)
+by_parts text (Some parts) =
+    cond (bytes_eq parts.0 (codes "load")) (option_map (λ refs. load refs) (refs_reading parts.1))
+    (cond (bytes_eq parts.0 (codes "spawn")) (option_map spawn_of (call_reading parts.1)) (option_map (λ l. code l) (line_reading text)))
+
+abbrev form_reading : List ℕ → Option ScriptLine
+form_reading text =
+    cond (bytes_eq text (codes "beam script 1")) (Some head)
+    (cond (bytes_eq text (codes "loader")) (Some loader)
+    (cond (bytes_eq text (codes "go")) (Some go)
+    (by_parts text (cut_at 32 text))))
+
+-- ---- which texts are no words
+
+other_text : (text key : List ℕ) → (text ≡ key → ⊥) → bytes_eq text key ≡ false
+other_text text key differ = by_test (bytes_eq text key) refl
+  where
+    by_test : (t : Bool) → bytes_eq text key ≡ t → t ≡ false
+    by_test true e = absurd (differ (bytes_are text key e))
+    by_test false e = refl
+
+-- a text that is none of the three words
+record IsOther (text : List ℕ) : Type 0 where
+  no_head : text ≡ codes "beam script 1" → ⊥
+  no_loader : text ≡ codes "loader" → ⊥
+  no_go : text ≡ codes "go" → ⊥
+
+by_others : (text : List ℕ) → IsOther text → form_reading text ≡ by_parts text (cut_at 32 text)
+by_others text o =
+    failed (bytes_eq text (codes "beam script 1")) (Some head) _ (other_text text (codes "beam script 1") o.no_head)
+    ∙ failed (bytes_eq text (codes "loader")) (Some loader) _ (other_text text (codes "loader") o.no_loader)
+    ∙ failed (bytes_eq text (codes "go")) (Some go) _ (other_text text (codes "go") o.no_go)
+
+-- a text that is cut at a space, where the word before it is not `beam`
+worded : (text word rest : List ℕ) → cut_at 32 text ≡ Some (word, rest) → bytes_eq (codes "beam") word ≡ false → IsOther text
+worded text word rest e other = record {
+  no_head = λ is. let same = some_is (codes "beam", codes "script 1") (word, rest) (sym (ap (cut_at 32) is) ∙ e) in let yes : bytes_eq (codes "beam") word ≡ true = ap (λ (p : List ℕ × List ℕ). bytes_eq (codes "beam") p.0) (sym same) in absurd cc;
+  no_loader = λ is. let no_cut = sym (ap (cut_at 32) is) ∙ e in absurd cc;
+  no_go = λ is. let no_cut = sym (ap (cut_at 32) is) ∙ e in absurd cc;
+}
+
+code_other : (text : List ℕ) (line : LineForm) → line_reading text ≡ Some line → IsOther text
+code_other text line e = record {
+  no_head = λ is. let none = sym (ap line_reading is) ∙ e in absurd cc;
+  no_loader = λ is. let none = sym (ap line_reading is) ∙ e in absurd cc;
+  no_go = λ is. let none = sym (ap line_reading is) ∙ e in absurd cc;
+}
+
+-- a line of a module's text has neither word
+code_parts : (text : List ℕ) (line : LineForm) → line_reading text ≡ Some line → by_parts text (cut_at 32 text) ≡ Some (code line)
+code_parts text line e = by_cut (cut_at 32 text) refl
+  where
+    by_spawn : (parts : List ℕ × List ℕ) (t : Bool) → parts_reading text (Some parts) ≡ Some line → bytes_eq parts.0 (codes "spawn") ≡ t → cond t (option_map spawn_of (call_reading parts.1)) (option_map (λ l. code l) (line_reading text)) ≡ Some (code line)
+    by_spawn parts true read f =
+        let none : parts_reading text (Some (codes "spawn", parts.1)) ≡ Some line = ap (λ (w : List ℕ). parts_reading text (Some (w, parts.1))) (sym (bytes_are parts.0 (codes "spawn") f)) ∙ read in
+        absurd cc
+    by_spawn parts false read f = ap (option_map (λ l. code l)) e
+
+    by_load : (parts : List ℕ × List ℕ) (t : Bool) → parts_reading text (Some parts) ≡ Some line → bytes_eq parts.0 (codes "load") ≡ t → cond t (option_map (λ refs. load refs) (refs_reading parts.1)) (cond (bytes_eq parts.0 (codes "spawn")) (option_map spawn_of (call_reading parts.1)) (option_map (λ l. code l) (line_reading text))) ≡ Some (code line)
+    by_load parts true read f =
+        let none : parts_reading text (Some (codes "load", parts.1)) ≡ Some line = ap (λ (w : List ℕ). parts_reading text (Some (w, parts.1))) (sym (bytes_are parts.0 (codes "load") f)) ∙ read in
+        absurd cc
+    by_load parts false read f = by_spawn parts (bytes_eq parts.0 (codes "spawn")) read refl
+
+    by_cut : (o : Option (List ℕ × List ℕ)) → cut_at 32 text ≡ o → by_parts text o ≡ Some (code line)
+    by_cut None cut = ap (option_map (λ l. code l)) e
+    by_cut (Some parts) cut = by_load parts (bytes_eq parts.0 (codes "load")) (sym (ap (parts_reading text) cut) ∙ e) refl
+
+-- ---- the one line
+
+reads : (text : List ℕ) (line : ScriptLine) → IsLine text line → form_reading text ≡ Some line
+reads text head is = ap form_reading is.text_is
+reads text loader is = ap form_reading is.text_is
+reads text go is = ap form_reading is.text_is
+reads text (code line) is =
+    let e = text_again text line (record { text_is = is.text_is; sound = is.sound }) in
+    by_others text (code_other text line e) ∙ code_parts text line e
+reads text (load refs) is =
+    let c = load_cut text refs is in
+    by_others text (worded text (codes "load") c.0 c.1 refl) ∙ ap (by_parts text) c.1 ∙ ap (option_map (λ rs. load rs)) c.2
+reads text (spawn n f args) is =
+    let c = spawn_cut text n f args is in
+    by_others text (worded text (codes "spawn") c.0 c.1 refl) ∙ ap (by_parts text) c.1 ∙ ap (option_map spawn_of) c.2
+
+-- two lines with one text are one
+pub one_line : (text : List ℕ) (a b : ScriptLine) → IsLine text a → IsLine text b → a ≡ b
+one_line text a b p q = some_is a b (sym (reads text a p) ∙ reads text b q)

@@ -1,0 +1,238 @@
+-- The commands among lines without a fault can be made, and their loaders and processes are few enough.
+use Rattle.std.proofs.Common.{◌≡◌, ℕ, ℤ, pos, negsuc, ◌+◌, ◌<◌, ◌≤◌, Bool, true, false, cond, not, nat_lt, nat_le, List, [], ◌∷◌, length, map, Option, Some, None, is_some, refl, sym, ap, ◌∙◌, arith, length-append}
+use Rattle.std.specs.Prelude.{IsTrue, count_by, sum_by}
+use Rattle.std.specs.List.{AllByRecursion, flat_map, list_any, list_all}
+use Rattle.std.proofs.lemmas.Bool.{and_parts, or_parts}
+use Rattle.std.proofs.lemmas.Bool.Decides.{nat_tests}
+use Rattle.std.proofs.lemmas.Int.{ints}
+use Rattle.std.proofs.lemmas.List.{length-map}
+use Rattle.std.proofs.lemmas.List.Sums.{sum_by-cons}
+use Rattle.std.proofs.lemmas.Option.{slice_get_within}
+use Rattle.term_core.specs.PlainTerm.{integer_leaf, atom_leaf, tuple_of, list_of, atoms_of}
+use Rattle.term_core.specs.TermText.{number_in}
+use Rattle.term_core.specs.Written.{WrittenTerm, IsTermInteger, integer_of, is_term_integer}
+use Rattle.term_core.proofs.NameTables.{slice_get-number_of}
+use Rattle.mod_core.specs.ModuleLine.{LineForm, title, header, label, instr, end}
+use Rattle.mod_core.specs.ModuleValue.{atom_in, module_of}
+use Rattle.server_core.specs.CommandTable.{text_of}
+use Rattle.script_text.specs.declared.script.ScriptCmd.TheVariants.{Load, Spawn}
+use Rattle.script_text.specs.ScriptLine.{RefForm, ScriptLine, head, code, loader, load, spawn, go, is_argument_form, is_script_line}
+use Rattle.script_text.specs.Groups.{onto_last}
+use Rattle.script_text.specs.Counts.{script_line_atoms, is_given, is_loader, is_spawn, block_lines, loader_blocks}
+use Rattle.script_text.specs.LineFaults.{may_stand_between, may_stand_within, may_stand, is_head, is_wide_argument, is_wide, is_lacking, lack_in_loads}
+use Rattle.script_text.specs.ScriptText.{HaveNoFault}
+use Rattle.script_text.specs.ScriptValue.{ref_in, argument_in, commands_on, commands_of}
+use Rattle.script_text.specs.Sound.{IsImmediateOf, IsCmdOf, spawns_in}
+use Rattle.script_text.proofs.HeldNames.{IsHeldText, number_is}
+use Rattle.script_text.proofs.ModuleNames.{AreHeld}
+use Rattle.script_text.proofs.Summaries.{Summary, summary_of, summary_with, blocks_with}
+use Rattle.script_text.proofs.SoundnessGroups.{each_weaker, each_map, each_flat, each_grouped, gathered, sum_joined}
+use Rattle.script_text.proofs.SoundnessRows.{not_false, Passes, IsKept, kept}
+use Rattle.script_text.proofs.SoundnessNames.{spawn_line, arguments_held}
+use Rattle.script_text.proofs.SoundnessTitles.{title_ref, given_found}
+
+-- ---- a command
+
+-- what a line has that is one of a script
+pub record IsLineOf (names : List (List ℕ)) (titles : List RefForm) (line : ScriptLine) : Type 0 where
+  pub sound : is_script_line line ≡ true
+  pub narrow : is_wide line ≡ false
+  pub held : AreHeld names (script_line_atoms line)
+  pub given : is_lacking titles line ≡ false
+
+held_below : (names : List (List ℕ)) (text : List ℕ) → IsHeldText names text → number_in names text < length names
+held_below names text h = let within = slice_get_within names h.number text (slice_get-number_of names text h.number h.is) in omega (arith, within, number_is names text h)
+
+fits : (z : ℤ) → not (is_term_integer z) ≡ false → IsTermInteger z
+fits (pos n) h = let below : n < 576460752303423488 = grind (arith, nat_tests) in record { low = omega (arith, ints); high = omega (arith, ints) }
+fits (negsuc n) h = let below : n < 576460752303423488 = grind (arith, nat_tests) in record { low = omega (arith, ints); high = omega (arith, ints) }
+
+argument_is : (names : List (List ℕ)) (arg : WrittenTerm) → is_argument_form arg ≡ true → is_wide_argument arg ≡ false → AreHeld names (atoms_of arg) → IsImmediateOf names (argument_in names arg)
+argument_is names (integer_leaf text) form narrow held = fits (integer_of text) narrow
+argument_is names (atom_leaf text) form narrow held = held_below names text held.0
+argument_is names (tuple_of row) form narrow held = absurd cc
+argument_is names (list_of row) form narrow held = absurd cc
+
+arguments_are : (names : List (List ℕ)) (args : List WrittenTerm) → list_all is_argument_form args ≡ true → list_any is_wide_argument args ≡ false → AllByRecursion (λ arg. AreHeld names (atoms_of arg)) args → AllByRecursion (λ arg. IsImmediateOf names (argument_in names arg)) args
+arguments_are names [] forms narrow held = tt
+arguments_are names (arg ∷ args) forms narrow held =
+    let f = and_parts (is_argument_form arg) (list_all is_argument_form args) forms in
+    let n = or_parts (is_wide_argument arg) (list_any is_wide_argument args) narrow in
+    (argument_is names arg f.0 n.0 held.0, arguments_are names args f.1 n.1 held.1)
+
+refs_given : (names : List (List ℕ)) (texts : List (List LineForm)) (refs : List RefForm) → list_all (is_given (map title_ref texts)) refs ≡ true → AllByRecursion (λ r. IsTrue (is_some (text_of (map (module_of names) texts) (ref_in names r)))) refs
+refs_given names texts [] h = tt
+refs_given names texts (r ∷ refs) h =
+    let p = and_parts (is_given (map title_ref texts) r) (list_all (is_given (map title_ref texts)) refs) h in
+    (given_found names texts r p.0, refs_given names texts refs p.1)
+
+some_refs : (names : List (List ℕ)) (refs : List RefForm) → is_script_line (load refs) ≡ true → 0 < length (map (ref_in names) refs)
+some_refs names [] h = absurd cc
+some_refs names (r ∷ refs) h = omega arith
+
+at_most : (n : ℕ) → nat_le n 15 ≡ true → n ≤ 15
+at_most n h = grind (arith, nat_tests)
+
+command_is : (names : List (List ℕ)) (texts : List (List LineForm)) (line : ScriptLine) → IsLineOf names (map title_ref texts) line → AllByRecursion (IsCmdOf names (map (module_of names) texts)) (commands_on names line)
+command_is names texts head l = tt
+command_is names texts (code line) l = tt
+command_is names texts loader l = tt
+command_is names texts (load refs) l = (
+  record {
+    some = some_refs names refs l.sound;
+    given = each_map (λ r. IsTrue (is_some (text_of (map (module_of names) texts) r))) (ref_in names) refs (refs_given names texts refs (not_false (list_all (is_given (map title_ref texts)) refs) l.given));
+  },
+  tt,
+)
+command_is names texts (spawn m f args) l =
+    let s = spawn_line m f args l.sound in (
+      record {
+        module_named = held_below names m l.held.0;
+        name_named = held_below names f l.held.1.0;
+        arity_is = sym (length-map args (argument_in names));
+        few = at_most (length args) s.few;
+        each = each_map (IsImmediateOf names) (argument_in names) args (arguments_are names args s.args_are l.narrow (arguments_held names args l.held.1.1));
+      },
+      tt,
+    )
+command_is names texts go l = tt
+
+-- ---- the commands of all loader blocks
+
+block_line : (P : ScriptLine → Type 0) (line : ScriptLine) → P line → AllByRecursion P (block_lines line)
+block_line P head h = tt
+block_line P (code line) h = tt
+block_line P loader h = (h, tt)
+block_line P (load refs) h = (h, tt)
+block_line P (spawn m f args) h = (h, tt)
+block_line P go h = tt
+
+block_is : (names : List (List ℕ)) (texts : List (List LineForm)) (block : List ScriptLine) → AllByRecursion (IsLineOf names (map title_ref texts)) block → AllByRecursion (IsCmdOf names (map (module_of names) texts)) (commands_of names block)
+block_is names texts block h =
+    each_flat (IsCmdOf names (map (module_of names) texts)) (commands_on names) block
+    (each_weaker (IsLineOf names (map title_ref texts)) (λ line. AllByRecursion (IsCmdOf names (map (module_of names) texts)) (commands_on names line)) (command_is names texts) block h)
+
+-- each command can be made
+pub all_commands : (names : List (List ℕ)) (texts : List (List LineForm)) (lines : List ScriptLine) → AllByRecursion (IsLineOf names (map title_ref texts)) lines → AllByRecursion (λ commands. AllByRecursion (IsCmdOf names (map (module_of names) texts)) commands) (map (commands_of names) (loader_blocks lines))
+all_commands names texts lines h =
+    let P = IsLineOf names (map title_ref texts) in
+    let in_blocks : AllByRecursion P (flat_map block_lines lines) = each_flat P block_lines lines (each_weaker P (λ line. AllByRecursion P (block_lines line)) (block_line P) lines h) in
+    each_map (λ commands. AllByRecursion (IsCmdOf names (map (module_of names) texts)) commands) (commands_of names) (loader_blocks lines)
+    (each_weaker (AllByRecursion P) (λ block. AllByRecursion (IsCmdOf names (map (module_of names) texts)) (commands_of names block)) (block_is names texts) (loader_blocks lines) (each_grouped P is_loader (flat_map block_lines lines) in_blocks))
+
+none_now : (t : Bool) (number : ℕ) (rest : Option ℕ) → cond t (Some number) rest ≡ None → (t ≡ false) × (rest ≡ None)
+none_now true number rest e = absurd cc
+none_now false number rest e = (refl, e)
+
+-- no line loads what is not given
+pub none_lacking : (titles : List RefForm) (number : ℕ) (lines : List ScriptLine) → lack_in_loads titles number lines ≡ None → AllByRecursion (λ line. is_lacking titles line ≡ false) lines
+none_lacking titles number [] none = tt
+none_lacking titles number (line ∷ lines) none =
+    let p = none_now (is_lacking titles line) number (lack_in_loads titles (number + 1) lines) none in
+    (p.0, none_lacking titles (number + 1) lines p.1)
+
+pub lines_are : (names : List (List ℕ)) (titles : List RefForm) (lines : List ScriptLine) → AllByRecursion (λ line. IsTrue (is_script_line line)) lines → AllByRecursion (λ line. is_wide line ≡ false) lines → AllByRecursion (λ line. AreHeld names (script_line_atoms line)) lines → AllByRecursion (λ line. is_lacking titles line ≡ false) lines → AllByRecursion (IsLineOf names titles) lines
+lines_are names titles [] sound narrow held given = tt
+lines_are names titles (line ∷ lines) sound narrow held given = (record { sound = sound.0; narrow = narrow.0; held = held.0; given = given.0 }, lines_are names titles lines sound.1 narrow.1 held.1 given.1)
+
+-- ---- loaders
+
+-- there is a block behind these lines
+abbrev SomeBehind : Option ScriptLine → ℕ → Type 0
+SomeBehind None n = Unit {0}
+SomeBehind (Some head) n = Unit {0}
+SomeBehind (Some (code line)) n = Unit {0}
+SomeBehind (Some loader) n = 1 ≤ n
+SomeBehind (Some (load refs)) n = 1 ≤ n
+SomeBehind (Some (spawn m f args)) n = 1 ≤ n
+SomeBehind (Some go) n = Unit {0}
+
+-- a command stands behind a block's start only
+some_block : (last : Option ScriptLine) (line : ScriptLine) (n : ℕ) → SomeBehind last n → may_stand last line ≡ true → is_head line ≡ false → may_stand_between line ≡ false → ((before : LineForm) → may_stand_within before line ≡ false) → 1 ≤ n
+some_block None line n h place first between within = absurd cc
+some_block (Some head) line n h place first between within = absurd cc
+some_block (Some (code (title name version))) line n h place first between within = let no = within (title name version) in absurd cc
+some_block (Some (code (header exported name arity))) line n h place first between within = let no = within (header exported name arity) in absurd cc
+some_block (Some (code (label name))) line n h place first between within = let no = within (label name) in absurd cc
+some_block (Some (code (instr i))) line n h place first between within = let no = within (instr i) in absurd cc
+some_block (Some (code end)) line n h place first between within = absurd cc
+some_block (Some loader) line n h place first between within = h
+some_block (Some (load refs)) line n h place first between within = h
+some_block (Some (spawn m f args)) line n h place first between within = h
+some_block (Some go) line n h place first between within = absurd cc
+
+same_length : {X : Type 0} (groups : List (List X)) (x : X) → 1 ≤ length groups → length (onto_last groups x) ≡ length groups
+same_length [] x h = absurd (omega (arith, h))
+same_length (g ∷ []) x h = refl
+same_length (g ∷ n ∷ gs) x h = let more = same_length (n ∷ gs) x (omega arith) in omega (arith, more)
+
+-- as many blocks as there are starts of one
+record AreCounted (m : Summary) : Type 0 where
+  blocks : length m.blocks ≡ m.loaders
+  some : SomeBehind m.last (length m.blocks)
+  loaders : m.loaders ≤ 8
+  processes : m.spawns ≤ 64
+
+within_loaders : (n : ℕ) → nat_lt 8 n ≡ false → n ≤ 8
+within_loaders n h = grind (arith, nat_tests)
+
+within_processes : (n : ℕ) → nat_lt 64 n ≡ false → n ≤ 64
+within_processes n h = grind (arith, nat_tests)
+
+counted_more : (m : Summary) (line : ScriptLine) → AreCounted m → Passes m line → (length (blocks_with m.blocks line) ≡ (summary_with m line).loaders) × SomeBehind (Some line) (length (blocks_with m.blocks line))
+counted_more m head c p = (omega (arith, c.blocks), tt)
+counted_more m (code line) c p = (omega (arith, c.blocks), tt)
+counted_more m loader c p = (simp length-append (omega (arith, c.blocks)), simp length-append (omega arith))
+counted_more m (load refs) c p =
+    let some = some_block m.last (load refs) (length m.blocks) c.some p.place refl refl (λ before. refl) in
+    let same = same_length m.blocks (load refs) some in
+    (omega (arith, same, c.blocks), omega (arith, same, some))
+counted_more m (spawn f g args) c p =
+    let some = some_block m.last (spawn f g args) (length m.blocks) c.some p.place refl refl (λ before. refl) in
+    let same = same_length m.blocks (spawn f g args) some in
+    (omega (arith, same, c.blocks), omega (arith, same, some))
+counted_more m go c p = (omega (arith, c.blocks), tt)
+
+counted_kept : IsKept AreCounted
+counted_kept = record {
+  first = record { blocks = refl; some = tt; loaders = omega arith; processes = omega arith };
+  more = λ m line c sound p.
+      let next = counted_more m line c p in
+      record { blocks = next.0; some = next.1; loaders = within_loaders (summary_with m line).loaders p.loaders; processes = within_processes (summary_with m line).spawns p.processes };
+}
+
+counted : (lines : List ScriptLine) → AllByRecursion (λ line. IsTrue (is_script_line line)) lines → HaveNoFault [] lines → AreCounted (summary_of lines)
+counted lines sound none = kept AreCounted counted_kept lines sound none
+
+pub few_loaders : (names : List (List ℕ)) (lines : List ScriptLine) → AllByRecursion (λ line. IsTrue (is_script_line line)) lines → HaveNoFault [] lines → length (map (commands_of names) (loader_blocks lines)) ≤ 8
+few_loaders names lines sound none =
+    let c = counted lines sound none in
+    let blocks : length (loader_blocks lines) ≡ count_by is_loader lines = c.blocks in
+    let few : count_by is_loader lines ≤ 8 = c.loaders in
+    omega (arith, blocks, few, length-map (loader_blocks lines) (commands_of names))
+
+-- ---- processes
+
+plus_none : (n : ℕ) → 0 + n ≡ n
+plus_none n = omega arith
+
+count_cons : (line : ScriptLine) (lines : List ScriptLine) → count_by is_spawn (line ∷ lines) ≡ cond (is_spawn line) 1 0 + count_by is_spawn lines
+count_cons line lines = sum_by-cons (λ l. cond (is_spawn l) 1 0) line lines
+
+spawns_counted : (names : List (List ℕ)) (lines : List ScriptLine) → sum_by spawns_in (flat_map (commands_on names) (flat_map block_lines lines)) ≡ count_by is_spawn lines
+spawns_counted names [] = refl
+spawns_counted names (head ∷ lines) = spawns_counted names lines ∙ sym (count_cons head lines ∙ plus_none (count_by is_spawn lines))
+spawns_counted names (code line ∷ lines) = spawns_counted names lines ∙ sym (count_cons (code line) lines ∙ plus_none (count_by is_spawn lines))
+spawns_counted names (loader ∷ lines) = spawns_counted names lines ∙ sym (count_cons loader lines ∙ plus_none (count_by is_spawn lines))
+spawns_counted names (load refs ∷ lines) =
+    sum_by-cons spawns_in (Load (map (ref_in names) refs)) (flat_map (commands_on names) (flat_map block_lines lines)) ∙ ap (λ n. 0 + n) (spawns_counted names lines) ∙ sym (count_cons (load refs) lines)
+spawns_counted names (spawn m f args ∷ lines) =
+    sum_by-cons spawns_in (Spawn (record { «module» = atom_in names m; name = atom_in names f; arity = length args }) (map (argument_in names) args)) (flat_map (commands_on names) (flat_map block_lines lines)) ∙ ap (λ n. 1 + n) (spawns_counted names lines) ∙ sym (count_cons (spawn m f args) lines)
+spawns_counted names (go ∷ lines) = spawns_counted names lines ∙ sym (count_cons go lines ∙ plus_none (count_by is_spawn lines))
+
+pub few_processes : (names : List (List ℕ)) (lines : List ScriptLine) → AllByRecursion (λ line. IsTrue (is_script_line line)) lines → HaveNoFault [] lines → sum_by (λ commands. sum_by spawns_in commands) (map (commands_of names) (loader_blocks lines)) ≤ 64
+few_processes names lines sound none =
+    let few : count_by is_spawn lines ≤ 64 = (counted lines sound none).processes in
+    let all : sum_by (λ commands. sum_by spawns_in commands) (map (commands_of names) (loader_blocks lines)) ≡ count_by is_spawn lines =
+    sum_joined spawns_in (commands_of names) (loader_blocks lines) ∙ ap (λ cs. sum_by spawns_in cs) (gathered (commands_on names) is_loader (flat_map block_lines lines)) ∙ spawns_counted names lines in
+    omega (arith, all, few)

@@ -1,0 +1,232 @@
+-- What is known after one line more.
+use Rattle.std.proofs.Common.{◌≡◌, ℕ, ◌+◌, ◌<◌, ◌≤◌, Bool, true, false, cond, List, [], ◌∷◌, ◌++◌, length, Option, Some, None, option_map, refl, sym, ap, ◌∙◌, subst, arith, append_assoc, append-nil, length-append}
+use Rattle.std.specs.Prelude.{map}
+use Rattle.std.specs.List.{AllByRecursion, flat_map}
+use Rattle.std.proofs.lemmas.List.{map-append}
+use Rattle.term_core.specs.Names.{IsNames, Extends}
+use Rattle.mod_core.specs.declared.code.Module.{Module}
+use Rattle.mod_core.specs.ModuleLine.{LineForm, title, header, label, instr, end}
+use Rattle.mod_core.specs.LineFaults.{last_line}
+use Rattle.mod_core.specs.ModuleValue.{IsTitled, module_of, unsettled_line}
+use Rattle.script_text.specs.declared.reading.reader.Place.{Place}
+use Rattle.script_text.specs.declared.reading.reader.Place.TheVariants.{Unread, Between, Within, Loading, Finished}
+use Rattle.script_text.specs.declared.reading.reader.ScriptReader.{ScriptReader}
+use Rattle.script_text.specs.declared.script.ScriptCmd.{ScriptCmd}
+use Rattle.script_text.specs.ScriptLine.{ScriptLine, head, code, loader, load, spawn, go}
+use Rattle.script_text.specs.Groups.{onto_last}
+use Rattle.script_text.specs.ScriptValue.{commands_on, commands_of}
+use Rattle.script_text.specs.LineFaults.{may_stand_between, may_stand_behind, may_stand, or_else, lack_in_texts, lack_in_loads}
+use Rattle.script_text.specs.Reading.{is_text_end, closed_by, text_closed}
+use Rattle.script_text.proofs.GrownLines.{flat_map-snoc}
+use Rattle.script_text.proofs.Summaries.{Summary, summary_with}
+use Rattle.script_text.proofs.Holding.{as_text, total, IsUnread, IsBetween, IsOpen, IsWithin, IsLoading, IsFinished, Stands, Knows, Holds, or_else-none, no_load_more, same_lack, lack_in_texts-snoc, total-snoc}
+use Rattle.script_text.proofs.ModuleNames.{module_of-more}
+
+pub more_lines : (m : Summary) (line : ScriptLine) → length m.lines ≡ m.count → length (m.lines ++ line ∷ []) ≡ m.count + 1
+more_lines m line e = simp length-append (omega (arith, e))
+
+-- ---- the head, and the end
+
+pub knows_head : (m : Summary) (r : ScriptReader) (closed : List (List LineForm)) (place : Place) → Knows m r closed → Knows (summary_with m head) (record r { place = place }) closed
+knows_head m r closed place k = record {
+  names = k.names;
+  sound = k.sound;
+  texts = k.texts;
+  modules = k.modules;
+  titles = k.titles;
+  titles_held = k.titles_held;
+  functions = k.functions;
+  functions_held = k.functions_held;
+  few_functions = k.few_functions;
+  loaders = k.loaders;
+  blocks = omega (arith, k.blocks);
+  few_loaders = omega (arith, k.few_loaders);
+  processes = omega (arith, k.processes);
+  few_processes = omega (arith, k.few_processes);
+  unknown = k.unknown ∙ ap (or_else (lack_in_texts 2 closed)) (sym (same_lack m.titles m.lines head refl));
+  count = more_lines m head k.count;
+}
+
+pub knows_go : (m : Summary) (r : ScriptReader) (closed : List (List LineForm)) (place : Place) → Knows m r closed → Knows (summary_with m go) (record r { place = place }) closed
+knows_go m r closed place k = record {
+  names = k.names;
+  sound = k.sound;
+  texts = k.texts;
+  modules = k.modules;
+  titles = k.titles;
+  titles_held = k.titles_held;
+  functions = k.functions;
+  functions_held = k.functions_held;
+  few_functions = k.few_functions;
+  loaders = k.loaders;
+  blocks = omega (arith, k.blocks);
+  few_loaders = omega (arith, k.few_loaders);
+  processes = omega (arith, k.processes);
+  few_processes = omega (arith, k.few_processes);
+  unknown = k.unknown ∙ ap (or_else (lack_in_texts 2 closed)) (sym (same_lack m.titles m.lines go refl));
+  count = more_lines m go k.count;
+}
+
+pub holds_head : (m : Summary) (r : ScriptReader) (closed : List (List LineForm)) → Knows m r closed → IsUnread m r closed → Holds (summary_with m head) (record r { place = Between })
+holds_head m r closed k u = record {
+  closed = closed;
+  knows = knows_head m r closed Between k;
+  stands = record {
+    follows = λ line. refl;
+    none_open = u.none_open;
+    counted = let none : total closed ≡ 0 = ap total u.none_closed in omega (arith, none, u.nothing);
+    no_load = no_load_more m.lines head (λ titles. refl) u.no_load;
+  };
+}
+
+pub holds_go : (m : Summary) (r : ScriptReader) (closed : List (List LineForm)) → Knows m r closed → r.lines ≡ [] → Holds (summary_with m go) (record r { place = Finished })
+holds_go m r closed k none = record {
+  closed = closed;
+  knows = knows_go m r closed Finished k;
+  stands = record { follows = λ line. refl; last = refl; none_open = none };
+}
+
+-- ---- loader blocks
+
+pub holds_loader : (m : Summary) (r : ScriptReader) (closed : List (List LineForm)) → Knows m r closed → r.lines ≡ [] → m.loaders < 8 → Holds (summary_with m loader) (record r { loaders = r.loaders ++ [] ∷ []; place = Loading })
+holds_loader m r closed k none room = record {
+  closed = closed;
+  knows = record {
+    names = k.names;
+    sound = k.sound;
+    texts = k.texts;
+    modules = k.modules;
+    titles = k.titles;
+    titles_held = k.titles_held;
+    functions = k.functions;
+    functions_held = k.functions_held;
+    few_functions = k.few_functions;
+    loaders = λ more. ap (λ (ls : List (List ScriptCmd)). ls ++ [] ∷ []) (k.loaders more) ∙ sym (map-append (commands_of (m.names ++ more)) m.blocks ((loader ∷ []) ∷ []));
+    blocks = simp length-append (omega (arith, k.blocks));
+    few_loaders = omega (arith, room);
+    processes = omega (arith, k.processes);
+    few_processes = omega (arith, k.few_processes);
+    unknown = k.unknown ∙ ap (or_else (lack_in_texts 2 closed)) (sym (same_lack m.titles m.lines loader refl));
+    count = more_lines m loader k.count;
+  };
+  stands = record { follows = λ line. refl; some_block = omega arith; none_open = none };
+}
+
+-- a command joins the last block
+pub commands-onto_last : (names : List (List ℕ)) (blocks : List (List ScriptLine)) (line : ScriptLine) (command : ScriptCmd) → commands_on names line ≡ command ∷ [] → map (commands_of names) (onto_last blocks line) ≡ onto_last (map (commands_of names) blocks) command
+commands-onto_last names [] line command e = ap (λ (cs : List ScriptCmd). (cs ++ []) ∷ []) e
+commands-onto_last names (block ∷ []) line command e = ap (λ (cs : List ScriptCmd). cs ∷ []) (flat_map-snoc (commands_on names) block line ∙ ap (λ (cs : List ScriptCmd). commands_of names block ++ cs) e)
+commands-onto_last names (block ∷ next ∷ blocks) line command e = ap (λ (bs : List (List ScriptCmd)). commands_of names block ∷ bs) (commands-onto_last names (next ∷ blocks) line command e)
+
+pub length-onto_last : {X : Type 0} (groups : List (List X)) (x : X) → 1 ≤ length groups → length (onto_last groups x) ≡ length groups
+length-onto_last [] x h = absurd (omega (arith, h))
+length-onto_last (g ∷ []) x h = refl
+length-onto_last (g ∷ n ∷ gs) x h = let more = length-onto_last (n ∷ gs) x (omega arith) in omega (arith, more)
+
+-- ---- a module's text that is closed
+
+last_text_end : (o : Option LineForm) (last : LineForm) → o ≡ Some last → is_text_end o ≡ true → last ≡ end
+last_text_end None last e h = absurd cc
+last_text_end (Some (title name version)) last e h = absurd cc
+last_text_end (Some (header exported name arity)) last e h = absurd cc
+last_text_end (Some (label name)) last e h = absurd cc
+last_text_end (Some (instr i)) last e h = absurd cc
+last_text_end (Some end) last e h = cc
+
+as_text-some : (lines : List LineForm) → IsTitled lines → as_text lines ≡ lines ∷ []
+as_text-some [] h = absurd h
+as_text-some (line ∷ lines) h = refl
+
+or_else_first : {X : Type 0} (o p : Option X) → or_else o p ≡ None → o ≡ None
+or_else_first None p e = refl
+or_else_first (Some x) p e = absurd cc
+
+or_else_some : {X : Type 0} (o : Option X) (x : X) → or_else o (Some x) ≡ None → ⊥
+or_else_some None x e = cc
+or_else_some (Some y) x e = cc
+
+closed_none : (m : Summary) (r : ScriptReader) (closed : List (List LineForm)) → Knows m r closed → IsOpen m r closed → unsettled_line r.lines ≡ None → Knows m (closed_by r None) (closed ++ r.lines ∷ [])
+closed_none m r closed k o settled =
+    let lack : lack_in_texts 2 (closed ++ r.lines ∷ []) ≡ lack_in_texts 2 closed = lack_in_texts-snoc 2 closed r.lines ∙ ap (λ (p : Option ℕ). or_else (lack_in_texts 2 closed) (option_map (λ place. 2 + total closed + place) p)) settled ∙ or_else-none (lack_in_texts 2 closed) in
+    record {
+      names = k.names;
+      sound = k.sound;
+      texts = k.texts ∙ ap (λ (l : List (List LineForm)). closed ++ l) (as_text-some r.lines o.titled) ∙ sym (append-nil (closed ++ r.lines ∷ []));
+      modules = λ more none.
+          let before : r.modules ≡ map (module_of (m.names ++ more)) closed = k.modules more (sym lack ∙ none) in
+          let here : module_of r.names r.lines ≡ module_of (m.names ++ more) r.lines = ap (λ (ns : List (List ℕ)). module_of ns r.lines) k.names ∙ sym (module_of-more m.names more r.lines o.titled o.held) in
+          ap (λ (ms : List Module). ms ++ module_of r.names r.lines ∷ []) before ∙ ap (λ (x : Module). map (module_of (m.names ++ more)) closed ++ x ∷ []) here ∙ sym (map-append (module_of (m.names ++ more)) closed (r.lines ∷ []));
+      titles = k.titles;
+      titles_held = k.titles_held;
+      functions = k.functions;
+      functions_held = k.functions_held;
+      few_functions = k.few_functions;
+      loaders = k.loaders;
+      blocks = k.blocks;
+      few_loaders = k.few_loaders;
+      processes = k.processes;
+      few_processes = k.few_processes;
+      unknown = k.unknown ∙ ap (λ (p : Option ℕ). or_else p (lack_in_loads m.titles 1 m.lines)) (sym lack);
+      count = k.count;
+    }
+
+closed_some : (m : Summary) (r : ScriptReader) (closed : List (List LineForm)) (place : ℕ) → Knows m r closed → IsOpen m r closed → unsettled_line r.lines ≡ Some place → Knows m (closed_by r (Some place)) (closed ++ r.lines ∷ [])
+closed_some m r closed place k o missing =
+    let lack : lack_in_texts 2 (closed ++ r.lines ∷ []) ≡ or_else (lack_in_texts 2 closed) (Some (2 + total closed + place)) = lack_in_texts-snoc 2 closed r.lines ∙ ap (λ (p : Option ℕ). or_else (lack_in_texts 2 closed) (option_map (λ n. 2 + total closed + n) p)) missing in
+    let none : lack_in_loads m.titles 1 m.lines ≡ None = o.no_load m.titles 1 in
+    let before : r.unknown ≡ lack_in_texts 2 closed = k.unknown ∙ ap (or_else (lack_in_texts 2 closed)) none ∙ or_else-none (lack_in_texts 2 closed) in
+    record {
+      names = k.names;
+      sound = k.sound;
+      texts = k.texts ∙ ap (λ (l : List (List LineForm)). closed ++ l) (as_text-some r.lines o.titled) ∙ sym (append-nil (closed ++ r.lines ∷ []));
+      modules = λ more e. absurd (or_else_some (lack_in_texts 2 closed) (2 + total closed + place) (sym lack ∙ e));
+      titles = k.titles;
+      titles_held = k.titles_held;
+      functions = k.functions;
+      functions_held = k.functions_held;
+      few_functions = k.few_functions;
+      loaders = k.loaders;
+      blocks = k.blocks;
+      few_loaders = k.few_loaders;
+      processes = k.processes;
+      few_processes = k.few_processes;
+      unknown =
+          ap (λ (p : Option ℕ). or_else p (Some (r.title + place))) before
+          ∙ ap (λ (n : ℕ). or_else (lack_in_texts 2 closed) (Some (n + place))) o.title
+          ∙ sym (ap (or_else (lack_in_texts 2 (closed ++ r.lines ∷ []))) none ∙ or_else-none (lack_in_texts 2 (closed ++ r.lines ∷ [])) ∙ lack);
+      count = k.count;
+    }
+
+stands_closed : (m : Summary) (r : ScriptReader) (closed : List (List LineForm)) (after : ScriptReader) → IsOpen m r closed → is_text_end (last_line r.lines) ≡ true → after.lines ≡ [] → IsBetween m after (closed ++ r.lines ∷ [])
+stands_closed m r closed after o ends none =
+    let last : o.last ≡ end = last_text_end (last_line r.lines) o.last o.last_is ends in
+    record {
+      follows = λ line. o.follows line ∙ ap (λ (l : LineForm). may_stand_behind l line) last;
+      none_open = none;
+      counted = let sum = total-snoc closed r.lines in omega (arith, o.counted, sum);
+      no_load = o.no_load;
+    }
+
+holds_closed : (m : Summary) (r : ScriptReader) (closed : List (List LineForm)) (p : Option ℕ) → Knows m r closed → IsOpen m r closed → is_text_end (last_line r.lines) ≡ true → unsettled_line r.lines ≡ p → Holds m (closed_by r p)
+holds_closed m r closed None k o ends e = record {
+  closed = closed ++ r.lines ∷ [];
+  knows = closed_none m r closed k o e;
+  stands = stands_closed m r closed (closed_by r None) o ends refl;
+}
+holds_closed m r closed (Some place) k o ends e = record {
+  closed = closed ++ r.lines ∷ [];
+  knows = closed_some m r closed place k o e;
+  stands = stands_closed m r closed (closed_by r (Some place)) o ends refl;
+}
+
+holds_text : (m : Summary) (r : ScriptReader) (closed : List (List LineForm)) (t : Bool) → Knows m r closed → IsOpen m r closed → r.place ≡ Within → is_text_end (last_line r.lines) ≡ t → Holds m (cond t (closed_by r (unsettled_line r.lines)) r)
+holds_text m r closed true k o within ends = holds_closed m r closed (unsettled_line r.lines) k o ends refl
+holds_text m r closed false k o within ends = record {
+  closed = closed;
+  knows = k;
+  stands = subst (Stands m r closed) (sym within) (record { is_open = o; goes_on = ends });
+}
+
+-- a text goes on behind its last line, or is closed
+pub holds_text_closed : (m : Summary) (r : ScriptReader) (closed : List (List LineForm)) → Knows m r closed → IsOpen m r closed → r.place ≡ Within → Holds m (text_closed r)
+holds_text_closed m r closed k o within = holds_text m r closed (is_text_end (last_line r.lines)) k o within refl

@@ -1,0 +1,140 @@
+-- What lines name and have, in one record that grows line by line, and the fault of a line by it.
+use Rattle.std.proofs.Common.{◌≡◌, ℕ, ◌+◌, Bool, true, false, cond, not, ◌||◌, nat_lt, List, [], ◌∷◌, ◌++◌, length, Option, Some, None, refl, sym, ap, ◌∙◌}
+use Rattle.std.specs.Prelude.{fold, count_by}
+use Rattle.term_core.specs.TermText.{names_with_all}
+use Rattle.mod_core.specs.ModuleLine.{LineForm}
+use Rattle.mod_core.specs.LineFaults.{is_seventeenth, ends_too_long, is_repeated}
+use Rattle.script_text.specs.declared.fault.Which.TheVariants as which
+use Rattle.script_text.specs.declared.fault.ScriptFault.{ScriptFault}
+use Rattle.script_text.specs.declared.fault.ScriptFault.TheVariants as faults
+use Rattle.script_text.specs.ScriptLine.{RefForm, ScriptLine, head, code, loader, load, spawn, go}
+use Rattle.script_text.specs.Groups.{groups_with, last_group}
+use Rattle.script_text.specs.Counts.{script_line_atoms, names_of, FunctionForm, script_line_functions, home_after, functions_with, functions_of, is_title, module_texts, line_titles, titles_of, is_loader, is_spawn, loader_blocks}
+use Rattle.script_text.specs.LineFaults.{last_of, may_stand, is_high, is_wide, of_code, is_given_again, first_fault, line_fault}
+use Rattle.script_text.proofs.GrownLines.{names_of-snoc, home_of, home_of-snoc, functions_of-snoc, module_texts-code, module_texts-other, titles_of-code, titles_of-other, blocks-line, blocks-other, last_of-snoc, count-snoc, length-snoc}
+
+pub record Summary : Type 0 where
+  pub lines : List ScriptLine
+  pub names : List (List ℕ)
+  pub home : List ℕ
+  pub functions : List FunctionForm
+  pub texts : List (List LineForm)
+  pub titles : List RefForm
+  pub blocks : List (List ScriptLine)
+  pub spawns : ℕ
+  pub loaders : ℕ
+  pub last : Option ScriptLine
+  pub count : ℕ
+
+abbrev pub summary_of : List ScriptLine → Summary
+summary_of lines = record {
+  lines = lines;
+  names = names_of lines;
+  home = home_of [] lines;
+  functions = functions_of lines;
+  texts = module_texts lines;
+  titles = titles_of lines;
+  blocks = loader_blocks lines;
+  spawns = count_by is_spawn lines;
+  loaders = count_by is_loader lines;
+  last = last_of lines;
+  count = length lines;
+}
+
+abbrev pub texts_with : List (List LineForm) → ScriptLine → List (List LineForm)
+texts_with texts head = texts
+texts_with texts (code line) = groups_with is_title texts line
+texts_with texts loader = texts
+texts_with texts (load refs) = texts
+texts_with texts (spawn m f args) = texts
+texts_with texts go = texts
+
+abbrev pub titles_with : List RefForm → ScriptLine → List RefForm
+titles_with titles head = titles
+titles_with titles (code line) = titles ++ line_titles line
+titles_with titles loader = titles
+titles_with titles (load refs) = titles
+titles_with titles (spawn m f args) = titles
+titles_with titles go = titles
+
+abbrev pub blocks_with : List (List ScriptLine) → ScriptLine → List (List ScriptLine)
+blocks_with blocks head = blocks
+blocks_with blocks (code line) = blocks
+blocks_with blocks loader = groups_with is_loader blocks loader
+blocks_with blocks (load refs) = groups_with is_loader blocks (load refs)
+blocks_with blocks (spawn m f args) = groups_with is_loader blocks (spawn m f args)
+blocks_with blocks go = blocks
+
+-- the summary after one line more
+abbrev pub summary_with : Summary → ScriptLine → Summary
+summary_with m line = record {
+  lines = m.lines ++ line ∷ [];
+  names = names_with_all m.names (script_line_atoms line);
+  home = home_after m.home line;
+  functions = fold functions_with m.functions (script_line_functions m.home line);
+  texts = texts_with m.texts line;
+  titles = titles_with m.titles line;
+  blocks = blocks_with m.blocks line;
+  spawns = m.spawns + cond (is_spawn line) 1 0;
+  loaders = m.loaders + cond (is_loader line) 1 0;
+  last = Some line;
+  count = m.count + 1;
+}
+
+texts-snoc : (lines : List ScriptLine) (line : ScriptLine) → module_texts (lines ++ line ∷ []) ≡ texts_with (module_texts lines) line
+texts-snoc lines head = module_texts-other lines head refl
+texts-snoc lines (code line) = module_texts-code lines line
+texts-snoc lines loader = module_texts-other lines loader refl
+texts-snoc lines (load refs) = module_texts-other lines (load refs) refl
+texts-snoc lines (spawn m f args) = module_texts-other lines (spawn m f args) refl
+texts-snoc lines go = module_texts-other lines go refl
+
+titles-snoc : (lines : List ScriptLine) (line : ScriptLine) → titles_of (lines ++ line ∷ []) ≡ titles_with (titles_of lines) line
+titles-snoc lines head = titles_of-other lines head refl
+titles-snoc lines (code line) = titles_of-code lines line
+titles-snoc lines loader = titles_of-other lines loader refl
+titles-snoc lines (load refs) = titles_of-other lines (load refs) refl
+titles-snoc lines (spawn m f args) = titles_of-other lines (spawn m f args) refl
+titles-snoc lines go = titles_of-other lines go refl
+
+blocks-snoc : (lines : List ScriptLine) (line : ScriptLine) → loader_blocks (lines ++ line ∷ []) ≡ blocks_with (loader_blocks lines) line
+blocks-snoc lines head = blocks-other lines head refl
+blocks-snoc lines (code line) = blocks-other lines (code line) refl
+blocks-snoc lines loader = blocks-line lines loader refl
+blocks-snoc lines (load refs) = blocks-line lines (load refs) refl
+blocks-snoc lines (spawn m f args) = blocks-line lines (spawn m f args) refl
+blocks-snoc lines go = blocks-other lines go refl
+
+-- the summary of lines with one more
+pub summary_of-snoc : (lines : List ScriptLine) (line : ScriptLine) → summary_of (lines ++ line ∷ []) ≡ summary_with (summary_of lines) line
+summary_of-snoc lines line = λ i. record {
+  lines = lines ++ line ∷ [];
+  names = names_of-snoc lines line i;
+  home = home_of-snoc [] lines line i;
+  functions = functions_of-snoc lines line i;
+  texts = texts-snoc lines line i;
+  titles = titles-snoc lines line i;
+  blocks = blocks-snoc lines line i;
+  spawns = count-snoc is_spawn lines line i;
+  loaders = count-snoc is_loader lines line i;
+  last = last_of-snoc lines line i;
+  count = length-snoc lines line i;
+}
+
+-- ---- the fault of a line
+
+abbrev pub table : Bool → Bool → Bool → Bool → Bool → Bool → Bool → Bool → Bool → ℕ → Option ScriptFault
+table misplaced wide names functions long exports processes loaders again number =
+    first_fault ((misplaced, faults.Syntax number) ∷ (wide, faults.Limit number which.Integer) ∷ (names, faults.Limit number which.Names) ∷ (functions, faults.Limit number which.Functions) ∷ (long, faults.Limit number which.Module) ∷ (exports, faults.Limit number which.Exports) ∷ (processes, faults.Limit number which.Processes) ∷ (loaders, faults.Limit number which.Loaders) ∷ (again, faults.Duplicate number) ∷ [])
+
+-- the fault of a line by a summary of the lines before
+abbrev pub fault_by : Summary → ScriptLine → Option ScriptFault
+fault_by m line =
+    let next = summary_with m line in
+    table (not (may_stand m.last line) || is_high line) (is_wide line) (nat_lt 4096 (length next.names)) (of_code (is_seventeenth (last_group m.texts)) line) (of_code (ends_too_long m.names (last_group m.texts)) line)
+    (nat_lt 1024 (length next.functions)) (nat_lt 64 next.spawns) (nat_lt 8 next.loaders) (of_code (is_given_again m.titles) line || of_code (is_repeated (last_group m.texts)) line) (m.count + 1)
+
+pub line_fault-by : (lines : List ScriptLine) (line : ScriptLine) → line_fault lines line ≡ fault_by (summary_of lines) line
+line_fault-by lines line = λ i. let next = summary_of-snoc lines line i in
+    table (not (may_stand (last_of lines) line) || is_high line) (is_wide line) (nat_lt 4096 (length next.names)) (of_code (is_seventeenth (last_group (module_texts lines))) line) (of_code (ends_too_long (names_of lines) (last_group (module_texts lines))) line)
+    (nat_lt 1024 (length next.functions)) (nat_lt 64 next.spawns) (nat_lt 8 next.loaders) (of_code (is_given_again (titles_of lines)) line || of_code (is_repeated (last_group (module_texts lines))) line) (length lines + 1)

@@ -1,0 +1,10 @@
+use Rattle.std.proofs.Common.{ℕ, ◌≤◌, length}
+use Rattle.script_text.proofs.TextSteps.{AtLine}
+use Rattle.script_text.proofs.reading.read_lines.Given as goal
+
+-- the lines before have no fault, and the reader knows what they say
+abbrev pub invariant-lines : goal.invariant-lines
+invariant-lines l = AtLine l.text l.reader l.number l.rest
+
+abbrev pub decreases-lines : goal.decreases-lines
+decreases-lines l = length l.rest

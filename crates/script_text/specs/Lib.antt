@@ -1,0 +1,16 @@
+pub mod ScriptLine
+pub mod Groups
+pub mod Counts
+pub mod ScriptValue
+pub mod LineFaults
+pub mod TextLines
+pub mod ScriptText
+pub mod Sound
+pub mod FaultText
+pub mod Causes
+pub mod LineReading
+pub mod Sets
+pub mod WrittenLine
+pub mod Naming
+pub mod Adding
+pub mod Reading

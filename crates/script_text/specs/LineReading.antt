@@ -1,0 +1,79 @@
+-- How the lines of a script that are in no module's text are read: they are cut at their spaces, and their words are judged from
+-- left to right. The forms and their texts, in ScriptLine, relate whole lines.
+use Rattle.std.specs.Prelude.{ℕ, ◌==◌, ◌&&◌, nat_le, Bool, true, false, List, [], ◌∷◌, length, Option, Some, None, option_map, bytes_eq, codes, if◌then◌else◌}
+use Rattle.std.specs.List.{slice_split}
+use Rattle.term_core.specs.Names.{is_atom_text}
+use Rattle.term_core.specs.PlainTerm.{integer_leaf, atom_leaf}
+use Rattle.term_core.specs.Written.{WrittenTerm, is_integer_text}
+use Rattle.mod_core.specs.declared.code.TheConstants.{MOST_ARGUMENTS, GREATEST_VERSION}
+use Rattle.mod_core.specs.ModuleLine.{is_number_text, number_value, is_version_text}
+use Rattle.mod_core.specs.LineReading.{◌>>=◌, cut_at, tested}
+use Rattle.script_text.specs.ScriptLine.{RefForm}
+
+-- the parts between such bytes
+abbrev pub parts_of : ℕ → List ℕ → List (List ℕ)
+parts_of byte text = slice_split (λ b. b == byte) text
+
+-- the version that digits write
+abbrev pub version_reading : List ℕ → Option ℕ
+version_reading text = if is_version_text text then Some (number_value text) else None
+
+-- a module and a version with a dot between them
+abbrev pub ref_reading : List ℕ → Option RefForm
+ref_reading text = do
+  parts ← cut_at 46 text
+  name ← tested is_atom_text parts.0
+  version ← tested is_version_text parts.1
+  Some (record { name = name; version = version })
+
+-- each part as one
+abbrev pub each_reading : {X : Type 0} → (List ℕ → Option X) → List (List ℕ) → Option (List X)
+each_reading read [] = Some []
+each_reading read (part ∷ parts) = do
+  x ← read part
+  xs ← each_reading read parts
+  Some (x ∷ xs)
+
+-- the modules of a load
+abbrev pub refs_reading : List ℕ → Option (List RefForm)
+refs_reading text = each_reading ref_reading (parts_of 32 text)
+
+-- an argument, which is an atom or an integer
+abbrev pub argument_reading : List ℕ → Option WrittenTerm
+argument_reading text = if is_atom_text text then Some (atom_leaf text) else option_map (λ t. integer_leaf t) (tested is_integer_text text)
+
+-- the arguments of a call, without their brackets
+abbrev pub arguments_reading : List ℕ → Option (List WrittenTerm)
+arguments_reading text = if length text == 0 then Some [] else each_reading argument_reading (parts_of 44 text)
+
+-- a call, as it is written
+pub record CallForm : Type 0 where
+  pub «module» : List ℕ
+  pub name : List ℕ
+  pub args : List WrittenTerm
+
+-- the arguments, where nothing is behind their bracket and they are few enough
+abbrev pub closed_arguments : List ℕ × List ℕ → Option (List WrittenTerm)
+closed_arguments parts = do
+  args ← arguments_reading parts.0
+  if length parts.1 == 0 && nat_le (length args) MOST_ARGUMENTS then Some args else None
+
+-- the call of a spawn
+abbrev pub call_reading : List ℕ → Option CallForm
+call_reading text = do
+  target ← cut_at 58 text
+  function ← cut_at 40 target.1
+  inside ← cut_at 41 function.1
+  «module» ← tested is_atom_text target.0
+  name ← tested is_atom_text function.0
+  args ← closed_arguments inside
+  Some (record { «module» = «module»; name = name; args = args })
+
+-- the module and version of a title, behind its word
+abbrev pub titled : Option (List ℕ × List ℕ) → Option RefForm
+titled None = None
+titled (Some parts) = if bytes_eq parts.0 (codes "module") then ref_reading parts.1 else None
+
+-- the module and version of a title
+abbrev pub title_reading : List ℕ → Option RefForm
+title_reading text = titled (cut_at 32 text)

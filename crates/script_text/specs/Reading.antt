@@ -1,0 +1,246 @@
+-- The order in which the lines of a script are read and judged: what is known after each line, and what the next one adds. The
+-- relation of whole texts and scripts, in ScriptText, is shown to agree with it.
+use Rattle.std.specs.Prelude.{◌≡◌, ℕ, ◌+◌, ◌==◌, ◌&&◌, ◌||◌, not, nat_lt, nat_le, Bool, true, false, List, [], ◌∷◌, ◌++◌, length, map, Option, Some, None, option_map, Result, Ok, Err, bytes_eq, codes, if◌then◌else◌}
+use Rattle.std.specs.List.{list_all}
+use Rattle.term_core.specs.declared.atom.Mfa.{Mfa}
+use Rattle.term_core.specs.Names.{number_of, given_names}
+use Rattle.mod_core.specs.declared.code.Module.{Module}
+use Rattle.mod_core.specs.declared.fault.LineFault.{LineFault}
+use Rattle.mod_core.specs.declared.fault.LineFault.TheVariants as line_faults
+use Rattle.mod_core.specs.ModuleLine.{LineForm, title, header, label, instr, end}
+use Rattle.mod_core.specs.LineFaults.{last_line, counted_of}
+use Rattle.mod_core.specs.LineReading.{cut_at}
+use Rattle.mod_core.specs.ModuleValue.{IsTitled, module_of, unsettled_line}
+use Rattle.mod_core.specs.Reading.{Step, line_step, is_end}
+use Rattle.server_core.specs.declared.command.ModRef.{ModRef}
+use Rattle.script_text.specs.declared.script.TheConstants.{LONGEST_SCRIPT, LONGEST_LINE, MOST_LOADERS, MOST_PROCESSES}
+use Rattle.script_text.specs.declared.script.ScriptCmd.{ScriptCmd}
+use Rattle.script_text.specs.declared.script.ScriptCmd.TheVariants.{Load, Spawn}
+use Rattle.script_text.specs.declared.script.Script.{Script}
+use Rattle.script_text.specs.declared.fault.Which.TheVariants as which
+use Rattle.script_text.specs.declared.fault.ScriptFault.{ScriptFault}
+use Rattle.script_text.specs.declared.fault.ScriptFault.TheVariants as faults
+use Rattle.script_text.specs.declared.reading.cause.LineCause.{LineCause}
+use Rattle.script_text.specs.declared.reading.cause.LineCause.TheVariants as causes
+use Rattle.script_text.specs.declared.reading.reader.Place.{Place}
+use Rattle.script_text.specs.declared.reading.reader.Place.TheVariants.{Unread, Between, Within, Loading, Finished}
+use Rattle.script_text.specs.declared.reading.reader.ScriptReader.{ScriptReader}
+use Rattle.script_text.specs.Groups.{onto_last}
+use Rattle.script_text.specs.LineFaults.{or_else}
+use Rattle.script_text.specs.LineReading.{refs_reading, call_reading, title_reading}
+use Rattle.script_text.specs.WrittenLine.{ref_words, call_words}
+use Rattle.script_text.specs.Naming.{or_syntax, refs_named, call_named}
+use Rattle.script_text.specs.Causes.{◌>>=◌, fault_at, cause_of_code}
+use Rattle.script_text.specs.Sets.{mfa_added, is_among, ref_added}
+use Rattle.script_text.specs.Adding.{counted_added, passes_counted}
+use Rattle.script_text.specs.TextLines.{lines_of}
+
+-- ---- the head and the module texts
+
+abbrev pub head_step : ScriptReader → List ℕ → Result ScriptReader LineCause
+head_step s text = if bytes_eq text (codes "beam script 1") then Ok (record s { place = Between }) else Err causes.Syntax
+
+-- a step with the cause of a script's line
+abbrev pub by_code : Step → Result (List (List ℕ) × List LineForm) LineCause
+by_code (Ok x) = Ok x
+by_code (Err fault) = Err (cause_of_code fault)
+
+-- what a line of a module's text gives
+abbrev pub code_step : List (List ℕ) → List LineForm → List ℕ → Result (List (List ℕ) × List LineForm) LineCause
+code_step names lines text = by_code (line_step names lines text)
+
+-- the title of a module's text, as the line of this number
+unfoldable pub title_step : ScriptReader → ℕ → List ℕ → Result ScriptReader LineCause
+title_step s number text = do
+  r ← or_syntax (option_map ref_words (title_reading text))
+  x ← code_step s.names s.lines text
+  name ← or_syntax (number_of x.0 r.0)
+  titles ← ref_added s.titles (record { name = record { 0 = name }; version = r.1 })
+  Ok (record s { names = x.0; lines = x.1; titles = titles; title = number; place = Within })
+
+-- why a line is refused that gives something again: its function, if it has one, may be one too many besides
+abbrev pub repeat_cause : List Mfa → Option Mfa → LineCause
+repeat_cause fs f = if passes_counted fs f then causes.Limit which.Exports else causes.Duplicate
+
+-- whether the line is the end of a module's text
+abbrev pub is_text_end : Option LineForm → Bool
+is_text_end None = false
+is_text_end (Some (title name version)) = false
+is_text_end (Some (header exported name arity)) = false
+is_text_end (Some (label name)) = false
+is_text_end (Some (instr i)) = false
+is_text_end (Some end) = true
+
+-- a module's text is closed: its module, or the first line that names what is not there
+abbrev pub closed_by : ScriptReader → Option ℕ → ScriptReader
+closed_by s None = record s { modules = s.modules ++ module_of s.names s.lines ∷ []; lines = []; place = Between }
+closed_by s (Some place) = record s { unknown = or_else s.unknown (Some (s.title + place)); lines = []; place = Between }
+
+abbrev pub text_closed : ScriptReader → ScriptReader
+text_closed s = if is_text_end (last_line s.lines) then closed_by s (unsettled_line s.lines) else s
+
+-- the line that was read last is counted, and closes its text where it is the end
+abbrev pub counted_step : ScriptReader → List ℕ → Result ScriptReader LineCause
+counted_step s text = counted_added s.functions (counted_of s.names s.lines text) >>= λ fs. Ok (text_closed (record s { functions = fs }))
+
+-- a line of a module's text, behind its title; before is the function that it would name if it is given again
+abbrev pub line_added : ScriptReader → List ℕ → Option Mfa → Step → Result ScriptReader LineCause
+line_added s text before (Ok x) = counted_step (record s { names = x.0; lines = x.1 }) text
+line_added s text before (Err line_faults.Duplicate) = Err (repeat_cause s.functions before)
+line_added s text before (Err line_faults.Syntax) = Err causes.Syntax
+line_added s text before (Err line_faults.Register) = Err causes.Syntax
+line_added s text before (Err line_faults.Int) = Err (causes.Limit which.Integer)
+line_added s text before (Err line_faults.Names) = Err (causes.Limit which.Names)
+line_added s text before (Err line_faults.TooManyFunctions) = Err (causes.Limit which.Functions)
+line_added s text before (Err line_faults.TooLong) = Err (causes.Limit which.Module)
+line_added s text before (Err line_faults.NoMemory) = Err causes.NoMemory
+
+abbrev pub within_step : ScriptReader → List ℕ → Result ScriptReader LineCause
+within_step s text = line_added s text (counted_of s.names s.lines text) (line_step s.names s.lines text)
+
+-- ---- the loader blocks
+
+-- one loader block more
+abbrev pub block_step : ScriptReader → Result ScriptReader LineCause
+block_step s = if nat_le MOST_LOADERS (length s.loaders) then Err (causes.Limit which.Loaders) else Ok (record s { loaders = s.loaders ++ [] ∷ []; place = Loading })
+
+-- the script's end
+abbrev pub end_step : ScriptReader → Result ScriptReader LineCause
+end_step s = Ok (record s { place = Finished })
+
+-- a command joins the last loader block
+abbrev pub with_command : ScriptReader → ScriptCmd → ScriptReader
+with_command s command = record s { loaders = onto_last s.loaders command }
+
+-- what a load names that is not given is noted, unless something is noted already
+abbrev pub noted : ScriptReader → ℕ → List ModRef → ScriptReader
+noted s number refs = if list_all (is_among s.titles) refs then s else record s { unknown = or_else s.unknown (Some number) }
+
+-- a load, as the line of this number
+unfoldable pub load_step : ScriptReader → ℕ → List ℕ → Result ScriptReader LineCause
+load_step s number text = do
+  forms ← or_syntax (option_map (map ref_words) (refs_reading text))
+  refs ← refs_named s.names forms
+  Ok (with_command (noted (record s { names = refs.1 }) number refs.0) (Load refs.0))
+
+-- one process more
+abbrev pub process_added : ℕ → Result ℕ LineCause
+process_added processes = if nat_le MOST_PROCESSES processes then Err (causes.Limit which.Processes) else Ok (processes + 1)
+
+-- a spawn
+unfoldable pub spawn_step : ScriptReader → List ℕ → Result ScriptReader LineCause
+spawn_step s text = do
+  form ← or_syntax (option_map call_words (call_reading text))
+  call ← call_named s.names form
+  functions ← mfa_added s.functions call.0
+  processes ← process_added s.processes
+  Ok (with_command (record s { names = call.2; functions = functions; processes = processes }) (Spawn call.0 call.1))
+
+-- a command, by its word
+abbrev pub command_by : ScriptReader → ℕ → Option (List ℕ × List ℕ) → Result ScriptReader LineCause
+command_by s number None = Err causes.Syntax
+command_by s number (Some parts) =
+    if bytes_eq parts.0 (codes "load") then load_step s number parts.1
+    else (if bytes_eq parts.0 (codes "spawn") then spawn_step s parts.1 else Err causes.Syntax)
+
+abbrev pub command_step : ScriptReader → ℕ → List ℕ → Result ScriptReader LineCause
+command_step s number text = command_by s number (cut_at 32 text)
+
+-- a line that begins a module's text, or is a command
+abbrev pub keyed_step : ScriptReader → ℕ → List ℕ → Place → Result ScriptReader LineCause
+keyed_step s number text Between = title_step s number text
+keyed_step s number text Unread = command_step s number text
+keyed_step s number text Within = command_step s number text
+keyed_step s number text Loading = command_step s number text
+keyed_step s number text Finished = command_step s number text
+
+-- a line between module texts, or of the loader blocks
+abbrev pub other_step : ScriptReader → ℕ → List ℕ → Result ScriptReader LineCause
+other_step s number text =
+    if bytes_eq text (codes "loader") then block_step s
+    else (if bytes_eq text (codes "go") then end_step s else keyed_step s number text s.place)
+
+-- ---- a line
+
+-- the line of this number, by the place where it stands
+abbrev pub line_at : ScriptReader → ℕ → List ℕ → Place → Result ScriptReader LineCause
+line_at s number text Unread = head_step s text
+line_at s number text Between = other_step s number text
+line_at s number text Within = within_step s text
+line_at s number text Loading = other_step s number text
+line_at s number text Finished = Err causes.Syntax
+
+-- what holds of what is known before the line of this number: where a module's text is open, it begins with its title, and that
+-- has its number
+abbrev pub IsCounted : ScriptReader → ℕ → Place → Type 0
+IsCounted s number Unread = Unit {0}
+IsCounted s number Between = Unit {0}
+IsCounted s number Within = IsTitled s.lines × (s.title + length s.lines ≡ number)
+IsCounted s number Loading = Unit {0}
+IsCounted s number Finished = Unit {0}
+
+-- ---- the text
+
+-- a line's fault has its number
+abbrev pub at_line : ℕ → Result ScriptReader LineCause → Result ScriptReader ScriptFault
+at_line number (Ok s) = Ok s
+at_line number (Err cause) = Err (fault_at number cause)
+
+-- the line of this number; the text goes on behind it, or ends
+abbrev pub line_judged : ScriptReader → ℕ → Bool → List ℕ → Result ScriptReader ScriptFault
+line_judged s number last text =
+    if nat_lt LONGEST_LINE (length text) then Err (faults.LineTooLong number)
+    else (if last && not (bytes_eq text (codes "go")) then Err (faults.Syntax number) else at_line number (line_at s number text s.place))
+
+-- the script, where nothing that is named is lacking
+abbrev pub script_known : ScriptReader → Option ℕ → Result Script ScriptFault
+script_known s None = Ok (record { names = s.names; modules = s.modules; loaders = s.loaders })
+script_known s (Some line) = Err (faults.UnknownName line)
+
+-- the end of the text, by the place of the next line, which would have this number
+abbrev pub ended_at : ScriptReader → ℕ → Place → Result Script ScriptFault
+ended_at s number Unread = Err (faults.Syntax number)
+ended_at s number Between = Err (faults.Syntax number)
+ended_at s number Within = Err (faults.Syntax number)
+ended_at s number Loading = Err (faults.Syntax number)
+ended_at s number Finished = script_known s s.unknown
+
+-- the end of the text, with what stands behind the last line feed
+abbrev pub text_ended : ScriptReader → ℕ → List ℕ → Result Script ScriptFault
+text_ended s number tail =
+    if nat_lt LONGEST_LINE (length tail) then Err (faults.LineTooLong number)
+    else (if length tail == 0 then ended_at s number s.place else Err (faults.Syntax number))
+
+-- what follows a line
+abbrev pub go_on : Result ScriptReader ScriptFault → (ScriptReader → Result Script ScriptFault) → Result Script ScriptFault
+go_on (Ok s) more = more s
+go_on (Err fault) more = Err fault
+
+-- the lines from the one of this number on
+abbrev pub text_on : ScriptReader → ℕ → List (List ℕ) → List ℕ → Result Script ScriptFault
+text_on s number [] tail = text_ended s number tail
+text_on s number (text ∷ others) tail = go_on (line_judged s number (is_end others tail) text) (λ next. text_on next (number + 1) others tail)
+
+-- the same for bytes
+abbrev pub bytes_on : ScriptReader → ℕ → List ℕ → Result Script ScriptFault
+bytes_on s number bytes = text_on s number (lines_of bytes).ended (lines_of bytes).tail
+
+-- what is known before the first line
+abbrev pub opening : ScriptReader
+opening =
+    record {
+      names = given_names;
+      modules = [];
+      titles = [];
+      functions = [];
+      loaders = [];
+      processes = 0;
+      lines = [];
+      title = 0;
+      place = Unread;
+      unknown = None;
+    }
+
+-- a whole text
+abbrev pub script_reading : List ℕ → Result Script ScriptFault
+script_reading text = if nat_lt LONGEST_SCRIPT (length text) then Err faults.FileTooLong else bytes_on opening 1 text

@@ -1,0 +1,70 @@
+-- The lines of a script, as they are written: atoms and numbers by their texts, modules by name and version.
+-- Source: this project's script text. Each line has one text, so a line is of a form where it is that form's text; the code reads bytes.
+use Rattle.std.specs.Prelude.{◌≡◌, ℕ, ◌&&◌, nat_le, Bool, true, false, List, [], ◌∷◌, ◌++◌, length, IsTrue, codes}
+use Rattle.std.specs.List.{list_all, flat_map}
+use Rattle.term_core.specs.Names.{is_atom_text}
+use Rattle.term_core.specs.PlainTerm.{integer_leaf, atom_leaf, tuple_of, list_of, row_of}
+use Rattle.term_core.specs.Written.{WrittenTerm, parted, is_integer_text}
+use Rattle.mod_core.specs.declared.code.TheConstants.{MOST_ARGUMENTS}
+use Rattle.mod_core.specs.ModuleLine.{LineForm, line_written, is_line_form, is_version_text}
+
+-- a version of a module, as it is written: its name, and the digits of the version
+pub record RefForm : Type 0 where
+  pub name : List ℕ
+  pub version : List ℕ
+
+-- a line: the head, a line of a module's text, the start of a loader block, a load of modules at once, a spawn of a call, the end
+pub data ScriptLine : Type 0 where
+  head : ScriptLine
+  code : LineForm → ScriptLine
+  loader : ScriptLine
+  load : List RefForm → ScriptLine
+  spawn : List ℕ → List ℕ → List WrittenTerm → ScriptLine
+  go : ScriptLine
+
+-- `m.1`
+abbrev pub ref_written : RefForm → List ℕ
+ref_written r = r.name ++ 46 ∷ r.version
+
+-- `m:main(1,ok)`
+abbrev pub call_written : List ℕ → List ℕ → List WrittenTerm → List ℕ
+call_written «module» name args = «module» ++ 58 ∷ (name ++ 40 ∷ (parted (row_of args) ++ 41 ∷ []))
+
+-- the text of a line, without its line feed
+abbrev pub script_line_written : ScriptLine → List ℕ
+script_line_written head = codes "beam script 1"
+script_line_written (code line) = line_written line
+script_line_written loader = codes "loader"
+script_line_written (load refs) = codes "load" ++ flat_map (λ r. 32 ∷ ref_written r) refs
+script_line_written (spawn «module» name args) = codes "spawn " ++ call_written «module» name args
+script_line_written go = codes "go"
+
+-- an atom and a version
+abbrev pub is_ref_form : RefForm → Bool
+is_ref_form r = is_atom_text r.name && is_version_text r.version
+
+-- at least one atom and version
+abbrev pub are_some_refs : List RefForm → Bool
+are_some_refs [] = false
+are_some_refs (r ∷ refs) = list_all is_ref_form (r ∷ refs)
+
+-- an integer of any size, or an atom
+abbrev pub is_argument_form : WrittenTerm → Bool
+is_argument_form (integer_leaf text) = is_integer_text text
+is_argument_form (atom_leaf text) = is_atom_text text
+is_argument_form (tuple_of row) = false
+is_argument_form (list_of row) = false
+
+-- a line, each part of which has its text: a load of at least one module, a call of at most 15 arguments
+abbrev pub is_script_line : ScriptLine → Bool
+is_script_line head = true
+is_script_line (code line) = is_line_form line
+is_script_line loader = true
+is_script_line (load refs) = are_some_refs refs
+is_script_line (spawn «module» name args) = is_atom_text «module» && (is_atom_text name && (nat_le (length args) MOST_ARGUMENTS && list_all is_argument_form args))
+is_script_line go = true
+
+-- the bytes are the text of this line
+pub record IsLine (text : List ℕ) (line : ScriptLine) : Type 0 where
+  pub text_is : text ≡ script_line_written line
+  pub sound : IsTrue (is_script_line line)

@@ -1,0 +1,45 @@
+-- The script that lines say: its names in the order of their first appearance, the module of each module text, the commands of
+-- each loader block.
+use Rattle.std.specs.Prelude.{ℕ, List, [], ◌∷◌, map, length}
+use Rattle.std.specs.List.{flat_map}
+use Rattle.term_core.specs.PlainTerm.{PlainTerm, map_leaves}
+use Rattle.term_core.specs.Written.{WrittenTerm, integer_of}
+use Rattle.term_core.specs.TermText.{number_in}
+use Rattle.mod_core.specs.ModuleLine.{number_value}
+use Rattle.mod_core.specs.ModuleValue.{atom_in, module_of}
+use Rattle.server_core.specs.declared.command.ModRef.{ModRef}
+use Rattle.script_text.specs.declared.script.ScriptCmd.{ScriptCmd}
+use Rattle.script_text.specs.declared.script.ScriptCmd.TheVariants.{Load, Spawn}
+use Rattle.script_text.specs.declared.script.Script.{Script}
+use Rattle.script_text.specs.ScriptLine.{RefForm, ScriptLine, head, code, loader, load, spawn, go}
+use Rattle.script_text.specs.Counts.{names_of, module_texts, loader_blocks}
+
+-- the version of a module that is written so
+abbrev pub ref_in : List (List ℕ) → RefForm → ModRef
+ref_in names r = record { name = atom_in names r.name; version = number_value r.version }
+
+-- the argument that is written so
+abbrev pub argument_in : List (List ℕ) → WrittenTerm → PlainTerm
+argument_in names term = map_leaves integer_of (number_in names) term
+
+-- the command of a line, if it is one
+abbrev pub commands_on : List (List ℕ) → ScriptLine → List ScriptCmd
+commands_on names head = []
+commands_on names (code line) = []
+commands_on names loader = []
+commands_on names (load refs) = Load (map (ref_in names) refs) ∷ []
+commands_on names (spawn «module» name args) = Spawn (record { «module» = atom_in names «module»; name = atom_in names name; arity = length args }) (map (argument_in names) args) ∷ []
+commands_on names go = []
+
+-- the commands of a loader block, in order
+abbrev pub commands_of : List (List ℕ) → List ScriptLine → List ScriptCmd
+commands_of names block = flat_map (commands_on names) block
+
+-- the script that lines say
+abbrev pub script_of : List ScriptLine → Script
+script_of lines =
+    record {
+      names = names_of lines;
+      modules = map (module_of (names_of lines)) (module_texts lines);
+      loaders = map (commands_of (names_of lines)) (loader_blocks lines);
+    }

@@ -1,0 +1,55 @@
+-- What every script has that is the value of some text.
+-- Source: this project's limits of a script.
+use Rattle.std.specs.Prelude.{◌≡◌, ℕ, ◌+◌, ◌<◌, ◌≤◌, List, [], ◌∷◌, length, slice_get, Some, All, IsTrue, is_some, sum_by}
+use Rattle.std.specs.List.{AllByRecursion}
+use Rattle.term_core.specs.Names.{IsNames}
+use Rattle.term_core.specs.PlainTerm.{PlainTerm, integer_leaf, atom_leaf, tuple_of, list_of}
+use Rattle.term_core.specs.Written.{IsTermInteger}
+use Rattle.mod_core.specs.declared.code.Module.{Module}
+use Rattle.server_core.specs.declared.command.ModRef.{ModRef}
+use Rattle.server_core.specs.CommandTable.{AreTexts, text_of}
+use Rattle.script_text.specs.declared.script.TheConstants.{MOST_LOADERS, MOST_PROCESSES}
+use Rattle.script_text.specs.declared.script.ScriptCmd.{ScriptCmd}
+use Rattle.script_text.specs.declared.script.ScriptCmd.TheVariants.{Load, Spawn}
+use Rattle.script_text.specs.declared.script.Script.{Script}
+
+-- a term of one word, whose atom has a name
+abbrev pub IsImmediateOf : List (List ℕ) → PlainTerm → Type 0
+IsImmediateOf names (integer_leaf z) = IsTermInteger z
+IsImmediateOf names (atom_leaf a) = a < length names
+IsImmediateOf names (tuple_of row) = ⊥
+IsImmediateOf names (list_of row) = ⊥
+
+-- a load of at least one module, each of which is given
+pub record IsLoadOf (texts : List Module) (refs : List ModRef) : Type 0 where
+  pub some : 0 < length refs
+  pub given : AllByRecursion (λ r. IsTrue (is_some (text_of texts r))) refs
+
+-- a spawn of a function whose atoms have names, with as many arguments as its arity, each of one word
+pub record IsSpawnOf (names : List (List ℕ)) (m f arity : ℕ) (args : List PlainTerm) : Type 0 where
+  pub module_named : m < length names
+  pub name_named : f < length names
+  pub arity_is : arity ≡ length args
+  pub few : arity ≤ 15
+  pub each : AllByRecursion (IsImmediateOf names) args
+
+abbrev pub IsCmdOf : List (List ℕ) → List Module → ScriptCmd → Type 0
+IsCmdOf names texts (Load refs) = IsLoadOf texts refs
+IsCmdOf names texts (Spawn target args) = IsSpawnOf names target.«module».0 target.name.0 target.arity args
+
+-- one for a spawn
+abbrev pub spawns_in : ScriptCmd → ℕ
+spawns_in (Load refs) = 0
+spawns_in (Spawn target args) = 1
+
+abbrev pub processes_of : Script → ℕ
+processes_of s = sum_by (λ commands. sum_by spawns_in commands) s.loaders
+
+-- a script that is the value of some text: its modules can be loaded, each load and each spawn can be made, and it is within
+-- the limits of loaders and processes
+pub record IsScript (s : Script) : Type 0 where
+  pub names : IsNames s.names
+  pub texts : AreTexts s.modules
+  pub commands : AllByRecursion (λ commands. AllByRecursion (IsCmdOf s.names s.modules) commands) s.loaders
+  pub few_loaders : length s.loaders ≤ MOST_LOADERS
+  pub few_processes : processes_of s ≤ MOST_PROCESSES
