@@ -1,0 +1,73 @@
+-- How the text of a list grows by one more, and what a text begins with.
+use Rattle.std.proofs.Common.{◌≡◌, ℕ, ◌+◌, ◌<◌, ◌≤◌, List, [], ◌∷◌, ◌++◌, map, length, take, get_or, Result, Ok, Err, OnOk, OnErr, refl, sym, ap, ◌∙◌, arith, append_assoc}
+use Rattle.std.proofs.lemmas.Grind.{common_steps}
+use Rattle.std.proofs.Math.Seq.{take-append_seam, take-length}
+use Rattle.std.proofs.lemmas.List.{length-take, take-take, take_more}
+use Rattle.std.proofs.lemmas.List.Folds.{flat_map-map}
+use Rattle.std.proofs.lemmas.Result.{IfOk-equal}
+use Rattle.std.specs.Io.{StartsWith}
+use Rattle.std.specs.List.{flat_map, join_with_byte}
+use Rattle.term_core.specs.declared.term.Term.{Term}
+use Rattle.term_core.specs.Plain.{plain}
+use Rattle.term_core.specs.PlainTerm.{PlainTerm}
+use Rattle.term_core.specs.TermText.{term_text}
+use Rattle.run_log.specs.declared.logs.ProcessLog.{ProcessLog}
+use Rattle.run_log.specs.Report.{plain_text, process_text, processes_text}
+
+-- a text begins with itself
+pub starts_own : (a t b : List ℕ) → b ≡ a ++ t → StartsWith b a
+starts_own a t b e = rw e (take-append_seam a t)
+
+-- what is as it was begins with what it was
+pub starts_same : (a b : List ℕ) → b ≡ a → StartsWith b a
+starts_same a b e = rw e (take-length a)
+
+-- what a call appended, or left as it was, begins with what it was
+pub starts_either : {T E : Type 0} (r : Result T E) (a t b : List ℕ) → OnOk r (b ≡ a ++ t) → OnErr r (b ≡ a) → StartsWith b a
+starts_either (Ok x) a t b p q = starts_own a t b p
+starts_either (Err e) a t b p q = starts_same a b q
+
+-- what begins with a text that begins with another
+pub starts_more : (a b c : List ℕ) → StartsWith b a → StartsWith c b → StartsWith c a
+starts_more a b c p q =
+    let n : length a ≤ length b = omega (arith, ap length p, length-take (length a) b) in
+    sym (take-take (length a) (length b) c n) ∙ ap (take (length a)) q ∙ p
+
+-- three parts, one after the other
+pub three_parts : {T E : Type 0} (r : Result T E) (o a b c x y z : List ℕ) → a ≡ o ++ x → b ≡ a ++ y → OnOk r (c ≡ b ++ z) → OnOk r (c ≡ o ++ (x ++ y ++ z))
+three_parts r o a b c x y z e f h =
+    IfOk-equal r c (b ++ z) (o ++ (x ++ y ++ z)) h (ap (λ t. t ++ z) (f ∙ ap (λ t. t ++ y) e) ∙ simp append_assoc)
+
+-- pieces that are joined: the first, and each other behind the byte
+pub join-cons : (c : ℕ) (x : List ℕ) (xs : List (List ℕ)) → join_with_byte c (x ∷ xs) ≡ x ++ flat_map (λ y. c ∷ y) xs
+join-cons c x [] = grind (arith, common_steps)
+join-cons c x (y ∷ ys) = ap (λ t. x ++ c ∷ t) (join-cons c y ys)
+
+-- mapped pieces that are joined: the first list, and the others behind the byte
+pub join_map : {A : Type 0} (c : ℕ) (f : A → List ℕ) (x : A) (xs : List A) → join_with_byte c (map f (x ∷ xs)) ≡ f x ++ flat_map (λ y. c ∷ f y) xs
+join_map c f x xs = join-cons c (f x) (map f xs) ∙ ap (λ t. f x ++ t) (flat_map-map (λ y. c ∷ y) f xs)
+
+-- the same of a list that is known to have a first element
+pub join_map_at : {A : Type 0} (c : ℕ) (f : A → List ℕ) (x : A) (xs ys : List A) → ys ≡ x ∷ xs → join_with_byte c (map f ys) ≡ f x ++ flat_map (λ y. c ∷ f y) xs
+join_map_at c f x xs ys e = ap (λ t. join_with_byte c (map f t)) e ∙ join_map c f x xs
+
+-- the text of one more log
+pub processes_more : (names : List (List ℕ)) (n m : ℕ) (logs : List ProcessLog) (log : ProcessLog) → m ≡ n + length logs → processes_text names n (logs ++ log ∷ []) ≡ processes_text names n logs ++ process_text names m log
+processes_more names n m [] log e = let same : m ≡ n = omega arith in rw same grind (arith, common_steps)
+processes_more names n m (l ∷ ls) log e =
+    ap (λ t. process_text names n l ++ t) (processes_more names (n + 1) m ls log (omega arith)) ∙ sym (append_assoc (process_text names n l) (processes_text names (n + 1) ls) (process_text names m log))
+
+-- the text of the logs before a place, and of the one there
+pub processes_more_at : (names : List (List ℕ)) (logs : List ProcessLog) (i : ℕ) (log : ProcessLog) → i < length logs → log ≡ get_or logs i log → processes_text names 0 (take (i + 1) logs) ≡ processes_text names 0 (take i logs) ++ process_text names i log
+processes_more_at names logs i log h e =
+    let n : i ≡ 0 + length (take i logs) = omega (arith, length-take i logs) in
+    ap (processes_text names 0) (take_more logs i log h) ∙ processes_more names 0 i (take i logs) (get_or logs i log) n
+    ∙ ap (λ x. processes_text names 0 (take i logs) ++ process_text names i x) (sym e)
+
+texts_of : (names : List (List ℕ)) (terms : List Term) → map (plain_text names) (map plain terms) ≡ map (term_text names) terms
+texts_of names [] = refl
+texts_of names (t ∷ ts) = ap (λ xs. term_text names t ∷ xs) (texts_of names ts)
+
+-- the texts of the terms that a list shows
+pub plain_texts : (names : List (List ℕ)) (terms : List Term) (shown : List PlainTerm) → map plain terms ≡ shown → map (plain_text names) shown ≡ map (term_text names) terms
+plain_texts names terms shown e = ap (map (plain_text names)) (sym e) ∙ texts_of names terms

@@ -1,0 +1,5 @@
+pub mod Journal
+pub mod Legal
+pub mod Report
+pub mod WholeSpans
+pub mod FirstRun
