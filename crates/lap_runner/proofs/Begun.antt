@@ -1,0 +1,184 @@
+-- Before its first lap a run has made no command, and each process waits for its spawn.
+use Rattle.std.proofs.Common.{◌≡◌, ℕ, zero, suc, ◌+◌, ◌<◌, ◌≤◌, List, [], ◌∷◌, ◌++◌, length, length-append, append_assoc, drop, get_or, map, take, slice_get, sum_by, Some, option_map, refl, sym, ap, subst, ◌∙◌, arith}
+use Rattle.std.proofs.lemmas.List.{append-nil, drop_all, drop_more, length-map}
+use Rattle.std.specs.List.{AllByRecursion}
+use Rattle.script_text.specs.declared.script.TheConstants.{MOST_PROCESSES}
+use Rattle.std.proofs.lemmas.List.Sums.{sum_by-cons}
+use Rattle.std.proofs.lemmas.Option.{none-some, same_Some, slice_get-map}
+use Rattle.server_core.specs.ServerState.{empty_state}
+use Rattle.script_text.specs.declared.script.Script.{Script}
+use Rattle.script_text.specs.declared.script.ScriptCmd.{ScriptCmd}
+use Rattle.script_text.specs.declared.script.ScriptCmd.TheVariants.{Load, Spawn}
+use Rattle.script_text.specs.Sound.{IsCmdOf, IsScript, spawns_in}
+use Rattle.mod_core.specs.declared.code.Module.{Module}
+use Rattle.run_log.specs.Journal.{entries_of, newest_state, state_at}
+use Rattle.run_log.specs.Legal.{Replays, SpawnLine, cmd_of, commands_of, spawns_from, spawns_of}
+use Rattle.lap_runner.specs.declared.process_run.ProcessRun.{ProcessRun}
+use Rattle.lap_runner.specs.declared.run.LoaderRun.{LoaderRun}
+use Rattle.lap_runner.specs.declared.run.Run.{Run}
+use Rattle.lap_runner.specs.Runs.{HasArity, IsRun, Stand, StandsIn, done_of, loaders_from, spawn_count, spawn_number, stand_of, waiting_from, waiting_of, waiting_stand}
+use Rattle.lap_runner.proofs.Lists.{JoinedAt, all_weaker, behind, get_behind, get_front, in_front, joined_at}
+use Rattle.lap_runner.proofs.SpawnLines.{lines_counted}
+
+-- as many processes as spawns
+pub waiting_counted : (number : ℕ) (commands : List ScriptCmd) → length (waiting_from number commands) ≡ spawn_count commands
+waiting_counted number [] = refl
+waiting_counted number (Load refs ∷ commands) = waiting_counted number commands ∙ sym (sum_by-cons spawns_in (Load refs) commands ∙ omega arith)
+waiting_counted number (Spawn target args ∷ commands) =
+    let rest = waiting_counted (number + 1) commands in
+    let count = sum_by-cons spawns_in (Spawn target args) commands in
+    omega (arith, rest, count)
+
+many_waiting : (number first : ℕ) (loaders : List (List ScriptCmd)) → length (waiting_of number loaders) ≡ length (spawns_of first loaders)
+many_waiting number first [] = refl
+many_waiting number first (commands ∷ loaders) =
+    omega (arith, length-append (waiting_from number commands) (waiting_of (number + spawn_count commands) loaders), length-append (spawns_from first 0 commands) (spawns_of (suc first) loaders), waiting_counted number commands, lines_counted first 0 commands, many_waiting (number + spawn_count commands) (suc first) loaders)
+
+stand_same : (n m : ℕ) (line other : SpawnLine) → n ≡ m → line ≡ other → Some (waiting_stand n line.target line.args) ≡ Some (waiting_stand m other.target other.args)
+stand_same n m line other e f = ap (λ k. Some (waiting_stand k line.target line.args)) e ∙ ap (λ (x : SpawnLine). Some (waiting_stand m x.target x.args)) f
+
+waiting_from_at : (number loader place : ℕ) (commands : List ScriptCmd) (k : ℕ) (line : SpawnLine) → slice_get (spawns_from loader place commands) k ≡ Some line → slice_get (waiting_from number commands) k ≡ Some (waiting_stand (number + k) line.target line.args)
+waiting_from_at number loader place [] k line h = absurd (none-some line h)
+waiting_from_at number loader place (Load refs ∷ commands) k line h = waiting_from_at number loader (suc place) commands k line h
+waiting_from_at number loader place (Spawn target args ∷ commands) zero line h =
+    stand_same number (number + 0) (record { loader = loader; place = place; target = target; args = args }) line (omega arith) (same_Some _ _ h)
+waiting_from_at number loader place (Spawn target args ∷ commands) (suc k) line h =
+    waiting_from_at (number + 1) loader (suc place) commands k line h ∙ stand_same (number + 1 + k) (number + suc k) line line (omega arith) refl
+
+waiting_joined : (number first : ℕ) (commands : List ScriptCmd) (loaders : List (List ScriptCmd)) (k : ℕ) (line : SpawnLine)
+    → ((n : ℕ) → slice_get (spawns_of (suc first) loaders) n ≡ Some line → slice_get (waiting_of (number + spawn_count commands) loaders) n ≡ Some (waiting_stand (number + spawn_count commands + n) line.target line.args))
+    → JoinedAt (spawns_from first 0 commands) (spawns_of (suc first) loaders) k line → slice_get (waiting_from number commands ++ waiting_of (number + spawn_count commands) loaders) k ≡ Some (waiting_stand (number + k) line.target line.args)
+waiting_joined number first commands loaders k line rest (in_front h) =
+    get_front (waiting_from number commands) (waiting_of (number + spawn_count commands) loaders) k (waiting_stand (number + k) line.target line.args) (waiting_from_at number first 0 commands k line h)
+waiting_joined number first commands loaders k line rest (behind n e h) =
+    let many = waiting_counted number commands in
+    let lines = lines_counted first 0 commands in
+    let place : k ≡ length (waiting_from number commands) + n = omega (arith, e, many, lines) in
+    ap (slice_get (waiting_from number commands ++ waiting_of (number + spawn_count commands) loaders)) place
+    ∙ get_behind (waiting_from number commands) (waiting_of (number + spawn_count commands) loaders) n
+    ∙ rest n h
+    ∙ stand_same (number + spawn_count commands + n) (number + k) line line (omega (arith, e, lines)) refl
+
+waiting_at : (number first : ℕ) (loaders : List (List ScriptCmd)) (k : ℕ) (line : SpawnLine) → slice_get (spawns_of first loaders) k ≡ Some line → slice_get (waiting_of number loaders) k ≡ Some (waiting_stand (number + k) line.target line.args)
+waiting_at number first [] k line h = absurd (none-some line h)
+waiting_at number first (commands ∷ loaders) k line h =
+    waiting_joined number first commands loaders k line (λ n g. waiting_at (number + spawn_count commands) (suc first) loaders n line g) (joined_at (spawns_from first 0 commands) (spawns_of (suc first) loaders) k line h)
+
+many_loaders : (number : ℕ) (loaders : List (List ScriptCmd)) → length (loaders_from number loaders) ≡ length loaders
+many_loaders number [] = refl
+many_loaders number (commands ∷ loaders) = ap suc (many_loaders (number + spawn_count commands) loaders)
+
+none_done : (number : ℕ) (loaders : List (List ScriptCmd)) (k : ℕ) → done_of (loaders_from number loaders) k ≡ 0
+none_done number [] k = refl
+none_done number (commands ∷ loaders) zero = refl
+none_done number (commands ∷ loaders) (suc k) = none_done (number + spawn_count commands) loaders k
+
+-- where a loader begins
+record BeginsAt (number : ℕ) (loaders : List (List ScriptCmd)) (k : ℕ) (l : LoaderRun) : Type 0 where
+  none : l.done ≡ 0
+  next : l.next_process ≡ number + spawn_number loaders k 0
+
+begins_at : (number : ℕ) (loaders : List (List ScriptCmd)) (k : ℕ) (l : LoaderRun) → slice_get (loaders_from number loaders) k ≡ Some l → BeginsAt number loaders k l
+begins_at number [] k l h = absurd (none-some l h)
+begins_at number (commands ∷ loaders) zero l h =
+    let e : record { done = 0; next_process = number } ≡ l = same_Some _ _ h in
+    record { none = sym (ap (λ x. x.done) e); next = let n : l.next_process ≡ number = sym (ap (λ x. x.next_process) e) in omega (arith, n) }
+begins_at number (commands ∷ loaders) (suc k) l h =
+    let b = begins_at (number + spawn_count commands) loaders k l h in
+    record { none = b.none; next = omega (arith, b.next) }
+
+module _ (s : Script) (run : Run) (server : run.server ≡ empty_state) (journal : run.journal ≡ []) (loaders : run.loaders.items ≡ loaders_from 0 s.loaders) (processes : map stand_of run.processes.items ≡ waiting_of 0 s.loaders) where
+  done_none : (k : ℕ) → done_of run.loaders.items k ≡ 0
+  done_none k = ap (λ ls. done_of ls k) loaders ∙ none_done 0 s.loaders k
+
+  number_of : (k : ℕ) (l : LoaderRun) → slice_get run.loaders.items k ≡ Some l → l.next_process ≡ spawn_number s.loaders k l.done
+  number_of k l h =
+      let b = begins_at 0 s.loaders k l (ap (λ ls. slice_get ls k) (sym loaders) ∙ h) in
+      let n : l.next_process ≡ spawn_number s.loaders k 0 = omega (arith, b.next) in
+      n ∙ ap (spawn_number s.loaders k) (sym b.none)
+
+  stand_at : (number : ℕ) (line : SpawnLine) (p : ProcessRun) → slice_get (spawns_of 0 s.loaders) number ≡ Some line → slice_get run.processes.items number ≡ Some p → waiting_stand number line.target line.args ≡ stand_of p
+  stand_at number line p line_is p_is =
+      let a : slice_get (map stand_of run.processes.items) number ≡ Some (stand_of p) = slice_get-map stand_of run.processes.items number ∙ ap (option_map stand_of) p_is in
+      let b = waiting_at 0 0 s.loaders number line line_is in
+      let e : 0 + number ≡ number = omega arith in
+      same_Some _ _ (sym (stand_same (0 + number) number line line e refl) ∙ sym b ∙ ap (λ ps. slice_get ps number) (sym processes) ∙ a)
+
+  -- before its first lap a run is as it should be
+  pub begun_is : IsRun s run
+  begun_is = record {
+    replays = subst (Replays s.modules empty_state) (sym journal) tt;
+    server = server ∙ ap (newest_state s.modules empty_state) (sym journal);
+    loaders = ap length loaders ∙ many_loaders 0 s.loaders;
+    within = λ k. omega (arith, done_none k);
+    numbers = number_of;
+    in_order = λ k. ap (λ j. map (λ e. e.cmd) (entries_of k j)) journal ∙ ap (λ n. map cmd_of (take n (commands_of s k))) (sym (done_none k));
+    processes = sym (length-map run.processes.items stand_of) ∙ ap length processes ∙ many_waiting 0 0 s.loaders;
+    process = λ number line p line_is p_is.
+        subst (λ x. StandsIn run.journal (state_at s.modules empty_state run.journal) run.server (done_of run.loaders.items line.loader) number line x x.phase) (stand_at number line p line_is p_is)
+        (record { process = refl; spans = refl; still = omega (arith, done_none line.loader) });
+  }
+
+-- one more loader and its processes, of those that are left
+pub record ListedSoFar (loaders : List (List ScriptCmd)) (made : List LoaderRun) (processes : List Stand) (rest : List (List ScriptCmd)) : Type 0 where
+  pub made_are : made ++ loaders_from (length processes) rest ≡ loaders_from 0 loaders
+  pub processes_are : processes ++ waiting_of (length processes) rest ≡ waiting_of 0 loaders
+  pub few : length processes + sum_by spawn_count rest ≤ MOST_PROCESSES
+  pub arities : AllByRecursion (λ commands. AllByRecursion HasArity commands) rest
+
+pub listed_more : (loaders : List (List ScriptCmd)) (made : List LoaderRun) (processes more : List Stand) (commands : List ScriptCmd) (rest : List (List ScriptCmd)) → ListedSoFar loaders made processes (commands ∷ rest) → more ≡ processes ++ waiting_from (length processes) commands
+    → ListedSoFar loaders (made ++ record { done = 0; next_process = length processes } ∷ []) more rest
+listed_more loaders made processes more commands rest so_far is =
+    let many : length more ≡ length processes + spawn_count commands = omega (arith, ap length is, length-append processes (waiting_from (length processes) commands), waiting_counted (length processes) commands) in
+    record {
+      made_are = append_assoc made (record { done = 0; next_process = length processes } ∷ []) (loaders_from (length more) rest) ∙ ap (λ n. made ++ record { done = 0; next_process = length processes } ∷ loaders_from n rest) many ∙ so_far.made_are;
+      processes_are = ap (λ xs. xs ++ waiting_of (length more) rest) is ∙ append_assoc processes (waiting_from (length processes) commands) (waiting_of (length more) rest)
+          ∙ ap (λ n. processes ++ (waiting_from (length processes) commands ++ waiting_of n rest)) many ∙ so_far.processes_are;
+      few = omega (arith, many, so_far.few, sum_by-cons spawn_count commands rest);
+      arities = so_far.arities.1;
+    }
+
+has_arity : (names : List (List ℕ)) (texts : List Module) (cmd : ScriptCmd) → IsCmdOf names texts cmd → HasArity cmd
+has_arity names texts (Load refs) h = tt
+has_arity names texts (Spawn target args) h = sym h.arity_is
+
+-- before the first loader
+pub listed_none : (s : Script) → IsScript s → (made : List LoaderRun) (processes : List ProcessRun) (items : List (List ScriptCmd)) → made ≡ [] → processes ≡ [] → items ≡ s.loaders → ListedSoFar s.loaders made (map stand_of processes) items
+listed_none s sound made processes items m p i =
+    subst (λ x. ListedSoFar s.loaders x (map stand_of processes) items) (sym m) (subst (λ x. ListedSoFar s.loaders [] (map stand_of x) items) (sym p) (subst (ListedSoFar s.loaders [] []) (sym i)
+    (record {
+      made_are = refl;
+      processes_are = refl;
+      few = omega (arith, sound.few_processes);
+      arities = all_weaker (λ commands. AllByRecursion (IsCmdOf s.names s.modules) commands) (λ commands. AllByRecursion HasArity commands) (λ commands h. all_weaker (IsCmdOf s.names s.modules) HasArity (has_arity s.names s.modules) commands h) s.loaders sound.commands;
+    })))
+
+module _ (loaders : List (List ScriptCmd)) (made : List LoaderRun) (processes : List ProcessRun) (items : List (List ScriptCmd)) (i : ℕ) (so_far : ListedSoFar loaders made (map stand_of processes) (drop i items)) where
+  module _ (commands : List ScriptCmd) (low : i < length items) (commands_are : commands ≡ get_or items i commands) where
+    next_listed : ListedSoFar loaders made (map stand_of processes) (commands ∷ drop (i + 1) items)
+    next_listed = subst (ListedSoFar loaders made (map stand_of processes)) (drop_more items i commands low ∙ ap (λ c. c ∷ drop (i + 1) items) (sym commands_are)) so_far
+
+    -- the next loader's processes have room
+    pub few_listed : length processes + spawn_count commands ≤ MOST_PROCESSES
+    few_listed = omega (arith, next_listed.few, sum_by-cons spawn_count commands (drop (i + 1) items), length-map processes stand_of)
+
+    pub arities_listed : AllByRecursion HasArity commands
+    arities_listed = next_listed.arities.0
+
+    -- the next loader is listed
+    pub one_listed : (more : List LoaderRun) (count : ℕ) (after : List ProcessRun) → more ≡ made ++ record { done = 0; next_process = count } ∷ [] → count ≡ length processes → map stand_of after ≡ map stand_of processes ++ waiting_from (length processes) commands
+        → ListedSoFar loaders more (map stand_of after) (drop (i + 1) items)
+    one_listed more count after more_is count_is after_is =
+        let many = length-map processes stand_of in
+        subst (λ x. ListedSoFar loaders x (map stand_of after) (drop (i + 1) items)) (ap (λ n. made ++ record { done = 0; next_process = n } ∷ []) (many ∙ sym count_is) ∙ sym more_is)
+        (listed_more loaders made (map stand_of processes) (map stand_of after) commands (drop (i + 1) items) next_listed (after_is ∙ ap (λ n. map stand_of processes ++ waiting_from n commands) (sym many)))
+
+  none_left : length items ≤ i → ListedSoFar loaders made (map stand_of processes) []
+  none_left past = subst (ListedSoFar loaders made (map stand_of processes)) (drop_all i items past) so_far
+
+  -- after the last loader
+  pub loaders_listed : length items ≤ i → made ≡ loaders_from 0 loaders
+  loaders_listed past = sym (append-nil made) ∙ (none_left past).made_are
+
+  pub processes_listed : length items ≤ i → map stand_of processes ≡ waiting_of 0 loaders
+  processes_listed past = sym (append-nil (map stand_of processes)) ∙ (none_left past).processes_are

@@ -1,0 +1,12 @@
+mod Lists
+mod SpawnLines
+mod TurnLaws
+mod Taking
+mod Turning
+mod Making
+mod LapSteps
+mod Work
+mod Begun
+mod Finished
+mod LapLoops
+mod Enabled

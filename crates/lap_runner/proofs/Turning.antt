@@ -1,0 +1,156 @@
+-- A turn of a process that goes on leaves it where its spans say.
+use Rattle.std.proofs.Common.{◌≡◌, ◌≢◌, ℕ, ◌+◌, ◌<◌, ◌≤◌, List, [], ◌∷◌, ◌++◌, IfSome, refl, sym, ap, subst, ◌∙◌, arith, add-one}
+use Rattle.std.specs.List.{AllByRecursion}
+use Rattle.term_core.specs.declared.hold.TheConstants.{MOST_AREAS}
+use Rattle.server_core.specs.ServerState.{ServerState}
+use Rattle.machine_core.specs.declared.process.TheConstants.{MOST_TURNS}
+use Rattle.machine_core.specs.declared.process.End.{End}
+use Rattle.machine_core.specs.declared.process.TurnEnd.{TurnEnd}
+use Rattle.machine_core.specs.declared.process.TurnEnd.TheVariants as turns
+use Rattle.machine_core.specs.Holds.{area_count}
+use Rattle.machine_core.specs.Process.{PlainProcess, names_of, new_process}
+use Rattle.machine_core.specs.Turn.{turn_of}
+use Rattle.run_log.specs.declared.logs.Entry.{Entry}
+use Rattle.run_log.specs.declared.logs.Span.{Span}
+use Rattle.run_log.specs.Journal.{published_before}
+use Rattle.run_log.specs.Legal.{SpawnLine, SpansFollow, SpansGo, first_generation, turns_of}
+use Rattle.run_log.specs.WholeSpans.{AreApart, AreWhole, last_generation}
+use Rattle.run_log.proofs.ApartSpans.{apart_cut, apart_more}
+use Rattle.run_log.proofs.TurnRuns.{no_turns, some_turn, turns_more}
+use Rattle.run_log.proofs.SpanRuns.{first_front, first_more, go_cut, go_more, go_over}
+use Rattle.lap_runner.specs.Runs.{Goes, HadTurn, IsOver, IsTaken, Stand, StandsIn, WasSpawned, last_one, new_one, phase_after}
+use Rattle.lap_runner.proofs.Lists.{all_front, all_last, all_push, all_weaker}
+use Rattle.lap_runner.proofs.TurnLaws.{again_counted}
+use Rattle.machine_core.proofs.FewAreas.{turn_few}
+use Rattle.machine_core.proofs.TurnLaws.{turn_same}
+
+-- what was taken out: spans that lead to a process, and one under the generation that leads from there on
+record IsOpen (states : ℕ → ServerState) (generation most : ℕ) (first : PlainProcess) (P : ℕ → Type 0) (others : List Span) (span : Span) (now : PlainProcess) : Type 0 where
+  between : PlainProcess
+  front : SpansGo states first others between
+  turns : turns_of (states generation) span.turns between [] ≡ some_turn now span.lines turns.Again
+  known : AllByRecursion (λ s. s.generation ≤ generation) others
+  counted : AllByRecursion (λ s. s.turns ≤ most) others
+  few : span.turns ≤ most
+  started : IfSome (first_generation others) P
+  some : AllByRecursion (λ s. 0 < s.turns) others
+  apart : AreApart others
+  fresh : IfSome (last_generation others) (λ g. g ≢ generation)
+
+open_last : (states : ℕ → ServerState) (generation most : ℕ) (first : PlainProcess) (P : ℕ → Type 0) (others : List Span) (span : Span) (now : PlainProcess)
+    → span.generation ≡ generation → SpansGo states first (others ++ span ∷ []) now → AllByRecursion (λ s. s.generation ≤ generation) (others ++ span ∷ []) → AllByRecursion (λ s. s.turns ≤ most) (others ++ span ∷ [])
+    → IfSome (first_generation (others ++ span ∷ [])) P → AreWhole (others ++ span ∷ []) → IsOpen states generation most first P others span now
+open_last states generation most first P others span now same go known counted started whole =
+    let cut = go_cut states first others span now go in
+    let apart = apart_cut others span whole.apart in
+    record {
+      between = cut.between;
+      front = cut.front;
+      turns = ap (λ g. turns_of (states g) span.turns cut.between []) (sym same) ∙ cut.turns;
+      known = all_front (λ s. s.generation ≤ generation) others span known;
+      counted = all_front (λ s. s.turns ≤ most) others span counted;
+      few = all_last (λ s. s.turns ≤ most) others span counted;
+      started = first_front P others span started;
+      some = all_front (λ s. 0 < s.turns) others span whole.turns;
+      apart = apart.others;
+      fresh = subst (λ n. IfSome (last_generation others) (λ g. g ≢ n)) same apart.fresh;
+    }
+
+open_new : (states : ℕ → ServerState) (generation most : ℕ) (first : PlainProcess) (P : ℕ → Type 0) (others : List Span) (span : Span) (now : PlainProcess)
+    → span ≡ record { generation = generation; turns = 0; lines = [] } → SpansGo states first others now → AllByRecursion (λ s. s.generation ≤ generation) others → AllByRecursion (λ s. s.turns ≤ most) others
+    → IfSome (first_generation others) P → AreWhole others → IfSome (last_generation others) (λ g. g ≢ generation) → IsOpen states generation most first P others span now
+open_new states generation most first P others span now new go known counted started whole fresh = record {
+  between = now;
+  front = go;
+  turns = subst (λ x. turns_of (states generation) x.turns now [] ≡ some_turn now x.lines turns.Again) (sym new) (no_turns (states generation) now []);
+  known = known;
+  counted = counted;
+  few = let t : span.turns ≡ 0 = ap (λ x. x.turns) new in omega (arith, t);
+  started = started;
+  some = whole.turns;
+  apart = whole.apart;
+  fresh = fresh;
+}
+
+open_taken : (states : ℕ → ServerState) (generation most : ℕ) (first : PlainProcess) (P : ℕ → Type 0) (spans others : List Span) (span : Span) (now : PlainProcess)
+    → IsTaken generation spans others span → SpansGo states first spans now → AllByRecursion (λ s. s.generation ≤ generation) spans → AllByRecursion (λ s. s.turns ≤ most) spans
+    → IfSome (first_generation spans) P → AreWhole spans → IsOpen states generation most first P others span now
+open_taken states generation most first P spans others span now (last_one same parts) go known counted started whole =
+    open_last states generation most first P others span now same (subst (λ x. SpansGo states first x now) parts go) (subst (AllByRecursion (λ s. s.generation ≤ generation)) parts known)
+    (subst (AllByRecursion (λ s. s.turns ≤ most)) parts counted) (subst (λ x. IfSome (first_generation x) P) parts started) (subst AreWhole parts whole)
+open_taken states generation most first P spans others span now (new_one new same fresh) go known counted started whole =
+    open_new states generation most first P others span now new (subst (λ x. SpansGo states first x now) (sym same) go) (subst (AllByRecursion (λ s. s.generation ≤ generation)) (sym same) known)
+    (subst (AllByRecursion (λ s. s.turns ≤ most)) (sym same) counted) (subst (λ x. IfSome (first_generation x) P) (sym same) started) (subst AreWhole (sym same) whole)
+    (subst (λ x. IfSome (last_generation x) (λ g. g ≢ generation)) (sym same) fresh)
+
+-- the span after the turn
+abbrev pub span_after : ServerState → Span → PlainProcess → Span
+span_after s span p = record { generation = s.generation; turns = span.turns + 1; lines = span.lines ++ (turn_of s p).made }
+
+module _ (journal : List Entry) (states : ℕ → ServerState) (newest : ServerState) (done number : ℕ) (line : SpawnLine) (before after : Stand) (here : states newest.generation ≡ newest) (goes : Goes journal states newest done number line before) (had : HadTurn newest before after) where
+  abbrev first : PlainProcess
+  first = new_process number line.target line.args
+
+  abbrev Started : ℕ → Type 0
+  Started g = published_before line.loader line.place journal ≤ g
+
+  opened : IsOpen states newest.generation before.process.turns first Started had.others had.span before.process
+  opened = open_taken states newest.generation before.process.turns first Started before.spans had.others had.span before.process had.taken goes.follow goes.was.known goes.ready.counted goes.was.started goes.was.whole
+
+  turned : turns_of (states newest.generation) (had.span.turns + 1) opened.between [] ≡ some_turn (turn_of newest before.process).process (had.span.lines ++ (turn_of newest before.process).made) (turn_of newest before.process).end
+  turned =
+      subst (λ s. turns_of (states newest.generation) (had.span.turns + 1) opened.between [] ≡ some_turn (turn_of s before.process).process (had.span.lines ++ (turn_of s before.process).made) (turn_of s before.process).end) here
+      (rw add-one (turns_more (states newest.generation) had.span.turns opened.between [] before.process had.span.lines opened.turns))
+
+  was : published_before line.loader line.place journal ≤ newest.generation → WasSpawned newest.generation done journal line after
+  was later =
+      let call = turn_same newest before.process in
+      record {
+        spawned = goes.was.spawned;
+        target = ap (λ x. x.target) (sym had.process) ∙ call.target ∙ goes.was.target;
+        args = ap (λ x. x.args) (sym had.process) ∙ call.args ∙ goes.was.args;
+        started = subst (λ x. IfSome (first_generation x) Started) (sym had.spans) (first_more Started had.others (span_after newest had.span before.process) opened.started later);
+        known = subst (AllByRecursion (λ s. s.generation ≤ newest.generation)) (sym had.spans) (all_push (λ s. s.generation ≤ newest.generation) had.others (span_after newest had.span before.process) opened.known (omega arith));
+        whole = subst AreWhole (sym had.spans) (record {
+          turns = all_push (λ s. 0 < s.turns) had.others (span_after newest had.span before.process) opened.some (omega arith);
+          apart = apart_more had.others (span_after newest had.span before.process) opened.apart opened.fresh;
+        });
+      }
+
+  again_stands : (turn_of newest before.process).end ≡ turns.Again → published_before line.loader line.place journal ≤ newest.generation → Goes journal states newest done number line after
+  again_stands again later =
+      let count = again_counted newest before.process again in
+      let more : after.process.turns ≡ before.process.turns + 1 = ap (λ x. x.turns) (sym had.process) ∙ count.one_more in
+      let bound : after.process.turns ≤ MOST_TURNS = subst (λ (x : PlainProcess). x.turns ≤ MOST_TURNS) had.process (count.bound goes.ready.bound) in
+      record {
+        was = was later;
+        follow = subst (λ x. SpansGo states first x after.process) (sym had.spans)
+            (go_more states first had.others (span_after newest had.span before.process) opened.between after.process opened.known opened.front
+            (subst (λ e. turns_of (states newest.generation) (had.span.turns + 1) opened.between [] ≡ some_turn after.process (had.span.lines ++ (turn_of newest before.process).made) e) again
+            (subst (λ x. turns_of (states newest.generation) (had.span.turns + 1) opened.between [] ≡ some_turn x (had.span.lines ++ (turn_of newest before.process).made) (turn_of newest before.process).end) had.process turned)));
+        ready = record {
+          may_turn = had.again again;
+          few = subst (λ x. area_count (names_of x) ≤ MOST_AREAS) had.process (turn_few newest before.process goes.ready.few);
+          bound = bound;
+          counted = subst (AllByRecursion (λ s. s.turns ≤ after.process.turns)) (sym had.spans)
+              (all_push (λ s. s.turns ≤ after.process.turns) had.others (span_after newest had.span before.process)
+              (all_weaker (λ s. s.turns ≤ before.process.turns) (λ s. s.turns ≤ after.process.turns) (λ s h. omega (arith, h, more)) had.others opened.counted) (omega (arith, opened.few, more)));
+        };
+      }
+
+  over_stands : (fin : End) → (turn_of newest before.process).end ≡ turns.Ended fin → published_before line.loader line.place journal ≤ newest.generation → IsOver journal states newest done number line after fin
+  over_stands fin ended later = record {
+    was = was later;
+    follow = subst (λ x. SpansFollow states first x fin) (sym had.spans)
+        (go_over states first had.others (span_after newest had.span before.process) opened.between after.process fin opened.known opened.front
+        (subst (λ e. turns_of (states newest.generation) (had.span.turns + 1) opened.between [] ≡ some_turn after.process (had.span.lines ++ (turn_of newest before.process).made) e) ended
+        (subst (λ x. turns_of (states newest.generation) (had.span.turns + 1) opened.between [] ≡ some_turn x (had.span.lines ++ (turn_of newest before.process).made) (turn_of newest before.process).end) had.process turned)));
+  }
+
+  ended_as : (e : TurnEnd) → (turn_of newest before.process).end ≡ e → published_before line.loader line.place journal ≤ newest.generation → StandsIn journal states newest done number line after (phase_after e)
+  ended_as turns.Again h later = again_stands h later
+  ended_as (turns.Ended fin) h later = over_stands fin h later
+
+  -- after the turn the process stands in its new phase
+  pub turn_stands : published_before line.loader line.place journal ≤ newest.generation → StandsIn journal states newest done number line after after.phase
+  turn_stands later = subst (StandsIn journal states newest done number line after) (sym had.phase) (ended_as (turn_of newest before.process).end refl later)

@@ -1,0 +1,8 @@
+use Rattle.std.proofs.Common.{drop, map}
+use Rattle.lap_runner.specs.Runs.{stand_of}
+use Rattle.lap_runner.proofs.Begun.{ListedSoFar}
+use Rattle.lap_runner.proofs.run.listed.Given as goal
+
+-- the loaders and processes so far, and those of the loaders that are left
+abbrev pub invariant-loop-commands : goal.invariant-loop-commands
+invariant-loop-commands l = ListedSoFar l.script.loaders l.loaders.items (map stand_of l.processes.items) (drop l.commands-index l.commands-items)

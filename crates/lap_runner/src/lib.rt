@@ -1,0 +1,11 @@
+//! Runs a script in laps on the calling thread, over one code server: what was done makes a lawful log.
+#![tactic(auto)]
+
+mod commands;
+mod laps;
+mod process_run;
+mod run;
+#[cfg(test)]
+mod tests;
+
+pub use laps::run_laps;

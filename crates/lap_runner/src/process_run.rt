@@ -1,0 +1,91 @@
+ghost use Rattle.std.specs.Prelude.{◌≡◌, ◌+◌, ◌≤◌, ◌<◌, IfOk};
+ghost use Rattle.lap_runner.specs.Runs.{HadTurn, IsReady, IsTaken, log_of, IsEnd, phase_after, stand_of};
+
+use machine_core::{End, LineList, PlainView, Process, TurnEnd, turn};
+use run_log::{ProcessLog, Span, SpanList};
+use server_core::Server;
+use std::alloc::Global;
+use term_core::NoMemory;
+
+/// Whether a process was spawned, and whether it goes on.
+#[derive(Clone, Copy, Debug, PartialEq, Eq)]
+pub enum Phase {
+    /// Its spawn is still to come.
+    Waiting,
+    /// It was spawned and has a turn in each lap.
+    Going,
+    Ended(End),
+}
+
+/// A process of the script, with what it did so far.
+#[derive(Drop)]
+pub struct ProcessRun {
+    pub process: Process,
+    pub spans: SpanList,
+    pub phase: Phase,
+}
+
+/// One turn of a process that goes on, under the server's newest generation.
+///
+/// It takes memory for the view and for what the turn makes. After `NoMemory` the process is only dropped.
+pub fn take_turn(alloc: Global, server: &Server, run: &mut ProcessRun) -> Result<(), NoMemory>
+    requires { IsReady server.now (stand_of run.old) }
+    ensures { IfOk result (λ _. HadTurn server.now (stand_of run.old) (stand_of run.new)) }
+{
+    let mut span = take_span(alloc, server.generation(), &mut run.spans)?;
+    let mut view = PlainView::new(alloc, server, &run.process)?;
+    let end = turn(alloc, &mut run.process, &mut view, &mut span.lines)?;
+    span.turns += 1;
+    run.spans.push(span)?;
+    run.phase = phase_after(end);
+    Ok(())
+}
+
+/// Takes out the span that a turn under this generation joins: the last one if it is of that generation, else a new one.
+fn take_span(alloc: Global, generation: u64, spans: &mut SpanList) -> Result<Span, NoMemory>
+    ensures { IfOk result (λ span. IsTaken generation spans.old spans.new span) }
+{
+    if let Some(span) = spans.pop() {
+        if span.generation == generation {
+            return Ok(span);
+        }
+        spans.push(span)?;
+    }
+    Ok(Span {
+        generation,
+        turns: 0,
+        lines: LineList::new(alloc),
+    })
+}
+
+/// The phase of a process after a turn.
+fn phase_after(end: TurnEnd) -> Phase
+    ensures { result ≡ phase_after end }
+{
+    match end {
+        TurnEnd::Again => Phase::Going,
+        TurnEnd::Ended(end) => Phase::Ended(end),
+    }
+}
+
+/// The log of a process that has ended.
+pub fn log_of(run: ProcessRun) -> ProcessLog
+    requires { IsEnd run.phase }
+    ensures { result ≡ log_of run }
+{
+    let ProcessRun {
+        process,
+        spans,
+        phase,
+    } = run;
+    let Phase::Ended(fin) = phase else {
+        unreachable!()
+    };
+    let Process { target, args, .. } = process;
+    ProcessLog {
+        target,
+        args,
+        spans,
+        fin,
+    }
+}
