@@ -1,14 +1,4 @@
-pub mod ReadingBytes
-pub mod ReadingWords
-pub mod ReadingCode
-pub mod ReadingLoops
-pub mod ReadingModules
-pub mod ReadingScript
 pub mod Taken
 pub mod Written
 pub mod TopCalls
-pub mod RenderingText
-pub mod RunnerTurns
-pub mod RunnerLegal
-pub mod Runnable
-pub mod ReadingLaws
+pub mod Counts

@@ -1,21 +1,25 @@
 -- What each status of the top call says, from how the call ended.
-use Rattle.std.proofs.Common.{◌≡◌, ◌≢◌, ℕ, ◌≤◌, ◌<◌, List, length, Option, Some, None, Result, Ok, Err, refl, sym, ap, subst, arith, inl, inr, ◌⊎◌, ◌∙◌}
-use Rattle.std.specs.Prelude.{IfOk}
+use Rattle.std.proofs.Common.{◌≡◌, ◌≢◌, ℕ, ◌≤◌, ◌<◌, List, length, Option, Some, None, Result, Ok, Err, refl, sym, ap, subst, arith, inl, inr, ◌⊎◌, ◌∙◌, zero, suc, ◌-◌, [], ◌∷◌, take, slice_get}
+use Rattle.std.specs.Prelude.{IfOk, IsSomeAnd}
+use Rattle.std.specs.Option.{option_and_then}
 use Rattle.std.specs.Io.KnownBytes.{Appends}
 use Rattle.prgr_core.specs.declared.event.Events.{Events}
+use Rattle.prgr_core.specs.declared.event.PrgrEvent.{PrgrEvent}
 use Rattle.prgr_core.specs.EventText.{EventText}
 use Rattle.prgr_core.specs.Reading.{reading}
 use Rattle.prgr_core.specs.declared.progress.Progress.{Progress}
-use Rattle.prgr_core.specs.Step.{after_all, opening, StopsAt}
+use Rattle.prgr_core.specs.Step.{after, after_all, opening, StopsAt}
 use Rattle.prgr_core.proofs.Grammars.{reading_complete}
 use Rattle.beam_tool.specs.declared.form.Form.{Form}
 use Rattle.beam_tool.specs.declared.form.Form.TheVariants as forms
-use Rattle.beam_tool.specs.declared.script.TheConstants.{LONGEST_SCRIPT}
-use Rattle.beam_tool.specs.declared.script.Script.{Script}
-use Rattle.beam_tool.specs.declared.run_log.RunLog.{RunLog}
+use Rattle.script_text.specs.declared.script.TheConstants.{LONGEST_SCRIPT}
+use Rattle.script_text.specs.declared.script.Script.{Script}
+use Rattle.script_text.specs.declared.fault.ScriptFault.{ScriptFault}
+use Rattle.script_text.specs.declared.fault.ScriptFault.TheVariants as faults
+use Rattle.script_text.specs.ScriptText.{ScriptText, FaultOf}
+use Rattle.run_log.specs.declared.logs.RunLog.{RunLog}
 use Rattle.beam_tool.specs.Outside.{Rose}
-use Rattle.beam_tool.specs.ScriptText.{ScriptText}
-use Rattle.beam_tool.specs.TopCall.{WasRead, IsTooLong, IsRefused, IsLine, ReportOf, made, ScriptVerdict, report, refusal, refusal_text, ReplayOf, all_made, stopped, ListVerdict, replay, fault, ReadVerdict, whole_text, long_text, too_long_text, done_text, not_enabled_text, Verdict, misread, run, progress, Answered, Reported, SourceFailed, SinkFailed, Delivered, whole, cut, Ends, written, cut_off, source_failed, no_memory}
+use Rattle.beam_tool.specs.TopCall.{WasRead, IsTooLong, IsNoScript, HasNoFault, IsLine, ReportOf, made, ScriptVerdict, report, refusal, refusal_text, ReplayOf, all_made, stopped, ListVerdict, replay, fault, ReadVerdict, whole_text, long_text, done_text, not_enabled_text, Verdict, misread, run, progress, Answered, Reported, SourceFailed, SinkFailed, Delivered, whole, cut, Ends, written, cut_off, source_failed, no_memory}
 
 -- ---- what the bytes come to
 
@@ -23,6 +27,11 @@ use Rattle.beam_tool.specs.TopCall.{WasRead, IsTooLong, IsRefused, IsLine, Repor
 pub on_ok : {A E : Type 0} (P Q : A → Type 0) (r : Result A E) → ((a : A) → P a → Q a) → IfOk r P → IfOk r Q
 on_ok P Q (Ok a) f h = f a h
 on_ok P Q (Err e) f h = tt
+
+-- two facts of an answer
+pub both_ok : {A E : Type 0} (P Q : A → Type 0) (r : Result A E) → IfOk r P → IfOk r Q → IfOk r (λ a. P a × Q a)
+both_ok P Q (Ok a) p q = (p, q)
+both_ok P Q (Err e) p q = tt
 
 -- a verdict on a line is one on an answer that is this line
 pub by_line : (P : ℕ → Option RunLog → List ℕ → Type 0) (wanted : ℕ) (line : List ℕ) (status : ℕ) (log : Option RunLog) (text : List ℕ) → P wanted None line → IsLine wanted line status log text → P status log text
@@ -32,8 +41,8 @@ by_line P wanted line status log text p h =
     (subst (λ (t : List ℕ). P wanted None t) (sym h.text_is) p))
 
 -- what a slice of the bytes comes to, where the whole was read
-pub by_slice : (P : List ℕ → ℕ → Option RunLog → List ℕ → Type 0) (long : List ℕ) (left left' : Option (List ℕ)) (bytes slice : List ℕ) (status : ℕ) (log : Option RunLog) (text : List ℕ) → slice ≡ bytes → WasRead left left' bytes → P slice status log text → ReadVerdict left left' P long status log text
-by_slice P long left left' bytes slice status log text e read p = whole_text bytes status log text read (subst (λ (b : List ℕ). P b status log text) e p)
+pub by_slice : (P : List ℕ → ℕ → Option RunLog → List ℕ → Type 0) (left left' : Option (List ℕ)) (bytes slice : List ℕ) (status : ℕ) (log : Option RunLog) (text : List ℕ) → slice ≡ bytes → WasRead left left' bytes → P slice status log text → ReadVerdict left left' P status log text
+by_slice P left left' bytes slice status log text e read p = whole_text bytes status log text read (subst (λ (b : List ℕ). P b status log text) e p)
 
 -- ---- what is told
 
@@ -63,9 +72,9 @@ replay_log (stopped _ _ e) = refl
 
 known_verdict : {left left' : Option (List ℕ)} {form : Option Form} {status : ℕ} {log : Option RunLog} {text : List ℕ} → Verdict left left' form status log text → status ≤ 3
 known_verdict misread = omega arith
-known_verdict (run _ _ _ (whole_text _ _ _ _ r (report _ _ _ _ t (made _ _ l e)))) = omega arith
-known_verdict (run _ _ _ (whole_text _ _ _ _ r (refusal n))) = omega arith
-known_verdict (run _ _ _ (long_text l)) = omega arith
+known_verdict (run _ _ _ _ (whole_text _ _ _ _ r (report _ _ _ _ t h (made _ _ l e)))) = omega arith
+known_verdict (run _ _ _ _ (whole_text _ _ _ _ r (refusal _ q bare))) = omega arith
+known_verdict (run _ _ _ _ (long_text l)) = omega arith
 known_verdict (progress _ _ _ (whole_text _ _ _ _ r (replay _ _ _ _ t v))) = omega (arith, replay_status v)
 known_verdict (progress _ _ _ (whole_text _ _ _ _ r (fault _ e))) = omega arith
 known_verdict (progress _ _ _ (long_text l)) = omega arith
@@ -82,16 +91,16 @@ answered_of (cut_off _ _ _ v r p) e = absurd (omega arith)
 answered_of (source_failed f r) e = absurd (omega arith)
 answered_of (no_memory f) e = absurd (omega arith)
 
-pub headline_of : {form : Option Form} {left left' : Option (List ℕ)} {sf sf' : ℕ} {got got' : Option (List ℕ)} {kf kf' : ℕ} {status : ℕ} {log : Option RunLog} → Ends form left left' sf sf' got got' kf kf' status log → form ≡ Some forms.Run → status ≡ 0 → Reported left left' got got' log
-headline_of (written _ _ _ misread a) f e = absurd cc
-headline_of {got = got} {got' = got'} (written _ _ _ (run _ _ _ (whole_text bytes _ _ _ r (report s _ _ _ t (made log text l q)))) a) f e =
+pub headline_of : (n : ℕ) → {form : Option Form} {left left' : Option (List ℕ)} {sf sf' : ℕ} {got got' : Option (List ℕ)} {kf kf' : ℕ} {status : ℕ} {log : Option RunLog} → Ends form left left' sf sf' got got' kf kf' status log → form ≡ Some (forms.Run n) → status ≡ 0 → Reported left left' got got' log
+headline_of n (written _ _ _ misread a) f e = absurd cc
+headline_of n {got = got} {got' = got'} (written _ _ _ (run _ _ _ _ (whole_text bytes _ _ _ r (report s _ _ _ t h (made log text l q)))) a) f e =
     record { bytes = bytes; script = s; log = log; read = r; text = t; answered_is = refl; legal = l; written = subst (λ (x : List ℕ). Appends got got' x) q a }
-headline_of (written _ _ _ (run _ _ _ (whole_text _ _ _ _ r (refusal n))) a) f e = absurd (omega arith)
-headline_of (written _ _ _ (run _ _ _ (long_text l)) a) f e = absurd (omega arith)
-headline_of (written _ _ _ (progress _ _ _ v) a) f e = absurd cc
-headline_of (cut_off _ _ _ v r p) f e = absurd (omega arith)
-headline_of (source_failed g r) f e = absurd (omega arith)
-headline_of (no_memory g) f e = absurd (omega arith)
+headline_of n (written _ _ _ (run _ _ _ _ (whole_text _ _ _ _ r (refusal _ q bare))) a) f e = absurd (omega arith)
+headline_of n (written _ _ _ (run _ _ _ _ (long_text l)) a) f e = absurd (omega arith)
+headline_of n (written _ _ _ (progress _ _ _ v) a) f e = absurd cc
+headline_of n (cut_off _ _ _ v r p) f e = absurd (omega arith)
+headline_of n (source_failed g r) f e = absurd (omega arith)
+headline_of n (no_memory g) f e = absurd (omega arith)
 
 pub source_failed_of : {form : Option Form} {left left' : Option (List ℕ)} {sf sf' : ℕ} {got got' : Option (List ℕ)} {kf kf' : ℕ} {status : ℕ} {log : Option RunLog} → Ends form left left' sf sf' got got' kf kf' status log → status ≡ 4 → SourceFailed form sf sf'
 source_failed_of (written status _ _ v a) e = absurd (omega (arith, known_verdict v, e))
@@ -107,9 +116,9 @@ sink_failed_of (no_memory f) e = absurd (omega arith)
 
 no_log_verdict : {left left' : Option (List ℕ)} {form : Option Form} {status : ℕ} {log : Option RunLog} {text : List ℕ} → Verdict left left' form status log text → status ≢ 0 → log ≡ None
 no_log_verdict misread d = refl
-no_log_verdict (run _ _ _ (whole_text _ _ _ _ r (report _ _ _ _ t (made _ _ l e)))) d = absurd (d refl)
-no_log_verdict (run _ _ _ (whole_text _ _ _ _ r (refusal n))) d = refl
-no_log_verdict (run _ _ _ (long_text l)) d = refl
+no_log_verdict (run _ _ _ _ (whole_text _ _ _ _ r (report _ _ _ _ t h (made _ _ l e)))) d = absurd (d refl)
+no_log_verdict (run _ _ _ _ (whole_text _ _ _ _ r (refusal _ q bare))) d = refl
+no_log_verdict (run _ _ _ _ (long_text l)) d = refl
 no_log_verdict (progress _ _ _ (whole_text _ _ _ _ r (replay _ _ _ _ t v))) d = replay_log v
 no_log_verdict (progress _ _ _ (whole_text _ _ _ _ r (fault _ e))) d = refl
 no_log_verdict (progress _ _ _ (long_text l)) d = refl
@@ -124,42 +133,88 @@ no_log_of (no_memory f) d c = refl
 
 pub complete_words_of : {form : Option Form} {left left' : Option (List ℕ)} {sf sf' : ℕ} {got got' : Option (List ℕ)} {kf kf' : ℕ} {status : ℕ} {log : Option RunLog} → Ends form left left' sf sf' got got' kf kf' status log → form ≡ None → Rose kf kf' ⊎ (status ≡ 2)
 complete_words_of (written _ _ _ misread a) e = inr refl
-complete_words_of (written _ _ _ (run _ _ _ v) a) e = absurd cc
+complete_words_of (written _ _ _ (run _ _ _ _ v) a) e = absurd cc
 complete_words_of (written _ _ _ (progress _ _ _ v) a) e = absurd cc
 complete_words_of (cut_off _ _ _ v r p) e = inl r
 complete_words_of (source_failed f r) e = absurd (f e)
 complete_words_of (no_memory f) e = absurd (f e)
 
-pub complete_run_of : {form : Option Form} {left left' : Option (List ℕ)} {sf sf' : ℕ} {got got' : Option (List ℕ)} {kf kf' : ℕ} {status : ℕ} {log : Option RunLog} (bytes : List ℕ) (s : Script) → Ends form left left' sf sf' got got' kf kf' status log → form ≡ Some forms.Run → left ≡ Some bytes → ScriptText bytes s → (Rose sf sf' → ⊥) → (Rose kf kf' → ⊥) → (status ≡ 0) ⊎ (status ≡ 6)
-complete_run_of bytes s (written _ _ _ misread a) e l t ns nk = absurd cc
-complete_run_of bytes s (written _ _ _ (run _ _ _ (whole_text _ _ _ _ r (report _ _ _ _ _ (made _ _ _ _)))) a) e l t ns nk = inl refl
-complete_run_of bytes s (written _ _ _ (run _ _ _ (whole_text _ _ _ _ r (refusal n))) a) e l t ns nk = absurd (n s (subst (λ (x : List ℕ). ScriptText x s) (told_is l r) t))
-complete_run_of {left = left} bytes s (written _ _ _ (run _ _ _ (long_text long)) a) e l t ns nk = absurd (omega (arith, long_is left bytes l long, t.short))
-complete_run_of bytes s (written _ _ _ (progress _ _ _ v) a) e l t ns nk = absurd cc
-complete_run_of bytes s (cut_off _ _ _ v r p) e l t ns nk = absurd (nk r)
-complete_run_of bytes s (source_failed f r) e l t ns nk = absurd (ns r)
-complete_run_of bytes s (no_memory f) e l t ns nk = inr refl
+pub complete_run_of : {form : Option Form} {left left' : Option (List ℕ)} {sf sf' : ℕ} {got got' : Option (List ℕ)} {kf kf' : ℕ} {status : ℕ} {log : Option RunLog} (n : ℕ) (bytes : List ℕ) (s : Script) → Ends form left left' sf sf' got got' kf kf' status log → form ≡ Some (forms.Run n) → left ≡ Some bytes → ScriptText bytes s → (Rose sf sf' → ⊥) → (Rose kf kf' → ⊥) → (status ≡ 0) ⊎ (status ≡ 6)
+complete_run_of n bytes s (written _ _ _ misread a) e l t ns nk = absurd cc
+complete_run_of n bytes s (written _ _ _ (run _ _ _ _ (whole_text _ _ _ _ r (report _ _ _ _ _ _ (made _ _ _ _)))) a) e l t ns nk = inl refl
+complete_run_of n bytes s (written _ _ _ (run _ _ _ _ (whole_text _ _ _ _ r (refusal _ q bare))) a) e l t ns nk = absurd (bare s (subst (λ (x : List ℕ). ScriptText x s) (told_is l r) t))
+complete_run_of {left = left} n bytes s (written _ _ _ (run _ _ _ _ (long_text long)) a) e l t ns nk = absurd (omega (arith, long_is left bytes l long, t.whole.short))
+complete_run_of n bytes s (written _ _ _ (progress _ _ _ v) a) e l t ns nk = absurd cc
+complete_run_of n bytes s (cut_off _ _ _ v r p) e l t ns nk = absurd (nk r)
+complete_run_of n bytes s (source_failed f r) e l t ns nk = absurd (ns r)
+complete_run_of n bytes s (no_memory f) e l t ns nk = inr refl
 
-pub complete_refusal_of : {form : Option Form} {left left' : Option (List ℕ)} {sf sf' : ℕ} {got got' : Option (List ℕ)} {kf kf' : ℕ} {status : ℕ} {log : Option RunLog} (bytes : List ℕ) → Ends form left left' sf sf' got got' kf kf' status log → form ≡ Some forms.Run → left ≡ Some bytes → IsRefused bytes → (Rose sf sf' → ⊥) → (Rose kf kf' → ⊥) → (status ≡ 3) ⊎ (status ≡ 6)
-complete_refusal_of bytes (written _ _ _ misread a) e l t ns nk = absurd cc
-complete_refusal_of bytes (written _ _ _ (run _ _ _ (whole_text _ _ _ _ r (report s _ _ _ x (made _ _ _ _)))) a) e l t ns nk = absurd (t s (subst (λ (b : List ℕ). ScriptText b s) (sym (told_is l r)) x))
-complete_refusal_of bytes (written _ _ _ (run _ _ _ (whole_text _ _ _ _ r (refusal n))) a) e l t ns nk = inl refl
-complete_refusal_of bytes (written _ _ _ (run _ _ _ (long_text long)) a) e l t ns nk = inl refl
-complete_refusal_of bytes (written _ _ _ (progress _ _ _ v) a) e l t ns nk = absurd cc
-complete_refusal_of bytes (cut_off _ _ _ v r p) e l t ns nk = absurd (nk r)
-complete_refusal_of bytes (source_failed f r) e l t ns nk = absurd (ns r)
-complete_refusal_of bytes (no_memory f) e l t ns nk = inr refl
+pub complete_refusal_of : {form : Option Form} {left left' : Option (List ℕ)} {sf sf' : ℕ} {got got' : Option (List ℕ)} {kf kf' : ℕ} {status : ℕ} {log : Option RunLog} (n : ℕ) (bytes : List ℕ) (q : ScriptFault) → Ends form left left' sf sf' got got' kf kf' status log → form ≡ Some (forms.Run n) → left ≡ Some bytes → FaultOf bytes q → (Rose sf sf' → ⊥) → (Rose kf kf' → ⊥) → (status ≡ 3) ⊎ (status ≡ 6)
+complete_refusal_of n bytes q (written _ _ _ misread a) e l t ns nk = absurd cc
+complete_refusal_of n bytes q (written _ _ _ (run _ _ _ _ (whole_text _ _ _ _ r (report _ _ _ _ _ sane (made _ _ _ _)))) a) e l t ns nk = absurd (sane q (subst (λ (b : List ℕ). FaultOf b q) (told_is l r) t))
+complete_refusal_of n bytes q (written _ _ _ (run _ _ _ _ (whole_text _ _ _ _ r (refusal _ _ _))) a) e l t ns nk = inl refl
+complete_refusal_of n bytes q (written _ _ _ (run _ _ _ _ (long_text long)) a) e l t ns nk = inl refl
+complete_refusal_of n bytes q (written _ _ _ (progress _ _ _ v) a) e l t ns nk = absurd cc
+complete_refusal_of n bytes q (cut_off _ _ _ v r p) e l t ns nk = absurd (nk r)
+complete_refusal_of n bytes q (source_failed f r) e l t ns nk = absurd (ns r)
+complete_refusal_of n bytes q (no_memory f) e l t ns nk = inr refl
 
-pub complete_replay_of : {form : Option Form} {left left' : Option (List ℕ)} {sf sf' : ℕ} {got got' : Option (List ℕ)} {kf kf' : ℕ} {status : ℕ} {log : Option RunLog} (bytes : List ℕ) (events : Events) → Ends form left left' sf sf' got got' kf kf' status log → form ≡ Some forms.Progress → left ≡ Some bytes → length bytes ≤ LONGEST_SCRIPT → EventText bytes events → (Rose sf sf' → ⊥) → (Rose kf kf' → ⊥) → (status ≤ 1) ⊎ (status ≡ 6)
-complete_replay_of bytes events (written _ _ _ misread a) e l s t ns nk = absurd cc
-complete_replay_of bytes events (written _ _ _ (run _ _ _ v) a) e l s t ns nk = absurd cc
-complete_replay_of bytes events (written _ _ _ (progress _ _ _ (whole_text _ _ _ _ r (replay _ _ _ _ _ v))) a) e l s t ns nk = inl (replay_status v)
-complete_replay_of bytes events (written _ _ _ (progress _ _ _ (whole_text read _ _ _ r (fault line f))) a) e l s t ns nk =
+-- the event lists that one text has are one
+one_list : (bytes : List ℕ) (es fs : Events) → EventText bytes es → EventText bytes fs → es ≡ fs
+one_list bytes es fs t u = let same : Ok es ≡ Ok fs = sym (reading_complete bytes es t) ∙ reading_complete bytes fs u in cc
+
+-- where the events so far lead to a state, and the one from there leads nowhere, all of them do
+through : (f g : Progress → Option Progress) (state : Progress) (o : Option Progress) → option_and_then f o ≡ Some state → ((next : Progress) → f next ≡ Some state → g next ≡ None) → option_and_then g o ≡ None
+through f g state None e h = refl
+through f g state (Some next) e h = h next e
+
+-- events of which one is not enabled lead nowhere
+stop_at : (events : List PrgrEvent) (k : ℕ) (start state : Progress) → after_all start (take k events) ≡ Some state → IsSomeAnd (slice_get events k) (λ event. after state event ≡ None) → after_all start events ≡ None
+stop_at [] k start state b r = absurd r
+stop_at (event ∷ events) zero start state b r =
+    let same : start ≡ state = cc in
+    ap (option_and_then (λ next. after_all next events)) (subst (λ (s : Progress). after s event ≡ None) (sym same) r)
+stop_at (event ∷ events) (suc k) start state b r = through (λ next. after_all next (take k events)) (λ next. after_all next events) state (after start event) b (λ next e. stop_at events k next state e r)
+
+-- a list whose events were all made has none that is not enabled
+never_stops : (start : Progress) (events : List PrgrEvent) (index : ℕ) (state end : Progress) → after_all start events ≡ Some end → StopsAt start events index state → ⊥
+never_stops start events index state end m s = let n = stop_at events (index - 1) start state s.before s.refused in absurd cc
+
+made_status : {events : Events} {status : ℕ} {log : Option RunLog} {text : List ℕ} (state : Progress) → after_all (opening events.members events.watchers) events.list ≡ Some state → ReplayOf events status log text → status ≡ 0
+made_status state m (all_made _ _) = refl
+made_status {events = events} state m (stopped index t s) = absurd (never_stops (opening events.members events.watchers) events.list index t state m s)
+
+stopped_status : {events : Events} {status : ℕ} {log : Option RunLog} {text : List ℕ} (index : ℕ) (state : Progress) → StopsAt (opening events.members events.watchers) events.list index state → ReplayOf events status log text → status ≡ 1
+stopped_status {events = events} index state s (all_made t m) = absurd (never_stops (opening events.members events.watchers) events.list index state t m s)
+stopped_status index state s (stopped _ _ _) = refl
+
+-- the answer to a told event list is that to the list that was read
+told_list : {left left' : Option (List ℕ)} {bytes read : List ℕ} {events found : Events} {status : ℕ} {log : Option RunLog} {text : List ℕ} → left ≡ Some bytes → WasRead left left' read → EventText bytes events → EventText read found → ReplayOf found status log text → ReplayOf events status log text
+told_list {bytes = bytes} {events = events} {found = found} {status = status} {log = log} {text = text} l r t u v =
+    let same : found ≡ events = one_list bytes found events (subst (λ (x : List ℕ). EventText x found) (sym (told_is l r)) u) t in
+    subst (λ (es : Events). ReplayOf es status log text) same v
+
+pub complete_replay_of : {form : Option Form} {left left' : Option (List ℕ)} {sf sf' : ℕ} {got got' : Option (List ℕ)} {kf kf' : ℕ} {status : ℕ} {log : Option RunLog} (bytes : List ℕ) (events : Events) (state : Progress) → Ends form left left' sf sf' got got' kf kf' status log → form ≡ Some forms.Progress → left ≡ Some bytes → length bytes ≤ LONGEST_SCRIPT → EventText bytes events → after_all (opening events.members events.watchers) events.list ≡ Some state → (Rose sf sf' → ⊥) → (Rose kf kf' → ⊥) → (status ≡ 0) ⊎ (status ≡ 6)
+complete_replay_of bytes events state (written _ _ _ misread a) e l s t m ns nk = absurd cc
+complete_replay_of bytes events state (written _ _ _ (run _ _ _ _ v) a) e l s t m ns nk = absurd cc
+complete_replay_of bytes events state (written _ _ _ (progress _ _ _ (whole_text _ _ _ _ r (replay _ _ _ _ u v))) a) e l s t m ns nk = inl (made_status state m (told_list l r t u v))
+complete_replay_of bytes events state (written _ _ _ (progress _ _ _ (whole_text read _ _ _ r (fault line f))) a) e l s t m ns nk =
     absurd (apart (reading read) (reading_complete read events (subst (λ (x : List ℕ). EventText x events) (told_is l r) t)) f)
-complete_replay_of {left = left} bytes events (written _ _ _ (progress _ _ _ (long_text long)) a) e l s t ns nk = absurd (omega (arith, long_is left bytes l long, s))
-complete_replay_of bytes events (cut_off _ _ _ v r p) e l s t ns nk = absurd (nk r)
-complete_replay_of bytes events (source_failed f r) e l s t ns nk = absurd (ns r)
-complete_replay_of bytes events (no_memory f) e l s t ns nk = inr refl
+complete_replay_of {left = left} bytes events state (written _ _ _ (progress _ _ _ (long_text long)) a) e l s t m ns nk = absurd (omega (arith, long_is left bytes l long, s))
+complete_replay_of bytes events state (cut_off _ _ _ v r p) e l s t m ns nk = absurd (nk r)
+complete_replay_of bytes events state (source_failed f r) e l s t m ns nk = absurd (ns r)
+complete_replay_of bytes events state (no_memory f) e l s t m ns nk = inr refl
+
+pub complete_stop_of : {form : Option Form} {left left' : Option (List ℕ)} {sf sf' : ℕ} {got got' : Option (List ℕ)} {kf kf' : ℕ} {status : ℕ} {log : Option RunLog} (bytes : List ℕ) (events : Events) (index : ℕ) (state : Progress) → Ends form left left' sf sf' got got' kf kf' status log → form ≡ Some forms.Progress → left ≡ Some bytes → length bytes ≤ LONGEST_SCRIPT → EventText bytes events → StopsAt (opening events.members events.watchers) events.list index state → (Rose sf sf' → ⊥) → (Rose kf kf' → ⊥) → (status ≡ 1) ⊎ (status ≡ 6)
+complete_stop_of bytes events index state (written _ _ _ misread a) e l s t m ns nk = absurd cc
+complete_stop_of bytes events index state (written _ _ _ (run _ _ _ _ v) a) e l s t m ns nk = absurd cc
+complete_stop_of bytes events index state (written _ _ _ (progress _ _ _ (whole_text _ _ _ _ r (replay _ _ _ _ u v))) a) e l s t m ns nk = inl (stopped_status index state m (told_list l r t u v))
+complete_stop_of bytes events index state (written _ _ _ (progress _ _ _ (whole_text read _ _ _ r (fault line f))) a) e l s t m ns nk =
+    absurd (apart (reading read) (reading_complete read events (subst (λ (x : List ℕ). EventText x events) (told_is l r) t)) f)
+complete_stop_of {left = left} bytes events index state (written _ _ _ (progress _ _ _ (long_text long)) a) e l s t m ns nk = absurd (omega (arith, long_is left bytes l long, s))
+complete_stop_of bytes events index state (cut_off _ _ _ v r p) e l s t m ns nk = absurd (nk r)
+complete_stop_of bytes events index state (source_failed f r) e l s t m ns nk = absurd (ns r)
+complete_stop_of bytes events index state (no_memory f) e l s t m ns nk = inr refl
 
 -- a text that is over the limit or faulty is no event list that was read
 no_list : (bytes read : List ℕ) (line : ℕ) (events : Events) → bytes ≡ read → length read ≤ LONGEST_SCRIPT → EventText read events → (LONGEST_SCRIPT < length bytes) ⊎ (reading bytes ≡ Err line) → ⊥
@@ -168,7 +223,7 @@ no_list bytes read line events same short t (inr f) = apart (reading bytes) (rea
 
 pub complete_fault_of : {form : Option Form} {left left' : Option (List ℕ)} {sf sf' : ℕ} {got got' : Option (List ℕ)} {kf kf' : ℕ} {status : ℕ} {log : Option RunLog} (bytes : List ℕ) (line : ℕ) → Ends form left left' sf sf' got got' kf kf' status log → form ≡ Some forms.Progress → left ≡ Some bytes → (LONGEST_SCRIPT < length bytes) ⊎ (reading bytes ≡ Err line) → (Rose sf sf' → ⊥) → (Rose kf kf' → ⊥) → (status ≡ 3) ⊎ (status ≡ 6)
 complete_fault_of bytes line (written _ _ _ misread a) e l f ns nk = absurd cc
-complete_fault_of bytes line (written _ _ _ (run _ _ _ v) a) e l f ns nk = absurd cc
+complete_fault_of bytes line (written _ _ _ (run _ _ _ _ v) a) e l f ns nk = absurd cc
 complete_fault_of bytes line (written _ _ _ (progress _ _ _ (whole_text read _ _ _ r (replay events _ _ _ t _))) a) e l f ns nk = absurd (no_list bytes read line events (told_is l r) r.short t f)
 complete_fault_of bytes line (written _ _ _ (progress _ _ _ (whole_text _ _ _ _ r (fault _ _))) a) e l f ns nk = inl refl
 complete_fault_of bytes line (written _ _ _ (progress _ _ _ (long_text long)) a) e l f ns nk = inl refl
@@ -212,29 +267,34 @@ ends_memory f left left' sf sf' got got' kf kf' status log fe s =
     (subst (λ (l : Option RunLog). Ends f left left' sf sf' got got' kf kf' 6 l) (sym s.1) (no_memory fe))
 
 -- the report of a script is the answer to its bytes
-pub report_of : (bytes : List ℕ) (s : Script) (status : ℕ) (log : Option RunLog) (text : List ℕ) → ScriptText bytes s → ReportOf s status log text → ScriptVerdict bytes status log text
-report_of bytes s status log text t r = report s status log text t r
+pub report_of : (bytes : List ℕ) (s : Script) (status : ℕ) (log : Option RunLog) (text : List ℕ) → ScriptText bytes s → HasNoFault bytes → ReportOf s status log text → ScriptVerdict bytes status log text
+report_of bytes s status log text t sane r = report s status log text t sane r
+
+-- the fault of bytes that are no script's text is the answer to them
+pub refusal_of : (bytes : List ℕ) (f : ScriptFault) (status : ℕ) (log : Option RunLog) (text : List ℕ) → FaultOf bytes f ⊎ (f ≡ faults.NoMemory) → ((s : Script) → ScriptText bytes s → f ≡ faults.NoMemory) → IsLine 3 (refusal_text f) status log text → (f ≡ faults.NoMemory → ⊥) → ScriptVerdict bytes status log text
+refusal_of bytes f status log text (inl q) only line known = by_line (ScriptVerdict bytes) 3 (refusal_text f) status log text (refusal f q (λ s t. known (only s t))) line
+refusal_of bytes f status log text (inr e) only line known = absurd (known e)
 
 -- the answer to an event list is that to its bytes
 pub replay_of : (bytes : List ℕ) (events : Events) (status : ℕ) (log : Option RunLog) (text : List ℕ) → EventText bytes events → ReplayOf events status log text → ListVerdict bytes status log text
 replay_of bytes events status log text t r = replay events status log text t r
 
 -- the answer to a list whose events were all made
-pub replay_made : (events : Events) (s t : Progress) (n status : ℕ) (log : Option RunLog) (text : List ℕ) → s ≡ opening events.members → n ≡ length events.list → after_all s events.list ≡ Some t → IsLine 0 (done_text n t) status log text → ReplayOf events status log text
+pub replay_made : (events : Events) (s t : Progress) (n status : ℕ) (log : Option RunLog) (text : List ℕ) → s ≡ opening events.members events.watchers → n ≡ length events.list → after_all s events.list ≡ Some t → IsLine 0 (done_text n t) status log text → ReplayOf events status log text
 replay_made events s t n status log text se ne r line =
-    let made_so : after_all (opening events.members) events.list ≡ Some t = subst (λ (x : Progress). after_all x events.list ≡ Some t) se r in
+    let made_so : after_all (opening events.members events.watchers) events.list ≡ Some t = subst (λ (x : Progress). after_all x events.list ≡ Some t) se r in
     let answer : ReplayOf events 0 None (done_text n t) = subst (λ (x : ℕ). ReplayOf events 0 None (done_text x t)) (sym ne) (all_made t made_so) in
     by_line (ReplayOf events) 0 (done_text n t) status log text answer line
 
 -- the answer to a list with an event that is not enabled
-pub replay_stopped : (events : Events) (s t : Progress) (index status : ℕ) (log : Option RunLog) (text : List ℕ) → s ≡ opening events.members → StopsAt s events.list index t → IsLine 1 (not_enabled_text index) status log text → ReplayOf events status log text
+pub replay_stopped : (events : Events) (s t : Progress) (index status : ℕ) (log : Option RunLog) (text : List ℕ) → s ≡ opening events.members events.watchers → StopsAt s events.list index t → IsLine 1 (not_enabled_text index) status log text → ReplayOf events status log text
 replay_stopped events s t index status log text se r line =
     by_line (ReplayOf events) 1 (not_enabled_text index) status log text (stopped index t (subst (λ (x : Progress). StopsAt x events.list index t) se r)) line
 
 -- what a run comes to, by its form
-pub run_by : (left left' : Option (List ℕ)) (form : Form) (status : ℕ) (log : Option RunLog) (text : List ℕ) → form ≡ forms.Run → ReadVerdict left left' ScriptVerdict refusal_text status log text → Verdict left left' (Some form) status log text
-run_by left left' form status log text e v = subst (λ (f : Form). Verdict left left' (Some f) status log text) (sym e) (run status log text v)
+pub run_by : (left left' : Option (List ℕ)) (form : Form) (schedulers status : ℕ) (log : Option RunLog) (text : List ℕ) → form ≡ forms.Run schedulers → ReadVerdict left left' ScriptVerdict status log text → Verdict left left' (Some form) status log text
+run_by left left' form schedulers status log text e v = subst (λ (f : Form). Verdict left left' (Some f) status log text) (sym e) (run schedulers status log text v)
 
 -- what a replay comes to, by its form
-pub progress_by : (left left' : Option (List ℕ)) (form : Form) (status : ℕ) (log : Option RunLog) (text : List ℕ) → form ≡ forms.Progress → ReadVerdict left left' ListVerdict too_long_text status log text → Verdict left left' (Some form) status log text
+pub progress_by : (left left' : Option (List ℕ)) (form : Form) (status : ℕ) (log : Option RunLog) (text : List ℕ) → form ≡ forms.Progress → ReadVerdict left left' ListVerdict status log text → Verdict left left' (Some form) status log text
 progress_by left left' form status log text e v = subst (λ (f : Form). Verdict left left' (Some f) status log text) (sym e) (progress status log text v)

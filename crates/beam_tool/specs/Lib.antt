@@ -1,11 +1,4 @@
-pub mod ScriptText
-pub mod Report
-pub mod Journal
-pub mod Legal
-pub mod Reading
 pub mod Memory
 pub mod Outside
 pub mod Transfer
 pub mod TopCall
-pub mod FirstScript
-pub mod FirstRun

@@ -1,7 +1,8 @@
 -- What the top call comes to: the form of its words, and for each status what it was answered for and what was written.
 -- What is said of the source's or the sink's bytes holds where these are told.
 -- Source: this project's command line.
-use Rattle.std.specs.Prelude.{◌≡◌, ◌≢◌, ℕ, ◌<◌, ◌≤◌, ◌&&◌, List, [], ◌∷◌, ◌++◌, length, Some, None, IfSome, OnSome, bytes_eq, codes, decimal, if◌then◌else◌}
+use Rattle.std.specs.Prelude.{◌≡◌, ◌≢◌, ℕ, ◌<◌, ◌≤◌, ◌&&◌, List, [], ◌∷◌, ◌++◌, length, Some, None, option_map, IfSome, OnSome, bytes_eq, codes, decimal, if◌then◌else◌}
+use Rattle.std.specs.List.{find, range_with_len}
 use Rattle.std.specs.declared.option.Option.{Option}
 use Rattle.std.specs.declared.result.Result.TheVariants.{Err}
 use Rattle.std.specs.Io.KnownBytes.{Appends}
@@ -10,6 +11,7 @@ use Rattle.prgr_core.specs.declared.progress.Progress.{Progress}
 use Rattle.prgr_core.specs.EventText.{EventText}
 use Rattle.prgr_core.specs.Reading.{reading}
 use Rattle.prgr_core.specs.Step.{after_all, opening, StopsAt}
+use Rattle.beam_tool.specs.declared.form.TheConstants.{MOST_SCHEDULERS}
 use Rattle.beam_tool.specs.declared.form.Form.{Form}
 use Rattle.beam_tool.specs.declared.form.Form.TheVariants as forms
 use Rattle.beam_tool.specs.declared.fault.ReadFault.{ReadFault}
@@ -17,19 +19,31 @@ use Rattle.beam_tool.specs.declared.fault.ReadFault.TheVariants.{Failed, NoMemor
 use Rattle.beam_tool.specs.declared.answer.Stop.{Stop}
 use Rattle.beam_tool.specs.declared.answer.Stop.TheVariants as stops
 use Rattle.beam_tool.specs.declared.answer.Stop.TheVariants.{SourceFault}
-use Rattle.beam_tool.specs.declared.script.TheConstants.{LONGEST_SCRIPT}
-use Rattle.beam_tool.specs.declared.script.Script.{Script}
-use Rattle.beam_tool.specs.declared.run_log.RunLog.{RunLog}
+use Rattle.script_text.specs.declared.script.TheConstants.{LONGEST_SCRIPT}
+use Rattle.script_text.specs.declared.script.Script.{Script}
+use Rattle.script_text.specs.declared.fault.ScriptFault.{ScriptFault}
+use Rattle.script_text.specs.declared.fault.ScriptFault.TheVariants as faults
+use Rattle.script_text.specs.FaultText.{fault_text}
+use Rattle.script_text.specs.ScriptText.{ScriptText, FaultOf}
+use Rattle.run_log.specs.declared.logs.RunLog.{RunLog}
+use Rattle.run_log.specs.Report.{rendering_of, line_of}
+use Rattle.run_log.specs.Legal.{Legal}
 use Rattle.beam_tool.specs.Outside.{Rose, GetsPrefix}
-use Rattle.beam_tool.specs.ScriptText.{ScriptText}
-use Rattle.beam_tool.specs.Report.{rendering_of, line_of}
-use Rattle.beam_tool.specs.Legal.{Legal}
 
--- the form that these words have, if any: `run --schedulers 1` or `progress`
+-- the counts of schedulers that may be asked for
+abbrev pub scheduler_counts : List ℕ
+scheduler_counts = range_with_len 1 MOST_SCHEDULERS
+
+-- the count of schedulers with this text, if it is one
+abbrev pub schedulers_of : List ℕ → Option ℕ
+schedulers_of text = find (λ n. bytes_eq (decimal n) text) scheduler_counts
+
+-- the form that these words have, if any: `run`, `run --schedulers N` or `progress`
 abbrev pub form_of : List (List ℕ) → Option Form
 form_of (command ∷ option ∷ count ∷ []) =
-    if bytes_eq command (codes "run") && (bytes_eq option (codes "--schedulers") && bytes_eq count (codes "1")) then Some forms.Run else None
-form_of (command ∷ []) = if bytes_eq command (codes "progress") then Some forms.Progress else None
+    if bytes_eq command (codes "run") && bytes_eq option (codes "--schedulers") then option_map forms.Run (schedulers_of count) else None
+form_of (command ∷ []) =
+    if bytes_eq command (codes "run") then Some (forms.Run 2) else (if bytes_eq command (codes "progress") then Some forms.Progress else None)
 form_of [] = None
 form_of (command ∷ option ∷ []) = None
 form_of (command ∷ option ∷ count ∷ more ∷ rest) = None
@@ -38,17 +52,17 @@ form_of (command ∷ option ∷ count ∷ more ∷ rest) = None
 abbrev pub not_understood_text : List ℕ
 not_understood_text = line_of (codes "words not understood")
 
--- the line for bytes that are no script's text
-abbrev pub refusal_text : List ℕ
-refusal_text = line_of (codes "refused 0 syntax")
+-- the line for a text that is refused, by its fault
+abbrev pub refusal_text : ScriptFault → List ℕ
+refusal_text f = line_of (fault_text f)
 
--- the line for an event list that is over the limit
+-- the line for a text that is over the limit
 abbrev pub too_long_text : List ℕ
-too_long_text = line_of (codes "refused 0 file_too_long")
+too_long_text = refusal_text faults.FileTooLong
 
 -- the line for an event list whose first faulty line this is
-abbrev pub fault_text : ℕ → List ℕ
-fault_text line = line_of (codes "refused " ++ decimal line ++ codes " syntax")
+abbrev pub syntax_text : ℕ → List ℕ
+syntax_text line = refusal_text (faults.Syntax line)
 
 -- the line for an event that is not enabled
 abbrev pub not_enabled_text : ℕ → List ℕ
@@ -59,8 +73,12 @@ abbrev pub done_text : ℕ → Progress → List ℕ
 done_text events state = line_of (codes "done events " ++ decimal events ++ codes " counter " ++ decimal state.counter ++ codes " generation " ++ decimal state.generation)
 
 -- the bytes are the text of no script
-abbrev pub IsRefused : List ℕ → Type 0
-IsRefused bytes = (s : Script) → ScriptText bytes s → ⊥
+abbrev pub IsNoScript : List ℕ → Type 0
+IsNoScript bytes = (s : Script) → ScriptText bytes s → ⊥
+
+-- the bytes have no fault of a script's text
+abbrev pub HasNoFault : List ℕ → Type 0
+HasNoFault bytes = (f : ScriptFault) → FaultOf bytes f → ⊥
 
 -- what was left of the source is over the limit
 abbrev pub IsTooLong : Option (List ℕ) → Type 0
@@ -72,11 +90,11 @@ pub record WasRead (left left_after : Option (List ℕ)) (bytes : List ℕ) : Ty
   pub to_end : OnSome left (left_after ≡ Some [])
   pub short : length bytes ≤ LONGEST_SCRIPT
 
--- an event list that the machine can be given: 1 to 16 members, and no watchers so far
+-- an event list that the machine can be given: 1 to 16 members, and at most 4 watchers
 pub record IsReplayable (events : Events) : Type 0 where
   pub some_member : 1 ≤ events.members
   pub few_members : events.members ≤ 16
-  pub no_watchers : events.watchers ≡ 0
+  pub few_watchers : events.watchers ≤ 4
 
 -- the answer of one line under a status
 pub record IsLine (wanted : ℕ) (line : List ℕ) (status : ℕ) (log : Option RunLog) (text : List ℕ) : Type 0 where
@@ -88,31 +106,31 @@ pub record IsLine (wanted : ℕ) (line : List ℕ) (status : ℕ) (log : Option 
 pub data ReportOf (s : Script) : ℕ → Option RunLog → List ℕ → Type 0 where
   made : (log : RunLog) (text : List ℕ) → Legal s log → text ≡ rendering_of s.names log → ReportOf s 0 (Some log) text
 
--- the answer of a run to the bytes that it read: the report of the script that they are, or a refusal
+-- the answer of a run to the bytes that it read: the report of the script that they are, or their one fault
 pub data ScriptVerdict (bytes : List ℕ) : ℕ → Option RunLog → List ℕ → Type 0 where
-  report : (s : Script) (status : ℕ) (log : Option RunLog) (text : List ℕ) → ScriptText bytes s → ReportOf s status log text → ScriptVerdict bytes status log text
-  refusal : IsRefused bytes → ScriptVerdict bytes 3 None refusal_text
+  report : (s : Script) (status : ℕ) (log : Option RunLog) (text : List ℕ) → ScriptText bytes s → HasNoFault bytes → ReportOf s status log text → ScriptVerdict bytes status log text
+  refusal : (f : ScriptFault) → FaultOf bytes f → IsNoScript bytes → ScriptVerdict bytes 3 None (refusal_text f)
 
 -- the answer to an event list: all events were made, or the first that is not enabled
 pub data ReplayOf (events : Events) : ℕ → Option RunLog → List ℕ → Type 0 where
-  all_made : (state : Progress) → after_all (opening events.members) events.list ≡ Some state → ReplayOf events 0 None (done_text (length events.list) state)
-  stopped : (index : ℕ) (state : Progress) → StopsAt (opening events.members) events.list index state → ReplayOf events 1 None (not_enabled_text index)
+  all_made : (state : Progress) → after_all (opening events.members events.watchers) events.list ≡ Some state → ReplayOf events 0 None (done_text (length events.list) state)
+  stopped : (index : ℕ) (state : Progress) → StopsAt (opening events.members events.watchers) events.list index state → ReplayOf events 1 None (not_enabled_text index)
 
 -- the answer of a replay to the bytes that it read: that to the event list that they are, or the first faulty line
 pub data ListVerdict (bytes : List ℕ) : ℕ → Option RunLog → List ℕ → Type 0 where
   replay : (events : Events) (status : ℕ) (log : Option RunLog) (text : List ℕ) → EventText bytes events → ReplayOf events status log text → ListVerdict bytes status log text
-  fault : (line : ℕ) → reading bytes ≡ Err line → ListVerdict bytes 3 None (fault_text line)
+  fault : (line : ℕ) → reading bytes ≡ Err line → ListVerdict bytes 3 None (syntax_text line)
 
 -- what a form that reads comes to apart from writing: what its bytes come to, or the line for a text over the limit
-pub data ReadVerdict (left left_after : Option (List ℕ)) (P : List ℕ → ℕ → Option RunLog → List ℕ → Type 0) (long : List ℕ) : ℕ → Option RunLog → List ℕ → Type 0 where
-  whole_text : (bytes : List ℕ) (status : ℕ) (log : Option RunLog) (text : List ℕ) → WasRead left left_after bytes → P bytes status log text → ReadVerdict left left_after P long status log text
-  long_text : IsTooLong left → ReadVerdict left left_after P long 3 None long
+pub data ReadVerdict (left left_after : Option (List ℕ)) (P : List ℕ → ℕ → Option RunLog → List ℕ → Type 0) : ℕ → Option RunLog → List ℕ → Type 0 where
+  whole_text : (bytes : List ℕ) (status : ℕ) (log : Option RunLog) (text : List ℕ) → WasRead left left_after bytes → P bytes status log text → ReadVerdict left left_after P status log text
+  long_text : IsTooLong left → ReadVerdict left left_after P 3 None too_long_text
 
 -- what a call comes to apart from writing, by the form of its words: status, log and text
 pub data Verdict (left left_after : Option (List ℕ)) : Option Form → ℕ → Option RunLog → List ℕ → Type 0 where
   misread : Verdict left left_after None 2 None not_understood_text
-  run : (status : ℕ) (log : Option RunLog) (text : List ℕ) → ReadVerdict left left_after ScriptVerdict refusal_text status log text → Verdict left left_after (Some forms.Run) status log text
-  progress : (status : ℕ) (log : Option RunLog) (text : List ℕ) → ReadVerdict left left_after ListVerdict too_long_text status log text → Verdict left left_after (Some forms.Progress) status log text
+  run : (schedulers status : ℕ) (log : Option RunLog) (text : List ℕ) → ReadVerdict left left_after ScriptVerdict status log text → Verdict left left_after (Some (forms.Run schedulers)) status log text
+  progress : (status : ℕ) (log : Option RunLog) (text : List ℕ) → ReadVerdict left left_after ListVerdict status log text → Verdict left left_after (Some forms.Progress) status log text
 
 -- statuses 0 to 3: the text of what the call came to was written whole
 pub record Answered (form : Option Form) (left left_after got got_after : Option (List ℕ)) (status : ℕ) (log : Option RunLog) : Type 0 where

@@ -1,9 +1,5 @@
-ghost use Rattle.std.specs.Prelude.{◌≡◌, ◌++◌, IfOk, OnOk};
-ghost use Rattle.beam_tool.specs.TopCall.{IsLine, refusal_text, too_long_text};
-
 use crate::fault::ReadFault;
-use crate::run_log::RunLog;
-use std::alloc::Global;
+use run_log::RunLog;
 use term_core::{ByteList, NoMemory};
 
 /// The work was done.
@@ -64,16 +60,4 @@ impl From<ReadFault> for Stop {
             ReadFault::NoMemory => Stop::NoMemory,
         }
     }
-}
-
-/// The answer of one line, which stands with its line feed.
-pub fn line_answer(alloc: Global, status: u8, line: &[u8]) -> Result<Answer, NoMemory>
-    ensures { IfOk result (λ a. IsLine status line.now a.status a.log a.text) }
-{
-    let text = ByteList::from_slice(alloc, line)?;
-    Ok(Answer {
-        status,
-        log: None,
-        text,
-    })
 }

@@ -3,21 +3,17 @@
 
 mod answer;
 mod fault;
-mod first_run;
 mod form;
 mod gate;
-mod journal;
 mod memory;
 #[cfg(test)]
 mod outside_tests;
 mod piece;
 mod progress_form;
-mod reading;
-mod rendering;
+mod refusal;
 mod run_form;
-mod run_log;
-mod runner;
-mod script;
+#[cfg(test)]
+mod run_tests;
 mod sink;
 mod source;
 mod standard;

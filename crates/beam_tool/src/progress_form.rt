@@ -1,26 +1,27 @@
 ghost use Rattle.std.specs.Prelude.{◌≡◌, IfOk, IsErrOf};
 ghost use Rattle.prgr_core.specs.EventText.{EventText};
 ghost use Rattle.beam_tool.specs.Outside.{Rose};
-ghost use Rattle.beam_tool.specs.TopCall.{ReadVerdict, ListVerdict, ReplayOf, IsReplayable, IsLine, too_long_text, fault_text, not_enabled_text, done_text};
+ghost use Rattle.beam_tool.specs.TopCall.{ReadVerdict, ListVerdict, ReplayOf, IsReplayable, IsLine, not_enabled_text, done_text};
 
-use crate::answer::{Answer, DONE, NOT_ENABLED, REFUSED, Stop, line_answer};
-use crate::script::LONGEST_SCRIPT;
+use crate::answer::{Answer, DONE, NOT_ENABLED, Stop};
+use crate::refusal::refusal;
 use crate::source::Source;
 use crate::transfer::{Input, read_whole};
 use prgr_core::{EventFault, Events, PrgrState, ReplayFault, read_events, replay};
+use script_text::{LONGEST_SCRIPT, ScriptFault};
 use std::alloc::Global;
 use term_core::{ByteList, NoMemory, print_number};
 
 /// What the replay of an event list comes to apart from writing.
 pub fn progress_answer<S: Source>(alloc: Global, source: &mut S) -> Result<Answer, Stop>
     ensures verdict { IfOk result
-        (λ a. ReadVerdict (S.left source.old) (S.left source.new) ListVerdict too_long_text a.status a.log a.text) }
+        (λ a. ReadVerdict (S.left source.old) (S.left source.new) ListVerdict a.status a.log a.text) }
     ensures failed { IsErrOf result Stop.SourceFault
         → Rose (S.faults source.old) (S.faults source.new) }
 {
     match read_whole(alloc, source, LONGEST_SCRIPT)? {
         Input::Whole(bytes) => Ok(judged(alloc, bytes.as_slice())?),
-        Input::TooLong => Ok(line_answer(alloc, REFUSED, b"refused 0 file_too_long\n")?),
+        Input::TooLong => Ok(refusal(alloc, ScriptFault::FileTooLong)?),
     }
 }
 
@@ -30,7 +31,7 @@ fn judged(alloc: Global, bytes: &[u8]) -> Result<Answer, NoMemory>
 {
     match read_events(alloc, bytes) {
         Ok(events) => replayed(alloc, &events),
-        Err(EventFault::Syntax { line }) => faulty(alloc, line),
+        Err(EventFault::Syntax { line }) => refusal(alloc, ScriptFault::Syntax { line }),
         Err(EventFault::NoMemory) => Err(NoMemory),
     }
 }
@@ -77,20 +78,6 @@ fn not_enabled(alloc: Global, index: u64) -> Result<Answer, NoMemory>
     text.push(b'\n')?;
     Ok(Answer {
         status: NOT_ENABLED,
-        log: None,
-        text,
-    })
-}
-
-/// The line of a text whose first faulty line this is.
-fn faulty(alloc: Global, line: u32) -> Result<Answer, NoMemory>
-    ensures { IfOk result (λ a. IsLine REFUSED (fault_text line) a.status a.log a.text) }
-{
-    let mut text = ByteList::from_slice(alloc, b"refused ")?;
-    print_number(u64::from(line), &mut text)?;
-    text.extend_from_slice(b" syntax\n")?;
-    Ok(Answer {
-        status: REFUSED,
         log: None,
         text,
     })

@@ -9,7 +9,7 @@ use std::thread::Threads;
 use term_core::{ByteList, CountList, NoMemory};
 
 /// The words of a run.
-const RUN: &[&str] = &["run", "--schedulers", "1"];
+pub const RUN: &[&str] = &["run", "--schedulers", "1"];
 
 /// The first script.
 const FIRST: &str =
@@ -21,14 +21,14 @@ const FIRST_REPORT: &str =
 
 /// How a source and a sink are handed in: the bytes of a call of each, and the call that fails, if it is made.
 #[derive(Clone, Copy)]
-struct Outside {
+pub struct Outside {
     read_piece: usize,
     read_fails: u64,
     write_piece: usize,
     write_fails: u64,
 }
 
-const CALM: Outside = Outside {
+pub const CALM: Outside = Outside {
     read_piece: 65_536,
     read_fails: 0,
     write_piece: 65_536,
@@ -37,11 +37,11 @@ const CALM: Outside = Outside {
 
 /// What a call came to: its status, whether it made a log, what the sink got, and how often the source was read.
 #[derive(Drop)]
-struct Outcome {
-    status: u8,
-    logged: bool,
-    got: ByteList,
-    reads: u64,
+pub struct Outcome {
+    pub status: u8,
+    pub logged: bool,
+    pub got: ByteList,
+    pub reads: u64,
 }
 
 fn words_of(alloc: Global, words: &[&str]) -> Result<Vec<String>, AllocError> {
@@ -56,7 +56,7 @@ fn failing(alloc: Global, call: u64) -> Result<CountList, NoMemory> {
     CountList::from_slice(alloc, &[call])
 }
 
-fn outcome_of<R: Threads + Wait + Sync + AllocGlobal>(
+pub fn outcome_of<R: Threads + Wait + Sync + AllocGlobal>(
     rt: &R,
     words: &[&str],
     input: &[u8],
@@ -99,11 +99,15 @@ fn the_first_script_runs(rt: HostRuntime) -> Result<(), Fail> {
 
 #[test]
 fn words_of_no_form_are_not_understood(rt: HostRuntime) -> Result<(), Fail> {
-    let cases: [&[&str]; 8] = [
+    let cases: [&[&str]; 12] = [
         &[],
-        &["run"],
         &["run", "--schedulers"],
+        &["run", "--schedulers", "0"],
         &["run", "--schedulers", "01"],
+        &["run", "--schedulers", "17"],
+        &["run", "--schedulers", "+1"],
+        &["run", "--schedulers=2"],
+        &["--schedulers", "1", "run"],
         &["run", "--schedulers", "1", "1"],
         &["--help"],
         &["progress", "progress"],
@@ -219,47 +223,59 @@ fn a_turn_has_two_hundred_instructions(rt: HostRuntime) -> Result<(), Fail> {
 }
 
 #[test]
-fn other_texts_are_refused(rt: HostRuntime) -> Result<(), Fail> {
-    let alloc = rt.alloc();
-    let whole = [
-        "",
-        "\n",
-        "beam script 1\ngo\n",
-        "beam script 1\nmodule m.1\nexport main/0\nend\nloader\nload m.1\nspawn m:main()\ngo",
-        "beam script 1\nmodule m.1\nexport main/0\nend\nloader\nload m.1\nspawn m:main()\ngo\n\n",
-        "beam script 1\nmodule m.1\nexport main/0\nend\nloader\nload m.1\nspawn m:main()\n",
-        "beam script 1\nmodule m.01\nexport main/0\nend\nloader\nload m.01\nspawn m:main()\ngo\n",
-        "beam script 1\nmodule m.1\nexport main/0\nend\nloader\nload m.2\nspawn m:main()\ngo\n",
-        "beam script 1\nmodule m.1\nlocal main/0\nend\nloader\nload m.1\nspawn m:main()\ngo\n",
-        "beam script 1\r\nmodule m.1\nexport main/0\nend\nloader\nload m.1\nspawn m:main()\ngo\n",
+fn any_count_of_schedulers_gives_the_report(rt: HostRuntime) -> Result<(), Fail> {
+    let forms: [&[&str]; 4] = [
+        &["run"],
+        &["run", "--schedulers", "2"],
+        &["run", "--schedulers", "10"],
+        &["run", "--schedulers", "16"],
     ];
-    for text in whole {
-        let call = outcome_of(&rt, RUN, text.as_bytes(), CALM)?;
-        assert_eq!(rt; call.status, 3, "at {text}");
-        assert_eq!(rt;
-            call.got.as_slice(),
-            b"refused 0 syntax\n".as_slice(),
-            "at {text}"
-        );
-        assert!(rt; !call.logged);
+    for words in forms {
+        let run = outcome_of(&rt, words, FIRST.as_bytes(), CALM)?;
+        assert_eq!(rt; run.got.as_slice(), FIRST_REPORT.as_bytes(), "at {words:?}");
+        assert_eq!(rt; run.status, 0);
     }
-    let lines = [
-        "print 01\n",
-        "print -0\n",
-        "print 576460752303423488\n",
-        "print -576460752303423489\n",
-        "print  1\n",
-        "print 1 \n",
-        "print $16\n",
-        "print {1}\n",
-        "print a2345678901234567890123456789012x\n",
-        "move 1 2\n",
-        "jump a\n",
+    Ok(())
+}
+
+#[test]
+fn other_texts_are_refused(rt: HostRuntime) -> Result<(), Fail> {
+    let cases = [
+        ("", "refused 1 syntax\n"),
+        (
+            "beam script 1\nmodule m.1\nexport main/0\n",
+            "refused 3 syntax\n",
+        ),
+        (
+            "beam script 1\nmodule m.1\nend\nloader\ndelete m\ngo\n",
+            "refused 5 syntax\n",
+        ),
+        (
+            "beam script 1\nloader\nspawn m:main()\nload m.9\ngo\n",
+            "refused 4 unknown_name\n",
+        ),
+        (
+            "beam script 1\nmodule m.1\nend\nmodule m.1\nend\ngo\n",
+            "refused 4 duplicate\n",
+        ),
+        (
+            "beam script 1\nmodule m.1\nexport main/0\njump b\nend\ngo\n",
+            "refused 4 unknown_name\n",
+        ),
+        (
+            "beam script 1\nloader\nloader\nloader\nloader\nloader\nloader\nloader\nloader\nloader\ngo\n",
+            "refused 10 limit loaders\n",
+        ),
+        (
+            "beam script 1\nmodule m.1\nexport main/0\nprint 576460752303423488\nend\ngo\n",
+            "refused 4 limit integer\n",
+        ),
     ];
-    for line in lines {
-        let (script, _) = script_and_report(alloc, ("main/0", line, "m:main()", ""))?;
-        let call = outcome_of(&rt, RUN, script.as_bytes(), CALM)?;
-        assert_eq!(rt; call.status, 3, "at {line}");
+    for (text, line) in cases {
+        let call = outcome_of(&rt, RUN, text.as_bytes(), CALM)?;
+        assert_eq!(rt; call.got.as_slice(), line.as_bytes(), "at {text}");
+        assert_eq!(rt; call.status, 3);
+        assert!(rt; !call.logged);
     }
     Ok(())
 }
@@ -285,6 +301,19 @@ fn a_sink_that_fails_got_a_prefix(rt: HostRuntime) -> Result<(), Fail> {
         );
         assert!(rt; run.logged, "fails at {call}");
     }
+    Ok(())
+}
+
+#[test]
+fn the_report_of_the_empty_script_is_cut(rt: HostRuntime) -> Result<(), Fail> {
+    let outside = Outside {
+        write_piece: 8,
+        write_fails: 3,
+        ..CALM
+    };
+    let run = outcome_of(&rt, &["run"], b"beam script 1\ngo\n", outside)?;
+    assert_eq!(rt; run.status, 5);
+    assert_eq!(rt; run.got.as_slice(), b"beam report 1\nge".as_slice());
     Ok(())
 }
 
@@ -386,9 +415,24 @@ fn event_lists_are_replayed(rt: HostRuntime) -> Result<(), Fail> {
             "refused 5 syntax\n",
         ),
         (
-            "beam progress 1\nmembers 2\nwatchers 1\ngo\n",
+            "beam progress 1\nmembers 2\nwatchers 5\ngo\n",
             3,
             "refused 3 syntax\n",
+        ),
+        (
+            "beam progress 1\nmembers 2\nwatchers 1\nwatch_load 1\ngo\n",
+            3,
+            "refused 4 syntax\n",
+        ),
+        (
+            "beam progress 1\nmembers 1\nwatchers 1\nwatch_load 0\nwatch_add 0 1\nwatch_load 0\nwatch_root 0\nlead 0\nscan 0 0\nscan_delay 0\nadvance 0\nload_counter 0\nload_root 0\nreport 0\nscan 0 0\nscan_delay 0\nadvance 0\ngo\n",
+            1,
+            "not enabled 14\n",
+        ),
+        (
+            "beam progress 1\nmembers 1\nwatchers 1\nwatch_load 0\nwatch_add 0 1\nwatch_load 0\nwatch_root 0\nlead 0\nscan 0 0\nscan_delay 0\nadvance 0\nload_counter 0\nload_root 0\nreport 0\nscan 0 0\nscan_delay 0\nwatch_sub 0 1\nscan_delay 0\nadvance 0\ngo\n",
+            0,
+            "done events 16 counter 3 generation 0\n",
         ),
         (
             "beam progress 1\nmembers 2\nwatchers 0\ngo\ngo\n",
@@ -413,12 +457,13 @@ fn a_text_over_the_limit_is_refused(rt: HostRuntime) -> Result<(), Fail> {
         long.extend_from_slice(&[b'a'; 1024])?;
     }
     let run = outcome_of(&rt, RUN, long.as_slice(), CALM)?;
-    assert_eq!(rt; run.got.as_slice(), b"refused 0 syntax\n".as_slice());
     let replay = outcome_of(&rt, &["progress"], long.as_slice(), CALM)?;
-    assert_eq!(rt;
-        replay.got.as_slice(),
-        b"refused 0 file_too_long\n".as_slice()
-    );
+    for call in [&run, &replay] {
+        assert_eq!(rt;
+            call.got.as_slice(),
+            b"refused 0 file_too_long\n".as_slice()
+        );
+    }
     assert_eq!(rt; (run.status, replay.status), (3, 3));
     Ok(())
 }

@@ -2,23 +2,26 @@ ghost use Rattle.std.specs.Prelude.{◌≡◌, ◌≢◌, ◌≤◌, ◌<◌, �
 ghost use Rattle.prgr_core.specs.EventText.{EventText};
 ghost use Rattle.prgr_core.specs.Reading.{reading};
 ghost use Rattle.prgr_core.specs.declared.event.Events.{Events};
+ghost use Rattle.prgr_core.specs.declared.progress.Progress.{Progress};
+ghost use Rattle.prgr_core.specs.Step.{after_all, opening, StopsAt};
+ghost use Rattle.script_text.specs.declared.script.Script.{Script};
+ghost use Rattle.script_text.specs.declared.fault.ScriptFault.{ScriptFault};
+ghost use Rattle.script_text.specs.ScriptText.{ScriptText, FaultOf};
 ghost use Rattle.beam_tool.specs.Outside.{Rose};
-ghost use Rattle.beam_tool.specs.ScriptText.{ScriptText};
-ghost use Rattle.beam_tool.specs.declared.script.Script.{Script};
-ghost use Rattle.beam_tool.specs.TopCall.{form_of as the_form_of, Verdict, IsRefused, Answered, Reported, SourceFailed, SinkFailed, Delivered, Ends};
+ghost use Rattle.beam_tool.specs.TopCall.{form_of as the_form_of, Verdict, Answered, Reported, SourceFailed, SinkFailed, Delivered, Ends};
 
 use crate::answer::{
-    Answer, DONE, NO_MEMORY, NOT_UNDERSTOOD, REFUSED, SINK_FAULT, SOURCE_FAULT, Stop,
+    Answer, DONE, NO_MEMORY, NOT_ENABLED, NOT_UNDERSTOOD, REFUSED, SINK_FAULT, SOURCE_FAULT, Stop,
 };
 use crate::form::{Form, form_of};
 use crate::gate::Gate;
 use crate::progress_form::progress_answer;
 use crate::run_form::run_answer;
-use crate::run_log::RunLog;
-use crate::script::LONGEST_SCRIPT;
 use crate::sink::Sink;
 use crate::source::Source;
 use crate::transfer::write_whole;
+use run_log::RunLog;
+use script_text::LONGEST_SCRIPT;
 use std::alloc::Global;
 use std::sync::Wait;
 use std::thread::Threads;
@@ -43,7 +46,7 @@ pub fn beam_top<R: Threads + Wait + Sync, S: Source, K: Sink, G: Gate>(
     ensures known { result.status ≤ NO_MEMORY }
 
     // The headline: a run that is reported is a history of one code server.
-    ensures headline { the_form_of (map string_bytes words.now) ≡ Some Form.Run → result.status ≡ DONE
+    ensures headline { (schedulers : ℕ) → the_form_of (map string_bytes words.now) ≡ Some (Form.Run schedulers) → result.status ≡ DONE
         → Reported (S.left source.old) (S.left source.new) (K.got sink.old) (K.got sink.new) result.log }
 
     // Statuses 0 to 3 come only for what the words, the bytes and the definitions give, and their text is written.
@@ -66,18 +69,24 @@ pub fn beam_top<R: Threads + Wait + Sync, S: Source, K: Sink, G: Gate>(
     // Where no count rose, the status is the one whose condition holds, or memory was refused.
     ensures complete_words { the_form_of (map string_bytes words.now) ≡ None
         → Rose (K.faults sink.old) (K.faults sink.new) ⊎ (result.status ≡ NOT_UNDERSTOOD) }
-    ensures complete_run { (bytes : List ℕ) (s : Script) → the_form_of (map string_bytes words.now) ≡ Some Form.Run
+    ensures complete_run { (schedulers : ℕ) (bytes : List ℕ) (s : Script) → the_form_of (map string_bytes words.now) ≡ Some (Form.Run schedulers)
         → S.left source.old ≡ Some bytes → ScriptText bytes s
         → (Rose (S.faults source.old) (S.faults source.new) → ⊥) → (Rose (K.faults sink.old) (K.faults sink.new) → ⊥)
         → (result.status ≡ DONE) ⊎ (result.status ≡ NO_MEMORY) }
-    ensures complete_refusal { (bytes : List ℕ) → the_form_of (map string_bytes words.now) ≡ Some Form.Run
-        → S.left source.old ≡ Some bytes → IsRefused bytes
+    ensures complete_refusal { (schedulers : ℕ) (bytes : List ℕ) (fault : ScriptFault) → the_form_of (map string_bytes words.now) ≡ Some (Form.Run schedulers)
+        → S.left source.old ≡ Some bytes → FaultOf bytes fault
         → (Rose (S.faults source.old) (S.faults source.new) → ⊥) → (Rose (K.faults sink.old) (K.faults sink.new) → ⊥)
         → (result.status ≡ REFUSED) ⊎ (result.status ≡ NO_MEMORY) }
-    ensures complete_replay { (bytes : List ℕ) (events : Events) → the_form_of (map string_bytes words.now) ≡ Some Form.Progress
+    ensures complete_replay { (bytes : List ℕ) (events : Events) (state : Progress) → the_form_of (map string_bytes words.now) ≡ Some Form.Progress
         → S.left source.old ≡ Some bytes → length bytes ≤ LONGEST_SCRIPT → EventText bytes events
+        → after_all (opening events.members events.watchers) events.list ≡ Some state
         → (Rose (S.faults source.old) (S.faults source.new) → ⊥) → (Rose (K.faults sink.old) (K.faults sink.new) → ⊥)
-        → (result.status ≤ 1) ⊎ (result.status ≡ NO_MEMORY) }
+        → (result.status ≡ DONE) ⊎ (result.status ≡ NO_MEMORY) }
+    ensures complete_stop { (bytes : List ℕ) (events : Events) (index : ℕ) (state : Progress) → the_form_of (map string_bytes words.now) ≡ Some Form.Progress
+        → S.left source.old ≡ Some bytes → length bytes ≤ LONGEST_SCRIPT → EventText bytes events
+        → StopsAt (opening events.members events.watchers) events.list index state
+        → (Rose (S.faults source.old) (S.faults source.new) → ⊥) → (Rose (K.faults sink.old) (K.faults sink.new) → ⊥)
+        → (result.status ≡ NOT_ENABLED) ⊎ (result.status ≡ NO_MEMORY) }
     ensures complete_fault { (bytes : List ℕ) (line : ℕ) → the_form_of (map string_bytes words.now) ≡ Some Form.Progress
         → S.left source.old ≡ Some bytes → (LONGEST_SCRIPT < length bytes) ⊎ (reading bytes ≡ Err line)
         → (Rose (S.faults source.old) (S.faults source.new) → ⊥) → (Rose (K.faults sink.old) (K.faults sink.new) → ⊥)
@@ -127,7 +136,7 @@ fn form_answer<S: Source>(alloc: Global, form: Form, source: &mut S) -> Result<A
         → Rose (S.faults source.old) (S.faults source.new) }
 {
     match form {
-        Form::Run => run_answer(alloc, source),
+        Form::Run { schedulers: _ } => run_answer(alloc, source),
         Form::Progress => progress_answer(alloc, source),
     }
 }

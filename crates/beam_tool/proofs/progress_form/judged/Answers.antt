@@ -9,4 +9,4 @@ returns-in-Ok c = on_ok _ _ c.replayed.result (λ a h. replay_of c.args.bytes.no
 pub returns-in-Err-Syntax : goal.returns-in-Err-Syntax
 returns-in-Err-Syntax c =
     let first_fault = rw c.in-Err-Syntax.field-0-is at c.in-Err-Syntax.ensures.fault in
-    on_ok _ _ c.faulty.result (λ a h. by_line (ListVerdict c.args.bytes.now) _ _ a.status a.log a.text (fault c.in-Err-Syntax.line first_fault) h) c.faulty.ensures
+    on_ok _ _ c.refusal.result (λ a h. by_line (ListVerdict c.args.bytes.now) _ _ a.status a.log a.text (fault c.in-Err-Syntax.line first_fault) h) c.refusal.ensures.line

@@ -8,9 +8,9 @@ returns-in_ok-judged-in-Whole-clause-verdict g c =
     let told = rw c.in-Whole.is at c.in_ok-bytes.ensures.whole in
     let to_end = rw c.in-Whole.is at c.in_ok-bytes.ensures.end in
     let short = rw c.in-Whole.is at c.in_ok-bytes.ensures.limit in
-    by_slice ListVerdict too_long_text _ _ _ _ _ _ _ c.as_slice.ensures (record { told = told; to_end = to_end; short = short }) c.in_ok-judged-in-Whole.ensures
+    by_slice ListVerdict _ _ _ _ _ _ _ c.as_slice.ensures (record { told = told; to_end = to_end; short = short }) c.in_ok-judged-in-Whole.ensures
 
-pub returns-in_ok-line_answer-in-TooLong-clause-verdict : goal.returns-in_ok-line_answer-in-TooLong-clause-verdict
-returns-in_ok-line_answer-in-TooLong-clause-verdict g c =
+pub returns-in_ok-refusal-in-TooLong-clause-verdict : goal.returns-in_ok-refusal-in-TooLong-clause-verdict
+returns-in_ok-refusal-in-TooLong-clause-verdict g c =
     let long = rw c.in-TooLong.is at c.in_ok-bytes.ensures.too_long in
-    by_line (ReadVerdict (g.S.Source.left c.args.source.now) (g.S.Source.left c.read_whole.new.source) ListVerdict too_long_text) 3 too_long_text _ _ _ (long_text long) c.in_ok-line_answer-in-TooLong.ensures
+    by_line (ReadVerdict (g.S.Source.left c.args.source.now) (g.S.Source.left c.read_whole.new.source) ListVerdict) 3 too_long_text _ _ _ (long_text long) c.in_ok-refusal-in-TooLong.ensures.line
