@@ -1,25 +1,23 @@
 -- The canonical text of a module is a text of that module.
-use Rattle.std.proofs.Common.{◌≡◌, ℕ, suc, ◌+◌, ◌<◌, ◌≤◌, ◌^◌, true, false, List, [], ◌∷◌, length, map, nat_lt, decimal, Some, None, option_map, All, slice_index_or, refl, sym, ap, ◌∙◌, subst, arith, sum_by, length-append}
+use Rattle.std.proofs.Common.{◌≡◌, ℕ, suc, ◌+◌, ◌<◌, ◌≤◌, ◌^◌, true, false, List, [], ◌∷◌, length, map, nat_lt, decimal, Some, None, option_map, All, slice_index_or, refl, sym, ap, ◌∙◌, subst, arith}
 use Rattle.std.specs.List.{list_any, flat_map}
 use Rattle.std.proofs.lemmas.Bool.{le-ltb}
-use Rattle.std.proofs.lemmas.List.Elements.{All-nil, All-cons, All-weaker}
+use Rattle.std.proofs.lemmas.List.Elements.{All-weaker}
 use Rattle.std.proofs.lemmas.List.Folds.{list_any_at}
-use Rattle.std.proofs.lemmas.List.Sums.{sum_by-cons}
 use Rattle.term_core.specs.Names.{IsNames}
 use Rattle.term_core.specs.TermText.{atom_text}
 use Rattle.mod_core.specs.declared.code.Instr.{Instr}
-use Rattle.mod_core.specs.declared.code.Instr.TheVariants.{Move, Add, Sub, Eq, Less, Jump, Call, CallExt, Ret, Print, Yield}
 use Rattle.mod_core.specs.declared.code.Function.{Function}
 use Rattle.mod_core.specs.declared.code.Module.{Module}
 use Rattle.mod_core.specs.declared.fault.LineFault.TheVariants as faults
 use Rattle.mod_core.specs.Canonical.{label_text, goes_to, function_lines, canonical, IsModuleHeld}
 use Rattle.mod_core.specs.LineFaults.{ends_too_long}
 use Rattle.mod_core.specs.Module.{IsModule}
-use Rattle.mod_core.specs.ModuleImage.{instr_words, code_len, function_len, module_image}
+use Rattle.mod_core.specs.ModuleImage.{module_image}
 use Rattle.mod_core.specs.ModuleLine.{title, end, lines_written}
 use Rattle.mod_core.specs.ModuleText.{ModuleText}
 use Rattle.mod_core.specs.ModuleValue.{HeaderForm, label_number, function_in, headers_in, module_of, first_unsettled}
-use Rattle.mod_core.proofs.ImageWords.{image_len}
+use Rattle.mod_core.proofs.ImageWords.{few_instrs}
 use Rattle.mod_core.proofs.Keepings.{last_line-push}
 use Rattle.mod_core.proofs.Numbers.{decimal-writes}
 use Rattle.mod_core.proofs.Options.{failed}
@@ -32,34 +30,8 @@ use Rattle.mod_core.proofs.CanonicalValue.{own_lines, IsFunctionBack, functions_
 
 -- ---- code is short
 
-some_words : (i : Instr) → 1 ≤ length (instr_words i)
-some_words (Move from to) = omega arith
-some_words (Add a b to) = omega arith
-some_words (Sub a b to) = omega arith
-some_words (Eq a b target) = omega arith
-some_words (Less a b target) = omega arith
-some_words (Jump target) = omega arith
-some_words (Call function at) = omega arith
-some_words (CallExt to at) = omega arith
-some_words (Ret value) = omega arith
-some_words (Print value) = omega arith
-some_words Yield = omega arith
-
-code_within : (is : List Instr) → length is ≤ code_len is
-code_within [] = omega arith
-code_within (i ∷ is) = omega (arith, length-append (instr_words i) (flat_map instr_words is), some_words i, code_within is)
-
--- code of a module has no more instructions than its image has words
-codes_within : (fs : List Function) (words : ℕ) → sum_by function_len fs ≤ words → All (λ f. length f.code ≤ words) fs
-codes_within [] words within = All-nil (λ f. length f.code ≤ words)
-codes_within (f ∷ fs) words within =
-    let whole = sum_by-cons function_len f fs in
-    All-cons (λ g. length g.code ≤ words) f fs (omega (arith, whole, within, code_within f.code)) (codes_within fs words (omega (arith, whole, within)))
-
 short_codes : (m : Module) → IsModule m → All (λ f. length f.code < 2 ^ 64) m.functions
-short_codes m is =
-    let short : length (module_image m) ≤ 1024 = is.short in
-    All-weaker (λ f. length f.code ≤ 1024) (λ f. length f.code < 2 ^ 64) (λ f few. omega (arith, few)) m.functions (codes_within m.functions 1024 (omega (arith, short, image_len m)))
+short_codes m is = All-weaker (λ f. length f.code ≤ 1024) (λ f. length f.code < 2 ^ 64) (λ f few. omega (arith, few)) m.functions (few_instrs m is)
 
 -- ---- functions
 

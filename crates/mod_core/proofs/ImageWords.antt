@@ -1,13 +1,15 @@
 -- How many words the image of the module has that lines say.
-use Rattle.std.proofs.Common.{◌≡◌, ℕ, ◌+◌, ◌*◌, Bool, true, false, cond, not, nat_le, nat_lt, List, [], ◌∷◌, ◌++◌, length, map, Option, Some, None, refl, sym, ap, ◌∙◌, arith, sum_by, length-append}
+use Rattle.std.proofs.Common.{◌≡◌, ℕ, ◌+◌, ◌*◌, ◌≤◌, All, Bool, true, false, cond, not, nat_le, nat_lt, List, [], ◌∷◌, ◌++◌, length, map, Option, Some, None, refl, sym, ap, ◌∙◌, arith, sum_by, length-append}
 use Rattle.std.specs.List.{flat_map}
 use Rattle.std.proofs.lemmas.Bool.Decides.{nat_tests}
+use Rattle.std.proofs.lemmas.List.Elements.{All-nil, All-cons}
 use Rattle.std.proofs.lemmas.List.Sums.{sum_by-cons}
 use Rattle.mod_core.specs.declared.code.Instr.{Instr}
 use Rattle.mod_core.specs.declared.code.Instr.TheVariants.{Move, Add, Sub, Eq, Less, Jump, Call, CallExt, Ret, Print, Yield}
 use Rattle.mod_core.specs.declared.code.Function.{Function}
 use Rattle.mod_core.specs.declared.code.Module.{Module}
-use Rattle.mod_core.specs.ModuleImage.{instr_words, placed, place_in, placed_code, function_words, function_len, function_heads, functions_words, code_start, module_image}
+use Rattle.mod_core.specs.Module.{IsModule}
+use Rattle.mod_core.specs.ModuleImage.{code_len, instr_words, placed, place_in, placed_code, function_words, function_len, function_heads, functions_words, code_start, module_image}
 use Rattle.mod_core.specs.ModuleLine.{InstrForm, move, add, sub, eq, less, jump, call, call_ext, ret, print, yield, LineForm, title, header, label, instr, end}
 use Rattle.mod_core.specs.ModuleValue.{FunctionForm, HeaderForm, body_of, functions_in, headers_in, instrs_in, instr_in, function_in, module_of}
 use Rattle.mod_core.specs.LineFaults.{is_in_function, ends_too_long}
@@ -55,6 +57,39 @@ image_len m =
     let whole = length-append (function_heads (code_start m.functions) m.functions) (functions_words (code_start m.functions) m.functions) in
     let front = length-append (0 ∷ m.name.0 ∷ m.version ∷ length m.functions ∷ [] ++ function_heads (code_start m.functions) m.functions) (functions_words (code_start m.functions) m.functions) in
     omega (arith, heads, words, whole, front)
+
+-- ---- code is short
+
+-- each instruction has a word
+some_words : (i : Instr) → 1 ≤ length (instr_words i)
+some_words (Move from to) = omega arith
+some_words (Add a b to) = omega arith
+some_words (Sub a b to) = omega arith
+some_words (Eq a b target) = omega arith
+some_words (Less a b target) = omega arith
+some_words (Jump target) = omega arith
+some_words (Call function at) = omega arith
+some_words (CallExt to at) = omega arith
+some_words (Ret value) = omega arith
+some_words (Print value) = omega arith
+some_words Yield = omega arith
+
+code_within : (is : List Instr) → length is ≤ code_len is
+code_within [] = omega arith
+code_within (i ∷ is) = omega (arith, length-append (instr_words i) (flat_map instr_words is), some_words i, code_within is)
+
+-- code of a module has no more instructions than its image has words
+codes_within : (fs : List Function) (words : ℕ) → sum_by function_len fs ≤ words → All (λ f. length f.code ≤ words) fs
+codes_within [] words within = All-nil (λ f. length f.code ≤ words)
+codes_within (f ∷ fs) words within =
+    let whole = sum_by-cons function_len f fs in
+    All-cons (λ g. length g.code ≤ words) f fs (omega (arith, whole, within, code_within f.code)) (codes_within fs words (omega (arith, whole, within)))
+
+-- no function has more instructions than the image of its module has words
+pub few_instrs : (m : Module) → IsModule m → All (λ f. length f.code ≤ 1024) m.functions
+few_instrs m is =
+    let short : length (module_image m) ≤ 1024 = is.short in
+    codes_within m.functions 1024 (omega (arith, short, image_len m))
 
 -- ---- lines
 

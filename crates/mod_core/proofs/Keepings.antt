@@ -1,15 +1,14 @@
 -- What a reader keeps after one line more.
-use Rattle.std.proofs.Common.{◌≡◌, ℕ, zero, suc, ◌-◌, ◌<◌, ◌≤◌, length-append, Bool, true, false, cond, ◌||◌, List, [], ◌∷◌, ◌++◌, length, map, Option, Some, None, option_map, Result, Ok, Err, bytes_eq, refl, sym, ap, ◌∙◌, subst, arith}
-use Rattle.std.specs.Prelude.{slice_get, All, OnOk, IfErr, is_err, not, nat_le}
+use Rattle.std.proofs.Common.{◌≡◌, ℕ, ◌<◌, ◌≤◌, length-append, Bool, true, false, cond, ◌||◌, List, [], ◌∷◌, ◌++◌, length, map, Option, Some, None, Result, Ok, Err, bytes_eq, refl, sym, ap, ◌∙◌, subst, arith}
+use Rattle.std.specs.Prelude.{All, OnOk, IfErr, is_err, not, nat_le, unwrap_or}
 use Rattle.std.specs.Borrow.{Bor}
 use Rattle.std.specs.List.{list_any}
-use Rattle.std.specs.Option.{option_copied}
 use Rattle.std.proofs.lemmas.List.{append-nil, length-map}
 use Rattle.std.proofs.lemmas.List.Elements.{All-push}
 use Rattle.mod_core.specs.declared.fault.LineFault.{LineFault}
 use Rattle.mod_core.specs.declared.fault.LineFault.TheVariants as faults
 use Rattle.mod_core.specs.declared.text.written.WrittenLine.{WrittenLine}
-use Rattle.mod_core.specs.LineViews.{line_form, forms_of, headers_of, words_of}
+use Rattle.mod_core.specs.LineViews.{line_form, text_form, form_of, forms_of, headers_of, words_of}
 use Rattle.mod_core.specs.ModuleLine.{LineForm, title, header, label, instr, end}
 use Rattle.mod_core.specs.ModuleValue.{HeaderForm, headers_in}
 use Rattle.mod_core.specs.LineReading.{line_reading}
@@ -47,15 +46,6 @@ last_line-push [] line = refl
 last_line-push (x ∷ []) line = refl
 last_line-push (x ∷ y ∷ lines) line = last_line-push (y ∷ lines) line
 
--- the last line stands at the last place
-pub last_line-at : (lines : List LineForm) → last_line lines ≡ slice_get lines (length lines - 1)
-last_line-at [] = refl
-last_line-at (x ∷ []) = refl
-last_line-at (x ∷ y ∷ lines) =
-    let here : suc (length lines) - 1 ≡ length lines = omega arith in
-    let there : suc (length lines) ≡ suc (suc (length lines)) - 1 = omega arith in
-    last_line-at (y ∷ lines) ∙ ap (slice_get (y ∷ lines)) here ∙ ap (slice_get (x ∷ y ∷ lines)) there
-
 -- ---- rows
 
 -- the last of a line and those behind it
@@ -81,56 +71,40 @@ row_more before (first ∷ lines) line row place = (row.0, row_more (Some first)
 -- ---- one line more
 
 -- what is kept after a line of any form
-pub kept_more : (lines after : List LineForm) (line : LineForm) (headers new_headers : List HeaderForm) (labels new_labels : List (List ℕ)) → AreKept lines headers labels → IsKept line → may_follow (last_line lines) line ≡ true → after ≡ lines ++ line ∷ [] → new_headers ≡ headers ++ headers_in (line ∷ []) → new_labels ≡ labels_after labels line → length new_headers ≤ 16 → AreKept after new_headers new_labels
-kept_more lines after line headers new_headers labels new_labels kept is place pushed headed labelled few = record {
+pub kept_more : (lines after : List LineForm) (last new_last : Option LineForm) (line : LineForm) (headers new_headers : List HeaderForm) (labels new_labels : List (List ℕ)) → AreKept lines last headers labels → IsKept line → may_follow (last_line lines) line ≡ true → after ≡ lines ++ line ∷ [] → new_last ≡ Some line → new_headers ≡ headers ++ headers_in (line ∷ []) → new_labels ≡ labels_after labels line → length new_headers ≤ 16 → AreKept after new_last new_headers new_labels
+kept_more lines after last new_last line headers new_headers labels new_labels kept is place pushed ended headed labelled few = record {
   row = subst (RowFrom None) (sym pushed) (row_more None lines line kept.row (ap (λ o. may_follow o line) (last_behind-none lines) ∙ place));
+  last_is = ended ∙ sym (last_line-push lines line) ∙ ap last_line (sym pushed);
   each = subst (All IsKept) (sym pushed) (All-push IsKept lines line kept.each is);
   few = few;
   functions = headed ∙ ap (λ hs. hs ++ headers_in (line ∷ [])) kept.functions ∙ sym (headers_in-append lines (line ∷ [])) ∙ ap headers_in (sym pushed);
   labelled = labelled ∙ ap (λ ls. labels_after ls line) kept.labelled ∙ sym (labels_on-append [] lines (line ∷ [])) ∙ ap open_labels (sym pushed);
 }
 
-forms_pushed : (lines after : List WrittenLine) (line : WrittenLine) → after ≡ lines ++ line ∷ [] → forms_of after ≡ forms_of lines ++ line_form line ∷ []
-forms_pushed lines after line pushed = ap forms_of pushed ∙ map-append line_form lines (line ∷ [])
+forms_pushed : (lines after : List (Bor (List ℕ))) (text : Bor (List ℕ)) (line : LineForm) → form_of text ≡ line → after ≡ lines ++ text ∷ [] → forms_of after ≡ forms_of lines ++ line ∷ []
+forms_pushed lines after text line said pushed = ap forms_of pushed ∙ map-append form_of lines (text ∷ []) ∙ ap (λ l. forms_of lines ++ l ∷ []) said
 
 -- after the header of a function
-pub kept_header : (lines after : List WrittenLine) (line : WrittenLine) (functions new_functions : List (Bor (List ℕ) × Bor (List ℕ))) (labels new_labels : List (Bor (List ℕ))) (name arity : Bor (List ℕ)) → AreKept (forms_of lines) (headers_of functions) (words_of labels) → IsKept (line_form line) → may_follow (last_line (forms_of lines)) (line_form line) ≡ true → (exported : Bool) × (line_form line ≡ header exported name.now arity.now) → after ≡ lines ++ line ∷ [] → new_functions ≡ functions ++ (name, arity) ∷ [] → new_labels ≡ [] → length functions < 16 → AreKept (forms_of after) (headers_of new_functions) (words_of new_labels)
-kept_header lines after line functions new_functions labels new_labels name arity kept is place form pushed headed cleared few =
-    kept_more (forms_of lines) (forms_of after) (line_form line) (headers_of functions) (headers_of new_functions) (words_of labels) (words_of new_labels) kept is place (forms_pushed lines after line pushed)
+pub kept_header : (lines after : List (Bor (List ℕ))) (text : Bor (List ℕ)) (last : Option LineForm) (line : WrittenLine) (functions new_functions : List (Bor (List ℕ) × Bor (List ℕ))) (labels new_labels : List (Bor (List ℕ))) (name arity : Bor (List ℕ)) → AreKept (forms_of lines) last (headers_of functions) (words_of labels) → IsKept (line_form line) → may_follow (last_line (forms_of lines)) (line_form line) ≡ true → (exported : Bool) × (line_form line ≡ header exported name.now arity.now) → form_of text ≡ line_form line → after ≡ lines ++ text ∷ [] → new_functions ≡ functions ++ (name, arity) ∷ [] → new_labels ≡ [] → length functions < 16 → AreKept (forms_of after) (Some (line_form line)) (headers_of new_functions) (words_of new_labels)
+kept_header lines after text last line functions new_functions labels new_labels name arity kept is place form said pushed headed cleared few =
+    kept_more (forms_of lines) (forms_of after) last (Some (line_form line)) (line_form line) (headers_of functions) (headers_of new_functions) (words_of labels) (words_of new_labels) kept is place (forms_pushed lines after text (line_form line) said pushed) refl
     (ap headers_of headed ∙ map-append (λ h. (h.0.now, h.1.now)) functions ((name, arity) ∷ []) ∙ ap (λ l. headers_of functions ++ headers_in (l ∷ [])) (sym form.1))
     (ap words_of cleared ∙ ap (labels_after (words_of labels)) (sym form.1))
     (omega (arith, few, length-map {B = List ℕ × List ℕ} new_functions (λ h. (h.0.now, h.1.now)), ap length headed, length-append functions ((name, arity) ∷ [])))
 
 -- after a label
-pub kept_label : (lines after : List WrittenLine) (line : WrittenLine) (functions : List (Bor (List ℕ) × Bor (List ℕ))) (labels new_labels : List (Bor (List ℕ))) (name : Bor (List ℕ)) → AreKept (forms_of lines) (headers_of functions) (words_of labels) → IsKept (line_form line) → may_follow (last_line (forms_of lines)) (line_form line) ≡ true → line_form line ≡ label name.now → after ≡ lines ++ line ∷ [] → words_of new_labels ≡ words_of labels ++ name.now ∷ [] → AreKept (forms_of after) (headers_of functions) (words_of new_labels)
-kept_label lines after line functions labels new_labels name kept is place form pushed labelled =
-    kept_more (forms_of lines) (forms_of after) (line_form line) (headers_of functions) (headers_of functions) (words_of labels) (words_of new_labels) kept is place (forms_pushed lines after line pushed)
+pub kept_label : (lines after : List (Bor (List ℕ))) (text : Bor (List ℕ)) (last : Option LineForm) (line : WrittenLine) (functions : List (Bor (List ℕ) × Bor (List ℕ))) (labels new_labels : List (Bor (List ℕ))) (name : Bor (List ℕ)) → AreKept (forms_of lines) last (headers_of functions) (words_of labels) → IsKept (line_form line) → may_follow (last_line (forms_of lines)) (line_form line) ≡ true → line_form line ≡ label name.now → form_of text ≡ line_form line → after ≡ lines ++ text ∷ [] → words_of new_labels ≡ words_of labels ++ name.now ∷ [] → AreKept (forms_of after) (Some (line_form line)) (headers_of functions) (words_of new_labels)
+kept_label lines after text last line functions labels new_labels name kept is place form said pushed labelled =
+    kept_more (forms_of lines) (forms_of after) last (Some (line_form line)) (line_form line) (headers_of functions) (headers_of functions) (words_of labels) (words_of new_labels) kept is place (forms_pushed lines after text (line_form line) said pushed) refl
     (sym (append-nil (headers_of functions)) ∙ ap (λ l. headers_of functions ++ headers_in (l ∷ [])) (sym form))
     (labelled ∙ ap (labels_after (words_of labels)) (sym form)) kept.few
 
 -- after a line of another form
-pub kept_other : (lines after : List WrittenLine) (line : WrittenLine) (functions : List (Bor (List ℕ) × Bor (List ℕ))) (labels : List (Bor (List ℕ))) → AreKept (forms_of lines) (headers_of functions) (words_of labels) → IsKept (line_form line) → may_follow (last_line (forms_of lines)) (line_form line) ≡ true → (headers_in (line_form line ∷ []) ≡ []) × ((ls : List (List ℕ)) → labels_after ls (line_form line) ≡ ls) → after ≡ lines ++ line ∷ [] → AreKept (forms_of after) (headers_of functions) (words_of labels)
-kept_other lines after line functions labels kept is place form pushed =
-    kept_more (forms_of lines) (forms_of after) (line_form line) (headers_of functions) (headers_of functions) (words_of labels) (words_of labels) kept is place (forms_pushed lines after line pushed)
+pub kept_other : (lines after : List (Bor (List ℕ))) (text : Bor (List ℕ)) (last : Option LineForm) (line : WrittenLine) (functions : List (Bor (List ℕ) × Bor (List ℕ))) (labels : List (Bor (List ℕ))) → AreKept (forms_of lines) last (headers_of functions) (words_of labels) → IsKept (line_form line) → may_follow (last_line (forms_of lines)) (line_form line) ≡ true → (headers_in (line_form line ∷ []) ≡ []) × ((ls : List (List ℕ)) → labels_after ls (line_form line) ≡ ls) → form_of text ≡ line_form line → after ≡ lines ++ text ∷ [] → AreKept (forms_of after) (Some (line_form line)) (headers_of functions) (words_of labels)
+kept_other lines after text last line functions labels kept is place form said pushed =
+    kept_more (forms_of lines) (forms_of after) last (Some (line_form line)) (line_form line) (headers_of functions) (headers_of functions) (words_of labels) (words_of labels) kept is place (forms_pushed lines after text (line_form line) said pushed) refl
     (sym (append-nil (headers_of functions)) ∙ ap (λ hs. headers_of functions ++ hs) (sym form.0))
     (sym (form.1 (words_of labels))) kept.few
-
--- ---- the last line
-
-last_form : (lines : List WrittenLine) (k : ℕ) → option_map line_form (slice_get lines k) ≡ slice_get (forms_of lines) k
-last_form [] k = refl
-last_form (line ∷ lines) zero = refl
-last_form (line ∷ lines) (suc k) = last_form lines k
-
-pub last_is : (lines : List WrittenLine) (last : Option (Bor WrittenLine)) → option_copied last ≡ slice_get lines (length lines - 1) → option_map (λ line. line_form line.now) last ≡ last_line (forms_of lines)
-last_is lines last at =
-    by_copy last
-    ∙ ap (option_map line_form) at ∙ last_form lines (length lines - 1)
-    ∙ ap (λ n. slice_get (forms_of lines) (n - 1)) (sym (length-map lines line_form)) ∙ sym (last_line-at (forms_of lines))
-  where
-    by_copy : (o : Option (Bor WrittenLine)) → option_map (λ line. line_form line.now) o ≡ option_map line_form (option_copied o)
-    by_copy None = refl
-    by_copy (Some line) = refl
 
 -- ---- labels
 
@@ -156,13 +130,13 @@ keeping_end names lines true e = ap (λ t. keeping_by lines end (cond t (Some fa
 keeping_end names lines false e = ap (λ t. keeping_by lines end (cond t (Some faults.TooLong) None)) e
 
 -- the end of a module that is too long
-pub end_refused : (lines : List LineForm) (items : List WrittenLine) (short : Bool) → RowFrom None (forms_of items) → forms_of items ≡ lines → short ≡ nat_le (lines_words (forms_of items)) 1024 → short ≡ false → (names : List (List ℕ)) → keeping names lines end ≡ Err faults.TooLong
+pub end_refused : (lines : List LineForm) (items : List (Bor (List ℕ))) (short : Bool) → RowFrom None (forms_of items) → forms_of items ≡ lines → short ≡ nat_le (lines_words (forms_of items)) 1024 → short ≡ false → (names : List (List ℕ)) → keeping names lines end ≡ Err faults.TooLong
 end_refused lines items short row view is long names =
     let over : ends_too_long names (forms_of items) end ≡ true = too_long_is names (forms_of items) row ∙ ap not (sym is ∙ long) in
     ap (λ ls. keeping names ls end) (sym view) ∙ keeping_end names (forms_of items) true over
 
 -- the end of a module that is short enough
-pub end_kept : (lines : List LineForm) (items : List WrittenLine) (short : Bool) → RowFrom None (forms_of items) → forms_of items ≡ lines → short ≡ nat_le (lines_words (forms_of items)) 1024 → short ≡ true → (names : List (List ℕ)) → keeping names lines end ≡ Ok (lines ++ end ∷ [])
+pub end_kept : (lines : List LineForm) (items : List (Bor (List ℕ))) (short : Bool) → RowFrom None (forms_of items) → forms_of items ≡ lines → short ≡ nat_le (lines_words (forms_of items)) 1024 → short ≡ true → (names : List (List ℕ)) → keeping names lines end ≡ Ok (lines ++ end ∷ [])
 end_kept lines items short row view is fits names =
     let within : ends_too_long names (forms_of items) end ≡ false = too_long_is names (forms_of items) row ∙ ap not (sym is ∙ fits) in
     ap (λ ls. keeping names ls end) (sym view) ∙ keeping_end names (forms_of items) false within ∙ ap (λ ls. Ok (ls ++ end ∷ [])) view
@@ -171,6 +145,26 @@ end_kept lines items short row view is fits names =
 pub gives_kept : {X : Type 0} (view : X → List LineForm) (r : Result X LineFault) (step : Result (List LineForm) LineFault) (new whole : List LineForm) (Same : Type 0) → OnOk r (new ≡ whole) → IfErr r (λ fault. (fault ≡ faults.NoMemory) × Same) → step ≡ Ok whole → ((x : X) → view x ≡ new) → Gives view r step
 gives_kept view (Ok x) step new whole Same ok err is same = is ∙ ap (λ ls. Ok ls) (sym ok ∙ sym (same x))
 gives_kept view (Err fault) step new whole Same ok err is same = subst (Fails step) (sym err.0) tt
+
+-- ---- the line of a text
+
+pub text_form_is : (text : List ℕ) (read : Option LineForm) → read ≡ line_reading text → text_form text ≡ unwrap_or read end
+unfolding text_form
+text_form_is text read is = ap (λ o. unwrap_or o end) (sym is)
+
+alone_is : (lines : List LineForm) (read : Option LineForm) (line : LineForm) → judged_alone lines read ≡ Ok line → unwrap_or read end ≡ line
+alone_is lines None line is = absurd cc
+alone_is lines (Some read) line is = by_tests (may_follow (last_line lines) read) (has_high_register read) (has_wide_integer read) is
+  where
+    by_tests : (follows high wide : Bool) → cond {A = Result LineForm LineFault} follows (cond high (Err faults.Register) (cond wide (Err faults.Int) (Ok read))) (Err faults.Syntax) ≡ Ok line → read ≡ line
+    by_tests false high wide e = absurd cc
+    by_tests true true wide e = absurd cc
+    by_tests true false true e = absurd cc
+    by_tests true false false e = cc
+
+-- a text that was judged is that of its line
+pub said_alone : (lines : List LineForm) (text : List ℕ) (line : LineForm) → judged_alone lines (line_reading text) ≡ Ok line → text_form text ≡ line
+said_alone lines text line is = text_form_is text (line_reading text) refl ∙ alone_is lines (line_reading text) line is
 
 -- ---- the stages of a line
 

@@ -5,8 +5,7 @@ use Rattle.std.specs.HashMap.{UpdatesBy}
 use Rattle.std.proofs.lemmas.Map.Text.{hash_map_updates_str}
 use Rattle.std.proofs.lemmas.List.{take_more}
 use Rattle.std.proofs.lemmas.Slice.Eq.{bytes_eq-Decides}
-use Rattle.mod_core.specs.declared.text.written.WrittenLine.{WrittenLine}
-use Rattle.mod_core.specs.LineViews.{line_form, forms_of}
+use Rattle.mod_core.specs.LineViews.{form_of, forms_of}
 use Rattle.mod_core.specs.ModuleLine.{LineForm, title, header, label, instr, end}
 use Rattle.mod_core.specs.ModuleValue.{instrs_in, label_number, earlier}
 use Rattle.mod_core.specs.Settling.{Places, place_in, ArePlaces, HasPlace, label_at, TakesLine, number_after}
@@ -107,12 +106,12 @@ pub record PlacesSoFar (places : Places) (number : ℕ) (lines : List LineForm) 
   pub places_are : ArePlaces places lines
   pub counted : number ≡ length (instrs_in lines)
 
-forms_more : (body : List WrittenLine) (i : ℕ) (d : WrittenLine) → i < length body → forms_of (take (i + 1) body) ≡ forms_of (take i body) ++ line_form (get_or body i d) ∷ []
-forms_more body i d within = ap forms_of (take_more body i d within) ∙ map-append line_form (take i body) (get_or body i d ∷ [])
+forms_more : (body : List (Bor (List ℕ))) (i : ℕ) (d : Bor (List ℕ)) → i < length body → forms_of (take (i + 1) body) ≡ forms_of (take i body) ++ form_of (get_or body i d) ∷ []
+forms_more body i d within = ap forms_of (take_more body i d within) ∙ map-append form_of (take i body) (get_or body i d ∷ [])
 
-pub places_more : (old new : Places) (number next : ℕ) (body : List WrittenLine) (i : ℕ) (d : WrittenLine) → i < length body → PlacesSoFar old number (forms_of (take i body)) → TakesLine old new number (line_form (get_or body i d)) → next ≡ number_after number (line_form (get_or body i d)) → PlacesSoFar new next (forms_of (take (i + 1) body))
+pub places_more : (old new : Places) (number next : ℕ) (body : List (Bor (List ℕ))) (i : ℕ) (d : Bor (List ℕ)) → i < length body → PlacesSoFar old number (forms_of (take i body)) → TakesLine old new number (form_of (get_or body i d)) → next ≡ number_after number (form_of (get_or body i d)) → PlacesSoFar new next (forms_of (take (i + 1) body))
 places_more old new number next body i d within so_far takes counts =
-    let line = line_form (get_or body i d) in
+    let line = form_of (get_or body i d) in
     subst (PlacesSoFar new next) (sym (forms_more body i d within))
     (record {
       places_are = λ wanted. takes wanted ∙ ap (λ o. earlier o (label_at number wanted line)) (so_far.places_are wanted) ∙ ap (λ n. earlier (label_number wanted (forms_of (take i body))) (label_at n wanted line)) so_far.counted ∙ sym (label_number-push wanted (forms_of (take i body)) line);

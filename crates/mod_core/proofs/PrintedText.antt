@@ -1,5 +1,5 @@
 -- How a text grows by the lines of a function's code, and what a text begins with.
-use Rattle.std.proofs.Common.{◌≡◌, ℕ, ◌+◌, ◌<◌, ◌≤◌, List, [], ◌∷◌, ◌++◌, length, take, drop, get_or, refl, Result, OnOk, decimal, sym, ap, ◌∙◌, arith, add-one, append_assoc, drop-cons}
+use Rattle.std.proofs.Common.{◌≡◌, ℕ, ◌+◌, ◌<◌, ◌≤◌, List, [], ◌∷◌, ◌++◌, length, take, drop, get_or, refl, Result, OnOk, decimal, All, subst, sym, ap, ◌∙◌, arith, add-one, append_assoc, drop-cons}
 use Rattle.std.proofs.Math.Seq.{take-append_seam, take-length}
 use Rattle.std.proofs.lemmas.List.{length-take, take-take, drop_all}
 use Rattle.std.proofs.lemmas.Grind.{flat_map-append}
@@ -10,6 +10,9 @@ use Rattle.term_core.specs.TermText.{atom_text}
 use Rattle.mod_core.specs.declared.code.Instr.{Instr}
 use Rattle.mod_core.specs.declared.code.Function.{Function}
 use Rattle.mod_core.specs.declared.code.Module.{Module}
+use Rattle.mod_core.specs.Module.{IsModule}
+use Rattle.mod_core.proofs.ImageWords.{few_instrs}
+use Rattle.std.proofs.lemmas.List.Elements.{All-weaker}
 use Rattle.mod_core.specs.ModuleLine.{title, instr, end, line_bytes, lines_written}
 use Rattle.mod_core.specs.Canonical.{labels_at, lines_from, written_instr, function_lines, canonical}
 
@@ -78,3 +81,7 @@ module_written r names m start titled functions whole e f g =
     (goes_on start titled functions (line_bytes (title (atom_text names m.name.0) (decimal m.version))) (flat_map (λ h. lines_written (function_lines names m.functions h)) m.functions) (line_bytes end) e f
     ∙ ap (λ t. start ++ (line_bytes (title (atom_text names m.name.0) (decimal m.version)) ++ t))
     (ap (λ t. t ++ line_bytes end) (sym (lines_of_functions names m.functions m.functions)) ∙ sym (flat_map-append line_bytes (flat_map (function_lines names m.functions) m.functions) (end ∷ []))))
+
+-- a module's functions have no more places than are marked
+pub few_places : (m : Module) (fs : List Function) → fs ≡ m.functions → IsModule m → All (λ f. length f.code < 1025) fs
+few_places m fs same is = subst (All (λ f. length f.code < 1025)) (sym same) (All-weaker (λ f. length f.code ≤ 1024) (λ f. length f.code < 1025) (λ f few. omega (arith, few)) m.functions (few_instrs m is))

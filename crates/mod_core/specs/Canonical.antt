@@ -69,9 +69,13 @@ goes_to number (Ret value) = false
 goes_to number (Print value) = false
 goes_to number Yield = false
 
+-- the label of a number, if it is a target
+abbrev pub labels_where : Bool → ℕ → List LineForm
+labels_where is_target number = if is_target then label (label_text number) ∷ [] else []
+
 -- the label of a number, where the code goes to it
 abbrev pub labels_at : List Instr → ℕ → List LineForm
-labels_at code number = if list_any (goes_to number) code then label (label_text number) ∷ [] else []
+labels_at code number = labels_where (list_any (goes_to number) code) number
 
 -- the lines of the instructions from a number on, of a function with this code
 abbrev pub lines_from : List (List ℕ) → List Function → List Instr → ℕ → List Instr → List LineForm

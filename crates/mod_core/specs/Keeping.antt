@@ -27,9 +27,10 @@ abbrev pub RowFrom : Option LineForm → List LineForm → Type 0
 RowFrom before [] = Unit {0}
 RowFrom before (line ∷ lines) = (may_follow before line ≡ true) × RowFrom (Some line) lines
 
--- the lines stand in a row, the headers are theirs, and the labels those of the function that is open behind them
-pub record AreKept (lines : List LineForm) (headers : List HeaderForm) (labels : List (List ℕ)) : Type 0 where
+-- the lines stand in a row, this is the last one, the headers are theirs, and the labels those of the function that is open behind them
+pub record AreKept (lines : List LineForm) (last : Option LineForm) (headers : List HeaderForm) (labels : List (List ℕ)) : Type 0 where
   pub row : RowFrom None lines
+  pub last_is : last ≡ last_line lines
   pub each : All IsKept lines
   pub functions : headers ≡ headers_in lines
   pub few : length headers ≤ MOST_FUNCTIONS
@@ -56,11 +57,13 @@ abbrev pub keeping_by : List LineForm → LineForm → Option LineFault → Resu
 keeping_by lines line None = Ok (lines ++ line ∷ [])
 keeping_by lines line (Some fault) = Err fault
 
+-- the same, with the limit that the line passes under these names, if it passes one
 abbrev pub keeping : List (List ℕ) → List LineForm → LineForm → Result (List LineForm) LineFault
 keeping names lines line = keeping_by lines line (place_fault names lines line)
 
 -- ---- how many words of an image are those of a line
 
+-- an instruction: its number, and a word for each operand, target, callee and register
 abbrev pub instr_form_words : InstrForm → ℕ
 instr_form_words (move from to) = 3
 instr_form_words (add a b to) = 4

@@ -95,24 +95,31 @@ call_ext_reading words = do
   at ← register_reading parts.1
   Some (call_ext name function.0 function.1 at)
 
+-- the operands of `add`
 abbrev pub add_reading : List ℕ → Option InstrForm
 add_reading words = option_map (λ x. add x.0 x.1 x.2) (sum_reading words)
 
+-- the operands of `sub`
 abbrev pub sub_reading : List ℕ → Option InstrForm
 sub_reading words = option_map (λ x. sub x.0 x.1 x.2) (sum_reading words)
 
+-- the operands and the label of `eq`
 abbrev pub eq_reading : List ℕ → Option InstrForm
 eq_reading words = option_map (λ x. eq x.0 x.1 x.2) (branch_reading words)
 
+-- the operands and the label of `less`
 abbrev pub less_reading : List ℕ → Option InstrForm
 less_reading words = option_map (λ x. less x.0 x.1 x.2) (branch_reading words)
 
+-- the label of `jump`
 abbrev pub jump_reading : List ℕ → Option InstrForm
 jump_reading words = option_map (λ target. jump target) (tested is_atom_text words)
 
+-- the operand of `ret`
 abbrev pub ret_reading : List ℕ → Option InstrForm
 ret_reading words = option_map (λ value. ret value) (operand_reading words)
 
+-- the operand of `print`
 abbrev pub print_reading : List ℕ → Option InstrForm
 print_reading words = option_map (λ value. print value) (operand_reading words)
 
@@ -135,15 +142,19 @@ instr_reading word rest =
 abbrev pub lone_reading : List ℕ → Option LineForm
 lone_reading word = if bytes_eq word (codes "yield") then Some (instr yield) else (if bytes_eq word (codes "end") then Some end else None)
 
+-- the name of a label
 abbrev pub label_reading : List ℕ → Option LineForm
 label_reading rest = option_map (λ name. label name) (tested is_atom_text rest)
 
+-- a module's name and version, as `m.1`
 abbrev pub title_reading : List ℕ → Option LineForm
 title_reading rest = option_map (λ x. title x.0 x.1) (numbered_reading 46 is_version_text rest)
 
+-- a function's name and arity, as `main/0`, and whether `export` or `local` stands before them
 abbrev pub header_reading : Bool → List ℕ → Option LineForm
 header_reading exported rest = option_map (λ x. header exported x.0 x.1) (numbered_reading 47 is_arity_text rest)
 
+-- an instruction as a line
 abbrev pub instr_line_reading : List ℕ → List ℕ → Option LineForm
 instr_line_reading word rest = option_map (λ i. instr i) (instr_reading word rest)
 

@@ -1,5 +1,5 @@
--- The forms of lines whose words are slices of a text.
-use Rattle.std.specs.Prelude.{ℕ, List, map, Option, option_map}
+-- The forms of lines whose words are slices of a text, and of the texts of lines.
+use Rattle.std.specs.Prelude.{ℕ, List, map, Option, option_map, unwrap_or}
 use Rattle.std.specs.Borrow.{Bor}
 use Rattle.std.specs.Option.{option_to_list}
 use Rattle.mod_core.specs.declared.text.written.WrittenOperand.{WrittenOperand}
@@ -8,13 +8,16 @@ use Rattle.mod_core.specs.declared.text.written.WrittenInstr.{WrittenInstr}
 use Rattle.mod_core.specs.declared.text.written.WrittenInstr.TheVariants.{Move, Add, Sub, Eq, Less, Jump, Call, CallExt, Ret, Print, Yield}
 use Rattle.mod_core.specs.declared.text.written.WrittenLine.{WrittenLine}
 use Rattle.mod_core.specs.declared.text.written.WrittenLine.TheVariants.{Title, Header, Label, Instr, End}
+use Rattle.mod_core.specs.LineReading.{line_reading}
 use Rattle.mod_core.specs.ModuleLine.{OperandForm, register, integer, atom, InstrForm, move, add, sub, eq, less, jump, call, call_ext, ret, print, yield, LineForm, title, header, label, instr, end}
 
+-- the form of an operand: its words as bytes
 abbrev pub operand_form : WrittenOperand → OperandForm
 operand_form (Register digits) = register digits.now
 operand_form (Integer text) = integer text.now
 operand_form (Atom text) = atom text.now
 
+-- the form of an instruction
 abbrev pub instr_form : WrittenInstr → InstrForm
 instr_form (Move from to) = move (operand_form from) to.now
 instr_form (Add a b to) = add (operand_form a) (operand_form b) to.now
@@ -28,6 +31,7 @@ instr_form (Ret value) = ret (operand_form value)
 instr_form (Print value) = print (operand_form value)
 instr_form Yield = yield
 
+-- the form of a line
 abbrev pub line_form : WrittenLine → LineForm
 line_form (Title name version) = title name.now version.now
 line_form (Header exported name arity) = header exported name.now arity.now
@@ -35,8 +39,17 @@ line_form (Label name) = label name.now
 line_form (Instr i) = instr (instr_form i)
 line_form End = end
 
-abbrev pub forms_of : List WrittenLine → List LineForm
-forms_of lines = map line_form lines
+-- the line with this text; each text that is kept has one
+unfoldable pub text_form : List ℕ → LineForm
+text_form text = unwrap_or (line_reading text) end
+
+-- the same of a slice
+abbrev pub form_of : Bor (List ℕ) → LineForm
+form_of text = text_form text.now
+
+-- the lines with these texts
+abbrev pub forms_of : List (Bor (List ℕ)) → List LineForm
+forms_of texts = map form_of texts
 
 -- the text of a word, if there is one
 abbrev pub word_of : Option (Bor (List ℕ)) → List (List ℕ)

@@ -49,6 +49,7 @@ pub record Lines : Type 0 where
   pub ended : List (List ℕ)
   pub tail : List ℕ
 
+-- these lines, and these bytes behind them
 abbrev pub lines : List (List ℕ) → List ℕ → Lines
 lines ended tail = record { ended = ended; tail = tail }
 
@@ -70,6 +71,7 @@ lines_of (b ∷ bs) =
 abbrev pub Read : Type 0
 Read = Result (List (List ℕ) × List LineForm) LineStop
 
+-- the reading stops at the line of this number, with this fault
 abbrev pub stop_at : ℕ → LineFault → Read
 stop_at number fault = Err (record { number = number; fault = fault })
 

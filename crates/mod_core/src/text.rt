@@ -7,6 +7,7 @@ mod printing;
 mod reader;
 mod reading;
 mod settling;
+mod targets;
 mod values;
 mod words;
 mod written;

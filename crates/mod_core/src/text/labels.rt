@@ -1,9 +1,10 @@
 //! The labels of a function, each with the number of its instruction.
 
 ghost use Rattle.std.specs.Prelude.{◌≡◌, OnOk, IfOk};
-ghost use Rattle.mod_core.specs.LineViews.{line_form, forms_of};
+ghost use Rattle.mod_core.specs.LineViews.{text_form, forms_of};
 ghost use Rattle.mod_core.specs.Settling.{ArePlaces, HasPlace, TakesLine, number_after, place_in};
 
+use crate::text::line::line_of;
 use crate::text::written::WrittenLine;
 use std::alloc::Global;
 use std::collections::HashMap;
@@ -30,15 +31,11 @@ fn add_place<'a>(places: &mut Places<'a>, label: &'a [u8], number: u32) -> Resul
 }
 
 /// Takes a line behind so many instructions, and says how many are before the next line.
-fn add_line<'a>(
-    places: &mut Places<'a>,
-    number: u32,
-    line: &WrittenLine<'a>,
-) -> Result<u32, NoMemory>
-    ensures places { OnOk result (TakesLine places.old places.new number (line_form line.now)) }
-    ensures number { IfOk result (λ next. next ≡ number_after number (line_form line.now)) }
+fn add_line<'a>(places: &mut Places<'a>, number: u32, line: &'a [u8]) -> Result<u32, NoMemory>
+    ensures places { OnOk result (TakesLine places.old places.new number (text_form line.now)) }
+    ensures number { IfOk result (λ next. next ≡ number_after number (text_form line.now)) }
 {
-    match line {
+    match line_of(line) {
         WrittenLine::Label { name } => {
             add_place(places, name, number)?;
             Ok(number)
@@ -49,10 +46,11 @@ fn add_line<'a>(
 }
 
 /// The labels of a function with this body.
-pub fn places_of<'a>(alloc: Global, body: &[WrittenLine<'a>]) -> Result<Places<'a>, NoMemory>
+pub fn places_of<'a>(alloc: Global, body: &[&'a [u8]]) -> Result<Places<'a>, NoMemory>
     ensures { IfOk result (λ places. ArePlaces places (forms_of body.now)) }
 {
-    let mut places = HashMap::new(alloc);
+    // Room for each line, since a table that grows takes twice as much.
+    let mut places = HashMap::with_capacity(alloc, body.len())?;
     let mut number = 0;
     for line in body {
         number = add_line(&mut places, number, line)?;

@@ -3,7 +3,7 @@
 ghost use Rattle.std.specs.Prelude.{◌≡◌, ◌++◌, IsTrue, option_map, nat_le};
 ghost use Rattle.std.specs.List.{list_all};
 ghost use Rattle.term_core.specs.Names.{IsNames, Extends, is_atom_text};
-ghost use Rattle.mod_core.specs.LineViews.{operand_form, instr_form, line_form, forms_of, word_of};
+ghost use Rattle.mod_core.specs.LineViews.{operand_form, instr_form, line_form, text_form, forms_of, word_of};
 ghost use Rattle.mod_core.specs.ModuleLine.{is_number_text, is_operand_form, is_instr_form, is_line_form};
 ghost use Rattle.mod_core.specs.LineFaults.{is_open as is_open_behind, is_in_function as is_in_function_behind, may_follow as may_stand_behind, is_high as is_high_register, has_high_operand, is_high_call as is_call_too_high, has_high_instr, has_high_register as has_register_too_high, is_wide_operand as is_operand_too_wide, has_wide_instr as has_instr_too_wide, has_wide_integer as has_integer_too_wide, operand_atoms, instr_atoms as atoms_of_instr, line_atoms as atoms_of_line};
 ghost use Rattle.mod_core.specs.Keeping.{instr_form_words, line_words as words_of_line, lines_words, naming};
@@ -11,6 +11,7 @@ ghost use Rattle.mod_core.specs.Reading.{Gives};
 
 use crate::code::{LONGEST_IMAGE, REGISTERS};
 use crate::fault::LineFault;
+use crate::text::line::line_of;
 use crate::text::words::{integer_of, number_of};
 use crate::text::written::{WrittenInstr, WrittenLine, WrittenOperand};
 use term_core::{AtomId, GREATEST_INTEGER, LEAST_INTEGER, NameFault, Names};
@@ -240,18 +241,18 @@ fn instr_words(instr: &WrittenInstr<'_>) -> usize
 }
 
 /// How many words of an image are those of a line: a function has four of its own, and two of the return at its end.
-fn line_words(line: &WrittenLine<'_>) -> usize
-    ensures { result ≡ words_of_line (line_form line.now) }
+fn line_words(line: &[u8]) -> usize
+    ensures { result ≡ words_of_line (text_form line.now) }
 {
-    match line {
+    match line_of(line) {
         WrittenLine::Header { .. } => 6,
-        WrittenLine::Instr(instr) => instr_words(instr),
+        WrittenLine::Instr(instr) => instr_words(&instr),
         WrittenLine::Title { .. } | WrittenLine::Label { .. } | WrittenLine::End => 0,
     }
 }
 
 /// Whether the image of the module that lines say has at most 1,024 words.
-pub fn is_short(lines: &[WrittenLine<'_>]) -> bool
+pub fn is_short(lines: &[&[u8]]) -> bool
     ensures { result ≡ nat_le (lines_words (forms_of lines.now)) LONGEST_IMAGE }
 {
     let mut left = LONGEST_IMAGE - HEAD_WORDS;

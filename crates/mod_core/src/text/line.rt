@@ -1,7 +1,7 @@
 //! One line: its words, from left to right.
 
 ghost use Rattle.std.specs.Prelude.{◌≡◌, option_map, IfSome, IsTrue};
-ghost use Rattle.mod_core.specs.LineViews.{operand_form, instr_form, line_form};
+ghost use Rattle.mod_core.specs.LineViews.{operand_form, instr_form, line_form, text_form};
 ghost use Rattle.mod_core.specs.ModuleLine.{is_version_text as is_version, is_arity_text as is_arity, is_number_text as is_number, is_line_form};
 ghost use Rattle.mod_core.specs.LineReading.{tested, register_reading, constant_reading, operand_reading, numbered_reading, operands_reading, sum_reading, branch_reading, move_reading, call_reading, call_ext_reading, add_reading, sub_reading, eq_reading, less_reading, jump_reading, ret_reading, print_reading, instr_reading, label_reading, title_reading, header_reading, instr_line_reading, lone_reading, keyed_reading, line_reading};
 ghost use Rattle.term_core.specs.Names.{is_atom_text as is_atom};
@@ -304,4 +304,14 @@ pub fn read_line(text: &[u8]) -> Option<WrittenLine<'_>>
     ensures sound { IfSome result (λ line. IsTrue (is_line_form (line_form line))) }
 {
     cut_line(text)
+}
+
+/// The line that this text was read as. Where it is that of none, `end`.
+pub fn line_of(text: &[u8]) -> WrittenLine<'_>
+    ensures { line_form result ≡ text_form text.now }
+{
+    match read_line(text) {
+        Some(line) => line,
+        None => WrittenLine::End,
+    }
 }

@@ -1,17 +1,19 @@
 //! The canonical text of a module.
 
-ghost use Rattle.std.specs.Prelude.{◌≡◌, [], ◌∷◌, ◌++◌, ℕ, List, OnOk, OnErr, decimal, option_copied};
+ghost use Rattle.std.specs.Prelude.{◌≡◌, [], ◌∷◌, ◌++◌, ◌<◌, ℕ, List, length, All, OnOk, OnErr, decimal, option_copied};
 ghost use Rattle.std.specs.Io.{StartsWith};
-ghost use Rattle.std.specs.List.{flat_map, list_any};
+ghost use Rattle.std.specs.List.{flat_map};
 ghost use Rattle.term_core.specs.Names.{IsNames};
 ghost use Rattle.term_core.specs.TermText.{atom_text};
+ghost use Rattle.mod_core.specs.declared.text.targets.TheConstants.{MOST_PLACES};
 ghost use Rattle.mod_core.specs.declared.code.Module.{Module as ModuleValue};
-ghost use Rattle.mod_core.specs.Canonical.{canonical, function_lines, lines_from, labels_at, label_text, goes_to as is_target, written_instr, written_operand, written_constant, written_call, callee_text, IsModuleHeld};
+ghost use Rattle.mod_core.specs.Canonical.{canonical, function_lines, lines_from, labels_where, label_text, written_instr, written_operand, written_constant, written_call, callee_text, IsModuleHeld};
 ghost use Rattle.mod_core.specs.Module.{IsModule};
 ghost use Rattle.mod_core.specs.ModuleLine.{title, header, instr as instr_line, move, jump, call_ext, spaced, register_written, operand_written, function_written, instr_written, header_word, line_bytes, lines_written};
 ghost use Rattle.mod_core.specs.ModuleText.{ModuleText};
 
 use crate::code::{Function, Instr, Module, Operand};
+use crate::text::targets::targets_of;
 use term_core::{
     AtomId, ByteList, Mfa, Names, NoMemory, Term, print_atom, print_number, print_term,
 };
@@ -40,6 +42,7 @@ pub fn canonical_text_reads_back()
 // Each function below appends a part of the text after a refusal.
 
 fn write_module(names: &Names, module: &Module, out: &mut ByteList) -> Result<(), NoMemory>
+    requires valid { IsModule «module».now }
     ensures ok { OnOk result (out.new ≡ out.old ++ lines_written (canonical names.now «module».now)) }
     ensures kept { StartsWith out.new out.old }
 {
@@ -64,6 +67,7 @@ fn write_functions(
     functions: &[Function],
     out: &mut ByteList,
 ) -> Result<(), NoMemory>
+    requires short { All (λ f. length f.code < MOST_PLACES) functions.now }
     ensures ok { OnOk result (out.new ≡ out.old ++ flat_map (λ f. lines_written (function_lines names.now functions.now f)) functions.now) }
     ensures kept { StartsWith out.new out.old }
 {
@@ -79,6 +83,7 @@ fn write_function(
     function: &Function,
     out: &mut ByteList,
 ) -> Result<(), NoMemory>
+    requires short { length function.now.code < MOST_PLACES }
     ensures ok { OnOk result (out.new ≡ out.old ++ lines_written (function_lines names.now functions.now function.now)) }
     ensures kept { StartsWith out.new out.old }
 {
@@ -122,46 +127,24 @@ fn write_code(
     code: &[Instr],
     out: &mut ByteList,
 ) -> Result<(), NoMemory>
+    requires short { length code.now < MOST_PLACES }
     ensures ok { OnOk result (out.new ≡ out.old ++ lines_written (lines_from names.now functions.now code.now 0 code.now)) }
     ensures kept { StartsWith out.new out.old }
 {
+    let targets = targets_of(code);
     for (number, instr) in code.iter().enumerate() {
-        write_labels(code, number, out)?;
+        write_place(targets[number], number, out)?;
         write_line(names, functions, instr, out)?;
     }
-    write_labels(code, code.len(), out)
+    write_place(targets[code.len()], code.len(), out)
 }
 
-fn goes_to(instr: &Instr, number: usize) -> bool
-    ensures { result ≡ is_target number instr.now }
-{
-    match instr {
-        Instr::Eq { target, .. } => *target as usize == number,
-        Instr::Less { target, .. } => *target as usize == number,
-        Instr::Jump { target } => *target as usize == number,
-        Instr::Move { .. }
-        | Instr::Add { .. }
-        | Instr::Sub { .. }
-        | Instr::Call { .. }
-        | Instr::CallExt { .. }
-        | Instr::Ret { .. }
-        | Instr::Print { .. }
-        | Instr::Yield => false,
-    }
-}
-
-fn is_labelled(code: &[Instr], number: usize) -> bool
-    ensures { result ≡ list_any (is_target number) code.now }
-{
-    code.iter().any(|instr| goes_to(instr, number))
-}
-
-/// The label of a place, where the code goes to it.
-fn write_labels(code: &[Instr], number: usize, out: &mut ByteList) -> Result<(), NoMemory>
-    ensures ok { OnOk result (out.new ≡ out.old ++ lines_written (labels_at code.now number)) }
+/// The label of a place, if the code goes to it.
+fn write_place(is_target: bool, number: usize, out: &mut ByteList) -> Result<(), NoMemory>
+    ensures ok { OnOk result (out.new ≡ out.old ++ lines_written (labels_where is_target number)) }
     ensures kept { StartsWith out.new out.old }
 {
-    if !is_labelled(code, number) {
+    if !is_target {
         return Ok(());
     }
     out.extend_from_slice(b"label ")?;

@@ -2,10 +2,10 @@
 
 ghost use Rattle.std.specs.Prelude.{◌≡◌, List, [], ◌∷◌, ◌++◌, true, false, option_map, bytes_eq, IsTrue, IfOk, OnOk, OnErr};
 ghost use Rattle.std.specs.List.{list_any};
-ghost use Rattle.mod_core.specs.LineViews.{line_form, forms_of, headers_of, words_of};
-ghost use Rattle.mod_core.specs.LineFaults.{last_line, may_follow as may_stand_behind, counted_name as name_counted};
+ghost use Rattle.mod_core.specs.LineViews.{line_form, headers_of, words_of};
+ghost use Rattle.mod_core.specs.LineFaults.{may_follow as may_stand_behind, counted_name as name_counted};
 ghost use Rattle.mod_core.specs.ModuleLine.{LineForm, is_line_form};
-ghost use Rattle.mod_core.specs.ModuleValue.{is_header, title_of};
+ghost use Rattle.mod_core.specs.ModuleValue.{is_header, title_of as title_of_lines};
 ghost use Rattle.mod_core.specs.Keeping.{IsKept, judged_behind, is_end_line};
 ghost use Rattle.mod_core.specs.Reading.{Gives};
 
@@ -13,7 +13,7 @@ use crate::code::{MOST_FUNCTIONS, Module};
 use crate::fault::{FinishFault, LineFault};
 use crate::text::limits::{add_atoms, has_high_register, has_wide_integer, is_short, may_follow};
 use crate::text::line::read_line;
-use crate::text::settling::settled_module;
+use crate::text::settling::{settled_module, title_of};
 use crate::text::values::mfa_of;
 use crate::text::written::{WrittenInstr, WrittenLine};
 use indexmap::IndexSet;
@@ -45,12 +45,6 @@ fn is_given(functions: &[(&[u8], &[u8])], name: &[u8], arity: &[u8]) -> bool
     has_header(functions, name, arity)
 }
 
-fn last_of<'b, 'c>(lines: &'b [WrittenLine<'c>]) -> Option<&'b WrittenLine<'c>>
-    ensures { option_map (λ line. line_form line.now) result ≡ last_line (forms_of lines.now) }
-{
-    lines.last()
-}
-
 /// The line, if it may stand behind this one, and its registers and integers are within their limits.
 fn judge<'b>(
     before: Option<&WrittenLine<'_>>,
@@ -73,21 +67,11 @@ fn judge<'b>(
     Ok(line)
 }
 
-/// The name of the module whose text begins so.
-fn title_name<'b>(lines: &[WrittenLine<'b>]) -> &'b [u8]
-    ensures { result.now ≡ (title_of (forms_of lines.now)).0 }
-{
-    match lines {
-        [WrittenLine::Title { name, .. }, ..] => name,
-        _ => b"".as_slice(),
-    }
-}
-
 /// The function name that a line has, behind the lines of the module of this name.
 #[tactic(auto, using(std::proofs::lemmas::Bool::and_parts))]
 fn counted_name(names: &Names, title: &[u8], line: &WrittenLine<'_>) -> Option<Mfa>
     requires { IsTrue (is_line_form (line_form line.now)) }
-    ensures { (lines : List LineForm) → title.now ≡ (title_of lines).0 → result ≡ name_counted names.now lines (line_form line.now) }
+    ensures { (lines : List LineForm) → title.now ≡ (title_of_lines lines).0 → result ≡ name_counted names.now lines (line_form line.now) }
 {
     match line {
         WrittenLine::Header {
@@ -124,9 +108,15 @@ fn add_label<'b>(labels: &mut IndexSet<&'b [u8]>, name: &'b [u8]) -> Result<(), 
 }
 
 /// The lines of a module's text so far, from the line of its title on. Contracts see the list of their forms.
+///
+/// It keeps the text of each line, which is read again at the end, and not its form: a form takes more than ten times a
+/// short line.
 #[derive(Drop)]
 pub struct ModuleReader<'a> {
-    lines: Vec<WrittenLine<'a>>,
+    // The lines, by their texts.
+    lines: Vec<&'a [u8]>,
+    // The last line.
+    last: Option<WrittenLine<'a>>,
     // The names and arities of the functions so far.
     functions: Vec<(&'a [u8], &'a [u8])>,
     // The labels of the function at hand.
@@ -134,24 +124,24 @@ pub struct ModuleReader<'a> {
 }
 
 impl<'a> Model for ModuleReader<'a> {
-    ghost use Rattle.std.specs.Prelude.{List};
+    ghost use Rattle.std.specs.Prelude.{List, option_map};
     ghost use Rattle.mod_core.specs.ModuleLine.{LineForm};
 
     ghost Value = { List LineForm };
 
-    ghost use Rattle.mod_core.specs.LineViews.{forms_of, headers_of, words_of};
+    ghost use Rattle.mod_core.specs.LineViews.{line_form, forms_of, headers_of, words_of};
     ghost use Rattle.mod_core.specs.Keeping.{AreKept};
 
     ghost view = { λ r. forms_of r.lines.items };
 
-    ghost invariant = { λ r. AreKept (forms_of r.lines.items) (headers_of r.functions.items) (words_of r.labels.keys) };
+    ghost invariant = { λ r. AreKept (forms_of r.lines.items) (option_map line_form r.last) (headers_of r.functions.items) (words_of r.labels.keys) };
 }
 
 impl<'a> ModuleReader<'a> {
     ghost use Rattle.std.specs.Prelude.{◌≡◌, ℕ, List, [], ◌∷◌, ◌++◌, length, Bool, true, OnOk, OnErr, IfOk, IfErr, Some, None, IsTrue, ◌↔◌};
     ghost use Rattle.term_core.specs.Names.{IsNames, Extends};
     ghost use Rattle.mod_core.specs.ModuleLine.{header, label, end};
-    ghost use Rattle.mod_core.specs.LineViews.{line_form};
+    ghost use Rattle.mod_core.specs.LineViews.{line_form, text_form};
     ghost use Rattle.mod_core.specs.LineReading.{line_reading};
     ghost use Rattle.mod_core.specs.Keeping.{IsKept, judged_alone, keeping};
     ghost use Rattle.mod_core.specs.LineFaults.{may_follow, labels_after, last_line, counted_of};
@@ -164,6 +154,7 @@ impl<'a> ModuleReader<'a> {
     {
         ModuleReader {
             lines: Vec::new(alloc),
+            last: None,
             functions: Vec::new(alloc),
             labels: IndexSet::new(alloc),
         }
@@ -187,7 +178,7 @@ impl<'a> ModuleReader<'a> {
     pub fn is_closed(&self) -> bool
         ensures { IsTrue result ↔ (last_line self.now ≡ Some end) }
     {
-        is_end(last_of(&self.lines))
+        is_end(self.last.as_ref())
     }
 
     /// The line with this text, if it may stand behind these, and its registers and integers are within their limits.
@@ -198,16 +189,18 @@ impl<'a> ModuleReader<'a> {
     {
         match read_line(text) {
             None => Err(LineFault::Syntax),
-            Some(line) => judge(last_of(&self.lines), line),
+            Some(line) => judge(self.last.as_ref(), line),
         }
     }
 
     fn keep_header(
         &mut self,
+        text: &'a [u8],
         line: WrittenLine<'a>,
         name: &'a [u8],
         arity: &'a [u8],
     ) -> Result<(), LineFault>
+        requires said { text_form text.now ≡ line_form line }
         requires kept { IsKept (line_form line) }
         requires place { may_follow (last_line self.old) (line_form line) ≡ true }
         requires header { (exported : Bool) × (line_form line ≡ header exported name.now arity.now) }
@@ -220,16 +213,23 @@ impl<'a> ModuleReader<'a> {
         if is_given(&self.functions, name, arity) {
             return Err(LineFault::Duplicate);
         }
-        self.lines.push(line)?;
+        self.lines.push(text)?;
         if self.functions.push((name, arity)).is_err() {
             let _ = self.lines.pop();
             return Err(LineFault::NoMemory);
         }
         self.labels.clear();
+        self.last = Some(line);
         Ok(())
     }
 
-    fn keep_label(&mut self, line: WrittenLine<'a>, name: &'a [u8]) -> Result<(), LineFault>
+    fn keep_label(
+        &mut self,
+        text: &'a [u8],
+        line: WrittenLine<'a>,
+        name: &'a [u8],
+    ) -> Result<(), LineFault>
+        requires said { text_form text.now ≡ line_form line }
         requires kept { IsKept (line_form line) }
         requires place { may_follow (last_line self.old) (line_form line) ≡ true }
         requires label { line_form line ≡ label name.now }
@@ -239,41 +239,46 @@ impl<'a> ModuleReader<'a> {
         if is_among(&self.labels, name) {
             return Err(LineFault::Duplicate);
         }
-        self.lines.push(line)?;
+        self.lines.push(text)?;
         if add_label(&mut self.labels, name).is_err() {
             let _ = self.lines.pop();
             return Err(LineFault::NoMemory);
         }
+        self.last = Some(line);
         Ok(())
     }
 
-    fn keep_other(&mut self, line: WrittenLine<'a>) -> Result<(), LineFault>
+    fn keep_other(&mut self, text: &'a [u8], line: WrittenLine<'a>) -> Result<(), LineFault>
+        requires said { text_form text.now ≡ line_form line }
         requires kept { IsKept (line_form line) }
         requires place { may_follow (last_line self.old) (line_form line) ≡ true }
         requires other { (headers_in (line_form line ∷ []) ≡ []) × ((labels : List (List ℕ)) → labels_after labels (line_form line) ≡ labels) }
         ensures ok { OnOk result (self.new ≡ self.old ++ line_form line.entry ∷ []) }
         ensures err { IfErr result (λ fault. (fault ≡ LineFault.NoMemory) × (self.new ≡ self.old)) }
     {
-        self.lines.push(line)?;
+        self.lines.push(text)?;
+        self.last = Some(line);
         Ok(())
     }
 
-    fn keep(&mut self, line: WrittenLine<'a>) -> Result<(), LineFault>
+    fn keep(&mut self, text: &'a [u8], line: WrittenLine<'a>) -> Result<(), LineFault>
+        requires said { text_form text.now ≡ line_form line }
         requires kept { IsKept (line_form line) }
         requires place { may_follow (last_line self.old) (line_form line) ≡ true }
         ensures kept { (names : List (List ℕ)) → Gives (λ _. self.new) result (keeping names self.old (line_form line.entry)) }
         ensures err { OnErr result (self.new ≡ self.old) }
     {
         match line {
-            WrittenLine::Header { name, arity, .. } => self.keep_header(line, name, arity),
-            WrittenLine::Label { name } => self.keep_label(line, name),
-            WrittenLine::End => self.keep_end(),
-            WrittenLine::Title { .. } => self.keep_other(line),
-            WrittenLine::Instr(_) => self.keep_other(line),
+            WrittenLine::Header { name, arity, .. } => self.keep_header(text, line, name, arity),
+            WrittenLine::Label { name } => self.keep_label(text, line, name),
+            WrittenLine::End => self.keep_end(text),
+            WrittenLine::Title { .. } => self.keep_other(text, line),
+            WrittenLine::Instr(_) => self.keep_other(text, line),
         }
     }
 
-    fn keep_end(&mut self) -> Result<(), LineFault>
+    fn keep_end(&mut self, text: &'a [u8]) -> Result<(), LineFault>
+        requires said { text_form text.now ≡ end }
         requires place { may_follow (last_line self.old) end ≡ true }
         ensures kept { (names : List (List ℕ)) → Gives (λ _. self.new) result (keeping names self.old end) }
         ensures err { OnErr result (self.new ≡ self.old) }
@@ -281,7 +286,7 @@ impl<'a> ModuleReader<'a> {
         if !is_short(&self.lines) {
             return Err(LineFault::TooLong);
         }
-        self.keep_other(WrittenLine::End)
+        self.keep_other(text, WrittenLine::End)
     }
 
     /// Reads the next line, whose text is without its line feed. Its new atoms get the next numbers, in order.
@@ -297,7 +302,7 @@ impl<'a> ModuleReader<'a> {
         let _ = names.text(AtomId::TRUE);
         let line = self.next_line(text)?;
         add_atoms(names, &line)?;
-        self.keep(line)
+        self.keep(text, line)
     }
 
     /// The function name that a text has as the line behind these: as the header of an exported function, or as an
@@ -307,7 +312,7 @@ impl<'a> ModuleReader<'a> {
     {
         match read_line(text) {
             None => None,
-            Some(line) => counted_name(names, title_name(&self.lines), &line),
+            Some(line) => counted_name(names, title_of(&self.lines).0, &line),
         }
     }
 
@@ -320,6 +325,14 @@ impl<'a> ModuleReader<'a> {
         ensures settled { OnOk result (unsettled_line self.entry ≡ None) }
         ensures missing { IfErr result (IsMissing self.entry) }
     {
-        settled_module(alloc, names, &self.functions, &self.lines)
+        let ModuleReader {
+            lines,
+            functions,
+            labels,
+            last: _,
+        } = self;
+        // Each function gets a table of its labels, so these are not held beside it.
+        drop(labels);
+        settled_module(alloc, names, &functions, &lines)
     }
 }

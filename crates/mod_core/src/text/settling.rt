@@ -2,7 +2,7 @@
 
 ghost use Rattle.std.specs.Prelude.{◌≡◌, ◌++◌, [], ◌∷◌, ◌+◌, ◌-◌, ◌^◌, ◌<◌, ◌≤◌, drop, ℕ, List, None, position, map, length, All, IfOk, IfErr, OnOk};
 ghost use Rattle.std.specs.Bool.{OnTrue};
-ghost use Rattle.mod_core.specs.LineViews.{instr_form, line_form, forms_of, headers_of};
+ghost use Rattle.mod_core.specs.LineViews.{instr_form, text_form, forms_of, headers_of};
 ghost use Rattle.mod_core.specs.ModuleLine.{LineForm};
 ghost use Rattle.mod_core.specs.ModuleValue.{is_header, headers_in, function_number, body_of as lines_of_body, instrs_in, functions_in, instr_in, function_in, module_of, is_settled_line, unsettled_in, unsettled_below, first_unsettled, unsettled_line, title_of as title_of_lines, IsTitled, IsMissing};
 ghost use Rattle.mod_core.specs.Keeping.{IsKept, IsKeptInstr};
@@ -11,6 +11,7 @@ ghost use Rattle.mod_core.specs.Settling.{ArePlaces, settled_instr, is_body_line
 use crate::code::{Function, FunctionList, Instr, InstrList, Module};
 use crate::fault::FinishFault;
 use crate::text::labels::{Places, place_of, places_of};
+use crate::text::line::line_of;
 use crate::text::values::{atom_of, mfa_of, operand_of, value_of};
 use crate::text::written::{WrittenInstr, WrittenLine};
 use std::alloc::Global;
@@ -106,17 +107,17 @@ fn settled(
     }
 }
 
-fn is_body_line(line: &WrittenLine<'_>) -> bool
-    ensures { result ≡ is_line_of_body (line_form line.now) }
+fn is_body_line(line: &[u8]) -> bool
+    ensures { result ≡ is_line_of_body (text_form line.now) }
 {
-    match line {
+    match line_of(line) {
         WrittenLine::Label { .. } | WrittenLine::Instr(_) => true,
         WrittenLine::Title { .. } | WrittenLine::Header { .. } | WrittenLine::End => false,
     }
 }
 
 /// The labels and instructions in front.
-fn body_of<'b, 'c>(lines: &'b [WrittenLine<'c>]) -> &'b [WrittenLine<'c>]
+fn body_of<'b, 'c>(lines: &'b [&'c [u8]]) -> &'b [&'c [u8]]
     ensures body { forms_of result.now ≡ lines_of_body (forms_of lines.now) }
     ensures within { length result.now ≤ length lines.now }
 {
@@ -133,19 +134,19 @@ fn settle_line(
     names: &Names,
     functions: &[(&[u8], &[u8])],
     places: &Places<'_>,
-    line: &WrittenLine<'_>,
+    line: &[u8],
     code: &mut InstrList,
 ) -> Result<bool, FinishFault>
     requires few { length functions.now ≤ 16 }
-    requires kept { IsKept (line_form line.now) }
-    ensures settled { (body : List LineForm) → ArePlaces places.now body → IfOk result (λ yes. yes ≡ is_settled_line (headers_of functions.now) body (line_form line.now)) }
-    ensures code { (body : List LineForm) → ArePlaces places.now body → IfOk result (λ yes. OnTrue yes (code.new ≡ code.old ++ map (instr_in names.now (headers_of functions.now) body) (instrs_in (line_form line.now ∷ [])))) }
+    requires kept { IsKept (text_form line.now) }
+    ensures settled { (body : List LineForm) → ArePlaces places.now body → IfOk result (λ yes. yes ≡ is_settled_line (headers_of functions.now) body (text_form line.now)) }
+    ensures code { (body : List LineForm) → ArePlaces places.now body → IfOk result (λ yes. OnTrue yes (code.new ≡ code.old ++ map (instr_in names.now (headers_of functions.now) body) (instrs_in (text_form line.now ∷ [])))) }
     ensures err { IfErr result (λ fault. fault ≡ FinishFault.NoMemory) }
 {
-    let WrittenLine::Instr(instr) = line else {
+    let WrittenLine::Instr(instr) = line_of(line) else {
         return Ok(true);
     };
-    match settled(names, functions, places, instr) {
+    match settled(names, functions, places, &instr) {
         None => Ok(false),
         Some(instr) => {
             code.push(instr)?;
@@ -159,7 +160,7 @@ fn settled_code(
     alloc: Global,
     names: &Names,
     functions: &[(&[u8], &[u8])],
-    body: &[WrittenLine<'_>],
+    body: &[&[u8]],
 ) -> Result<InstrList, FinishFault>
     requires few { length functions.now ≤ 16 }
     requires kept { All IsKept (forms_of body.now) }
@@ -183,23 +184,23 @@ fn settle_function(
     alloc: Global,
     names: &Names,
     functions: &[(&[u8], &[u8])],
-    line: &WrittenLine<'_>,
-    behind: &[WrittenLine<'_>],
+    line: &[u8],
+    behind: &[&[u8]],
     settled: &mut FunctionList,
 ) -> Result<(), FinishFault>
     requires few { length functions.now ≤ 16 }
-    requires kept { IsKept (line_form line.now) }
+    requires kept { IsKept (text_form line.now) }
     requires each { All IsKept (forms_of behind.now) }
-    ensures ok { OnOk result (settled.new ≡ settled.old ++ map (function_in names.now (headers_of functions.now)) (function_at (line_form line.now) (forms_of behind.now))) }
-    ensures settled { OnOk result (unsettled_below (headers_of functions.now) (line_form line.now) (forms_of behind.now) ≡ None) }
-    ensures missing { IfErr result (IsUnsettled (unsettled_below (headers_of functions.now) (line_form line.now) (forms_of behind.now))) }
+    ensures ok { OnOk result (settled.new ≡ settled.old ++ map (function_in names.now (headers_of functions.now)) (function_at (text_form line.now) (forms_of behind.now))) }
+    ensures settled { OnOk result (unsettled_below (headers_of functions.now) (text_form line.now) (forms_of behind.now) ≡ None) }
+    ensures missing { IfErr result (IsUnsettled (unsettled_below (headers_of functions.now) (text_form line.now) (forms_of behind.now))) }
     ensures within { IfErr result (IsUnsettledBelow (length behind.now)) }
 {
     let WrittenLine::Header {
         exported,
         name,
         arity,
-    } = line
+    } = line_of(line)
     else {
         return Ok(());
     };
@@ -207,7 +208,7 @@ fn settle_function(
     settled.push(Function {
         name: atom_of(names, name),
         arity: value_of(arity),
-        exported: *exported,
+        exported,
         code,
     })?;
     Ok(())
@@ -227,7 +228,7 @@ fn later(fault: FinishFault, lines: usize) -> FinishFault
 }
 
 /// The lines behind a place.
-fn lines_behind<'b, 'c>(lines: &'b [WrittenLine<'c>], place: usize) -> &'b [WrittenLine<'c>]
+fn lines_behind<'b, 'c>(lines: &'b [&'c [u8]], place: usize) -> &'b [&'c [u8]]
     requires { place < length lines.now }
     ensures { result.now ≡ drop (place + 1) lines.now }
 {
@@ -239,7 +240,7 @@ fn settled_functions(
     alloc: Global,
     names: &Names,
     functions: &[(&[u8], &[u8])],
-    lines: &[WrittenLine<'_>],
+    lines: &[&[u8]],
 ) -> Result<FunctionList, FinishFault>
     requires few { length functions.now ≤ 16 }
     requires kept { All IsKept (forms_of lines.now) }
@@ -258,14 +259,25 @@ fn settled_functions(
     Ok(list)
 }
 
+/// The name and version of the module whose title has this text.
+fn title_words(line: &[u8]) -> (&[u8], &[u8])
+    ensures name { result.0.now ≡ (title_of_lines (text_form line.now ∷ [])).0 }
+    ensures version { result.1.now ≡ (title_of_lines (text_form line.now ∷ [])).1 }
+{
+    match line_of(line) {
+        WrittenLine::Title { name, version } => (name, version),
+        _ => (b"".as_slice(), b"".as_slice()),
+    }
+}
+
 /// The name and version of the module whose text begins so.
-fn title_of<'b>(lines: &[WrittenLine<'b>]) -> (&'b [u8], &'b [u8])
+pub fn title_of<'b>(lines: &[&'b [u8]]) -> (&'b [u8], &'b [u8])
     ensures name { result.0.now ≡ (title_of_lines (forms_of lines.now)).0 }
     ensures version { result.1.now ≡ (title_of_lines (forms_of lines.now)).1 }
 {
     match lines {
-        [WrittenLine::Title { name, version }, ..] => (name, version),
-        _ => (b"".as_slice(), b"".as_slice()),
+        [first, ..] => title_words(first),
+        [] => (b"".as_slice(), b"".as_slice()),
     }
 }
 
@@ -274,7 +286,7 @@ pub fn settled_module(
     alloc: Global,
     names: &Names,
     functions: &[(&[u8], &[u8])],
-    lines: &[WrittenLine<'_>],
+    lines: &[&[u8]],
 ) -> Result<Module, FinishFault>
     requires few { length functions.now ≤ 16 }
     requires kept { All IsKept (forms_of lines.now) }

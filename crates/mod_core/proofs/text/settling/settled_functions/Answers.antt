@@ -1,7 +1,7 @@
 -- The functions of a module, line by line.
-use Rattle.std.proofs.Common.{◌+◌, sym, subst, List, arith}
+use Rattle.std.proofs.Common.{ℕ, ◌+◌, sym, subst, List, arith}
 use Rattle.std.specs.Prelude.{All}
-use Rattle.mod_core.specs.declared.text.written.WrittenLine.{WrittenLine}
+use Rattle.std.specs.Borrow.{Bor}
 use Rattle.mod_core.specs.LineViews.{headers_of, forms_of}
 use Rattle.mod_core.specs.Keeping.{IsKept}
 use Rattle.mod_core.proofs.Settles.{kept_at, kept_behind, functions_start, functions_go_on, functions_stop_later, later_fits, functions_are_whole, functions_are_settled}
@@ -11,7 +11,7 @@ pub settle_function-requires-clause-kept : goal.settle_function-requires-clause-
 settle_function-requires-clause-kept c = kept_at c.args.lines.now c.loop-number.number _ c.loop-number-test.true c.requires.kept
 
 pub settle_function-requires-clause-each : goal.settle_function-requires-clause-each
-settle_function-requires-clause-each c = subst (λ (ls : List WrittenLine). All IsKept (forms_of ls)) (sym c.lines_behind-behind.ensures) (kept_behind c.args.lines.now (c.loop-number.number + 1) c.requires.kept)
+settle_function-requires-clause-each c = subst (λ (ls : List (Bor (List ℕ))). All IsKept (forms_of ls)) (sym c.lines_behind-behind.ensures) (kept_behind c.args.lines.now (c.loop-number.number + 1) c.requires.kept)
 
 pub loop-number-init : goal.loop-number-init
 loop-number-init c = functions_start c.args.names.now (headers_of c.args.functions.now) c.args.lines.now c.new-list.result c.new-list.ensures
