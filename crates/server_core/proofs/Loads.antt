@@ -1,16 +1,17 @@
 -- What a load of modules leaves: their instances behind those before, their versions, and a sound state.
-use Rattle.std.proofs.Common.{◌≡◌, ℕ, ◌-◌, drop, take, zero, suc, ◌+◌, ◌<◌, ◌≤◌, Bool, true, false, cond, nat_eq, List, [], ◌∷◌, ◌++◌, length, Option, Some, None, IfSome, IsSomeAnd, slice_get, All, refl, sym, ap, ◌∙◌, subst, arith, append-nil, append_assoc, length-append}
+use Rattle.std.proofs.Common.{◌≡◌, ℕ, ◌-◌, drop, take, zero, suc, ◌+◌, ◌<◌, ◌≤◌, Bool, true, false, cond, nat_eq, List, [], ◌∷◌, ◌++◌, length, Option, Some, None, IfSome, IsSomeAnd, slice_get, All, refl, sym, ap, ◌∙◌, inl, inr, arith, append-nil, append_assoc, length-append}
 use Rattle.std.proofs.lemmas.Bool.Decides.{nat_tests}
 use Rattle.std.proofs.lemmas.List.{drop_at, take_rest}
 use Rattle.std.proofs.lemmas.Option.{IfSome_then}
 use Rattle.mod_core.specs.declared.code.Module.{Module}
 use Rattle.mod_core.specs.Module.{IsModule}
 use Rattle.server_core.specs.declared.command.TheConstants.{MOST_INSTANCES}
-use Rattle.server_core.specs.ServerState.{Instance, ServerState, Versions, IsInstanceOf, IsSound, code_among, current_among, current_of, live_count, old_among, old_of}
-use Rattle.server_core.specs.CommandTable.{with_all, with_loaded, with_versions}
-use Rattle.server_core.specs.Rooms.{with_currents}
+use Rattle.server_core.specs.ServerState.{Instance, ServerState, Versions, IsDropped, IsInstanceOf, IsSound, code_among, current_of, live_count, old_of}
+use Rattle.server_core.specs.CommandTable.{with_all, with_loaded}
+use Rattle.server_core.specs.Rooms.{with_current, with_currents}
 use Rattle.server_core.specs.Tables.{numbered}
 use Rattle.server_core.proofs.CurrentCode.{live_after}
+use Rattle.server_core.proofs.Soundness.{IsFit, IsGone, at_some, instance_known, some_same, sound_versions, with_instance}
 
 -- serials below the first are those of no instance
 pub numbered_below : (n serial : ℕ) (ms : List Module) → serial < n → code_among (numbered n ms) serial ≡ None
@@ -37,14 +38,14 @@ numbered-append n (x ∷ xs) ys =
 
 -- the parts of a state after all loads
 pub with_all_parts : (s : ServerState) (ms : List Module)
-    → with_all s ms ≡ record { generation = s.generation; next_serial = s.next_serial + length ms; instances = s.instances ++ numbered s.next_serial ms; versions = with_currents s.versions s.next_serial ms }
+    → with_all s ms ≡ record s { next_serial = s.next_serial + length ms; instances = s.instances ++ numbered s.next_serial ms; versions = with_currents s.versions s.next_serial ms }
 with_all_parts s [] =
     let e : s.next_serial ≡ s.next_serial + 0 = omega arith in
-    λ i. record { generation = s.generation; next_serial = e i; instances = sym (append-nil s.instances) i; versions = s.versions }
+    λ i. record s { next_serial = e i; instances = sym (append-nil s.instances) i }
 with_all_parts s (m ∷ ms) =
     let e : (s.next_serial + 1) + length ms ≡ s.next_serial + suc (length ms) = omega arith in
     let is : (s.instances ++ record { serial = s.next_serial; code = m } ∷ []) ++ numbered (s.next_serial + 1) ms ≡ s.instances ++ numbered s.next_serial (m ∷ ms) = append_assoc s.instances _ (numbered (s.next_serial + 1) ms) in
-    with_all_parts (with_loaded s m) ms ∙ (λ i. record { generation = s.generation; next_serial = e i; instances = is i; versions = with_currents s.versions s.next_serial (m ∷ ms) })
+    with_all_parts (with_loaded s m) ms ∙ (λ i. record s { next_serial = e i; instances = is i; versions = with_currents s.versions s.next_serial (m ∷ ms) })
 
 -- the instances before a load are modules with serials before the next one, and so with the new one
 modules_push : (is : List Instance) (n : ℕ) (m : Module) (k : ℕ) → IfSome (code_among is k) (λ x. IsModule x × (k < n)) → IsModule m
@@ -83,84 +84,70 @@ instance_new (i ∷ is) n m P h holds = by (nat_eq i.serial n) (λ rest. instanc
     by true rest h = absurd (omega (arith, h.1))
     by false rest h = rest h
 
--- the current code after a module's versions were replaced
-current_set : (vs : List Versions) (new : Versions) (k : ℕ) → current_among (with_versions vs new) k ≡ cond (nat_eq k new.name) new.current (current_among vs k)
-current_set [] new k = refl
-current_set (v ∷ vs) new k = by (nat_eq new.name v.name) refl (current_set vs new k)
-  where
-    by : (b : Bool) → nat_eq new.name v.name ≡ b → current_among (with_versions vs new) k ≡ cond (nat_eq k new.name) new.current (current_among vs k)
-        → current_among (cond b (new ∷ vs) (v ∷ with_versions vs new)) k ≡ cond (nat_eq k new.name) new.current (cond (nat_eq k v.name) v.current (current_among vs k))
-    by true e ih = grind (arith, nat_tests)
-    by false e ih = grind (arith, nat_tests)
-
--- and the old code
-old_set : (vs : List Versions) (new : Versions) (k : ℕ) → old_among (with_versions vs new) k ≡ cond (nat_eq k new.name) new.old (old_among vs k)
-old_set [] new k = refl
-old_set (v ∷ vs) new k = by (nat_eq new.name v.name) refl (old_set vs new k)
-  where
-    by : (b : Bool) → nat_eq new.name v.name ≡ b → old_among (with_versions vs new) k ≡ cond (nat_eq k new.name) new.old (old_among vs k)
-        → old_among (cond b (new ∷ vs) (v ∷ with_versions vs new)) k ≡ cond (nat_eq k new.name) new.old (cond (nat_eq k v.name) v.old (old_among vs k))
-    by true e ih = grind (arith, nat_tests)
-    by false e ih = grind (arith, nat_tests)
-
--- what holds of either holds of the one that is chosen
-chosen : (b : Bool) (o p : Option ℕ) (P : ℕ → Type 0) → (b ≡ true → IfSome o P) → IfSome p P → IfSome (cond b o p) P
-chosen true o p P first second = first refl
-chosen false o p P first second = second
-
 -- an instance of a module stays one
-stays : (s : ServerState) (m : Module) (name : ℕ) (o : Option ℕ) → IfSome o (IsInstanceOf s name) → IfSome o (IsInstanceOf (with_loaded s m) name)
+stays : (s : ServerState) (m : Module) (name : ℕ) (o : Option ℕ) → IfSome o (IsInstanceOf s name) → IfSome o (IsInstanceOf (with_instance s m) name)
 stays s m name o h = IfSome_then o h (λ k at. instance_kept s.instances (record { serial = s.next_serial; code = m } ∷ []) k (λ x. x.name.0 ≡ name) at)
 
--- the versions after a load are instances of their modules
-current_loaded : (s : ServerState) (m : Module) → IsSound s → (name : ℕ) → IfSome (current_of (with_loaded s m) name) (IsInstanceOf (with_loaded s m) name)
-current_loaded s m sound name =
-    let P : Option ℕ → Type 0 = λ o. IfSome o (IsInstanceOf (with_loaded s m) name) in
-    subst P (sym (current_set s.versions (record { name = m.name.0; current = Some s.next_serial; old = current_of s m.name.0 }) name))
-    (chosen (nat_eq name m.name.0) (Some s.next_serial) (current_of s name) (IsInstanceOf (with_loaded s m) name)
-    (λ e. instance_new s.instances s.next_serial m (λ x. x.name.0 ≡ name) (sound.modules s.next_serial) (grind (arith, nat_tests)))
-    (stays s m name (current_of s name) (sound.current name)))
+-- an area that was dropped stays one
+dropped_stays : (s : ServerState) (m : Module) (serial : ℕ) → IsDropped s serial → IsDropped (with_instance s m) serial
+dropped_stays s m serial d = record { known = omega (arith, d.known); not_current = d.not_current; not_old = d.not_old }
 
-old_loaded : (s : ServerState) (m : Module) → IsSound s → (name : ℕ) → IfSome (old_of (with_loaded s m) name) (IsInstanceOf (with_loaded s m) name)
-old_loaded s m sound name =
-    let P : Option ℕ → Type 0 = λ o. IfSome o (IsInstanceOf (with_loaded s m) name) in
-    subst P (sym (old_set s.versions (record { name = m.name.0; current = Some s.next_serial; old = current_of s m.name.0 }) name))
-    (chosen (nat_eq name m.name.0) (current_of s m.name.0) (old_of s name) (IsInstanceOf (with_loaded s m) name)
-    (λ e. let same : m.name.0 ≡ name = grind (arith, nat_tests) in
-    subst (λ n. IfSome (current_of s m.name.0) (IsInstanceOf (with_loaded s m) n)) same (stays s m m.name.0 (current_of s m.name.0) (sound.current m.name.0)))
-    (stays s m name (old_of s name) (sound.old name)))
-
--- one load keeps a state sound
-sound_loaded : (s : ServerState) (m : Module) → IsSound s → IsModule m → live_count s.versions < MOST_INSTANCES → IsSound (with_loaded s m)
-sound_loaded s m sound module_sound place = record {
+-- one more instance keeps a state sound
+sound_instance : (s : ServerState) (m : Module) → IsSound s → IsModule m → IsSound (with_instance s m)
+sound_instance s m sound module_sound = record {
   modules = λ serial. modules_push s.instances s.next_serial m serial (sound.modules serial) module_sound;
-  current = current_loaded s m sound;
-  old = old_loaded s m sound;
-  live = omega (arith, live_after s.versions m.name.0 s.next_serial);
+  current = λ name. stays s m name (current_of s name) (sound.current name);
+  old = λ name. stays s m name (old_of s name) (sound.old name);
+  apart = sound.apart;
+  one_doomed = sound.one_doomed;
+  doomed = sound.doomed;
+  retired = λ serial h. dropped_stays s m serial (sound.retired serial h);
+  released = λ serial h. dropped_stays s m serial (sound.released serial h);
+  live = sound.live;
 }
 
--- and so do all of them
-pub sound_all : (s : ServerState) (ms : List Module) → IsSound s → All IsModule ms → live_count s.versions + length ms ≤ MOST_INSTANCES → IsSound (with_all s ms)
-sound_all s [] sound modules places = sound
-sound_all s (m ∷ ms) sound modules places =
-    sound_all (with_loaded s m) ms (sound_loaded s m sound (modules 0 m (omega arith)) (omega arith)) (λ k d h. modules (suc k) d (omega arith)) (omega (arith, live_after s.versions m.name.0 s.next_serial))
+-- an instance that came in has a serial below the next one
+some_known : (s : ServerState) (name serial : ℕ) → IsSound s → current_of s name ≡ Some serial → serial < s.next_serial
+some_known s name serial sound e = instance_known s sound name serial (at_some (IsInstanceOf s name) (current_of s name) serial e (sound.current name))
 
--- the state that a server's tables show once the modules came in
-pub brought_in : (generation next : ℕ) (items staged all : List Module) (vs after : List Versions) (s : ServerState)
-    → (let shown : ServerState = record { generation = generation; next_serial = length items + 1; instances = numbered 1 items; versions = vs } in shown ≡ s)
+gone_known : (s : ServerState) (serial : ℕ) → IsSound s → IsGone s serial → IsDropped s serial
+gone_known s serial sound (inl h) = sound.retired serial h
+gone_known s serial sound (inr h) = sound.released serial h
+
+-- the new instance as current code, and what was current as old
+loaded_fits : (s : ServerState) (m : Module) → IsSound s → IsFit (with_instance s m) (record { name = m.name.0; current = Some s.next_serial; old = current_of s m.name.0 })
+loaded_fits s m sound = record {
+  current = instance_new s.instances s.next_serial m (λ x. x.name.0 ≡ m.name.0) (sound.modules s.next_serial) refl;
+  old = stays s m m.name.0 (current_of s m.name.0) (sound.current m.name.0);
+  apart = λ serial c o. let known = some_known s m.name.0 serial sound o in absurd (omega (arith, known, some_same s.next_serial serial c));
+  current_stands = λ serial gone c. let d = gone_known s serial sound gone in absurd (omega (arith, d.known, some_same s.next_serial serial c));
+  old_stands = λ serial gone. (gone_known s serial sound gone).not_current m.name.0;
+}
+
+-- one load keeps a state sound
+sound_loaded : (s : ServerState) (m : Module) → IsSound s → s.doomed ≡ [] → IsModule m → live_count s.versions < MOST_INSTANCES → IsSound (with_loaded s m)
+sound_loaded s m sound rest module_sound place =
+    let room : live_count (with_current s.versions m.name.0 s.next_serial) ≤ MOST_INSTANCES = omega (arith, live_after s.versions m.name.0 s.next_serial) in
+    sound_versions (with_instance s m) (record { name = m.name.0; current = Some s.next_serial; old = current_of s m.name.0 }) (sound_instance s m sound module_sound) (loaded_fits s m sound) rest room
+
+-- and so do all of them
+pub sound_all : (s : ServerState) (ms : List Module) → IsSound s → s.doomed ≡ [] → All IsModule ms → live_count s.versions + length ms ≤ MOST_INSTANCES → IsSound (with_all s ms)
+sound_all s [] sound rest modules places = sound
+sound_all s (m ∷ ms) sound rest modules places =
+    sound_all (with_loaded s m) ms (sound_loaded s m sound rest (modules 0 m (omega arith)) (omega arith)) rest (λ k d h. modules (suc k) d (omega arith)) (omega (arith, live_after s.versions m.name.0 s.next_serial))
+
+-- the state that a server's tables show once the modules came in; what a load leaves alone is that of `other`
+pub brought_in : (generation next : ℕ) (items staged all : List Module) (vs after : List Versions) (other s : ServerState)
+    → record other { generation = generation; next_serial = length items + 1; instances = numbered 1 items; versions = vs } ≡ s
     → next ≡ generation + 1 → all ≡ items ++ staged → after ≡ with_currents vs (length items + 1) staged
-    → record (with_all s staged) { generation = (with_all s staged).generation + 1 } ≡ record { generation = next; next_serial = length all + 1; instances = numbered 1 all; versions = after }
-brought_in generation next items staged all vs after s shown gen appended put =
+    → record (with_all s staged) { generation = (with_all s staged).generation + 1 } ≡ record other { generation = next; next_serial = length all + 1; instances = numbered 1 all; versions = after }
+brought_in generation next items staged all vs after other s shown gen appended put =
     let publish : ServerState → ServerState = λ t. record t { generation = t.generation + 1 } in
     let serial : (length items + 1) + length staged ≡ length all + 1 = omega (arith, length-append items staged, ap length appended) in
     let first : length items + 1 ≡ 1 + length items = omega arith in
     let is : numbered 1 items ++ numbered (length items + 1) staged ≡ numbered 1 all = ap (λ k. numbered 1 items ++ numbered k staged) first ∙ sym (numbered-append 1 items staged) ∙ ap (numbered 1) (sym appended) in
-    ap publish (ap (λ t. with_all t staged) (sym shown) ∙ with_all_parts (record { generation = generation; next_serial = length items + 1; instances = numbered 1 items; versions = vs }) staged)
-    ∙ (λ i. record { generation = sym gen i; next_serial = serial i; instances = is i; versions = sym put i })
-
--- the number of the generation is no part of what makes a state sound
-pub sound_published : (s : ServerState) (generation : ℕ) → IsSound s → IsSound (record s { generation = generation })
-sound_published s generation sound = record { modules = sound.modules; current = sound.current; old = sound.old; live = sound.live }
+    ap publish (ap (λ t. with_all t staged) (sym shown) ∙ with_all_parts (record other { generation = generation; next_serial = length items + 1; instances = numbered 1 items; versions = vs }) staged)
+    ∙ (λ i. record other { generation = sym gen i; next_serial = serial i; instances = is i; versions = sym put i })
 
 -- the versions after the modules at the end of a list came in
 pub currents_added : (items staged all : List Module) (before : ℕ) (old vs after : List Versions) → before ≡ length items → all ≡ items ++ staged → vs ≡ old → after ≡ with_currents vs (before + 1) (take (length all - before) (drop before all))

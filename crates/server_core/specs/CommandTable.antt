@@ -1,6 +1,7 @@
 -- The command table: for each command the first case that holds decides the reply, the new state and whether it is published.
 -- Source: the manual pages `code` and `erlang`; the order of the cases and the limit are this project's own.
-use Rattle.std.specs.Prelude.{◌≡◌, ℕ, ◌+◌, ◌<◌, ◌&&◌, ◌==◌, nat_lt, List, [], ◌∷◌, ◌++◌, length, map, filter, find, Option, Some, None, is_some, option_and_then, option_map, slice_get, All, if◌then◌else◌}
+use Rattle.std.specs.Prelude.{◌≡◌, ℕ, ◌+◌, ◌<◌, ◌&&◌, ◌==◌, nat_lt, Bool, not, List, [], ◌∷◌, ◌++◌, length, map, filter, find, Option, Some, None, is_some, is_none, option_and_then, option_map, slice_get, All, if◌then◌else◌}
+use Rattle.std.specs.Bool.{beq}
 use Rattle.std.specs.List.{list_any}
 use Rattle.term_core.specs.declared.atom.AtomId.{AtomId}
 use Rattle.mod_core.specs.declared.code.Module.{Module}
@@ -8,12 +9,13 @@ use Rattle.mod_core.specs.Module.{IsModule}
 use Rattle.server_core.specs.declared.command.TheConstants.{MOST_INSTANCES}
 use Rattle.server_core.specs.declared.command.ModRef.{ModRef}
 use Rattle.server_core.specs.declared.command.Cmd.{Cmd}
-use Rattle.server_core.specs.declared.command.Cmd.TheVariants.{Load, Spawn}
+use Rattle.server_core.specs.declared.command.Cmd.TheVariants.{Load, Delete, SoftPurge, Doom, Purge, CheckOld, Trace, Spawn, Release}
+use Rattle.server_core.specs.declared.command.Linger.{Linger}
 use Rattle.server_core.specs.declared.command.Limit.TheVariants.{Instances}
 use Rattle.server_core.specs.declared.command.Reply.{Reply}
 use Rattle.server_core.specs.declared.command.Reply.TheVariants as replies
 use Rattle.server_core.specs.declared.command.Applied.{Applied}
-use Rattle.server_core.specs.ServerState.{ServerState, Versions, current_of, old_of, live_count}
+use Rattle.server_core.specs.ServerState.{ServerState, Entry, Versions, current_of, old_of, live_count, is_traced, is_doomed, is_retired, is_same_entry, traceable_of}
 
 -- the modules that can be loaded: each is one, and no two agree in name and version
 pub record AreTexts (texts : List Module) : Type 0 where
@@ -94,7 +96,81 @@ loaded s refs modules (Some name) = unchanged s (replies.Duplicated name)
 abbrev pub load_of : List Module → ServerState → List ModRef → Option Outcome
 load_of texts s refs = option_map (λ modules. loaded s refs modules (repeated_after [] (names_of refs))) (texts_of texts refs)
 
+-- a reply of yes or no
+abbrev pub answered : Bool → Reply
+answered says = if says then replies.True else replies.False
+
+-- what is current becomes old, and there is no current code
+abbrev pub with_deleted : ServerState → ℕ → ServerState
+with_deleted s name = record s { versions = with_versions s.versions (record { name = name; current = None; old = current_of s name }) }
+
+-- a delete: nothing changes where there is old code, or no current
+abbrev pub delete_of : ServerState → ℕ → Outcome
+delete_of s name = if is_some (old_of s name) then unchanged s replies.False else if is_none (current_of s name) then unchanged s replies.False else published (with_deleted s name) replies.True
+
+-- serials without this one
+abbrev pub without_number : ℕ → List ℕ → List ℕ
+without_number serial serials = filter (λ n. not (n == serial)) serials
+
+-- a module's old code is dropped: its area is retired, and its breakpoints go with it
+abbrev pub with_dropped : ServerState → ℕ → ℕ → ServerState
+with_dropped s name serial =
+    record s {
+      versions = with_versions s.versions (record { name = name; current = current_of s name; old = None });
+      traced = filter (λ e. not (e.serial == serial)) s.traced;
+      retired = s.retired ++ serial ∷ [];
+    }
+
+-- the same, at the end of a purge: it is doomed no more
+abbrev pub with_purged : ServerState → ℕ → ℕ → ServerState
+with_purged s name serial = record (with_dropped s name serial) { doomed = without_number serial s.doomed }
+
+-- a soft purge, by the old code of its module: what a process does that lingers in it enters as an argument
+abbrev pub soft_purge_of : ServerState → ℕ → Option Linger → Option ℕ → Option Outcome
+soft_purge_of s name None None = Some (unchanged s replies.True)
+soft_purge_of s name None (Some serial) = Some (published (with_dropped s name serial) replies.True)
+soft_purge_of s name (Some linger) None = None
+soft_purge_of s name (Some linger) (Some serial) = Some (unchanged s (replies.FalseBy linger))
+
+-- the old code of a module is doomed: from now on a process that stands in it ends
+abbrev pub doom_of : ServerState → Option ℕ → Option Outcome
+doom_of s None = None
+doom_of s (Some serial) = Some (published (record s { doomed = s.doomed ++ serial ∷ [] }) replies.Ok)
+
+-- nothing but the purge of what is doomed, spawns, looks for old code and releases have a case while an instance is doomed
+abbrev pub while_none_doomed : {A : Type 0} → ServerState → Option A → Option A
+while_none_doomed s outcome = if nat_lt 0 (length s.doomed) then None else outcome
+
+-- a purge, by the old code of its module: where there is none, nobody was killed; else the code is doomed and goes
+abbrev pub purge_of : ServerState → ℕ → Bool → Option ℕ → Option Outcome
+purge_of s name killed None = if killed then None else while_none_doomed s (Some (unchanged s replies.False))
+purge_of s name killed (Some serial) = if is_doomed s serial then Some (published (with_purged s name serial) (answered killed)) else None
+
+-- a breakpoint is set, or taken away
+abbrev pub with_trace : ServerState → Entry → Bool → ServerState
+with_trace s e on = record s { traced = if on then s.traced ++ e ∷ [] else filter (λ other. not (is_same_entry e other)) s.traced }
+
+-- a trace, by the function that it names: nothing changes where it is already as asked
+abbrev pub trace_of : ServerState → Bool → Option Entry → Outcome
+trace_of s on None = unchanged s replies.False
+trace_of s on (Some e) = if beq (is_traced s e) on then unchanged s replies.True else published (with_trace s e on) replies.True
+
+-- an area that no process names is retired no more
+abbrev pub with_released : ServerState → ℕ → ServerState
+with_released s serial = record s { retired = without_number serial s.retired; released = s.released ++ serial ∷ [] }
+
+-- a release: only of what is retired
+abbrev pub release_of : ServerState → ℕ → Option Outcome
+release_of s serial = if is_retired s serial then Some (unchanged (with_released s serial) replies.Ok) else None
+
 -- what the command gives in this state, with these texts to load from; none where no case holds
 abbrev pub apply_of : List Module → ServerState → Cmd → Option Outcome
-apply_of texts s (Load refs) = load_of texts s refs
+apply_of texts s (Load refs) = while_none_doomed s (load_of texts s refs)
+apply_of texts s (Delete name) = while_none_doomed s (Some (delete_of s name.0))
+apply_of texts s (SoftPurge name lingers) = while_none_doomed s (soft_purge_of s name.0 lingers (old_of s name.0))
+apply_of texts s (Doom name) = while_none_doomed s (doom_of s (old_of s name.0))
+apply_of texts s (Purge name killed) = purge_of s name.0 killed (old_of s name.0)
+apply_of texts s (CheckOld name) = Some (unchanged s (answered (is_some (old_of s name.0))))
+apply_of texts s (Trace target on) = while_none_doomed s (Some (trace_of s on (traceable_of s target)))
 apply_of texts s (Spawn target args) = Some (unchanged s replies.Ok)
+apply_of texts s (Release serial) = release_of s serial

@@ -1,6 +1,7 @@
--- The state of the code server: per module a current and an old instance, and the module of each instance.
--- Source: the manual page `code`, and erts internal documentation, CodeLoading. Plain lists; the code has tables, and later blocks.
-use Rattle.std.specs.Prelude.{◌≡◌, ℕ, ◌+◌, ◌<◌, ◌≤◌, Bool, ◌&&◌, ◌==◌, List, [], ◌∷◌, drop, Option, Some, None, is_some, IfSome, IsSomeAnd, option_map, option_and_then, slice_get, position, if◌then◌else◌}
+-- The state of the code server: per module a current and an old instance, the module of each instance, and what is traced, doomed, retired and released.
+-- Source: the manual page `code`, and erts internal documentation, CodeLoading and Tracing. Plain lists; the code has tables, and later blocks.
+use Rattle.std.specs.Prelude.{◌≡◌, ℕ, ◌+◌, ◌<◌, ◌≤◌, Bool, ◌&&◌, ◌==◌, ◌≢◌, IsTrue, List, [], ◌∷◌, drop, length, Option, Some, None, is_some, IfSome, IsSomeAnd, option_map, option_and_then, slice_get, position, if◌then◌else◌}
+use Rattle.std.specs.List.{list_any}
 use Rattle.term_core.specs.declared.area.CodeRef.{CodeRef}
 use Rattle.term_core.specs.declared.atom.Mfa.{Mfa}
 use Rattle.mod_core.specs.declared.code.Function.{Function}
@@ -20,6 +21,11 @@ pub record Versions : Type 0 where
   pub current : Option ℕ
   pub old : Option ℕ
 
+-- a function of an instance: its serial, and the function's place in the module, counted from 0
+pub record Entry : Type 0 where
+  pub serial : ℕ
+  pub function : ℕ
+
 -- the state of the server after so many generations
 pub record ServerState : Type 0 where
   pub generation : ℕ
@@ -28,10 +34,18 @@ pub record ServerState : Type 0 where
   pub instances : List Instance
   -- one for each module that was ever loaded, in the order of their first load
   pub versions : List Versions
+  -- the functions with a breakpoint, the newest last; they stay traced while their instance is old
+  pub traced : List Entry
+  -- the old instance that is being purged, if one is: processes that stand in it are to end
+  pub doomed : List ℕ
+  -- the areas that were dropped and that a process may still name, in the order in which they were dropped
+  pub retired : List ℕ
+  -- the areas that were dropped and that no process names, in the order of their release
+  pub released : List ℕ
 
 -- generation 0: nothing is loaded
 abbrev pub empty_state : ServerState
-empty_state = record { generation = 0; next_serial = 1; instances = []; versions = [] }
+empty_state = record { generation = 0; next_serial = 1; instances = []; versions = []; traced = []; doomed = []; retired = []; released = [] }
 
 -- the current code of a module among these
 abbrev pub current_among : List Versions → ℕ → Option ℕ
@@ -64,11 +78,6 @@ code_of s serial = code_among s.instances serial
 abbrev pub is_export : Mfa → Function → Bool
 is_export to f = f.exported && (f.name.0 == to.name.0 && f.arity == to.arity)
 
--- a function of an instance: its serial, and the function's place in the module, counted from 0
-pub record Entry : Type 0 where
-  pub serial : ℕ
-  pub function : ℕ
-
 -- the place of the function that a module exports under a name and arity
 abbrev pub export_of : Module → Mfa → Option ℕ
 export_of m to = position (is_export to) m.functions
@@ -81,6 +90,39 @@ entry_of at = record { serial = at.area.serial; function = at.function }
 abbrev pub dispatch_of : ServerState → Mfa → Option Entry
 dispatch_of s to =
     option_and_then (λ serial. option_and_then (λ m. option_map (λ i. record { serial = serial; function = i }) (export_of m to)) (code_of s serial)) (current_of s to.«module».0)
+
+-- whether a serial is among these
+abbrev pub is_serial_in : List ℕ → ℕ → Bool
+is_serial_in serials serial = list_any (λ n. n == serial) serials
+
+-- whether two functions of instances are one
+abbrev pub is_same_entry : Entry → Entry → Bool
+is_same_entry e other = e.serial == other.serial && e.function == other.function
+
+-- whether a function of an instance has a breakpoint
+abbrev pub is_traced : ServerState → Entry → Bool
+is_traced s e = list_any (is_same_entry e) s.traced
+
+-- whether an instance is being purged, so that a process that stands in it ends
+abbrev pub is_doomed : ServerState → ℕ → Bool
+is_doomed s serial = is_serial_in s.doomed serial
+
+-- whether an area was dropped and not released
+abbrev pub is_retired : ServerState → ℕ → Bool
+is_retired s serial = is_serial_in s.retired serial
+
+-- whether a function has this name and arity
+abbrev pub is_named : Mfa → Function → Bool
+is_named to f = f.name.0 == to.name.0 && f.arity == to.arity
+
+-- the place of the function with this name and arity in a module, exported or local
+abbrev pub function_named : Module → Mfa → Option ℕ
+function_named m to = position (is_named to) m.functions
+
+-- what a breakpoint at m:f/a is set on: the function, exported or local, of the current code of m
+abbrev pub traceable_of : ServerState → Mfa → Option Entry
+traceable_of s to =
+    option_and_then (λ serial. option_and_then (λ m. option_map (λ i. record { serial = serial; function = i }) (function_named m to)) (code_of s serial)) (current_of s to.«module».0)
 
 -- the words of an instance: its module's image with its serial in the first word
 abbrev pub instance_image : ℕ → Module → List ℕ
@@ -103,9 +145,24 @@ live_count (v ∷ vs) = live_of v + live_count vs
 abbrev pub IsInstanceOf : ServerState → ℕ → ℕ → Type 0
 IsInstanceOf s name serial = IsSomeAnd (code_of s serial) (λ m. m.name.0 ≡ name)
 
+-- an area that was dropped: its serial is of an instance that came in, and that is no module's current or old code
+pub record IsDropped (s : ServerState) (serial : ℕ) : Type 0 where
+  pub known : serial < s.next_serial
+  pub not_current : (name : ℕ) → current_of s name ≢ Some serial
+  pub not_old : (name : ℕ) → old_of s name ≢ Some serial
+
+-- the instance with this serial is the old code of some module
+abbrev pub IsOldCode : ServerState → ℕ → Type 0
+IsOldCode s serial = (name : ℕ) × (old_of s name ≡ Some serial)
+
 -- what every state of the server keeps
 pub record IsSound (s : ServerState) : Type 0 where
   pub modules : (serial : ℕ) → IfSome (code_of s serial) (λ m. IsModule m × (serial < s.next_serial))
   pub current : (name : ℕ) → IfSome (current_of s name) (IsInstanceOf s name)
   pub old : (name : ℕ) → IfSome (old_of s name) (IsInstanceOf s name)
+  pub apart : (name serial : ℕ) → current_of s name ≡ Some serial → old_of s name ≢ Some serial
+  pub one_doomed : length s.doomed ≤ 1
+  pub doomed : (serial : ℕ) → IsTrue (is_doomed s serial) → IsOldCode s serial
+  pub retired : (serial : ℕ) → IsTrue (is_retired s serial) → IsDropped s serial
+  pub released : (serial : ℕ) → IsTrue (is_serial_in s.released serial) → IsDropped s serial
   pub live : live_count s.versions ≤ MOST_INSTANCES

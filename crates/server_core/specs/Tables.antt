@@ -1,5 +1,6 @@
 -- What contracts see of a server: its tables as the plain state.
 use Rattle.std.specs.Prelude.{ℕ, ◌+◌, List, [], ◌∷◌, length}
+use Rattle.std.specs.Option.{option_to_list}
 use Rattle.mod_core.specs.declared.code.Module.{Module}
 use Rattle.server_core.specs.ServerState.{Instance, ServerState, IsSound}
 use Rattle.server_core.specs.declared.server.Server.TheInside.{Inside}
@@ -17,6 +18,10 @@ state_of s =
       next_serial = length s.instances.items + 1;
       instances = numbered 1 s.instances.items;
       versions = s.versions.versions;
+      traced = s.traced;
+      doomed = option_to_list s.doomed;
+      retired = s.retired;
+      released = s.released;
     }
 
 -- the tables hold a sound state

@@ -18,8 +18,41 @@ pub type RefList = Items<ModRef>;
 pub enum Cmd {
     /// The modules come in at once, each as the current code of its name.
     Load(RefList),
+    /// The module's current code becomes old.
+    Delete(AtomId),
+    /// The module's old code goes, unless a process lingers in it.
+    SoftPurge {
+        module: AtomId,
+        lingers: Option<Linger>,
+    },
+    /// The module's old code is to go: a process that stands in it ends.
+    Doom(AtomId),
+    /// The module's doomed code goes. A process was killed by it, or none.
+    Purge {
+        module: AtomId,
+        killed: bool,
+    },
+    /// Whether the module has old code.
+    CheckOld(AtomId),
+    /// A breakpoint in the current code is set, or taken away.
+    Trace {
+        target: Mfa,
+        on: bool,
+    },
     /// A process that will enter the function with these arguments.
-    Spawn { target: Mfa, args: TermList },
+    Spawn {
+        target: Mfa,
+        args: TermList,
+    },
+    /// The area with this serial, which no process names, is given back.
+    Release(u64),
+}
+
+/// A process that stands in old code, and how many turns it has had.
+#[derive(Clone, Copy, Debug, PartialEq, Eq)]
+pub struct Linger {
+    pub process: u32,
+    pub turn: u32,
 }
 
 /// A limit of the server that a command met.
@@ -33,6 +66,10 @@ pub enum Limit {
 #[derive(Debug, Drop)]
 pub enum Reply {
     Ok,
+    True,
+    False,
+    /// This process lingers in the old code.
+    FalseBy(Linger),
     /// These modules still have old code, in the order of the list.
     NotPurged(AtomList),
     /// This is the first module that stands in the list again.

@@ -4,7 +4,8 @@ use term_core::NoMemory;
 /// Why a command was not made. The server is then as before.
 #[derive(Clone, Copy, Debug, PartialEq, Eq)]
 pub enum ApplyFault {
-    /// The command table has no case for the command: its text is not given.
+    /// The command table has no case for the command here, as for a load of a text that is not given,
+    /// or for the doom of a module that has no old code.
     NotEnabled,
     /// Memory was refused. No clause says when.
     NoMemory,

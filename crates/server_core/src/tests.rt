@@ -9,10 +9,10 @@ use std::process::Abort;
 use std::test::Fail;
 use term_core::{AreaRef, AtomId, Mfa, NoMemory, TermList};
 
-const MAIN: AtomId = AtomId(900);
+pub const MAIN: AtomId = AtomId(900);
 
-// A module of one function, the exported `main/1`.
-fn text(alloc: Global, name: u32, version: u32) -> Result<Module, NoMemory>
+// A module of one function, `main/1`.
+fn text(alloc: Global, name: u32, version: u32, exported: bool) -> Result<Module, NoMemory>
     requires numbered { name < 4096 }
     requires least { 1 ≤ version }
     requires greatest { version ≤ 999999 }
@@ -28,7 +28,7 @@ fn text(alloc: Global, name: u32, version: u32) -> Result<Module, NoMemory>
     functions.push(Function {
         name: MAIN,
         arity: 1,
-        exported: true,
+        exported,
         code,
     })?;
     Ok(Module {
@@ -38,19 +38,20 @@ fn text(alloc: Global, name: u32, version: u32) -> Result<Module, NoMemory>
     })
 }
 
-// The versions 1, 2 and 3 of the modules whose atoms have the numbers 3, 4, 5 and so on.
-fn texts(alloc: Global, count: u32) -> Result<ModuleList, NoMemory>
+// The versions 1, 2 and 3 of the modules whose atoms have the numbers 3, 4, 5 and so on. `main/1` is
+// local in version 3, and exported in the others.
+pub fn texts(alloc: Global, count: u32) -> Result<ModuleList, NoMemory>
     requires { count < 1000 }
     ensures { IfOk result AreTexts }
 {
     let mut texts = ModuleList::new(alloc);
     for k in 0..count {
-        texts.push(text(alloc, 3 + k / 3, 1 + k % 3)?)?;
+        texts.push(text(alloc, 3 + k / 3, 1 + k % 3, k % 3 != 2)?)?;
     }
     Ok(texts)
 }
 
-fn load_of(alloc: Global, refs: &[(u32, u32)]) -> Result<Cmd, NoMemory> {
+pub fn load_of(alloc: Global, refs: &[(u32, u32)]) -> Result<Cmd, NoMemory> {
     let mut list = RefList::new(alloc);
     for (name, version) in refs {
         list.push(ModRef {
@@ -74,6 +75,9 @@ fn names_text(alloc: Global, word: &str, names: &[AtomId]) -> Result<String, Fai
 fn applied_text(alloc: Global, applied: &Applied) -> Result<String, Fail> {
     let reply = match &applied.reply {
         Reply::Ok => names_text(alloc, "ok", &[])?,
+        Reply::True => names_text(alloc, "true", &[])?,
+        Reply::False => names_text(alloc, "false", &[])?,
+        Reply::FalseBy(by) => format!(in alloc; "false by {}.{}", by.process, by.turn)?,
         Reply::NotPurged(names) => names_text(alloc, "not_purged", names.as_slice())?,
         Reply::Duplicated(name) => names_text(alloc, "duplicated", &[*name])?,
         Reply::SystemLimit(Limit::Instances) => names_text(alloc, "system_limit instances", &[])?,
@@ -85,7 +89,7 @@ fn applied_text(alloc: Global, applied: &Applied) -> Result<String, Fail> {
     }
 }
 
-fn answer_text(alloc: Global, answer: Result<Applied, ApplyFault>) -> Result<String, Fail> {
+pub fn answer_text(alloc: Global, answer: Result<Applied, ApplyFault>) -> Result<String, Fail> {
     match answer {
         Ok(applied) => applied_text(alloc, &applied),
         Err(ApplyFault::NotEnabled) => Ok(String::from_str(alloc, "not enabled")?),
@@ -212,7 +216,7 @@ fn a_spawn_changes_nothing(rt: HostRuntime) -> Result<(), Fail> {
     Ok(())
 }
 
-fn main_of(name: u32) -> Mfa {
+pub fn main_of(name: u32) -> Mfa {
     Mfa {
         module: AtomId(name),
         name: MAIN,

@@ -1,5 +1,5 @@
-ghost use Rattle.std.specs.Prelude.{◌≡◌, ◌+◌, ◌<◌, ◌≤◌, [], OnOk, is_some, option_and_then};
-ghost use Rattle.server_core.specs.Rooms.{with_current};
+ghost use Rattle.std.specs.Prelude.{◌≡◌, ◌+◌, ◌<◌, ◌≤◌, [], None, OnOk, IsSome, is_some, option_and_then};
+ghost use Rattle.server_core.specs.Rooms.{with_current, with_made_old, without_old};
 ghost use Rattle.server_core.specs.ServerState.{current_among, live_count, old_among};
 
 use crate::command::MOST_INSTANCES;
@@ -91,6 +91,33 @@ impl VersionTable {
         if !has_old(previous) {
             self.live += 1;
         }
+    }
+
+    /// What is current is old, and there is no current code.
+    pub fn make_old(&mut self, module: AtomId)
+        requires current { IsSome (current_among self.old.versions «module».0) }
+        requires old { old_among self.old.versions «module».0 ≡ None }
+        ensures { self.new.versions ≡ with_made_old self.old.versions «module».0 }
+    {
+        let was_current = self.current(module);
+        let serials = Serials {
+            current: None,
+            old: was_current,
+        };
+        self.serials.insert(module.0, serials).unwrap();
+    }
+
+    /// The old code is gone.
+    pub fn drop_old(&mut self, module: AtomId)
+        requires { IsSome (old_among self.old.versions «module».0) }
+        ensures { self.new.versions ≡ without_old self.old.versions «module».0 }
+    {
+        let serials = Serials {
+            current: self.current(module),
+            old: None,
+        };
+        self.serials.insert(module.0, serials).unwrap();
+        self.live -= 1;
     }
 }
 
