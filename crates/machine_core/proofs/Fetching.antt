@@ -74,7 +74,8 @@ words_stand s f n =
     let i = numbered-placed (function_place n.m f.function) n.function.code n.number ∙ sym n.instr in
     subst (λ j. StandsAt (instr_words j) (module_image n.m) f.place) i (subst (StandsAt (instr_words (numbered (placed_code (function_place n.m f.function) n.function.code) n.number)) (module_image n.m)) (sym n.place) at)
 
-sound_function : (fs all : List Function) (k : ℕ) (f : Function) → All (IsFunction all) fs → slice_get fs k ≡ Some f → IsFunction all f
+-- each function of a module is one
+pub sound_function : (fs all : List Function) (k : ℕ) (f : Function) → All (IsFunction all) fs → slice_get fs k ≡ Some f → IsFunction all f
 sound_function [] all k f h e = absurd (cc)
 sound_function (g ∷ fs) all zero f h e = let k : g ≡ f = cc in subst (IsFunction all) k (h 0 g (omega arith))
 sound_function (g ∷ fs) all (suc k) f h e = sound_function fs all k f (λ j d l. h (suc j) d (omega arith)) e

@@ -14,7 +14,7 @@ use Rattle.machine_core.specs.declared.process.TheConstants.{MOST_FRAMES, MOST_T
 use Rattle.machine_core.specs.declared.process.Value.{Value}
 use Rattle.machine_core.specs.Holds.{Holds, IsIncreasing, area_count, is_among, is_full, other_areas, with_hold, with_serial}
 use Rattle.machine_core.specs.Process.{PlainFrame, PlainProcess, first_registers, frame_names, names_of, owned_values}
-use Rattle.machine_core.specs.Turn.{Step, goes_on, yields, ends, after_step, begun, branched, called, called_by_name, called_out, computed, difference_of, executed, frame_at, instr_at, is_same, less_of, moved_past, operand_term, ran_of, returned, run_of, stacked, step_of, sum_of, tested, turn_of, value_of}
+use Rattle.machine_core.specs.Turn.{Step, goes_on, yields, ends, after_step, begun, branched, called, called_by_name, called_out, computed, difference_of, doomed_serial, executed, frame_at, instr_at, is_same, less_of, moved_past, operand_term, ran_of, ran_unless_doomed, returned, run_of, stacked, step_of, sum_of, tested, trace_of, turn_of, value_of}
 use Rattle.machine_core.specs.Stand.{AreHeld}
 use Rattle.machine_core.proofs.Pausing.{all_held, frame_serials}
 use Rattle.machine_core.proofs.Placing.{held_first, held_more}
@@ -48,20 +48,20 @@ module _ (s : ServerState) where
   KeepsFew held (yields frames) = AreHeld held frames
   KeepsFew held (ends end) = Unit {0}
 
-  stacked_few : (frames : List PlainFrame) (held : Holds) (e : Entry) (back : ℕ) (registers : List Value) (b c : Bool) → is_full held e.serial ≡ c → IsFew held → AreHeld held frames →
-      KeepsFew held (stacked frames held e.serial (if b then None else if c then None else Some (frame_at s e back registers)))
+  stacked_few : (frames : List PlainFrame) (held : Holds) (e : Entry) (back : ℕ) (registers : List Value) (line : List Line) (b c : Bool) → is_full held e.serial ≡ c → IsFew held → AreHeld held frames →
+      KeepsFew held (stacked frames held e.serial line (if b then None else if c then None else Some (frame_at s e back registers)))
   unfolding KeepsFew
-  stacked_few frames held e back registers true c full f h = tt
-  stacked_few frames held e back registers false true full f h = tt
-  stacked_few frames held e back registers false false full f h = (with_few held e.serial f full, (held_first s held e.serial, held_more s held e.serial frames h))
+  stacked_few frames held e back registers line true c full f h = tt
+  stacked_few frames held e back registers line false true full f h = tt
+  stacked_few frames held e back registers line false false full f h = (with_few held e.serial f full, (held_first s held e.serial, held_more s held e.serial frames h))
 
-  called_few : (frames : List PlainFrame) (held : Holds) (e : Entry) (back : ℕ) (args : List Value) → IsFew held → AreHeld held frames → KeepsFew held (called s frames held e back args)
-  called_few frames held e back args f h = stacked_few frames held e back (first_registers args) (nat_le MOST_FRAMES (length frames)) (is_full held e.serial) refl f h
+  called_few : (frames : List PlainFrame) (held : Holds) (e : Entry) (to : Mfa) (back : ℕ) (args : List Value) → IsFew held → AreHeld held frames → KeepsFew held (called s frames held e to back args)
+  called_few frames held e to back args f h = stacked_few frames held e back (first_registers args) (trace_of s e to args) (nat_le MOST_FRAMES (length frames)) (is_full held e.serial) refl f h
 
   by_name_few : (frames : List PlainFrame) (held : Holds) (to : Mfa) (back : ℕ) (args : List Value) (o : Option Entry) → IsFew held → AreHeld held frames → KeepsFew held (called_by_name s frames held to back args o)
   unfolding KeepsFew
   by_name_few frames held to back args None f h = tt
-  by_name_few frames held to back args (Some e) f h = called_few frames held e back args f h
+  by_name_few frames held to back args (Some e) f h = called_few frames held e to back args f h
 
   out_few : (frames : List PlainFrame) (held : Holds) (to : Mfa) (back : ℕ) (args : List Value) → IsFew held → AreHeld held frames → KeepsFew held (called_out s frames held to back args)
   out_few frames held to back args f h = by_name_few frames held to back args (dispatch_of s to) f h
@@ -93,7 +93,7 @@ module _ (s : ServerState) where
   executed_few f below held (instrs.Eq a b target) few h = tested_few f below held (instrs.Eq a b target) target (Ok (is_same (operand_term f a) (operand_term f b))) few h
   executed_few f below held (instrs.Less a b target) few h = tested_few f below held (instrs.Less a b target) target (less_of (operand_term f a) (operand_term f b)) few h
   executed_few f below held (instrs.Jump target) few h = (few, h)
-  executed_few f below held (instrs.Call function at) few h = called_few (moved_past f (instrs.Call function at) ∷ below) held (record { serial = f.serial; function = function }) at _ few h
+  executed_few f below held (instrs.Call function at) few h = called_few (moved_past f (instrs.Call function at) ∷ below) held (record { serial = f.serial; function = function }) _ at _ few h
   executed_few f below held (instrs.CallExt to at) few h = out_few (moved_past f (instrs.CallExt to at) ∷ below) held to at _ few h
   executed_few f below held (instrs.Ret value) few h = returned_few below held f.back (value_of f.registers value) few h.1
   executed_few f below held (instrs.Print value) few h = (few, h)
@@ -130,11 +130,16 @@ module _ (s : ServerState) where
   few_names : (p : PlainProcess) → area_count (names_of p) ≤ 16 → IsFew (names_of p)
   few_names p h = record { increasing = increasing-serials_of (frame_serials p.frames); none = refl; few = omega arith }
 
+  -- a turn that counts, whether its process stands in doomed code or not
+  unless_few : (p : PlainProcess) (o : Option ℕ) → area_count (names_of p) ≤ 16 → area_count (frame_names (ran_unless_doomed s p o).frames) ≤ 16
+  unless_few p None h =
+      after_few TURN_INSTRUCTIONS (names_of p) [] (begun s p.target p.args (names_of p) p.frames) (few_names p h)
+      (begun_few p.target p.args (names_of p) p.frames (few_names p h) (names_held p.frames)) (run_few TURN_INSTRUCTIONS)
+  unless_few p (Some serial) h = omega arith
+
   ran_few : (p : PlainProcess) (b : Bool) → (p.turns == MOST_TURNS) ≡ b → area_count (names_of p) ≤ 16 → area_count (frame_names (ran_of s p).frames) ≤ 16
   ran_few p true e h = rw e (omega arith)
-  ran_few p false e h =
-      rw e (after_few TURN_INSTRUCTIONS (names_of p) [] (begun s p.target p.args (names_of p) p.frames) (few_names p h)
-      (begun_few p.target p.args (names_of p) p.frames (few_names p h) (names_held p.frames)) (run_few TURN_INSTRUCTIONS))
+  ran_few p false e h = rw e (unless_few p (doomed_serial s p.frames) h)
 
   -- a turn leaves a process that names at most 16 areas
   pub turn_few : (p : PlainProcess) → area_count (names_of p) ≤ 16 → area_count (names_of (turn_of s p).process) ≤ 16

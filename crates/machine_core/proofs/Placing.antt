@@ -15,11 +15,12 @@ use Rattle.mod_core.proofs.Places.{numbered}
 use Rattle.server_core.specs.ServerState.{ServerState, Entry, IsSound, code_of, dispatch_of}
 use Rattle.machine_core.specs.declared.process.TheConstants.{MOST_FRAMES}
 use Rattle.machine_core.specs.declared.process.End.{End}
+use Rattle.machine_core.specs.declared.process.Line.{Line}
 use Rattle.machine_core.specs.declared.process.Value.{Value}
 use Rattle.machine_core.specs.Holds.{Holds, is_among, is_full, is_held, with_hold}
 use Rattle.machine_core.specs.View.{HasFunction}
 use Rattle.machine_core.specs.Process.{PlainFrame, first_registers}
-use Rattle.machine_core.specs.Turn.{ArePlaced, IsPlaced, Step, branched, called, called_by_name, called_out, code_at, computed, ends, executed, frame_at, goes_on, instr_at, is_same, less_of, difference_of, moved_past, operand_term, returned, stacked, step_of, sum_of, tested, value_of, yields}
+use Rattle.machine_core.specs.Turn.{ArePlaced, IsPlaced, Step, branched, called, called_by_name, called_out, code_at, computed, ends, executed, frame_at, goes_on, instr_at, is_same, less_of, difference_of, moved_past, operand_term, returned, stacked, step_of, sum_of, tested, trace_of, value_of, yields}
 use Rattle.machine_core.specs.Stand.{AreHeld, AreStanding}
 use Rattle.machine_core.proofs.Calling.{dispatch_reaches}
 use Rattle.machine_core.proofs.Fetching.{IsNext, is_instr, is_next, placed_words}
@@ -117,22 +118,22 @@ module _ (s : ServerState) where
   standing : (held : Holds) (f : PlainFrame) (below : List PlainFrame) → IsPlaced s f → IsTrue (is_held held f.serial Frame) → ArePlaced s below → AreHeld held below → AreStanding s held (f ∷ below)
   standing held f below p h ps hs = record { some = λ e. cc; placed = (p, ps); named = (h, hs) }
 
-  stacked_keeps : (frames : List PlainFrame) (held : Holds) (e : Entry) (back : ℕ) (registers : List Value) (b c : Bool) → ArePlaced s frames → AreHeld held frames → HasFunction s e → back < 16 →
-      Keeps held (stacked frames held e.serial (if b then None else if c then None else Some (frame_at s e back registers)))
+  stacked_keeps : (frames : List PlainFrame) (held : Holds) (e : Entry) (back : ℕ) (registers : List Value) (line : List Line) (b c : Bool) → ArePlaced s frames → AreHeld held frames → HasFunction s e → back < 16 →
+      Keeps held (stacked frames held e.serial line (if b then None else if c then None else Some (frame_at s e back registers)))
   unfolding Keeps
-  stacked_keeps frames held e back registers true c ps hs h b = tt
-  stacked_keeps frames held e back registers false true ps hs h b = tt
-  stacked_keeps frames held e back registers false false ps hs h b =
+  stacked_keeps frames held e back registers line true c ps hs h b = tt
+  stacked_keeps frames held e back registers line false true ps hs h b = tt
+  stacked_keeps frames held e back registers line false false ps hs h b =
       standing (with_hold held e.serial Frame) (frame_at s e back registers) frames (entered_in e back registers (code_of s e.serial) refl h b) (held_first held e.serial) ps (held_more held e.serial frames hs)
 
-  called_keeps : (frames : List PlainFrame) (held : Holds) (e : Entry) (back : ℕ) (args : List Value) → ArePlaced s frames → AreHeld held frames → HasFunction s e → back < 16 → Keeps held (called s frames held e back args)
-  called_keeps frames held e back args ps hs h b = stacked_keeps frames held e back (first_registers args) (nat_le MOST_FRAMES (length frames)) (is_full held e.serial) ps hs h b
+  called_keeps : (frames : List PlainFrame) (held : Holds) (e : Entry) (to : Mfa) (back : ℕ) (args : List Value) → ArePlaced s frames → AreHeld held frames → HasFunction s e → back < 16 → Keeps held (called s frames held e to back args)
+  called_keeps frames held e to back args ps hs h b = stacked_keeps frames held e back (first_registers args) (trace_of s e to args) (nat_le MOST_FRAMES (length frames)) (is_full held e.serial) ps hs h b
 
   by_name_keeps : (frames : List PlainFrame) (held : Holds) (to : Mfa) (back : ℕ) (args : List Value) (o : Option Entry) → dispatch_of s to ≡ o → ArePlaced s frames → AreHeld held frames → back < 16 →
       Keeps held (called_by_name s frames held to back args o)
   unfolding Keeps
   by_name_keeps frames held to back args None e ps hs b = tt
-  by_name_keeps frames held to back args (Some entry) e ps hs b = called_keeps frames held entry back args ps hs (dispatch_reaches s to entry e).known b
+  by_name_keeps frames held to back args (Some entry) e ps hs b = called_keeps frames held entry to back args ps hs (dispatch_reaches s to entry e).known b
 
   -- an external call
   pub out_keeps : (frames : List PlainFrame) (held : Holds) (to : Mfa) (back : ℕ) (args : List Value) → ArePlaced s frames → AreHeld held frames → back < 16 → Keeps held (called_out s frames held to back args)
@@ -184,7 +185,7 @@ module _ (s : ServerState) where
   instr_keeps f below held n (instrs.Jump target) h b e p = target_keeps f below held n target h b p
   instr_keeps f below held n (instrs.Call function at) h b e p =
       let caller = going_keeps f below held n (instrs.Call function at) 3 f.registers h b e tt refl in
-      called_keeps (moved_past f (instrs.Call function at) ∷ below) held (record { serial = f.serial; function = function }) at _ caller.placed caller.named
+      called_keeps (moved_past f (instrs.Call function at) ∷ below) held (record { serial = f.serial; function = function }) _ at _ caller.placed caller.named
       (callee_of s f n.m (length n.function.code) (λ k. k) (instrs.Call function at) n.loaded p) (placed_words s f n (instrs.Call function at) p).1
   instr_keeps f below held n (instrs.CallExt to at) h b e p =
       let caller = going_keeps f below held n (instrs.CallExt to at) 3 f.registers h b e tt refl in

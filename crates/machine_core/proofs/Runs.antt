@@ -114,6 +114,11 @@ module _ (s : ServerState) where
   run_with zero frames held before made = refl
   run_with (suc n) frames held before made = after_with n before made held (step_of s frames held) (λ frames held made. run_with n frames held before made)
 
+  -- the lines of a beginning and its run stand behind those that stood
+  pub after_behind : (n : ℕ) (before : List Line) (held : Holds) (step : Step) → after_step (run_of s n) held before step ≡ with_lines before (after_step (run_of s n) held [] step)
+  after_behind n before held step =
+      ap (λ lines. after_step (run_of s n) held lines step) (sym (append-nil before)) ∙ after_with n before [] held step (λ frames held made. run_with n frames held before made)
+
   -- the lines of a run stand behind those that stood
   pub run_behind : (n : ℕ) (frames : List PlainFrame) (held : Holds) (before : List Line) → run_of s n frames held before ≡ with_lines before (run_of s n frames held [])
   run_behind n frames held before = ap (run_of s n frames held) (sym (append-nil before)) ∙ run_with n frames held before []

@@ -1,5 +1,5 @@
 -- What a turn keeps of its process, and how it counts. Runs over many turns cite these.
-use Rattle.std.proofs.Common.{◌≡◌, ◌+◌, ◌==◌, ℕ, zero, suc, ap, refl, Bool, true, false, List, [], ◌∷◌, ◌++◌, Some}
+use Rattle.std.proofs.Common.{◌≡◌, ◌+◌, ◌==◌, ℕ, zero, suc, ap, refl, Bool, true, false, List, [], ◌∷◌, ◌++◌, Option, Some, None}
 use Rattle.term_core.specs.declared.atom.Mfa.{Mfa}
 use Rattle.term_core.specs.PlainTerm.{PlainTerm}
 use Rattle.mod_core.specs.declared.code.Module.{Module}
@@ -10,7 +10,7 @@ use Rattle.machine_core.specs.declared.process.Line.{Line}
 use Rattle.machine_core.specs.declared.process.TurnEnd.TheVariants.{Ended}
 use Rattle.machine_core.specs.Holds.{Holds}
 use Rattle.machine_core.specs.Process.{PlainFrame, PlainProcess, names_of, new_process}
-use Rattle.machine_core.specs.Turn.{ArePlaced, IsPlaced, MayTurn, Step, goes_on, yields, ends, after_step, begun, counted, ended_with, ran_of, run_of, step_of, turn_of}
+use Rattle.machine_core.specs.Turn.{ArePlaced, IsPlaced, MayTurn, Step, goes_on, yields, ends, after_step, begun, counted, doomed_serial, ended_with, ran_of, ran_unless_doomed, run_of, step_of, turn_of}
 use Rattle.machine_core.specs.Stand.{AreStanding}
 use Rattle.machine_core.proofs.Placing.{Keeps, step_keeps}
 use Rattle.machine_core.proofs.Turns.{begun_keeps, counted_below, is_below, names_held}
@@ -82,11 +82,15 @@ module _ (s : ServerState) where
   run_placed (suc n) frames held made sound h =
       after_placed n held made (step_of s frames held) (step_keeps s held frames sound h) (λ frames held made h. run_placed n frames held made sound h)
 
+  unless_placed : (p : PlainProcess) (o : Option ℕ) → IsSound s → ArePlaced s p.frames → ArePlaced s (ran_unless_doomed s p o).frames
+  unless_placed p None sound h =
+      after_placed TURN_INSTRUCTIONS (names_of p) [] (begun s p.target p.args (names_of p) p.frames)
+      (begun_keeps s p.target p.args (names_of p) p.frames h (names_held p.frames)) (λ frames held made g. run_placed TURN_INSTRUCTIONS frames held made sound g)
+  unless_placed p (Some serial) sound h = tt
+
   ran_placed : (p : PlainProcess) (b : Bool) → (p.turns == MOST_TURNS) ≡ b → IsSound s → ArePlaced s p.frames → ArePlaced s (ran_of s p).frames
   ran_placed p true e sound h = rw e tt
-  ran_placed p false e sound h =
-      rw e (after_placed TURN_INSTRUCTIONS (names_of p) [] (begun s p.target p.args (names_of p) p.frames)
-      (begun_keeps s p.target p.args (names_of p) p.frames h (names_held p.frames)) (λ frames held made g. run_placed TURN_INSTRUCTIONS frames held made sound g))
+  ran_placed p false e sound h = rw e (unless_placed p (doomed_serial s p.frames) sound h)
 
   -- a turn leaves each frame at an instruction
   pub turn_placed : (p : PlainProcess) → IsSound s → ArePlaced s p.frames → ArePlaced s (turn_of s p).process.frames

@@ -1,6 +1,6 @@
 -- What a turn holds: areas by their serials, each for frames that run its code or for literals among its words.
 -- Source: this project's profile, after hazard pointers. Serials stand once and in increasing order, so that equal sets are equal lists.
-use Rattle.std.specs.Prelude.{◌≡◌, ℕ, ◌+◌, ◌<◌, ◌≤◌, Bool, not, ◌&&◌, ◌==◌, nat_lt, nat_le, List, [], ◌∷◌, length, filter, IsTrue, Some, ◌⊎◌, if◌then◌else◌}
+use Rattle.std.specs.Prelude.{◌≡◌, ℕ, ◌+◌, ◌<◌, ◌≤◌, Bool, not, ◌&&◌, ◌||◌, ◌==◌, nat_lt, nat_le, List, [], ◌∷◌, length, filter, IsTrue, Some, ◌⊎◌, if◌then◌else◌}
 use Rattle.std.specs.List.{list_any}
 use Rattle.term_core.specs.declared.hold.TheConstants.{MOST_AREAS}
 use Rattle.term_core.specs.declared.hold.Kind.{Kind}
@@ -44,6 +44,10 @@ pub record Holds : Type 0 where
 abbrev pub is_held : Holds → ℕ → Kind → Bool
 is_held held serial Frame = is_among held.frames serial
 is_held held serial Literal = is_among held.literals serial
+
+-- whether an area is held for anything
+abbrev pub is_area_held : Holds → ℕ → Bool
+is_area_held held serial = is_held held serial Frame || is_held held serial Literal
 
 -- the area is held for this too
 abbrev pub with_hold : Holds → ℕ → Kind → Holds

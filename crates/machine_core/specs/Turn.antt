@@ -1,7 +1,8 @@
--- A turn of a process under one generation: where it has no frames it enters its target, then instructions run, 200 at most.
--- Source: erts internal documentation, CodeLoading, for external and local calls; the machine and its numbers are this project's own.
+-- A turn of a process under one generation: it ends where it stands in doomed code; where it has no frames it enters its target; then instructions run, 200 at most.
+-- Source: erts internal documentation, CodeLoading, for external and local calls and breakpoints; the manual page `code` for the end of what stands in purged code; the machine and its numbers are this project's own.
 -- The definition steps over the modules of the state; the code reads words of their images. Places count words in both.
-use Rattle.std.specs.Prelude.{◌≡◌, ◌<◌, ◌≤◌, ℕ, zero, suc, ◌+◌, ◌==◌, nat_le, Bool, ◌&&◌, ℤ, pos, negsuc, ◌+ℤ◌, ◌-ℤ◌, int_le, int_lt, List, [], ◌∷◌, ◌++◌, length, Option, Some, None, Result, Ok, Err, unwrap_or, option_map, option_and_then, slice_get, slice_set, if◌then◌else◌}
+use Rattle.std.specs.Prelude.{◌≡◌, ◌<◌, ◌≤◌, ℕ, zero, suc, ◌+◌, ◌==◌, nat_le, Bool, ◌&&◌, ℤ, pos, negsuc, ◌+ℤ◌, ◌-ℤ◌, int_le, int_lt, List, [], ◌∷◌, ◌++◌, length, map, find, Option, Some, None, Result, Ok, Err, unwrap_or, option_map, option_and_then, slice_get, slice_set, if◌then◌else◌}
+use Rattle.term_core.specs.declared.atom.AtomId.{AtomId}
 use Rattle.term_core.specs.declared.atom.Mfa.{Mfa}
 use Rattle.term_core.specs.declared.hold.Kind.TheVariants.{Frame}
 use Rattle.term_core.specs.declared.term.Term.{Term}
@@ -17,14 +18,14 @@ use Rattle.mod_core.specs.declared.code.Instr.{Instr}
 use Rattle.mod_core.specs.declared.code.Instr.TheVariants as instrs
 use Rattle.mod_core.specs.declared.code.Module.{Module}
 use Rattle.mod_core.specs.ModuleImage.{function_place, instr_len, place_in, placed, return_ok}
-use Rattle.server_core.specs.ServerState.{ServerState, Entry, code_of, dispatch_of}
+use Rattle.server_core.specs.ServerState.{ServerState, Entry, code_of, dispatch_of, is_doomed, is_traced}
 use Rattle.machine_core.specs.declared.process.TheConstants.{MOST_FRAMES, MOST_TURNS, TURN_INSTRUCTIONS}
 use Rattle.machine_core.specs.declared.process.Value.{Value}
 use Rattle.machine_core.specs.declared.process.Value.TheVariants.{Owned}
 use Rattle.machine_core.specs.declared.process.Line.{Line}
 use Rattle.machine_core.specs.declared.process.Line.TheVariants as lines
 use Rattle.machine_core.specs.declared.process.End.{End}
-use Rattle.machine_core.specs.declared.process.End.TheVariants.{Normal, Undef, Badarg, Badarith, SystemLimit}
+use Rattle.machine_core.specs.declared.process.End.TheVariants.{Normal, Undef, Badarg, Badarith, SystemLimit, Killed}
 use Rattle.machine_core.specs.declared.process.TurnEnd.{TurnEnd}
 use Rattle.machine_core.specs.declared.process.TurnEnd.TheVariants.{Again, Ended}
 use Rattle.machine_core.specs.Holds.{Holds, is_full, with_hold}
@@ -89,6 +90,22 @@ function_of s e = option_and_then (λ m. slice_get m.functions e.function) (code
 abbrev pub arity_of : ServerState → Entry → ℕ
 arity_of s e = unwrap_or (option_map (λ f. f.arity) (function_of s e)) 0
 
+-- the atom that stands where a name is asked of what is not there
+abbrev pub no_name : AtomId
+no_name = record { 0 = 0 }
+
+-- the name of an instance's module
+abbrev pub module_name : ServerState → ℕ → AtomId
+module_name s serial = unwrap_or (option_map (λ m. m.name) (code_of s serial)) no_name
+
+-- the name of a function of an instance, without its module
+abbrev pub function_name : ServerState → Entry → AtomId
+function_name s e = unwrap_or (option_map (λ f. f.name) (function_of s e)) no_name
+
+-- the name of a function of an instance: module, name and arity
+abbrev pub mfa_of : ServerState → Entry → Mfa
+mfa_of s e = record { «module» = module_name s e.serial; name = function_name s e; arity = arity_of s e }
+
 -- the instruction that stands at a place of code that begins at another; past its end a function returns ok
 abbrev pub instr_from : ℕ → List Instr → ℕ → Instr
 instr_from start [] place = return_ok
@@ -150,19 +167,27 @@ entered s standing held e back registers =
     else if is_full held e.serial then None
     else Some (frame_at s e back registers)
 
--- the frame of a function that is entered stands on the others, and its area is held for it; or the process ends
-abbrev pub stacked : List PlainFrame → Holds → ℕ → Option PlainFrame → Step
-stacked frames held serial None = ends SystemLimit
-stacked frames held serial (Some f) = goes_on (f ∷ frames) (with_hold held serial Frame) []
+-- the terms of values
+abbrev pub terms_of : List Value → List PlainTerm
+terms_of values = map (λ v. plain (term_of v)) values
 
--- a function is entered with these arguments, on the frames that stand
-abbrev pub called : ServerState → List PlainFrame → Holds → Entry → ℕ → List Value → Step
-called s frames held e back args = stacked frames held e.serial (entered s (length frames) held e back (first_registers args))
+-- the line of a call with its name and its arguments, where the function that it enters has a breakpoint
+abbrev pub trace_of : ServerState → Entry → Mfa → List Value → List Line
+trace_of s e to args = if is_traced s e then lines.Trace to (terms_of args) ∷ [] else []
+
+-- the frame of a function that is entered stands on the others, its area is held for it, and its call may make a line; or the process ends
+abbrev pub stacked : List PlainFrame → Holds → ℕ → List Line → Option PlainFrame → Step
+stacked frames held serial line None = ends SystemLimit
+stacked frames held serial line (Some f) = goes_on (f ∷ frames) (with_hold held serial Frame) line
+
+-- a function is entered under this name with these arguments, on the frames that stand
+abbrev pub called : ServerState → List PlainFrame → Holds → Entry → Mfa → ℕ → List Value → Step
+called s frames held e to back args = stacked frames held e.serial (trace_of s e to args) (entered s (length frames) held e back (first_registers args))
 
 -- the same for the function that a name reaches, if it reaches one
 abbrev pub called_by_name : ServerState → List PlainFrame → Holds → Mfa → ℕ → List Value → Option Entry → Step
 called_by_name s frames held to back args None = ends (Undef to)
-called_by_name s frames held to back args (Some e) = called s frames held e back args
+called_by_name s frames held to back args (Some e) = called s frames held e to back args
 
 -- an external call: it reaches the function that the current instance exports
 abbrev pub called_out : ServerState → List PlainFrame → Holds → Mfa → ℕ → List Value → Step
@@ -170,7 +195,7 @@ called_out s frames held to back args = called_by_name s frames held to back arg
 
 -- a local call: it enters a function of the frame's own instance, be it current or not
 abbrev pub called_within : ServerState → PlainFrame → List PlainFrame → Holds → Instr → Entry → ℕ → Step
-called_within s f below held i e at = called s (moved_past f i ∷ below) held e at (arguments_at f.registers at (arity_of s e))
+called_within s f below held i e at = called s (moved_past f i ∷ below) held e (mfa_of s e) at (arguments_at f.registers at (arity_of s e))
 
 -- what an instruction does to the topmost frame, those below it and what is held
 abbrev pub executed : ServerState → PlainFrame → List PlainFrame → Holds → Instr → Step
@@ -222,11 +247,18 @@ abbrev pub begun : ServerState → Mfa → List PlainTerm → Holds → List Pla
 begun s target args held [] = called_out s [] held target 0 (owned_values args)
 begun s target args held (f ∷ below) = goes_on (f ∷ below) held []
 
+-- the serial of the topmost frame whose instance is doomed, if there is one
+abbrev pub doomed_serial : ServerState → List PlainFrame → Option ℕ
+doomed_serial s frames = find (is_doomed s) (map (λ f. f.serial) frames)
+
+-- what a turn that counts does, by that serial: where there is one, the process is killed before any instruction
+abbrev pub ran_unless_doomed : ServerState → PlainProcess → Option ℕ → Ran
+ran_unless_doomed s p None = after_step (run_of s TURN_INSTRUCTIONS) (names_of p) [] (begun s p.target p.args (names_of p) p.frames)
+ran_unless_doomed s p (Some serial) = ended_with (names_of p) [] (Killed serial)
+
 -- what a turn does to the frames of a process: none runs where it has had as many turns as can be
 abbrev pub ran_of : ServerState → PlainProcess → Ran
-ran_of s p =
-    if p.turns == MOST_TURNS then ended_with (names_of p) [] SystemLimit
-    else after_step (run_of s TURN_INSTRUCTIONS) (names_of p) [] (begun s p.target p.args (names_of p) p.frames)
+ran_of s p = if p.turns == MOST_TURNS then ended_with (names_of p) [] SystemLimit else ran_unless_doomed s p (doomed_serial s p.frames)
 
 -- what a turn comes to: the process after it, its lines, and whether it goes on
 pub record Turn : Type 0 where

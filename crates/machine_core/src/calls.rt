@@ -1,15 +1,14 @@
-ghost use Rattle.std.specs.Prelude.{◌≡◌, ◌+◌, ◌∷◌, ◌≤◌, [], List, IfOk, OnOk, is_some, if◌then◌else◌, option_map};
+ghost use Rattle.std.specs.Prelude.{◌≡◌, ◌+◌, ◌++◌, ◌∷◌, ◌≤◌, [], IfOk, OnOk, is_some, if◌then◌else◌, option_map};
 ghost use Rattle.server_core.specs.ServerState.{entry_of};
 ghost use Rattle.machine_core.specs.Holds.{MayHold, with_hold};
 ghost use Rattle.machine_core.specs.View.{IsLawful, HasFunction};
 ghost use Rattle.machine_core.specs.Process.{arguments_at, first_registers, frame_of, frames_of, names_of_areas, owned_values};
-ghost use Rattle.machine_core.specs.Turn.{arity_of, called, called_out, entered};
+ghost use Rattle.machine_core.specs.Turn.{called, called_out, entered, trace_of};
 ghost use Rattle.machine_core.specs.Stand.{stand_after, stand_entered, stand_of};
 
 use crate::areas::note;
-use crate::layout::{ARITY_WORD, HEAD_LEN, TABLE_PLACE};
 use crate::outcome::Outcome;
-use crate::process::{AreaList, End, Frame, FrameList, Line, MOST_FRAMES};
+use crate::process::{AreaList, End, Frame, FrameList, Line, LineList, MOST_FRAMES};
 use crate::registers::ValueList;
 use crate::view::CodeView;
 use std::alloc::Global;
@@ -19,11 +18,11 @@ use term_core::{CodeRef, Kind, Mfa, NoMemory, TermList};
 /// How many words a call has.
 const CALL_LEN: u32 = 3;
 
-/// A call of a function: its arguments stand in the registers from `at` on, and its value comes into `at`.
+/// A call of a function by its name: its arguments stand in the registers from `at` on, and its value comes into `at`.
 #[derive(Clone, Copy)]
 pub struct Callee {
     pub code: CodeRef,
-    pub arity: u32,
+    pub to: Mfa,
     pub at: u32,
 }
 
@@ -61,19 +60,6 @@ pub fn enter<V: CodeView>(
     }))
 }
 
-/// How many arguments a function of an instance takes.
-pub fn arity<V: CodeView>(code: CodeRef, view: &mut V) -> u32
-    requires lawful { IsLawful (V.shown view.old) }
-    requires known { HasFunction (V.shown view.old).state (entry_of code) }
-    requires reached { MayHold (V.shown view.old).state (V.held view.old) code.area.serial Kind.Frame }
-    ensures value { result ≡ arity_of (V.shown view.old).state (entry_of code) }
-    ensures same { V.shown view.new ≡ V.shown view.old }
-    ensures holds { V.held view.new ≡ V.held view.old }
-{
-    let place = TABLE_PLACE + HEAD_LEN * code.function + ARITY_WORD;
-    (view.word(code.area, place) / 2) as u32
-}
-
 /// Calls a function: its frame stands on the caller's, which stands past the call.
 pub fn call<V: CodeView>(
     alloc: Global,
@@ -82,37 +68,57 @@ pub fn call<V: CodeView>(
     callee: Callee,
     view: &mut V,
     areas: &mut AreaList,
+    lines: &mut LineList,
 ) -> Result<Outcome, NoMemory>
     requires room { top.old.place + 1 ≤ 1024 }
     requires lawful { IsLawful (V.shown view.old) }
     requires known { HasFunction (V.shown view.old).state (entry_of callee.code) }
     requires reached { MayHold (V.shown view.old).state (V.held view.old) callee.code.area.serial Kind.Frame }
     requires tracked { V.held view.old ≡ names_of_areas areas.old }
-    ensures ok { IfOk result (λ outcome. (made : List Line) →
-        stand_after (V.held view.old) made
+    ensures ok { IfOk result (λ outcome.
+        stand_after (V.held view.old) lines.old
         (called (V.shown view.old).state (record (frame_of top.old) { place = top.old.place + 3 } ∷ frames_of below.old) (V.held view.old)
-        (entry_of callee.code) callee.at (arguments_at top.old.registers callee.at callee.arity))
-        ≡ stand_of outcome (frame_of top.new ∷ frames_of below.new) (V.held view.new) made) }
+        (entry_of callee.code) callee.to callee.at (arguments_at top.old.registers callee.at callee.to.arity))
+        ≡ stand_of outcome (frame_of top.new ∷ frames_of below.new) (V.held view.new) lines.new) }
     ensures tracked { OnOk result (V.held view.new ≡ names_of_areas areas.new) }
     ensures same { V.shown view.new ≡ V.shown view.old }
 {
-    let registers = top.registers.passed(alloc, callee.at, callee.arity)?;
+    let registers = top.registers.passed(alloc, callee.at, callee.to.arity)?;
+    let standing = below.as_slice().len() + 1;
     top.place += CALL_LEN;
-    match enter(
-        callee.code,
-        callee.at,
-        registers,
-        below.as_slice().len() + 1,
-        view,
-        areas,
-    )? {
+    match enter(callee.code, callee.at, registers, standing, view, areas)? {
         None => Ok(Outcome::Ends(End::SystemLimit)),
         Some(frame) => {
+            trace_call(alloc, &callee, &top.registers, view, lines)?;
             let caller = mem::replace(top, frame);
             below.push(caller)?;
             Ok(Outcome::GoesOn)
         }
     }
+}
+
+/// The line of a call of a traced function, whose arguments stand in the caller's registers.
+fn trace_call<V: CodeView>(
+    alloc: Global,
+    callee: &Callee,
+    registers: &ValueList,
+    view: &mut V,
+    lines: &mut LineList,
+) -> Result<(), NoMemory>
+    requires lawful { IsLawful (V.shown view.old) }
+    requires known { HasFunction (V.shown view.old).state (entry_of callee.now.code) }
+    requires reached { MayHold (V.shown view.old).state (V.held view.old) callee.now.code.area.serial Kind.Frame }
+    ensures ok { OnOk result (lines.new ≡ lines.old
+        ++ trace_of (V.shown view.old).state (entry_of callee.now.code) callee.now.to (arguments_at registers.now callee.now.at callee.now.to.arity)) }
+    ensures same { V.shown view.new ≡ V.shown view.old }
+    ensures holds { V.held view.new ≡ V.held view.old }
+{
+    if view.decision(callee.code) {
+        let args = registers.terms(alloc, callee.at, callee.to.arity)?;
+        let to = callee.to;
+        lines.push(Line::Trace { to, args })?;
+    }
+    Ok(())
 }
 
 /// The first frame of a process, which enters its target as an external call does; or how the process ends.
@@ -122,12 +128,13 @@ pub fn enter_target<V: CodeView>(
     args: &TermList,
     view: &mut V,
     areas: &mut AreaList,
+    lines: &mut LineList,
 ) -> Result<Result<Frame, End>, NoMemory>
     requires lawful { IsLawful (V.shown view.old) }
     requires tracked { V.held view.old ≡ names_of_areas areas.old }
-    ensures ok { IfOk result (λ first. (made : List Line) →
-        stand_after (V.held view.old) made (called_out (V.shown view.old).state [] (V.held view.old) target 0 (owned_values args.now))
-        ≡ stand_entered first [] (V.held view.new) made) }
+    ensures ok { IfOk result (λ first.
+        stand_after (V.held view.old) lines.old (called_out (V.shown view.old).state [] (V.held view.old) target 0 (owned_values args.now))
+        ≡ stand_entered first [] (V.held view.new) lines.new) }
     ensures tracked { OnOk result (V.held view.new ≡ names_of_areas areas.new) }
     ensures same { V.shown view.new ≡ V.shown view.old }
 {
@@ -135,6 +142,35 @@ pub fn enter_target<V: CodeView>(
         return Ok(Err(End::Undef(target)));
     };
     let registers = ValueList::entered(alloc, args)?;
-    let first = enter(code, 0, registers, 0, view, areas)?;
-    Ok(first.ok_or(End::SystemLimit))
+    match enter(code, 0, registers, 0, view, areas)? {
+        None => Ok(Err(End::SystemLimit)),
+        Some(frame) => {
+            trace_target(alloc, code, target, args, view, lines)?;
+            Ok(Ok(frame))
+        }
+    }
+}
+
+/// The line of a traced function that a process enters as its target.
+fn trace_target<V: CodeView>(
+    alloc: Global,
+    code: CodeRef,
+    target: Mfa,
+    args: &TermList,
+    view: &mut V,
+    lines: &mut LineList,
+) -> Result<(), NoMemory>
+    requires lawful { IsLawful (V.shown view.old) }
+    requires known { HasFunction (V.shown view.old).state (entry_of code) }
+    requires reached { MayHold (V.shown view.old).state (V.held view.old) code.area.serial Kind.Frame }
+    ensures ok { OnOk result (lines.new ≡ lines.old
+        ++ trace_of (V.shown view.old).state (entry_of code) target (owned_values args.now)) }
+    ensures same { V.shown view.new ≡ V.shown view.old }
+    ensures holds { V.held view.new ≡ V.held view.old }
+{
+    if view.decision(code) {
+        let args = args.copy(alloc)?;
+        lines.push(Line::Trace { to: target, args })?;
+    }
+    Ok(())
 }

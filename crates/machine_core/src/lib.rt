@@ -2,8 +2,10 @@
 #![tactic(auto)]
 
 mod areas;
+mod called_name;
 mod calls;
 mod decode;
+mod doom;
 mod fetch;
 mod integers;
 mod layout;
@@ -14,6 +16,8 @@ mod plain;
 mod process;
 mod registers;
 mod serials;
+#[cfg(test)]
+mod server_tests;
 mod step;
 #[cfg(test)]
 mod tests;

@@ -6,6 +6,7 @@ ghost use Rattle.machine_core.specs.Stand.{AreStanding, stand_after, stand_enter
 
 use crate::areas::areas_of;
 use crate::calls::enter_target;
+use crate::doom::doomed_serial;
 use crate::outcome::Outcome;
 use crate::pause::pause;
 use crate::process::{
@@ -19,6 +20,8 @@ use term_core::{Mfa, NoMemory, TermList};
 
 /// One turn of the process under the generation that the view shows: at most 200 instructions.
 ///
+/// Where a frame stands in doomed code the process is killed, and no instruction runs. The call of a traced function
+/// makes a line.
 /// The lines that it makes are appended. Where the process goes on, the view holds what it then names; where it
 /// ended, the view holds what it held then, which the caller drops. After `NoMemory` process and lines stand for
 /// nothing and are only dropped.
@@ -43,6 +46,10 @@ pub fn turn<V: CodeView>(
         return Ok(TurnEnd::Ended(End::SystemLimit));
     }
     process.turns += 1;
+    if let Some(serial) = doomed_serial(process.frames.as_slice(), view) {
+        process.frames.truncate(0);
+        return Ok(TurnEnd::Ended(End::Killed(serial)));
+    }
     let mut areas = areas_of(alloc, process.frames.as_slice())?;
     let top = begin(
         alloc,
@@ -51,6 +58,7 @@ pub fn turn<V: CodeView>(
         &mut process.frames,
         view,
         &mut areas,
+        lines,
     )?;
     match top {
         Ok(top) => run(alloc, top, &mut process.frames, view, &mut areas, lines),
@@ -69,18 +77,19 @@ fn begin<V: CodeView>(
     frames: &mut FrameList,
     view: &mut V,
     areas: &mut AreaList,
+    lines: &mut LineList,
 ) -> Result<Result<Frame, End>, NoMemory>
     requires lawful { IsLawful (V.shown view.old) }
     requires tracked { V.held view.old ≡ names_of_areas areas.old }
-    ensures ok { IfOk result (λ top. (made : List Line) →
-        stand_after (V.held view.old) made (begun (V.shown view.old).state target args.now (V.held view.old) (frames_of frames.old))
-        ≡ stand_entered top (frames_of frames.new) (V.held view.new) made) }
+    ensures ok { IfOk result (λ top.
+        stand_after (V.held view.old) lines.old (begun (V.shown view.old).state target args.now (V.held view.old) (frames_of frames.old))
+        ≡ stand_entered top (frames_of frames.new) (V.held view.new) lines.new) }
     ensures tracked { OnOk result (V.held view.new ≡ names_of_areas areas.new) }
     ensures same { V.shown view.new ≡ V.shown view.old }
 {
     match frames.pop() {
         Some(top) => Ok(Ok(top)),
-        None => enter_target(alloc, target, args, view, areas),
+        None => enter_target(alloc, target, args, view, areas, lines),
     }
 }
 

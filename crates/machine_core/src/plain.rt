@@ -116,6 +116,18 @@ impl<'a> CodeView for PlainView<'a> {
         self.server.word(at.area, place).unwrap_or(0) as u32
     }
 
+    fn decision(&mut self, at: CodeRef) -> bool {
+        self.server.traced(at)
+    }
+
+    fn doomed(&mut self, area: AreaRef) -> bool {
+        self.server.doomed(area.serial)
+    }
+
+    fn retired(&mut self, area: AreaRef) -> bool {
+        self.server.retired(area.serial)
+    }
+
     fn word(&mut self, area: AreaRef, at: u32) -> u64 {
         self.server.word(area, at).unwrap_or(0)
     }

@@ -54,6 +54,8 @@ pub struct Process {
 #[derive(Debug, Drop, PartialEq, Eq)]
 pub enum Line {
     Print(Term),
+    /// A traced function was entered with these arguments.
+    Trace { to: Mfa, args: TermList },
 }
 
 /// The lines of a process, in order.
@@ -72,6 +74,8 @@ pub enum End {
     Badarith,
     /// A number, the frames, the held areas or the count of turns would pass their limit.
     SystemLimit,
+    /// One of its frames stood in code that is purged: the topmost such frame, by the serial of its instance.
+    Killed(u64),
 }
 
 /// How a turn ended.

@@ -1,6 +1,7 @@
 ghost use Rattle.std.specs.Prelude.{◌≡◌, ◌++◌, drop, map, replicate, slice_set, take, IfOk, OnOk};
 ghost use Rattle.term_core.specs.Plain.{plain};
 ghost use Rattle.machine_core.specs.Process.{arguments_at, first_registers, no_value, owned_values, register_of};
+ghost use Rattle.machine_core.specs.Turn.{terms_of};
 
 use crate::process::Value;
 use std::alloc::Global;
@@ -45,6 +46,16 @@ impl ValueList {
             alloc,
             arguments(self.values.as_slice(), at as usize, count as usize),
         )?)
+    }
+
+    /// So many terms, which stand in the registers from this one on.
+    pub fn terms(&self, alloc: Global, at: u32, count: u32) -> Result<TermList, NoMemory>
+        ensures { IfOk result (λ terms. terms ≡ terms_of (arguments_at self.now at count)) }
+    {
+        terms_of(
+            alloc,
+            arguments(self.values.as_slice(), at as usize, count as usize),
+        )
     }
 
     /// What a register holds. Past the last register it is 0.
@@ -105,6 +116,19 @@ fn copies(alloc: Global, values: &[Value]) -> Result<Vec<Value>, NoMemory>
         copies.push(value.clone()?)?;
     }
     Ok(copies)
+}
+
+/// The terms of the values.
+fn terms_of(alloc: Global, values: &[Value]) -> Result<TermList, NoMemory>
+    ensures { IfOk result (λ terms. terms ≡ terms_of values.now) }
+{
+    let mut terms = TermList::new(alloc);
+    for value in values {
+        match value {
+            Value::Owned(term) => terms.push(term.clone()?)?,
+        }
+    }
+    Ok(terms)
 }
 
 /// Appends as many zeros as a frame has registers.

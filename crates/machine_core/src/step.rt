@@ -6,7 +6,8 @@ ghost use Rattle.machine_core.specs.Process.{PlainFrame, frame_of, frames_of, na
 ghost use Rattle.machine_core.specs.Turn.{IsPlaced, executed, is_same, operand_term, returned, step_of, value_of};
 ghost use Rattle.machine_core.specs.Stand.{HasCallee, stand_after, stand_of};
 
-use crate::calls::{Callee, arity, call};
+use crate::called_name::mfa_of;
+use crate::calls::{Callee, call};
 use crate::fetch::fetch;
 use crate::integers::{difference, is_less, sum};
 use crate::outcome::Outcome;
@@ -82,9 +83,9 @@ fn execute<V: CodeView>(
             Ok(Outcome::GoesOn)
         }
         Instr::Call { function, at } => {
-            call_within(alloc, top, below, *function, *at, view, areas)
+            call_within(alloc, top, below, *function, *at, view, areas, lines)
         }
-        Instr::CallExt { to, at } => call_out(alloc, top, below, *to, *at, view, areas),
+        Instr::CallExt { to, at } => call_out(alloc, top, below, *to, *at, view, areas, lines),
         Instr::Ret { value } => leave(top, below, value),
         Instr::Print { value } => print(top, value, lines),
         Instr::Yield => {
@@ -175,22 +176,31 @@ fn call_within<V: CodeView>(
     at: u32,
     view: &mut V,
     areas: &mut AreaList,
+    lines: &mut LineList,
 ) -> Result<Outcome, NoMemory>
     requires room { top.old.place + 1 ≤ 1024 }
     requires lawful { IsLawful (V.shown view.old) }
     requires standing { IsTrue (is_held (V.held view.old) top.old.code.area.serial Kind.Frame) }
     requires tracked { V.held view.old ≡ names_of_areas areas.old }
     requires callee { HasCallee (V.shown view.old).state (frame_of top.old) (Instr.Call function at) }
-    ensures ok { IfOk result (λ outcome. (made : List Line) →
-        stand_after (V.held view.old) made (executed (V.shown view.old).state (frame_of top.old) (frames_of below.old) (V.held view.old) (Instr.Call function at))
-        ≡ stand_of outcome (frame_of top.new ∷ frames_of below.new) (V.held view.new) made) }
+    ensures ok { IfOk result (λ outcome.
+        stand_after (V.held view.old) lines.old (executed (V.shown view.old).state (frame_of top.old) (frames_of below.old) (V.held view.old) (Instr.Call function at))
+        ≡ stand_of outcome (frame_of top.new ∷ frames_of below.new) (V.held view.new) lines.new) }
     ensures tracked { OnOk result (V.held view.new ≡ names_of_areas areas.new) }
     ensures same { V.shown view.new ≡ V.shown view.old }
 {
     let area = top.code.area;
     let code = CodeRef { area, function };
-    let arity = arity(code, view);
-    call(alloc, top, below, Callee { code, arity, at }, view, areas)
+    let to = mfa_of(code, view);
+    call(
+        alloc,
+        top,
+        below,
+        Callee { code, to, at },
+        view,
+        areas,
+        lines,
+    )
 }
 
 /// Runs `call_ext`: it reaches what the current instance exports.
@@ -202,21 +212,29 @@ fn call_out<V: CodeView>(
     at: u32,
     view: &mut V,
     areas: &mut AreaList,
+    lines: &mut LineList,
 ) -> Result<Outcome, NoMemory>
     requires room { top.old.place + 1 ≤ 1024 }
     requires lawful { IsLawful (V.shown view.old) }
     requires tracked { V.held view.old ≡ names_of_areas areas.old }
-    ensures ok { IfOk result (λ outcome. (made : List Line) →
-        stand_after (V.held view.old) made (executed (V.shown view.old).state (frame_of top.old) (frames_of below.old) (V.held view.old) (Instr.CallExt to at))
-        ≡ stand_of outcome (frame_of top.new ∷ frames_of below.new) (V.held view.new) made) }
+    ensures ok { IfOk result (λ outcome.
+        stand_after (V.held view.old) lines.old (executed (V.shown view.old).state (frame_of top.old) (frames_of below.old) (V.held view.old) (Instr.CallExt to at))
+        ≡ stand_of outcome (frame_of top.new ∷ frames_of below.new) (V.held view.new) lines.new) }
     ensures tracked { OnOk result (V.held view.new ≡ names_of_areas areas.new) }
     ensures same { V.shown view.new ≡ V.shown view.old }
 {
     let Some(code) = view.export(to) else {
         return Ok(Outcome::Ends(End::Undef(to)));
     };
-    let arity = to.arity;
-    call(alloc, top, below, Callee { code, arity, at }, view, areas)
+    call(
+        alloc,
+        top,
+        below,
+        Callee { code, to, at },
+        view,
+        areas,
+        lines,
+    )
 }
 
 /// Leaves the topmost frame with a value. Where it was the last one, the process ends.

@@ -119,7 +119,7 @@ fn one_function(
 }
 
 /// The texts to load from: one module.
-fn one_text(module: Module, alloc: Global) -> Result<ModuleList, NoMemory>
+pub fn one_text(module: Module, alloc: Global) -> Result<ModuleList, NoMemory>
     requires { IsModule «module» }
     ensures { IfOk result AreTexts }
 {

@@ -1,6 +1,6 @@
 ghost use Rattle.std.specs.Prelude.{◌≡◌, ◌↔◌, ℕ, ◌<◌, length, option_map, slice_index, IsErr, IsTrue, OnErr, OnOk};
-ghost use Rattle.server_core.specs.ServerState.{dispatch_of, entry_of};
-ghost use Rattle.machine_core.specs.Holds.{Holds, MayHold, is_full, is_held, with_hold, without_hold};
+ghost use Rattle.server_core.specs.ServerState.{dispatch_of, entry_of, is_doomed, is_retired, is_traced};
+ghost use Rattle.machine_core.specs.Holds.{Holds, MayHold, is_area_held, is_full, is_held, with_hold, without_hold};
 ghost use Rattle.machine_core.specs.View.{Shown, IsLawful, HasFunction, IsReadable, place_of};
 
 use term_core::{AreaRef, CodeRef, Full, Kind, Mfa};
@@ -29,6 +29,31 @@ pub trait CodeView {
         requires known { HasFunction (shown self.old).state (entry_of at) }
         requires reached { MayHold (shown self.old).state (held self.old) at.area.serial Kind.Frame }
         ensures value { result ≡ place_of (shown self.old).state (entry_of at) }
+        ensures same { shown self.new ≡ shown self.old }
+        ensures holds { held self.new ≡ held self.old };
+
+    /// Whether calls of the function are traced.
+    fn decision(&mut self, at: CodeRef) -> bool
+        requires lawful { IsLawful (shown self.old) }
+        requires known { HasFunction (shown self.old).state (entry_of at) }
+        requires reached { MayHold (shown self.old).state (held self.old) at.area.serial Kind.Frame }
+        ensures value { result ≡ is_traced (shown self.old).state (entry_of at) }
+        ensures same { shown self.new ≡ shown self.old }
+        ensures holds { held self.new ≡ held self.old };
+
+    /// Whether the area is code that is purged, so that processes that stand in it end.
+    fn doomed(&mut self, area: AreaRef) -> bool
+        requires lawful { IsLawful (shown self.old) }
+        requires named { IsTrue (is_area_held (held self.old) area.serial) }
+        ensures value { result ≡ is_doomed (shown self.old).state area.serial }
+        ensures same { shown self.new ≡ shown self.old }
+        ensures holds { held self.new ≡ held self.old };
+
+    /// Whether the area was dropped, so that it is released once no process names it.
+    fn retired(&mut self, area: AreaRef) -> bool
+        requires lawful { IsLawful (shown self.old) }
+        requires named { IsTrue (is_area_held (held self.old) area.serial) }
+        ensures value { result ≡ is_retired (shown self.old).state area.serial }
         ensures same { shown self.new ≡ shown self.old }
         ensures holds { held self.new ≡ held self.old };
 

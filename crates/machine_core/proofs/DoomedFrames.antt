@@ -1,0 +1,41 @@
+-- The topmost frame that stands in doomed code, as frames are gone through from the lowest up.
+use Rattle.std.proofs.Common.{◌≡◌, ◌<◌, ◌+◌, ◌∙◌, ◌||◌, ◌==◌, ℕ, zero, suc, refl, sym, ap, arith, Bool, true, false, IsTrue, List, [], ◌∷◌, ◌++◌, length, take, get_or, Some, if◌then◌else◌}
+use Rattle.std.proofs.lemmas.Bool.Decides.{nat_tests}
+use Rattle.std.proofs.lemmas.List.{take_more}
+use Rattle.std.specs.List.{list_any}
+use Rattle.server_core.specs.ServerState.{ServerState, is_doomed}
+use Rattle.machine_core.specs.declared.process.Frame.{Frame}
+use Rattle.machine_core.specs.Holds.{Holds, is_area_held, is_among}
+use Rattle.machine_core.specs.Process.{frames_of}
+use Rattle.machine_core.specs.Stand.{AreHeld}
+use Rattle.machine_core.specs.Turn.{doomed_serial}
+use Rattle.machine_core.proofs.HoldLists.{among-frames, frames_of-push}
+use Rattle.machine_core.proofs.Pausing.{all_held}
+
+first_same : (n : ℕ) (b : Bool) → (n == n || b) ≡ true
+first_same n b = grind (arith, nat_tests)
+
+or_later : (a b : Bool) → b ≡ true → (a || b) ≡ true
+or_later true b h = refl
+or_later false b h = h
+
+or_first : (a b : Bool) → a ≡ true → (a || b) ≡ true
+or_first true b h = refl
+or_first false b h = absurd (cc)
+
+any_at : (fs : List Frame) (n : ℕ) (d : Frame) → n < length fs → list_any (λ f. f.code.area.serial == (get_or fs n d).code.area.serial) fs ≡ true
+any_at [] n d h = absurd (omega arith)
+any_at (f ∷ fs) zero d h = first_same f.code.area.serial (list_any (λ g. g.code.area.serial == f.code.area.serial) fs)
+any_at (f ∷ fs) (suc n) d h = or_later _ (list_any (λ g. g.code.area.serial == (get_or fs n d).code.area.serial) fs) (any_at fs n d (omega arith))
+
+-- the area of a frame is held
+pub named_frame : (held : Holds) (fs : List Frame) (n : ℕ) (f : Frame) → n < length fs → f ≡ get_or fs n f → AreHeld held (frames_of fs) → IsTrue (is_area_held held f.code.area.serial)
+named_frame held fs n f below is h =
+    let any : list_any (λ g. g.code.area.serial == f.code.area.serial) fs ≡ true = ap (λ (e : Frame). list_any (λ g. g.code.area.serial == e.code.area.serial) fs) is ∙ any_at fs n f below in
+    or_first (is_among held.frames f.code.area.serial) (is_among held.literals f.code.area.serial) (all_held held (frames_of fs) f.code.area.serial h (among-frames fs f.code.area.serial ∙ any))
+
+-- with one more frame, it is that one where it stands in doomed code, else the one so far
+pub doomed_next : (s : ServerState) (fs : List Frame) (n : ℕ) (f : Frame) → n < length fs → f ≡ get_or fs n f →
+    doomed_serial s (frames_of (take (n + 1) fs)) ≡ (if is_doomed s f.code.area.serial then Some f.code.area.serial else doomed_serial s (frames_of (take n fs)))
+doomed_next s fs n f below is =
+    ap (λ xs. doomed_serial s (frames_of xs)) (take_more fs n f below) ∙ ap (λ g. doomed_serial s (frames_of (take n fs ++ g ∷ []))) (sym is) ∙ ap (doomed_serial s) (frames_of-push (take n fs) f)

@@ -1,0 +1,20 @@
+-- That a traced call makes the line that the turn says.
+use Rattle.std.proofs.Common.{◌≡◌, ◌∙◌, ap, refl, true, List, [], ◌∷◌, ◌++◌}
+use Rattle.term_core.specs.declared.atom.Mfa.{Mfa}
+use Rattle.term_core.specs.PlainTerm.{PlainTerm}
+use Rattle.term_core.proofs.PlainTerms.{plain-term_of}
+use Rattle.server_core.specs.ServerState.{ServerState, Entry, is_traced}
+use Rattle.machine_core.specs.declared.process.Line.{Line}
+use Rattle.machine_core.specs.declared.process.Line.TheVariants.{Trace}
+use Rattle.machine_core.specs.Process.{owned_values}
+use Rattle.machine_core.specs.Turn.{terms_of, trace_of}
+
+-- the terms of terms as values are they
+pub terms_of-owned : (terms : List PlainTerm) → terms_of (owned_values terms) ≡ terms
+terms_of-owned [] = refl
+terms_of-owned (t ∷ ts) = cc (plain-term_of t, terms_of-owned ts)
+
+-- the line of a target has its arguments
+pub target_traced : (s : ServerState) (e : Entry) (to : Mfa) (args copies : List PlainTerm) (before after : List Line) → is_traced s e ≡ true → copies ≡ args → after ≡ before ++ Trace to copies ∷ [] →
+    after ≡ before ++ trace_of s e to (owned_values args)
+target_traced s e to args copies before after t c h = rw (t, terms_of-owned args) (h ∙ ap (λ ts. before ++ Trace to ts ∷ []) c)

@@ -1,0 +1,12 @@
+-- Each frame's area is held, as it was at first.
+use Rattle.std.proofs.Common.{sym, subst}
+use Rattle.machine_core.specs.Holds.{Holds}
+use Rattle.machine_core.specs.Process.{frames_of}
+use Rattle.machine_core.specs.Stand.{AreHeld}
+use Rattle.machine_core.proofs.DoomedFrames.{named_frame}
+use Rattle.machine_core.proofs.doom.doomed_serial.Goals as goal
+
+pub doomed-requires-clause-named : goal.doomed-requires-clause-named
+doomed-requires-clause-named g c =
+    named_frame (g.V.CodeView.held c.loop-frame.view) c.args.frames.now c.loop-frame.frame-index c.frame-item.result c.loop-frame-test.true c.frame-item.is
+    (subst (λ (h : Holds). AreHeld h (frames_of c.args.frames.now)) (sym c.loop-frame.invariant.held) c.requires.named)
