@@ -1,28 +1,25 @@
 -- The lines that start a loader block or end the script, and what no line has where a loader block is open.
-use Rattle.std.proofs.Common.{◌≡◌, ℕ, ◌+◌, ◌<◌, ◌≤◌, Bool, true, false, cond, not, ◌||◌, nat_le, nat_lt, List, [], ◌∷◌, ◌++◌, length, Option, Some, None, Result, Ok, Err, bytes_eq, codes, refl, sym, ap, ◌∙◌, subst, arith}
-use Rattle.std.specs.Prelude.{map}
+use Rattle.std.proofs.Common.{◌≡◌, ℕ, ◌+◌, ◌≤◌, Bool, true, false, cond, not, ◌||◌, nat_le, nat_lt, List, [], ◌∷◌, ◌++◌, length, Some, None, Ok, Err, bytes_eq, codes, refl, sym, ap, ◌∙◌, subst, arith}
 use Rattle.std.proofs.lemmas.Bool.Decides.{nat_tests}
 use Rattle.std.proofs.lemmas.List.{length-map}
 use Rattle.term_core.specs.Names.{IsNames}
 use Rattle.term_core.specs.Written.{WrittenTerm}
 use Rattle.mod_core.specs.ModuleLine.{LineForm}
-use Rattle.mod_core.proofs.Options.{bytes_are, same_bytes, passed, failed}
+use Rattle.mod_core.proofs.Options.{same_bytes}
 use Rattle.script_text.specs.declared.fault.Which.TheVariants as which
-use Rattle.script_text.specs.declared.fault.ScriptFault.{ScriptFault}
 use Rattle.script_text.specs.declared.fault.ScriptFault.TheVariants as faults
-use Rattle.script_text.specs.declared.reading.cause.LineCause.{LineCause}
 use Rattle.script_text.specs.declared.reading.cause.LineCause.TheVariants as causes
 use Rattle.script_text.specs.declared.reading.reader.Place.TheVariants.{Loading}
 use Rattle.script_text.specs.declared.reading.reader.ScriptReader.{ScriptReader}
 use Rattle.script_text.specs.declared.script.ScriptCmd.{ScriptCmd}
-use Rattle.script_text.specs.ScriptLine.{RefForm, ScriptLine, head, code, loader, load, spawn, go, IsLine}
+use Rattle.script_text.specs.ScriptLine.{RefForm, ModuleCommand, ScriptLine, head, code, loader, load, on_module, trace, spawn, go, IsLine}
 use Rattle.script_text.specs.ScriptValue.{commands_of}
 use Rattle.script_text.specs.LineFaults.{may_stand_loading, may_stand}
 use Rattle.script_text.specs.Reading.{block_step, end_step}
-use Rattle.script_text.proofs.Summaries.{Summary, summary_with, table, fault_by}
-use Rattle.script_text.proofs.Holding.{Knows, Holds}
+use Rattle.script_text.proofs.Summaries.{Summary, table, fault_by}
+use Rattle.script_text.proofs.Holding.{Knows}
 use Rattle.script_text.proofs.Steps.{holds_loader, holds_go}
-use Rattle.script_text.proofs.CodeSteps.{IsRead, IsRefused, Judges, misplaced}
+use Rattle.script_text.proofs.CodeSteps.{Judges, misplaced}
 
 -- ---- what is few stays so
 
@@ -87,16 +84,18 @@ judges_end m r closed text k stands none is =
 -- ---- lines of no form
 
 -- where loader blocks are open, a text that is none of their lines
-pub no_command : (m : Summary) (text : List ℕ) → ((line : ScriptLine) → may_stand m.last line ≡ may_stand_loading line) → bytes_eq text (codes "loader") ≡ false → bytes_eq text (codes "go") ≡ false → ((refs : List RefForm) → IsLine text (load refs) → ⊥) → ((n f : List ℕ) (args : List WrittenTerm) → IsLine text (spawn n f args) → ⊥) → Judges m text (Err causes.Syntax)
-no_command m text follows no_loader no_go no_load no_spawn head l = misplaced m head (follows head)
-no_command m text follows no_loader no_go no_load no_spawn (code line) l = misplaced m (code line) (follows (code line))
-no_command m text follows no_loader no_go no_load no_spawn loader l = absurd (is_other (codes "loader") l.text_is no_loader)
+pub no_command : (m : Summary) (text : List ℕ) → ((line : ScriptLine) → may_stand m.last line ≡ may_stand_loading line) → bytes_eq text (codes "loader") ≡ false → bytes_eq text (codes "go") ≡ false → ((refs : List RefForm) → IsLine text (load refs) → ⊥) → ((n f : List ℕ) (args : List WrittenTerm) → IsLine text (spawn n f args) → ⊥) → ((command : ModuleCommand) (name : List ℕ) → IsLine text (on_module command name) → ⊥) → ((n f arity : List ℕ) (on : Bool) → IsLine text (trace n f arity on) → ⊥) → Judges m text (Err causes.Syntax)
+no_command m text follows no_loader no_go no_load no_spawn no_module no_trace head l = misplaced m head (follows head)
+no_command m text follows no_loader no_go no_load no_spawn no_module no_trace (code line) l = misplaced m (code line) (follows (code line))
+no_command m text follows no_loader no_go no_load no_spawn no_module no_trace loader l = absurd (is_other (codes "loader") l.text_is no_loader)
   where
     is_other : (bytes : List ℕ) → text ≡ bytes → bytes_eq text bytes ≡ false → ⊥
     is_other bytes e f = let same : bytes_eq text bytes ≡ true = ap (λ (t : List ℕ). bytes_eq t bytes) e ∙ same_bytes bytes in absurd cc
-no_command m text follows no_loader no_go no_load no_spawn (load refs) l = absurd (no_load refs l)
-no_command m text follows no_loader no_go no_load no_spawn (spawn n f args) l = absurd (no_spawn n f args l)
-no_command m text follows no_loader no_go no_load no_spawn go l = absurd (is_other (codes "go") l.text_is no_go)
+no_command m text follows no_loader no_go no_load no_spawn no_module no_trace (load refs) l = absurd (no_load refs l)
+no_command m text follows no_loader no_go no_load no_spawn no_module no_trace (on_module command name) l = absurd (no_module command name l)
+no_command m text follows no_loader no_go no_load no_spawn no_module no_trace (trace n f arity on) l = absurd (no_trace n f arity on l)
+no_command m text follows no_loader no_go no_load no_spawn no_module no_trace (spawn n f args) l = absurd (no_spawn n f args l)
+no_command m text follows no_loader no_go no_load no_spawn no_module no_trace go l = absurd (is_other (codes "go") l.text_is no_go)
   where
     is_other : (bytes : List ℕ) → text ≡ bytes → bytes_eq text bytes ≡ false → ⊥
     is_other bytes e f = let same : bytes_eq text bytes ≡ true = ap (λ (t : List ℕ). bytes_eq t bytes) e ∙ same_bytes bytes in absurd cc

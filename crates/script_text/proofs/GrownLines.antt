@@ -1,16 +1,16 @@
 -- What lines name and have, after one line more.
-use Rattle.std.proofs.Common.{◌≡◌, ℕ, ◌+◌, ◌≤◌, Bool, true, false, cond, List, [], ◌∷◌, ◌++◌, length, Option, Some, None, refl, sym, ap, ◌∙◌, arith, append_assoc, append-nil, length-append}
+use Rattle.std.proofs.Common.{◌≡◌, ℕ, ◌+◌, Bool, cond, List, [], ◌∷◌, ◌++◌, length, Some, refl, sym, ap, ◌∙◌, append_assoc, append-nil, length-append}
 use Rattle.std.specs.Prelude.{fold, count_by}
 use Rattle.std.specs.List.{flat_map}
 use Rattle.std.proofs.lemmas.Grind.{flat_map-append}
-use Rattle.std.proofs.lemmas.List.Sums.{fold-append, sum_by-append}
+use Rattle.std.proofs.lemmas.List.Sums.{fold-append}
 use Rattle.term_core.specs.Names.{given_names}
 use Rattle.term_core.specs.TermText.{names_with_all}
 use Rattle.mod_core.specs.ModuleLine.{LineForm}
 use Rattle.mod_core.proofs.LineNames.{names_with_all-append}
-use Rattle.script_text.specs.ScriptLine.{RefForm, ScriptLine, head, code, loader, load, spawn, go}
+use Rattle.script_text.specs.ScriptLine.{ScriptLine, code}
 use Rattle.script_text.specs.Groups.{groups_with, groups_of}
-use Rattle.script_text.specs.Counts.{script_line_atoms, names_of, FunctionForm, script_line_functions, home_after, functions_named, functions_with, functions_of, code_lines, is_title, module_texts, line_titles, titles_of, is_loader, is_spawn, block_lines, loader_blocks}
+use Rattle.script_text.specs.Counts.{script_line_atoms, names_of, FunctionForm, script_line_functions, home_after, functions_named, functions_with, functions_of, code_lines, is_title, module_texts, line_titles, titles_of, is_loader, block_lines, loader_blocks}
 use Rattle.script_text.specs.LineFaults.{last_of}
 
 pub flat_map-snoc : {X A : Type 0} (f : X → List A) (xs : List X) (x : X) → flat_map f (xs ++ x ∷ []) ≡ flat_map f xs ++ f x

@@ -1,10 +1,10 @@
 -- A load, behind the start of a loader block.
-use Rattle.std.proofs.Common.{◌≡◌, ℕ, ◌+◌, ◌<◌, ◌≤◌, Bool, true, false, cond, not, ◌||◌, ◌&&◌, ◌==◌, nat_lt, List, [], ◌∷◌, ◌++◌, length, Option, Some, None, option_map, Result, Ok, Err, bytes_eq, codes, refl, sym, ap, ◌∙◌, subst, arith, length-append, append-nil}
+use Rattle.std.proofs.Common.{◌≡◌, ℕ, ◌+◌, ◌≤◌, Bool, true, false, cond, not, ◌||◌, ◌&&◌, ◌==◌, nat_lt, List, [], ◌∷◌, ◌++◌, length, Option, Some, None, option_map, Result, Ok, Err, bytes_eq, codes, refl, sym, ap, ◌∙◌, subst, arith}
 use Rattle.std.specs.Prelude.{map}
-use Rattle.std.specs.List.{AllByRecursion, list_any, list_all}
+use Rattle.std.specs.List.{AllByRecursion, list_all}
 use Rattle.std.proofs.lemmas.Bool.{and_parts}
 use Rattle.std.proofs.lemmas.Bool.Decides.{nat_tests}
-use Rattle.term_core.specs.Names.{IsNames, Extends, is_atom_text}
+use Rattle.term_core.specs.Names.{IsNames, is_atom_text}
 use Rattle.term_core.specs.TermText.{names_with_all}
 use Rattle.term_core.specs.Written.{WrittenTerm}
 use Rattle.mod_core.specs.ModuleLine.{LineForm, number_value}
@@ -12,7 +12,7 @@ use Rattle.mod_core.specs.LineReading.{cut_at}
 use Rattle.mod_core.specs.ModuleValue.{module_of}
 use Rattle.mod_core.proofs.Cuts.{cut_is}
 use Rattle.mod_core.proofs.LineNames.{are_atoms}
-use Rattle.mod_core.proofs.Options.{some_is, passed, failed, bytes_are, same_bytes}
+use Rattle.mod_core.proofs.Options.{some_is, same_bytes}
 use Rattle.server_core.specs.declared.command.ModRef.{ModRef}
 use Rattle.script_text.specs.declared.fault.Which.TheVariants as which
 use Rattle.script_text.specs.declared.fault.ScriptFault.TheVariants as faults
@@ -20,20 +20,20 @@ use Rattle.script_text.specs.declared.reading.cause.LineCause.{LineCause}
 use Rattle.script_text.specs.declared.reading.cause.LineCause.TheVariants as causes
 use Rattle.script_text.specs.declared.reading.reader.Place.TheVariants.{Loading}
 use Rattle.script_text.specs.declared.reading.reader.ScriptReader.{ScriptReader}
-use Rattle.script_text.specs.declared.script.ScriptCmd.{ScriptCmd}
 use Rattle.script_text.specs.declared.script.ScriptCmd.TheVariants.{Load}
-use Rattle.script_text.specs.ScriptLine.{RefForm, ScriptLine, head, code, loader, load, spawn, go, ref_written, is_ref_form, are_some_refs, is_script_line, IsLine}
-use Rattle.script_text.specs.Counts.{FunctionForm, is_same_ref, is_given}
+use Rattle.script_text.specs.ScriptLine.{RefForm, load, spawn, is_ref_form, are_some_refs, IsLine}
+use Rattle.script_text.specs.Counts.{is_same_ref, is_given}
 use Rattle.script_text.specs.Groups.{onto_last}
-use Rattle.script_text.specs.ScriptValue.{ref_in, commands_on, commands_of}
-use Rattle.script_text.specs.LineFaults.{may_stand_loading, may_stand, or_else, lack_in_texts, is_lacking, lack_in_loads}
+use Rattle.script_text.specs.ScriptValue.{ref_in, commands_of}
+use Rattle.script_text.specs.LineFaults.{may_stand, or_else, lack_in_texts, lack_in_loads}
 use Rattle.script_text.specs.LineReading.{refs_reading}
 use Rattle.script_text.specs.Naming.{or_syntax, refs_named}
-use Rattle.script_text.specs.WrittenLine.{RefWords, ref_words}
+use Rattle.script_text.specs.WrittenLine.{ref_words}
 use Rattle.script_text.specs.Causes.{◌>>=◌}
 use Rattle.script_text.specs.Sets.{is_same_mod_ref, is_among}
 use Rattle.script_text.specs.Reading.{with_command, noted, load_step}
 use Rattle.script_text.proofs.CommandLaws.{refs_is, load_cut, spawn_cut}
+use Rattle.script_text.proofs.NamedLaws.{no_module_text, no_trace_text}
 use Rattle.script_text.proofs.HeldNames.{IsHeldText, held_all, Extends-all, number_in-more, same_number}
 use Rattle.script_text.proofs.ModuleNames.{AreHeld}
 use Rattle.script_text.proofs.Namings.{or_full, refs_named-is}
@@ -41,7 +41,7 @@ use Rattle.script_text.proofs.Summaries.{Summary, summary_with, table, fault_by}
 use Rattle.script_text.proofs.Holding.{function_in, Stands, Knows, IsLoading, Holds, grown, or_else-assoc, lack_in_loads-snoc, same_lack}
 use Rattle.script_text.proofs.Steps.{more_lines, commands-onto_last, length-onto_last}
 use Rattle.script_text.proofs.Functions.{functions_held_in}
-use Rattle.script_text.proofs.CodeSteps.{IsRead, IsRefused, Judges, names_all-IsNames, at_after, titles_held_in}
+use Rattle.script_text.proofs.CodeSteps.{Judges, names_all-IsNames, at_after, titles_held_in}
 use Rattle.script_text.proofs.BlockSteps.{few, few_more, no_command}
 
 -- ---- what is given
@@ -212,7 +212,7 @@ judges_load m r closed text number rest k l place n no_loader no_go cut = by_ref
         absurd cc
 
     by_refs : (o : Option (List RefForm)) → refs_reading rest ≡ o → Judges m text (or_syntax (option_map (map ref_words) o) >>= λ forms. refs_named r.names forms >>= loaded r number)
-    by_refs None e = no_command m text l.follows no_loader no_go (no_refs e) (no_spawn_text text (codes "load") rest cut refl)
+    by_refs None e = no_command m text l.follows no_loader no_go (no_refs e) (no_spawn_text text (codes "load") rest cut refl) (no_module_text text (codes "load") rest cut refl) (no_trace_text text (codes "load") rest cut refl)
     by_refs (Some refs) e =
         let is = refs_is rest refs e in
         judges_refs m r closed text number refs k l place n (record { text_is = (cut_is 32 text (codes "load", rest) cut).whole ∙ ap (λ (t : List ℕ). codes "load" ++ t) is.text_is; sound = is.sound })

@@ -22,11 +22,11 @@ HaveHeld names lines = AllByRecursion (λ line. AreHeld names (line_atoms line))
 same_atom : (names more : List (List ℕ)) (text : List ℕ) → IsHeldText names text → atom_in (names ++ more) text ≡ atom_in names text
 same_atom names more text h = ap (λ (n : ℕ). let a : AtomId = record { 0 = n } in a) (number_in-more names more text h)
 
-held_first : (names xs ys : List (List ℕ)) → AreHeld names (xs ++ ys) → AreHeld names xs
+pub held_first : (names xs ys : List (List ℕ)) → AreHeld names (xs ++ ys) → AreHeld names xs
 held_first names [] ys h = tt
 held_first names (x ∷ xs) ys h = (h.0, held_first names xs ys h.1)
 
-held_second : (names xs ys : List (List ℕ)) → AreHeld names (xs ++ ys) → AreHeld names ys
+pub held_second : (names xs ys : List (List ℕ)) → AreHeld names (xs ++ ys) → AreHeld names ys
 held_second names [] ys h = h
 held_second names (x ∷ xs) ys h = held_second names xs ys h.1
 
@@ -74,7 +74,7 @@ same_code names more headers body (instr i ∷ lines) h =
     λ k. p k ∷ q k
 same_code names more headers body (end ∷ lines) h = same_code names more headers body lines h.1
 
-held_body : (names : List (List ℕ)) (lines : List LineForm) → HaveHeld names lines → HaveHeld names (body_of lines)
+pub held_body : (names : List (List ℕ)) (lines : List LineForm) → HaveHeld names lines → HaveHeld names (body_of lines)
 held_body names [] h = tt
 held_body names (title name version ∷ lines) h = tt
 held_body names (header exported name arity ∷ lines) h = tt

@@ -1,5 +1,5 @@
 -- The names of a line, one after another: all get their numbers where the table has room for all of them.
-use Rattle.std.proofs.Common.{◌≡◌, ℕ, ◌+◌, ◌<◌, ◌≤◌, Bool, true, false, cond, not, ◌&&◌, ◌||◌, nat_lt, List, [], ◌∷◌, ◌++◌, length, Option, Some, None, Result, Ok, Err, refl, sym, ap, ◌∙◌, subst, arith}
+use Rattle.std.proofs.Common.{◌≡◌, ℕ, ◌≤◌, Bool, true, false, cond, not, ◌&&◌, ◌||◌, nat_lt, List, [], ◌∷◌, length, Some, None, Result, Ok, Err, refl, sym, ap, ◌∙◌, arith}
 use Rattle.std.specs.Prelude.{map}
 use Rattle.std.specs.List.{list_all, list_any, flat_map}
 use Rattle.std.proofs.lemmas.Bool.{and_parts, and_from}
@@ -11,24 +11,22 @@ use Rattle.term_core.specs.Names.{Extends, is_atom_text, names_with}
 use Rattle.term_core.specs.PlainTerm.{PlainTerm, integer_leaf, atom_leaf, tuple_of, list_of, atoms_of}
 use Rattle.term_core.specs.TermText.{number_in, names_with_all}
 use Rattle.term_core.specs.Written.{WrittenTerm, integer_of, is_term_integer, is_integer_text}
-use Rattle.term_core.proofs.GrownNames.{Extends-refl}
 use Rattle.mod_core.specs.ModuleLine.{number_value}
-use Rattle.mod_core.specs.ModuleValue.{atom_in}
-use Rattle.mod_core.proofs.Options.{passed, failed}
+use Rattle.mod_core.specs.ModuleValue.{atom_in, mfa_in}
 use Rattle.mod_core.proofs.LineNames.{names_with_all-append, more_names_all}
 use Rattle.server_core.specs.declared.command.ModRef.{ModRef}
 use Rattle.script_text.specs.declared.fault.Which.TheVariants as which
 use Rattle.script_text.specs.declared.reading.cause.LineCause.{LineCause}
 use Rattle.script_text.specs.declared.reading.cause.LineCause.TheVariants as causes
 use Rattle.script_text.specs.ScriptLine.{RefForm, is_ref_form, is_argument_form}
-use Rattle.script_text.specs.LineReading.{CallForm}
+use Rattle.script_text.specs.LineReading.{TraceForm, CallForm}
 use Rattle.script_text.specs.ScriptValue.{ref_in, argument_in}
 use Rattle.script_text.specs.LineFaults.{is_wide_argument}
-use Rattle.script_text.specs.WrittenLine.{RefWords, ref_words, ArgumentWords, integer, atom, complex, argument_words, CallWords, call_words}
+use Rattle.script_text.specs.WrittenLine.{ref_words, trace_words, ArgumentWords, integer, argument_words, call_words}
 use Rattle.script_text.specs.Causes.{◌>>=◌}
-use Rattle.script_text.specs.Naming.{atom_named, each_named, ref_named, refs_named, argument_named, arguments_named, is_wide_word, target_named, call_named}
+use Rattle.script_text.specs.Naming.{atom_named, each_named, ref_named, refs_named, trace_named, argument_named, arguments_named, is_wide_word, target_named, call_named}
 use Rattle.script_text.proofs.KeySets.{any-map}
-use Rattle.script_text.proofs.HeldNames.{IsHeldText, held_with, Extends-all, number_in-after}
+use Rattle.script_text.proofs.HeldNames.{held_with, Extends-all, number_in-after}
 
 -- the names after these, if they are not too many
 abbrev pub or_full : {Y : Type 0} → (List (List ℕ) → Y) → List (List ℕ) → Result (Y × List (List ℕ)) LineCause
@@ -121,6 +119,45 @@ pub refs_named-is : (names : List (List ℕ)) (refs : List RefForm) → list_all
 refs_named-is names refs h room =
     each_named-is ref_named ref_words (λ (r : RefForm). r.name ∷ []) ref_in is_ref_form ref_namer names refs h room
     ∙ ap (λ (texts : List (List ℕ)). or_full (λ after. map (ref_in after) refs) (names_with_all names texts)) (flat_map_single (λ (r : RefForm). r.name) refs)
+
+-- ---- breakpoints
+
+-- the function of a breakpoint, by the names
+abbrev pub traced_in : List (List ℕ) → TraceForm → Mfa
+traced_in names t = mfa_in names t.«module» t.name t.arity
+
+abbrev with_function : ℕ → ℕ → Numbered → Result (Mfa × List (List ℕ)) LineCause
+with_function arity m f = Ok (record { «module» = record { 0 = m }; name = record { 0 = f.0 }; arity = arity }, f.1)
+
+abbrev traced : Bool → Mfa → List (List ℕ) → Result (Mfa × List (List ℕ)) LineCause
+traced b target after = cond b (Err (causes.Limit which.Names)) (Ok (target, after))
+
+abbrev after_module : TraceForm → Numbered → Result (Mfa × List (List ℕ)) LineCause
+after_module t m = atom_named m.1 t.name >>= with_function (number_value t.arity) m.0
+
+-- it is named, or one of its names finds the table full
+pub trace_named-is : (names : List (List ℕ)) (t : TraceForm) → is_atom_text t.«module» ≡ true → is_atom_text t.name ≡ true → trace_named names (trace_words t) ≡ or_full (λ after. traced_in after t) (names_with_all names (t.«module» ∷ t.name ∷ []))
+unfolding trace_named
+trace_named-is names t m_is f_is =
+    ap (λ (r : Result Numbered LineCause). r >>= after_module t) (atom_named-is names t.«module» m_is) ∙ by_module (nat_lt 4096 (length (names_with names t.«module»))) refl
+  where
+    by_over : (b : Bool) → b ≡ true → traced b (traced_in (names_with (names_with names t.«module») t.name) t) (names_with (names_with names t.«module») t.name) ≡ Err (causes.Limit which.Names)
+    by_over true e = refl
+    by_over false e = absurd cc
+
+    by_name : (b : Bool) → (numbered b (names_with names t.«module») t.name >>= with_function (number_value t.arity) (number_in (names_with names t.«module») t.«module»)) ≡ traced b (traced_in (names_with (names_with names t.«module») t.name) t) (names_with (names_with names t.«module») t.name)
+    by_name true = refl
+    by_name false =
+        let one = names_with names t.«module» in
+        let two = names_with one t.name in
+        let kept : number_in two t.«module» ≡ number_in one t.«module» = number_in-after one two t.«module» (Extends-all one (t.name ∷ [])) (held_with names t.«module») in
+        ap (λ (m : ℕ). with_function (number_value t.arity) m (number_in two t.name, two)) (sym kept)
+
+    by_module : (b : Bool) → nat_lt 4096 (length (names_with names t.«module»)) ≡ b → (numbered b names t.«module» >>= after_module t) ≡ or_full (λ after. traced_in after t) (names_with_all names (t.«module» ∷ t.name ∷ []))
+    by_module true e = sym (by_over (nat_lt 4096 (length (names_with (names_with names t.«module») t.name))) (over_stays (length (names_with names t.«module»)) _ (more_names_all (names_with names t.«module») (t.name ∷ [])) e))
+    by_module false e =
+        ap (λ (r : Result Numbered LineCause). r >>= with_function (number_value t.arity) (number_in (names_with names t.«module») t.«module»)) (atom_named-is (names_with names t.«module») t.name f_is)
+        ∙ by_name (nat_lt 4096 (length (names_with (names_with names t.«module») t.name)))
 
 -- ---- arguments
 

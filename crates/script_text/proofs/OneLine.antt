@@ -1,24 +1,38 @@
 -- A text is that of one line of a script at most.
 use Rattle.std.proofs.Common.{◌≡◌, ℕ, Bool, true, false, cond, List, Option, Some, None, option_map, bytes_eq, codes, refl, sym, ap, ◌∙◌}
-use Rattle.term_core.specs.Written.{WrittenTerm}
+use Rattle.term_core.specs.Names.{is_atom_text}
 use Rattle.mod_core.specs.ModuleLine.{LineForm}
-use Rattle.mod_core.specs.LineReading.{cut_at, parts_reading, line_reading}
+use Rattle.mod_core.specs.LineReading.{cut_at, tested, parts_reading, line_reading}
 use Rattle.mod_core.proofs.LineAgain.{text_again}
-use Rattle.mod_core.proofs.Options.{some_is, passed, failed, bytes_are, same_bytes}
-use Rattle.script_text.specs.ScriptLine.{RefForm, ScriptLine, head, code, loader, load, spawn, go, IsLine}
-use Rattle.script_text.specs.LineReading.{CallForm, refs_reading, call_reading}
+use Rattle.mod_core.proofs.Options.{some_is, failed, bytes_are, tested_at}
+use Rattle.script_text.specs.ScriptLine.{ModuleCommand, delete, soft_purge, purge, check_old, ScriptLine, head, code, loader, load, on_module, trace, spawn, go, command_word, IsLine}
+use Rattle.script_text.specs.LineReading.{CallForm, refs_reading, command_reading, TraceForm, trace_reading, call_reading}
 use Rattle.script_text.proofs.CommandLaws.{load_cut, spawn_cut}
+use Rattle.script_text.proofs.NamedLaws.{word_is, module_cut, trace_cut}
 
 -- ---- a line by its text
 
 abbrev spawn_of : CallForm → ScriptLine
 spawn_of c = spawn c.«module» c.name c.args
 
+abbrev trace_of : TraceForm → ScriptLine
+trace_of t = trace t.«module» t.name t.arity t.on
+
+-- the line of a command of one module, or another
+abbrev by_word : Option ModuleCommand → List ℕ → Option ScriptLine → Option ScriptLine
+by_word None rest other = other
+by_word (Some c) rest other = option_map (λ n. on_module c n) (tested is_atom_text rest)
+
+-- the line of none of the words that have a step of their own
+abbrev by_other : List ℕ → List ℕ × List ℕ → Option ScriptLine
+by_other text parts =
+    cond (bytes_eq parts.0 (codes "trace")) (option_map trace_of (trace_reading parts.1)) (by_word (command_reading parts.0) parts.1 (option_map (λ l. code l) (line_reading text)))
+
 abbrev by_parts : List ℕ → Option (List ℕ × List ℕ) → Option ScriptLine
 by_parts text None = option_map (λ l. code l) (line_reading text)
 by_parts text (Some parts) =
     cond (bytes_eq parts.0 (codes "load")) (option_map (λ refs. load refs) (refs_reading parts.1))
-    (cond (bytes_eq parts.0 (codes "spawn")) (option_map spawn_of (call_reading parts.1)) (option_map (λ l. code l) (line_reading text)))
+    (cond (bytes_eq parts.0 (codes "spawn")) (option_map spawn_of (call_reading parts.1)) (by_other text parts))
 
 abbrev form_reading : List ℕ → Option ScriptLine
 form_reading text =
@@ -67,13 +81,30 @@ code_other text line e = record {
 code_parts : (text : List ℕ) (line : LineForm) → line_reading text ≡ Some line → by_parts text (cut_at 32 text) ≡ Some (code line)
 code_parts text line e = by_cut (cut_at 32 text) refl
   where
-    by_spawn : (parts : List ℕ × List ℕ) (t : Bool) → parts_reading text (Some parts) ≡ Some line → bytes_eq parts.0 (codes "spawn") ≡ t → cond t (option_map spawn_of (call_reading parts.1)) (option_map (λ l. code l) (line_reading text)) ≡ Some (code line)
+    -- which is none of the words of a module's text
+    no_code : (word rest : List ℕ) (c : ModuleCommand) → word ≡ command_word c → parts_reading text (Some (word, rest)) ≡ Some line → ⊥
+    no_code word rest delete is read = let none = sym (ap (λ (w : List ℕ). parts_reading text (Some (w, rest))) is) ∙ read in absurd cc
+    no_code word rest soft_purge is read = let none = sym (ap (λ (w : List ℕ). parts_reading text (Some (w, rest))) is) ∙ read in absurd cc
+    no_code word rest purge is read = let none = sym (ap (λ (w : List ℕ). parts_reading text (Some (w, rest))) is) ∙ read in absurd cc
+    no_code word rest check_old is read = let none = sym (ap (λ (w : List ℕ). parts_reading text (Some (w, rest))) is) ∙ read in absurd cc
+
+    by_command : (parts : List ℕ × List ℕ) (o : Option ModuleCommand) → parts_reading text (Some parts) ≡ Some line → command_reading parts.0 ≡ o → by_word o parts.1 (option_map (λ l. code l) (line_reading text)) ≡ Some (code line)
+    by_command parts None read f = ap (option_map (λ l. code l)) e
+    by_command parts (Some c) read f = absurd (no_code parts.0 parts.1 c (word_is parts.0 c f) read)
+
+    by_trace : (parts : List ℕ × List ℕ) (t : Bool) → parts_reading text (Some parts) ≡ Some line → bytes_eq parts.0 (codes "trace") ≡ t → cond t (option_map trace_of (trace_reading parts.1)) (by_word (command_reading parts.0) parts.1 (option_map (λ l. code l) (line_reading text))) ≡ Some (code line)
+    by_trace parts true read f =
+        let none : parts_reading text (Some (codes "trace", parts.1)) ≡ Some line = ap (λ (w : List ℕ). parts_reading text (Some (w, parts.1))) (sym (bytes_are parts.0 (codes "trace") f)) ∙ read in
+        absurd cc
+    by_trace parts false read f = by_command parts (command_reading parts.0) read refl
+
+    by_spawn : (parts : List ℕ × List ℕ) (t : Bool) → parts_reading text (Some parts) ≡ Some line → bytes_eq parts.0 (codes "spawn") ≡ t → cond t (option_map spawn_of (call_reading parts.1)) (by_other text parts) ≡ Some (code line)
     by_spawn parts true read f =
         let none : parts_reading text (Some (codes "spawn", parts.1)) ≡ Some line = ap (λ (w : List ℕ). parts_reading text (Some (w, parts.1))) (sym (bytes_are parts.0 (codes "spawn") f)) ∙ read in
         absurd cc
-    by_spawn parts false read f = ap (option_map (λ l. code l)) e
+    by_spawn parts false read f = by_trace parts (bytes_eq parts.0 (codes "trace")) read refl
 
-    by_load : (parts : List ℕ × List ℕ) (t : Bool) → parts_reading text (Some parts) ≡ Some line → bytes_eq parts.0 (codes "load") ≡ t → cond t (option_map (λ refs. load refs) (refs_reading parts.1)) (cond (bytes_eq parts.0 (codes "spawn")) (option_map spawn_of (call_reading parts.1)) (option_map (λ l. code l) (line_reading text))) ≡ Some (code line)
+    by_load : (parts : List ℕ × List ℕ) (t : Bool) → parts_reading text (Some parts) ≡ Some line → bytes_eq parts.0 (codes "load") ≡ t → cond t (option_map (λ refs. load refs) (refs_reading parts.1)) (cond (bytes_eq parts.0 (codes "spawn")) (option_map spawn_of (call_reading parts.1)) (by_other text parts)) ≡ Some (code line)
     by_load parts true read f =
         let none : parts_reading text (Some (codes "load", parts.1)) ≡ Some line = ap (λ (w : List ℕ). parts_reading text (Some (w, parts.1))) (sym (bytes_are parts.0 (codes "load") f)) ∙ read in
         absurd cc
@@ -95,6 +126,24 @@ reads text (code line) is =
 reads text (load refs) is =
     let c = load_cut text refs is in
     by_others text (worded text (codes "load") c.0 c.1 refl) ∙ ap (by_parts text) c.1 ∙ ap (option_map (λ rs. load rs)) c.2
+reads text (on_module command name) is =
+    let cut = module_cut text command name is in
+    by_others text (worded text (command_word command) name cut (no_beam command)) ∙ ap (by_parts text) cut ∙ by_command command ∙ ap (option_map (λ n. on_module command n)) (tested_at is_atom_text name is.sound)
+  where
+    no_beam : (c : ModuleCommand) → bytes_eq (codes "beam") (command_word c) ≡ false
+    no_beam delete = refl
+    no_beam soft_purge = refl
+    no_beam purge = refl
+    no_beam check_old = refl
+
+    by_command : (c : ModuleCommand) → by_parts text (Some (command_word c, name)) ≡ option_map (λ n. on_module c n) (tested is_atom_text name)
+    by_command delete = refl
+    by_command soft_purge = refl
+    by_command purge = refl
+    by_command check_old = refl
+reads text (trace n f arity on) is =
+    let c = trace_cut text n f arity on is in
+    by_others text (worded text (codes "trace") c.0 c.1 refl) ∙ ap (by_parts text) c.1 ∙ ap (option_map trace_of) c.2
 reads text (spawn n f args) is =
     let c = spawn_cut text n f args is in
     by_others text (worded text (codes "spawn") c.0 c.1 refl) ∙ ap (by_parts text) c.1 ∙ ap (option_map spawn_of) c.2

@@ -8,27 +8,29 @@ use Rattle.std.proofs.lemmas.Int.{ints}
 use Rattle.std.proofs.lemmas.List.{length-map}
 use Rattle.std.proofs.lemmas.List.Sums.{sum_by-cons}
 use Rattle.std.proofs.lemmas.Option.{slice_get_within}
+use Rattle.term_core.specs.declared.atom.AtomId.{AtomId}
 use Rattle.term_core.specs.PlainTerm.{integer_leaf, atom_leaf, tuple_of, list_of, atoms_of}
 use Rattle.term_core.specs.TermText.{number_in}
 use Rattle.term_core.specs.Written.{WrittenTerm, IsTermInteger, integer_of, is_term_integer}
 use Rattle.term_core.proofs.NameTables.{slice_get-number_of}
-use Rattle.mod_core.specs.ModuleLine.{LineForm, title, header, label, instr, end}
-use Rattle.mod_core.specs.ModuleValue.{atom_in, module_of}
+use Rattle.mod_core.specs.declared.code.Module.{Module}
+use Rattle.mod_core.specs.ModuleLine.{LineForm, title, header, label, instr, end, number_value}
+use Rattle.mod_core.specs.ModuleValue.{atom_in, mfa_in, module_of}
 use Rattle.server_core.specs.CommandTable.{text_of}
-use Rattle.script_text.specs.declared.script.ScriptCmd.TheVariants.{Load, Spawn}
-use Rattle.script_text.specs.ScriptLine.{RefForm, ScriptLine, head, code, loader, load, spawn, go, is_argument_form, is_script_line}
+use Rattle.script_text.specs.declared.script.ScriptCmd.TheVariants.{Load, Trace, Spawn}
+use Rattle.script_text.specs.ScriptLine.{RefForm, ModuleCommand, delete, soft_purge, purge, check_old, ScriptLine, head, code, loader, load, on_module, trace, spawn, go, is_argument_form, is_script_line}
 use Rattle.script_text.specs.Groups.{onto_last}
 use Rattle.script_text.specs.Counts.{script_line_atoms, is_given, is_loader, is_spawn, block_lines, loader_blocks}
 use Rattle.script_text.specs.LineFaults.{may_stand_between, may_stand_within, may_stand, is_head, is_wide_argument, is_wide, is_lacking, lack_in_loads}
 use Rattle.script_text.specs.ScriptText.{HaveNoFault}
-use Rattle.script_text.specs.ScriptValue.{ref_in, argument_in, commands_on, commands_of}
+use Rattle.script_text.specs.ScriptValue.{ref_in, argument_in, command_of, commands_on, commands_of}
 use Rattle.script_text.specs.Sound.{IsImmediateOf, IsCmdOf, spawns_in}
 use Rattle.script_text.proofs.HeldNames.{IsHeldText, number_is}
 use Rattle.script_text.proofs.ModuleNames.{AreHeld}
 use Rattle.script_text.proofs.Summaries.{Summary, summary_of, summary_with, blocks_with}
 use Rattle.script_text.proofs.SoundnessGroups.{each_weaker, each_map, each_flat, each_grouped, gathered, sum_joined}
 use Rattle.script_text.proofs.SoundnessRows.{not_false, Passes, IsKept, kept}
-use Rattle.script_text.proofs.SoundnessNames.{spawn_line, arguments_held}
+use Rattle.script_text.proofs.SoundnessNames.{trace_line, spawn_line, arguments_held}
 use Rattle.script_text.proofs.SoundnessTitles.{title_ref, given_found}
 
 -- ---- a command
@@ -43,7 +45,7 @@ pub record IsLineOf (names : List (List ℕ)) (titles : List RefForm) (line : Sc
 held_below : (names : List (List ℕ)) (text : List ℕ) → IsHeldText names text → number_in names text < length names
 held_below names text h = let within = slice_get_within names h.number text (slice_get-number_of names text h.number h.is) in omega (arith, within, number_is names text h)
 
-fits : (z : ℤ) → not (is_term_integer z) ≡ false → IsTermInteger z
+pub fits : (z : ℤ) → not (is_term_integer z) ≡ false → IsTermInteger z
 fits (pos n) h = let below : n < 576460752303423488 = grind (arith, nat_tests) in record { low = omega (arith, ints); high = omega (arith, ints) }
 fits (negsuc n) h = let below : n < 576460752303423488 = grind (arith, nat_tests) in record { low = omega (arith, ints); high = omega (arith, ints) }
 
@@ -73,6 +75,12 @@ some_refs names (r ∷ refs) h = omega arith
 at_most : (n : ℕ) → nat_le n 15 ≡ true → n ≤ 15
 at_most n h = grind (arith, nat_tests)
 
+named_is : (names : List (List ℕ)) (texts : List Module) (command : ModuleCommand) (name : List ℕ) → IsHeldText names name → IsCmdOf names texts (command_of command (atom_in names name))
+named_is names texts delete name held = held_below names name held
+named_is names texts soft_purge name held = held_below names name held
+named_is names texts purge name held = held_below names name held
+named_is names texts check_old name held = held_below names name held
+
 command_is : (names : List (List ℕ)) (texts : List (List LineForm)) (line : ScriptLine) → IsLineOf names (map title_ref texts) line → AllByRecursion (IsCmdOf names (map (module_of names) texts)) (commands_on names line)
 command_is names texts head l = tt
 command_is names texts (code line) l = tt
@@ -81,6 +89,15 @@ command_is names texts (load refs) l = (
   record {
     some = some_refs names refs l.sound;
     given = each_map (λ r. IsTrue (is_some (text_of (map (module_of names) texts) r))) (ref_in names) refs (refs_given names texts refs (not_false (list_all (is_given (map title_ref texts)) refs) l.given));
+  },
+  tt,
+)
+command_is names texts (on_module command name) l = (named_is names (map (module_of names) texts) command name l.held.0, tt)
+command_is names texts (trace f g arity on) l = (
+  record {
+    module_named = held_below names f l.held.0;
+    name_named = held_below names g l.held.1.0;
+    few = at_most (number_value arity) (trace_line f g arity on l.sound).few;
   },
   tt,
 )
@@ -104,6 +121,8 @@ block_line P head h = tt
 block_line P (code line) h = tt
 block_line P loader h = (h, tt)
 block_line P (load refs) h = (h, tt)
+block_line P (on_module command name) h = (h, tt)
+block_line P (trace f g arity on) h = (h, tt)
 block_line P (spawn m f args) h = (h, tt)
 block_line P go h = tt
 
@@ -144,6 +163,8 @@ SomeBehind (Some head) n = Unit {0}
 SomeBehind (Some (code line)) n = Unit {0}
 SomeBehind (Some loader) n = 1 ≤ n
 SomeBehind (Some (load refs)) n = 1 ≤ n
+SomeBehind (Some (on_module command name)) n = 1 ≤ n
+SomeBehind (Some (trace f g arity on)) n = 1 ≤ n
 SomeBehind (Some (spawn m f args)) n = 1 ≤ n
 SomeBehind (Some go) n = Unit {0}
 
@@ -158,6 +179,8 @@ some_block (Some (code (instr i))) line n h place first between within = let no 
 some_block (Some (code end)) line n h place first between within = absurd cc
 some_block (Some loader) line n h place first between within = h
 some_block (Some (load refs)) line n h place first between within = h
+some_block (Some (on_module command name)) line n h place first between within = h
+some_block (Some (trace f g arity on)) line n h place first between within = h
 some_block (Some (spawn m f args)) line n h place first between within = h
 some_block (Some go) line n h place first between within = absurd cc
 
@@ -186,6 +209,14 @@ counted_more m loader c p = (simp length-append (omega (arith, c.blocks)), simp 
 counted_more m (load refs) c p =
     let some = some_block m.last (load refs) (length m.blocks) c.some p.place refl refl (λ before. refl) in
     let same = same_length m.blocks (load refs) some in
+    (omega (arith, same, c.blocks), omega (arith, same, some))
+counted_more m (on_module command name) c p =
+    let some = some_block m.last (on_module command name) (length m.blocks) c.some p.place refl refl (λ before. refl) in
+    let same = same_length m.blocks (on_module command name) some in
+    (omega (arith, same, c.blocks), omega (arith, same, some))
+counted_more m (trace f g arity on) c p =
+    let some = some_block m.last (trace f g arity on) (length m.blocks) c.some p.place refl refl (λ before. refl) in
+    let same = same_length m.blocks (trace f g arity on) some in
     (omega (arith, same, c.blocks), omega (arith, same, some))
 counted_more m (spawn f g args) c p =
     let some = some_block m.last (spawn f g args) (length m.blocks) c.some p.place refl refl (λ before. refl) in
@@ -219,6 +250,13 @@ plus_none n = omega arith
 count_cons : (line : ScriptLine) (lines : List ScriptLine) → count_by is_spawn (line ∷ lines) ≡ cond (is_spawn line) 1 0 + count_by is_spawn lines
 count_cons line lines = sum_by-cons (λ l. cond (is_spawn l) 1 0) line lines
 
+-- a command of one module spawns nothing
+no_spawn : (command : ModuleCommand) («module» : AtomId) → spawns_in (command_of command «module») ≡ 0
+no_spawn delete «module» = refl
+no_spawn soft_purge «module» = refl
+no_spawn purge «module» = refl
+no_spawn check_old «module» = refl
+
 spawns_counted : (names : List (List ℕ)) (lines : List ScriptLine) → sum_by spawns_in (flat_map (commands_on names) (flat_map block_lines lines)) ≡ count_by is_spawn lines
 spawns_counted names [] = refl
 spawns_counted names (head ∷ lines) = spawns_counted names lines ∙ sym (count_cons head lines ∙ plus_none (count_by is_spawn lines))
@@ -226,6 +264,13 @@ spawns_counted names (code line ∷ lines) = spawns_counted names lines ∙ sym 
 spawns_counted names (loader ∷ lines) = spawns_counted names lines ∙ sym (count_cons loader lines ∙ plus_none (count_by is_spawn lines))
 spawns_counted names (load refs ∷ lines) =
     sum_by-cons spawns_in (Load (map (ref_in names) refs)) (flat_map (commands_on names) (flat_map block_lines lines)) ∙ ap (λ n. 0 + n) (spawns_counted names lines) ∙ sym (count_cons (load refs) lines)
+spawns_counted names (on_module command name ∷ lines) =
+    sum_by-cons spawns_in (command_of command (atom_in names name)) (flat_map (commands_on names) (flat_map block_lines lines))
+    ∙ ap (λ n. n + sum_by spawns_in (flat_map (commands_on names) (flat_map block_lines lines))) (no_spawn command (atom_in names name))
+    ∙ ap (λ n. 0 + n) (spawns_counted names lines)
+    ∙ sym (count_cons (on_module command name) lines)
+spawns_counted names (trace f g arity on ∷ lines) =
+    sum_by-cons spawns_in (Trace (mfa_in names f g arity) on) (flat_map (commands_on names) (flat_map block_lines lines)) ∙ ap (λ n. 0 + n) (spawns_counted names lines) ∙ sym (count_cons (trace f g arity on) lines)
 spawns_counted names (spawn m f args ∷ lines) =
     sum_by-cons spawns_in (Spawn (record { «module» = atom_in names m; name = atom_in names f; arity = length args }) (map (argument_in names) args)) (flat_map (commands_on names) (flat_map block_lines lines)) ∙ ap (λ n. 1 + n) (spawns_counted names lines) ∙ sym (count_cons (spawn m f args) lines)
 spawns_counted names (go ∷ lines) = spawns_counted names lines ∙ sym (count_cons go lines ∙ plus_none (count_by is_spawn lines))

@@ -1,5 +1,5 @@
 -- The names of lines without a fault are a table, which holds the atoms of each line.
-use Rattle.std.proofs.Common.{◌≡◌, ℕ, ◌≤◌, true, false, ◌&&◌, nat_lt, nat_le, List, [], ◌∷◌, ◌++◌, length, map, refl, arith}
+use Rattle.std.proofs.Common.{◌≡◌, ℕ, ◌≤◌, Bool, true, false, ◌&&◌, nat_lt, nat_le, List, [], ◌∷◌, ◌++◌, length, map, refl, arith}
 use Rattle.std.specs.Prelude.{IsTrue}
 use Rattle.std.specs.List.{AllByRecursion, flat_map, list_all}
 use Rattle.std.proofs.lemmas.Bool.{and_parts, and_from}
@@ -9,8 +9,9 @@ use Rattle.term_core.specs.PlainTerm.{integer_leaf, atom_leaf, tuple_of, list_of
 use Rattle.term_core.specs.TermText.{names_with_all}
 use Rattle.term_core.specs.Written.{WrittenTerm}
 use Rattle.term_core.proofs.NameTables.{given_names-IsNames, names_with-IsNames}
+use Rattle.mod_core.specs.ModuleLine.{is_number_text, number_value, is_arity_text, is_function_form}
 use Rattle.mod_core.proofs.LineNames.{are_atoms, line_atoms_are, more_names_all}
-use Rattle.script_text.specs.ScriptLine.{RefForm, ScriptLine, head, code, loader, load, spawn, go, is_ref_form, is_argument_form, is_script_line}
+use Rattle.script_text.specs.ScriptLine.{RefForm, ScriptLine, head, code, loader, load, on_module, trace, spawn, go, is_ref_form, is_argument_form, is_script_line}
 use Rattle.script_text.specs.Counts.{script_line_atoms, names_of}
 use Rattle.script_text.specs.ScriptText.{HaveNoFault}
 use Rattle.script_text.proofs.HeldNames.{IsHeldText, held_all}
@@ -49,12 +50,28 @@ spawn_line m f args h =
     let third = and_parts (nat_le (length args) 15) (list_all is_argument_form args) second.1 in
     record { module_is = first.0; name_is = second.0; few = third.0; args_are = third.1 }
 
+-- what a breakpoint has that is the line of a text
+pub record IsTraceLine (m f arity : List ℕ) : Type 0 where
+  pub module_is : is_atom_text m ≡ true
+  pub name_is : is_atom_text f ≡ true
+  pub few : nat_le (number_value arity) 15 ≡ true
+
+pub trace_line : (m f arity : List ℕ) (on : Bool) → is_script_line (trace m f arity on) ≡ true → IsTraceLine m f arity
+trace_line m f arity on h =
+    let first = and_parts (is_atom_text m) (is_function_form f arity) h in
+    let second = and_parts (is_atom_text f) (is_arity_text arity) first.1 in
+    record { module_is = first.0; name_is = second.0; few = (and_parts (is_number_text arity) (nat_le (number_value arity) 15) second.1).1 }
+
 atoms_are : (line : ScriptLine) → is_script_line line ≡ true → are_atoms (script_line_atoms line) ≡ true
 atoms_are head h = refl
 atoms_are (code line) h = line_atoms_are line h
 atoms_are loader h = refl
 atoms_are (load []) h = absurd cc
 atoms_are (load (r ∷ refs)) h = refs_atoms (r ∷ refs) h
+atoms_are (on_module command name) h = and_from (is_atom_text name) true h refl
+atoms_are (trace f g arity on) h =
+    let t = trace_line f g arity on h in
+    and_from (is_atom_text f) (is_atom_text g && true) t.module_is (and_from (is_atom_text g) true t.name_is refl)
 atoms_are (spawn m f args) h =
     let s = spawn_line m f args h in
     and_from (is_atom_text m) (is_atom_text f && are_atoms (flat_map atoms_of args)) s.module_is

@@ -49,6 +49,7 @@ pub record Passes (m : Summary) (line : ScriptLine) : Type 0 where
   pub room : nat_lt 4096 (length (summary_with m line).names) ≡ false
   pub few : of_code (is_seventeenth (last_group m.texts)) line ≡ false
   pub short : of_code (ends_too_long m.names (last_group m.texts)) line ≡ false
+  pub exports : nat_lt 1024 (length (summary_with m line).functions) ≡ false
   pub processes : nat_lt 64 (summary_with m line).spawns ≡ false
   pub loaders : nat_lt 8 (summary_with m line).loaders ≡ false
   pub new_title : of_code (is_given_again m.titles) line ≡ false
@@ -68,6 +69,7 @@ passes m line none =
       room = rows.c_fails;
       few = rows.d_fails;
       short = rows.e_fails;
+      exports = rows.f_fails;
       processes = rows.g_fails;
       loaders = rows.h_fails;
       new_title = last.0;

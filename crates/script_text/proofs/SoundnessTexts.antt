@@ -14,7 +14,7 @@ use Rattle.mod_core.specs.ModuleValue.{IsTitled, module_of, unsettled_line}
 use Rattle.mod_core.specs.ModuleText.{FollowOn, names_behind}
 use Rattle.mod_core.proofs.Keepings.{last_line-push}
 use Rattle.mod_core.proofs.ModuleSound.{module_is_sound}
-use Rattle.script_text.specs.ScriptLine.{ScriptLine, head, code, loader, load, spawn, go, is_script_line}
+use Rattle.script_text.specs.ScriptLine.{ScriptLine, head, code, loader, load, on_module, trace, spawn, go, is_script_line}
 use Rattle.script_text.specs.Groups.{onto_last, last_group}
 use Rattle.script_text.specs.Counts.{script_line_atoms, is_title, names_of, module_texts}
 use Rattle.script_text.specs.LineFaults.{may_stand_between, may_stand_within, may_stand_behind, may_stand_loading, may_stand, of_code, last_of, or_else, lack_in_texts}
@@ -63,6 +63,8 @@ TextsBehind (Some head) names texts = AreClosed names texts
 TextsBehind (Some (code line)) names texts = HaveOpen names texts line
 TextsBehind (Some loader) names texts = AreClosed names texts
 TextsBehind (Some (load refs)) names texts = AreClosed names texts
+TextsBehind (Some (on_module command name)) names texts = AreClosed names texts
+TextsBehind (Some (trace f g arity on)) names texts = AreClosed names texts
 TextsBehind (Some (spawn m f args)) names texts = AreClosed names texts
 TextsBehind (Some go) names texts = AreClosed names texts
 
@@ -114,14 +116,14 @@ next_is names text line p place = record {
   within = no_fault_by (has_high_register line) (has_wide_integer line) (overfills_names names line) (is_seventeenth text line) (ends_too_long names text line) (is_repeated text line) p.low p.narrow p.room p.few p.short p.new;
 }
 
-no_title : (last line : LineForm) → may_follow (Some last) line ≡ true → is_title line ≡ false
+pub no_title : (last line : LineForm) → may_follow (Some last) line ≡ true → is_title line ≡ false
 no_title last (title name version) h = absurd cc
 no_title last (header exported name arity) h = refl
 no_title last (label name) h = refl
 no_title last (instr i) h = refl
 no_title last end h = refl
 
-last_group-snoc : {X : Type 0} (groups : List (List X)) (group : List X) → last_group (groups ++ group ∷ []) ≡ group
+pub last_group-snoc : {X : Type 0} (groups : List (List X)) (group : List X) → last_group (groups ++ group ∷ []) ≡ group
 last_group-snoc [] group = refl
 last_group-snoc (g ∷ []) group = refl
 last_group-snoc (g ∷ h ∷ gs) group = last_group-snoc (h ∷ gs) group
@@ -176,6 +178,8 @@ begins m head room h sound p place = h
 begins m (code line) room h sound p place = starts_text m.names m.texts line room h (code_passed m line sound p) (not_false (may_follow None line) place)
 begins m loader room h sound p place = h
 begins m (load refs) room h sound p place = all_closed_in m.names _ m.texts (Extends-all m.names (script_line_atoms (load refs))) h
+begins m (on_module command name) room h sound p place = all_closed_in m.names _ m.texts (Extends-all m.names (script_line_atoms (on_module command name))) h
+begins m (trace f g arity on) room h sound p place = all_closed_in m.names _ m.texts (Extends-all m.names (script_line_atoms (trace f g arity on))) h
 begins m (spawn f g args) room h sound p place = all_closed_in m.names _ m.texts (Extends-all m.names (script_line_atoms (spawn f g args))) h
 begins m go room h sound p place = h
 
@@ -184,6 +188,8 @@ opens_first head e = refl
 opens_first (code line) e = absurd cc
 opens_first loader e = refl
 opens_first (load refs) e = refl
+opens_first (on_module command name) e = refl
+opens_first (trace f g arity on) e = refl
 opens_first (spawn f g args) e = refl
 opens_first go e = refl
 
@@ -192,6 +198,8 @@ opens_between head e = refl
 opens_between (code line) e = ap not e
 opens_between loader e = refl
 opens_between (load refs) e = refl
+opens_between (on_module command name) e = refl
+opens_between (trace f g arity on) e = refl
 opens_between (spawn f g args) e = refl
 opens_between go e = refl
 
@@ -200,6 +208,8 @@ opens_loading head e = refl
 opens_loading (code line) e = absurd cc
 opens_loading loader e = refl
 opens_loading (load refs) e = refl
+opens_loading (on_module command name) e = refl
+opens_loading (trace f g arity on) e = refl
 opens_loading (spawn f g args) e = refl
 opens_loading go e = refl
 
@@ -208,6 +218,8 @@ goes_on m last head h sound p place = absurd cc
 goes_on m last (code line) h sound p place = open_more m.names m.texts last line h (code_passed m line sound p) place
 goes_on m last loader h sound p place = absurd cc
 goes_on m last (load refs) h sound p place = absurd cc
+goes_on m last (on_module command name) h sound p place = absurd cc
+goes_on m last (trace f g arity on) h sound p place = absurd cc
 goes_on m last (spawn f g args) h sound p place = absurd cc
 goes_on m last go h sound p place = absurd cc
 
@@ -224,6 +236,8 @@ texts_more m (Some head) line room h sound p place = begins m line room h sound 
 texts_more m (Some (code last)) line room h sound p place = behind_code m last line room h sound p place
 texts_more m (Some loader) line room h sound p place = begins m line room h sound p (opens_loading line place)
 texts_more m (Some (load refs)) line room h sound p place = begins m line room h sound p (opens_loading line place)
+texts_more m (Some (on_module command name)) line room h sound p place = begins m line room h sound p (opens_loading line place)
+texts_more m (Some (trace f g arity on)) line room h sound p place = begins m line room h sound p (opens_loading line place)
 texts_more m (Some (spawn f g args)) line room h sound p place = begins m line room h sound p (opens_loading line place)
 texts_more m (Some go) line room h sound p place = absurd cc
 
@@ -269,7 +283,7 @@ pub none_first : {X : Type 0} (o p : Option X) → or_else o p ≡ None → (o �
 none_first None p e = (refl, e)
 none_first (Some x) p e = absurd cc
 
-unmapped : {X Y : Type 0} (f : X → Y) (o : Option X) → option_map f o ≡ None → o ≡ None
+pub unmapped : {X Y : Type 0} (f : X → Y) (o : Option X) → option_map f o ≡ None → o ≡ None
 unmapped f None e = refl
 unmapped f (Some x) e = absurd cc
 

@@ -15,7 +15,7 @@ use Rattle.mod_core.specs.ModuleText.{FollowOn, names_behind}
 use Rattle.mod_core.proofs.Keepings.{last_line-push}
 use Rattle.mod_core.proofs.Options.{some_is, bytes_are}
 use Rattle.server_core.specs.CommandTable.{text_of}
-use Rattle.script_text.specs.ScriptLine.{RefForm, ScriptLine, head, code, loader, load, spawn, go, is_script_line}
+use Rattle.script_text.specs.ScriptLine.{RefForm, ScriptLine, head, code, loader, load, on_module, trace, spawn, go, is_script_line}
 use Rattle.script_text.specs.Counts.{code_lines, is_title, module_texts, line_titles, titles_of, is_same_ref, is_given}
 use Rattle.script_text.specs.LineFaults.{of_code, is_given_again}
 use Rattle.script_text.specs.ScriptText.{HaveNoFault}
@@ -46,7 +46,7 @@ no_more_titles names before (line ∷ lines) last is follow =
     ap (λ (ts : List RefForm). ts ++ flat_map line_titles lines) (no_title last line (sym (ap (λ (l : Option LineForm). may_follow l line) is) ∙ follow.0.stands.place))
     ∙ no_more_titles (names_after names line) (before ++ line ∷ []) lines line (last_line-push before line) follow.1
 
-one_title : (names : List (List ℕ)) (text : List LineForm) → IsTitled text → FollowOn names [] text → flat_map line_titles text ≡ title_ref text ∷ []
+pub one_title : (names : List (List ℕ)) (text : List LineForm) → IsTitled text → FollowOn names [] text → flat_map line_titles text ≡ title_ref text ∷ []
 one_title names [] t follow = absurd t
 one_title names (title name version ∷ lines) t follow =
     ap (λ (ts : List RefForm). title_ref (title name version ∷ lines) ∷ ts) (no_more_titles (names_after names (title name version)) (title name version ∷ []) lines (title name version) refl follow.1)
@@ -55,7 +55,7 @@ one_title names (label name ∷ lines) t follow = absurd t
 one_title names (instr i ∷ lines) t follow = absurd t
 one_title names (end ∷ lines) t follow = absurd t
 
-each_title : (names : List (List ℕ)) (texts : List (List LineForm)) → AreClosed names texts → flat_map (λ text. flat_map line_titles text) texts ≡ map title_ref texts
+pub each_title : (names : List (List ℕ)) (texts : List (List LineForm)) → AreClosed names texts → flat_map (λ text. flat_map line_titles text) texts ≡ map title_ref texts
 each_title names [] h = refl
 each_title names (text ∷ texts) h =
     ap (λ (ts : List RefForm). ts ++ flat_map (λ text. flat_map line_titles text) texts) (one_title h.0.before text (titled h.0.before text end h.0.follow h.0.closed) h.0.follow)
@@ -94,6 +94,8 @@ apart_with titles head h new = h
 apart_with titles (code line) h new = apart_line titles line h new
 apart_with titles loader h new = h
 apart_with titles (load refs) h new = h
+apart_with titles (on_module command name) h new = h
+apart_with titles (trace f g arity on) h new = h
 apart_with titles (spawn m f args) h new = h
 apart_with titles go h new = h
 

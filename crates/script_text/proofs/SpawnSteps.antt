@@ -1,21 +1,19 @@
 -- A spawn, behind the start of a loader block.
-use Rattle.std.proofs.Common.{◌≡◌, ℕ, ◌+◌, ◌<◌, ◌≤◌, Bool, true, false, cond, not, ◌||◌, ◌&&◌, ◌==◌, nat_le, nat_lt, List, [], ◌∷◌, ◌++◌, length, Option, Some, None, option_map, Result, Ok, Err, bytes_eq, codes, refl, sym, ap, ◌∙◌, subst, arith, length-append, append-nil}
-use Rattle.std.specs.Prelude.{map, fold}
-use Rattle.std.specs.List.{AllByRecursion, list_any, list_all, flat_map}
+use Rattle.std.proofs.Common.{◌≡◌, ℕ, ◌+◌, ◌<◌, ◌≤◌, Bool, true, false, cond, not, ◌||◌, ◌&&◌, nat_le, nat_lt, List, [], ◌∷◌, ◌++◌, length, Option, Some, None, option_map, Result, Ok, Err, bytes_eq, codes, refl, sym, ap, ◌∙◌, subst, arith}
+use Rattle.std.specs.Prelude.{map}
+use Rattle.std.specs.List.{list_any, list_all, flat_map}
 use Rattle.std.proofs.lemmas.Bool.{and_parts}
 use Rattle.std.proofs.lemmas.Bool.Decides.{nat_tests}
-use Rattle.std.proofs.lemmas.List.{length-map}
 use Rattle.term_core.specs.declared.atom.Mfa.{Mfa}
 use Rattle.term_core.specs.Names.{IsNames, Extends, is_atom_text}
 use Rattle.term_core.specs.PlainTerm.{PlainTerm, integer_leaf, atom_leaf, tuple_of, list_of, atoms_of}
-use Rattle.term_core.specs.TermText.{names_with_all}
 use Rattle.term_core.specs.Written.{WrittenTerm}
 use Rattle.mod_core.specs.ModuleLine.{LineForm}
 use Rattle.mod_core.specs.LineReading.{cut_at}
 use Rattle.mod_core.specs.ModuleValue.{module_of}
 use Rattle.mod_core.proofs.Cuts.{cut_is}
 use Rattle.mod_core.proofs.LineNames.{are_atoms}
-use Rattle.mod_core.proofs.Options.{some_is, passed, failed, same_bytes}
+use Rattle.mod_core.proofs.Options.{some_is}
 use Rattle.script_text.specs.declared.fault.Which.TheVariants as which
 use Rattle.script_text.specs.declared.fault.ScriptFault.{ScriptFault}
 use Rattle.script_text.specs.declared.fault.ScriptFault.TheVariants as faults
@@ -23,29 +21,29 @@ use Rattle.script_text.specs.declared.reading.cause.LineCause.{LineCause}
 use Rattle.script_text.specs.declared.reading.cause.LineCause.TheVariants as causes
 use Rattle.script_text.specs.declared.reading.reader.Place.TheVariants.{Loading}
 use Rattle.script_text.specs.declared.reading.reader.ScriptReader.{ScriptReader}
-use Rattle.script_text.specs.declared.script.ScriptCmd.{ScriptCmd}
 use Rattle.script_text.specs.declared.script.ScriptCmd.TheVariants.{Spawn}
-use Rattle.script_text.specs.ScriptLine.{RefForm, ScriptLine, head, code, loader, load, spawn, go, is_argument_form, is_script_line, IsLine}
-use Rattle.script_text.specs.Counts.{FunctionForm, functions_with}
+use Rattle.script_text.specs.ScriptLine.{ScriptLine, spawn, is_argument_form, IsLine}
+use Rattle.script_text.specs.Counts.{FunctionForm}
 use Rattle.script_text.specs.Groups.{onto_last}
-use Rattle.script_text.specs.ScriptValue.{ref_in, argument_in, commands_on, commands_of}
-use Rattle.script_text.specs.LineFaults.{may_stand_loading, may_stand, is_wide_argument, or_else, lack_in_texts, lack_in_loads}
+use Rattle.script_text.specs.ScriptValue.{ref_in, argument_in, commands_of}
+use Rattle.script_text.specs.LineFaults.{may_stand, is_wide_argument, or_else, lack_in_texts}
 use Rattle.script_text.specs.LineReading.{CallForm, call_reading}
 use Rattle.script_text.specs.Naming.{or_syntax, call_named}
 use Rattle.script_text.specs.WrittenLine.{call_words}
 use Rattle.script_text.specs.Causes.{◌>>=◌}
 use Rattle.script_text.specs.Sets.{mfa_added}
 use Rattle.script_text.specs.Reading.{with_command, process_added, spawn_step}
-use Rattle.script_text.proofs.CommandLaws.{is_call, call_is, load_cut, spawn_cut}
-use Rattle.script_text.proofs.HeldNames.{IsHeldText, held_all, Extends-all, number_in-more}
+use Rattle.script_text.proofs.CommandLaws.{is_call, call_is, spawn_cut}
+use Rattle.script_text.proofs.NamedLaws.{no_module_text, no_trace_text}
+use Rattle.script_text.proofs.HeldNames.{held_all, Extends-all, number_in-more}
 use Rattle.script_text.proofs.ModuleNames.{AreHeld}
 use Rattle.script_text.proofs.Namings.{target_in, call_or_full, names_after_call, call_named-is}
 use Rattle.script_text.proofs.Summaries.{Summary, summary_with, table, fault_by}
-use Rattle.script_text.proofs.Holding.{function_in, IsFunctionHeld, Stands, Knows, IsLoading, Holds, grown, same_lack}
+use Rattle.script_text.proofs.Holding.{function_in, Stands, Knows, IsLoading, grown, same_lack}
 use Rattle.script_text.proofs.Steps.{more_lines, commands-onto_last, length-onto_last}
-use Rattle.script_text.proofs.Functions.{AreFunctionsHeld, or_exports, IsOne, one, added_line, functions_more, functions_held_in, held_line}
-use Rattle.script_text.proofs.CodeSteps.{IsRead, IsRefused, Judges, names_all-IsNames, at_after, titles_held_in}
-use Rattle.script_text.proofs.BlockSteps.{few, few_more, full_more, no_command}
+use Rattle.script_text.proofs.Functions.{or_exports, one, added_line, functions_more, functions_held_in, held_line}
+use Rattle.script_text.proofs.CodeSteps.{Judges, names_all-IsNames, at_after, titles_held_in}
+use Rattle.script_text.proofs.BlockSteps.{few_more, full_more, no_command}
 use Rattle.script_text.proofs.LoadSteps.{no_load_text}
 
 -- ---- the names of a call
@@ -237,7 +235,7 @@ judges_spawn m r closed text rest k l place no_loader no_go cut = by_call (call_
         absurd cc
 
     by_call : (o : Option CallForm) → call_reading rest ≡ o → Judges m text (or_syntax (option_map call_words o) >>= λ form. call_named r.names form >>= with_call r)
-    by_call None e = no_command m text l.follows no_loader no_go (no_load_text text (codes "spawn") rest cut refl) (no_call e)
+    by_call None e = no_command m text l.follows no_loader no_go (no_load_text text (codes "spawn") rest cut refl) (no_call e) (no_module_text text (codes "spawn") rest cut refl) (no_trace_text text (codes "spawn") rest cut refl)
     by_call (Some c) e =
         let is = call_is rest c e in
         judges_call m r closed text c k l place (call_form c is.sound) (record { text_is = (cut_is 32 text (codes "spawn", rest) cut).whole ∙ ap (λ (t : List ℕ). codes "spawn " ++ t) is.text_is; sound = is.sound })

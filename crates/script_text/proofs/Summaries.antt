@@ -1,5 +1,5 @@
 -- What lines name and have, in one record that grows line by line, and the fault of a line by it.
-use Rattle.std.proofs.Common.{◌≡◌, ℕ, ◌+◌, Bool, true, false, cond, not, ◌||◌, nat_lt, List, [], ◌∷◌, ◌++◌, length, Option, Some, None, refl, sym, ap, ◌∙◌}
+use Rattle.std.proofs.Common.{◌≡◌, ℕ, ◌+◌, Bool, cond, not, ◌||◌, nat_lt, List, [], ◌∷◌, ◌++◌, length, Option, Some, refl}
 use Rattle.std.specs.Prelude.{fold, count_by}
 use Rattle.term_core.specs.TermText.{names_with_all}
 use Rattle.mod_core.specs.ModuleLine.{LineForm}
@@ -7,7 +7,7 @@ use Rattle.mod_core.specs.LineFaults.{is_seventeenth, ends_too_long, is_repeated
 use Rattle.script_text.specs.declared.fault.Which.TheVariants as which
 use Rattle.script_text.specs.declared.fault.ScriptFault.{ScriptFault}
 use Rattle.script_text.specs.declared.fault.ScriptFault.TheVariants as faults
-use Rattle.script_text.specs.ScriptLine.{RefForm, ScriptLine, head, code, loader, load, spawn, go}
+use Rattle.script_text.specs.ScriptLine.{RefForm, ScriptLine, head, code, loader, load, on_module, trace, spawn, go}
 use Rattle.script_text.specs.Groups.{groups_with, last_group}
 use Rattle.script_text.specs.Counts.{script_line_atoms, names_of, FunctionForm, script_line_functions, home_after, functions_with, functions_of, is_title, module_texts, line_titles, titles_of, is_loader, is_spawn, loader_blocks}
 use Rattle.script_text.specs.LineFaults.{last_of, may_stand, is_high, is_wide, of_code, is_given_again, first_fault, line_fault}
@@ -46,6 +46,8 @@ texts_with texts head = texts
 texts_with texts (code line) = groups_with is_title texts line
 texts_with texts loader = texts
 texts_with texts (load refs) = texts
+texts_with texts (on_module command name) = texts
+texts_with texts (trace f g arity on) = texts
 texts_with texts (spawn m f args) = texts
 texts_with texts go = texts
 
@@ -54,6 +56,8 @@ titles_with titles head = titles
 titles_with titles (code line) = titles ++ line_titles line
 titles_with titles loader = titles
 titles_with titles (load refs) = titles
+titles_with titles (on_module command name) = titles
+titles_with titles (trace f g arity on) = titles
 titles_with titles (spawn m f args) = titles
 titles_with titles go = titles
 
@@ -62,6 +66,8 @@ blocks_with blocks head = blocks
 blocks_with blocks (code line) = blocks
 blocks_with blocks loader = groups_with is_loader blocks loader
 blocks_with blocks (load refs) = groups_with is_loader blocks (load refs)
+blocks_with blocks (on_module command name) = groups_with is_loader blocks (on_module command name)
+blocks_with blocks (trace f g arity on) = groups_with is_loader blocks (trace f g arity on)
 blocks_with blocks (spawn m f args) = groups_with is_loader blocks (spawn m f args)
 blocks_with blocks go = blocks
 
@@ -86,6 +92,8 @@ texts-snoc lines head = module_texts-other lines head refl
 texts-snoc lines (code line) = module_texts-code lines line
 texts-snoc lines loader = module_texts-other lines loader refl
 texts-snoc lines (load refs) = module_texts-other lines (load refs) refl
+texts-snoc lines (on_module command name) = module_texts-other lines (on_module command name) refl
+texts-snoc lines (trace f g arity on) = module_texts-other lines (trace f g arity on) refl
 texts-snoc lines (spawn m f args) = module_texts-other lines (spawn m f args) refl
 texts-snoc lines go = module_texts-other lines go refl
 
@@ -94,6 +102,8 @@ titles-snoc lines head = titles_of-other lines head refl
 titles-snoc lines (code line) = titles_of-code lines line
 titles-snoc lines loader = titles_of-other lines loader refl
 titles-snoc lines (load refs) = titles_of-other lines (load refs) refl
+titles-snoc lines (on_module command name) = titles_of-other lines (on_module command name) refl
+titles-snoc lines (trace f g arity on) = titles_of-other lines (trace f g arity on) refl
 titles-snoc lines (spawn m f args) = titles_of-other lines (spawn m f args) refl
 titles-snoc lines go = titles_of-other lines go refl
 
@@ -102,6 +112,8 @@ blocks-snoc lines head = blocks-other lines head refl
 blocks-snoc lines (code line) = blocks-other lines (code line) refl
 blocks-snoc lines loader = blocks-line lines loader refl
 blocks-snoc lines (load refs) = blocks-line lines (load refs) refl
+blocks-snoc lines (on_module command name) = blocks-line lines (on_module command name) refl
+blocks-snoc lines (trace f g arity on) = blocks-line lines (trace f g arity on) refl
 blocks-snoc lines (spawn m f args) = blocks-line lines (spawn m f args) refl
 blocks-snoc lines go = blocks-other lines go refl
 

@@ -1,6 +1,6 @@
 -- A text's lines, one after another: what is known before each, and that no number of a line is too large.
 use Rattle.std.proofs.Common.{◌≡◌, ℕ, ◌+◌, ◌<◌, ◌≤◌, ◌==◌, Bool, true, false, cond, not, ◌&&◌, nat_lt, List, [], ◌∷◌, ◌++◌, length, Option, Some, None, option_map, Result, Ok, Err, bytes_eq, codes, refl, sym, ap, ◌∙◌, subst, arith, length-append}
-use Rattle.std.specs.Prelude.{map, fold, IfSome}
+use Rattle.std.specs.Prelude.{fold, IfSome}
 use Rattle.std.specs.List.{flat_map}
 use Rattle.std.proofs.lemmas.Bool.Decides.{nat_tests}
 use Rattle.term_core.proofs.NameTables.{given_names-IsNames}
@@ -13,21 +13,20 @@ use Rattle.script_text.specs.declared.script.Script.{Script}
 use Rattle.script_text.specs.declared.fault.ScriptFault.{ScriptFault}
 use Rattle.script_text.specs.declared.fault.ScriptFault.TheVariants as faults
 use Rattle.script_text.specs.declared.reading.cause.LineCause.{LineCause}
-use Rattle.script_text.specs.declared.reading.cause.LineCause.TheVariants as causes
 use Rattle.script_text.specs.declared.reading.reader.ScriptReader.{ScriptReader}
-use Rattle.script_text.specs.ScriptLine.{RefForm, ScriptLine, head, code, loader, load, spawn, go, IsLine}
-use Rattle.script_text.specs.Groups.{onto_last, groups_with, groups_of}
+use Rattle.script_text.specs.ScriptLine.{RefForm, ScriptLine, head, code, loader, load, on_module, trace, spawn, go, IsLine}
+use Rattle.script_text.specs.Groups.{onto_last, groups_with}
 use Rattle.script_text.specs.Counts.{code_lines, is_title, module_texts}
 use Rattle.script_text.specs.LineFaults.{or_else, lack_in_texts, is_lacking, lack_in_loads, line_fault}
-use Rattle.script_text.specs.Causes.{fault_at, FailsWith, GivesText}
+use Rattle.script_text.specs.Causes.{FailsWith, GivesText}
 use Rattle.script_text.specs.Reading.{line_at, at_line, line_judged, text_ended, go_on, text_on, bytes_on, opening}
 use Rattle.script_text.proofs.Choices.{ok_is}
 use Rattle.script_text.proofs.GrownLines.{length-snoc}
 use Rattle.script_text.proofs.OpenText.{unsettled_within}
-use Rattle.script_text.proofs.Summaries.{Summary, summary_of, summary_with, summary_of-snoc, fault_by, line_fault-by}
-use Rattle.script_text.proofs.Holding.{as_text, total, total-snoc, Knows, Holds}
-use Rattle.script_text.proofs.CodeSteps.{IsRead, IsRefused, Judges}
-use Rattle.script_text.proofs.LineSteps.{judges_line, is_counted}
+use Rattle.script_text.proofs.Summaries.{Summary, summary_of, summary_of-snoc, line_fault-by}
+use Rattle.script_text.proofs.Holding.{as_text, total, total-snoc, Holds}
+use Rattle.script_text.proofs.CodeSteps.{IsRead, Judges}
+use Rattle.script_text.proofs.LineSteps.{judges_line}
 
 -- ---- before the first line
 
@@ -219,6 +218,8 @@ few_code (head ∷ lines) = let rest = few_code lines in omega (arith, rest)
 few_code (code line ∷ lines) = let rest = few_code lines in omega (arith, rest)
 few_code (loader ∷ lines) = let rest = few_code lines in omega (arith, rest)
 few_code (load refs ∷ lines) = let rest = few_code lines in omega (arith, rest)
+few_code (on_module command name ∷ lines) = let rest = few_code lines in omega (arith, rest)
+few_code (trace n f arity on ∷ lines) = let rest = few_code lines in omega (arith, rest)
 few_code (spawn n f args ∷ lines) = let rest = few_code lines in omega (arith, rest)
 few_code (go ∷ lines) = let rest = few_code lines in omega (arith, rest)
 

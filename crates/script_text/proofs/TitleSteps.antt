@@ -1,48 +1,45 @@
 -- A line where a module's text may begin.
-use Rattle.std.proofs.Common.{◌≡◌, ℕ, ◌+◌, ◌<◌, ◌≤◌, Bool, true, false, cond, not, ◌||◌, ◌&&◌, ◌==◌, nat_lt, List, [], ◌∷◌, ◌++◌, length, Option, Some, None, option_map, Result, Ok, Err, bytes_eq, codes, refl, sym, ap, ◌∙◌, subst, arith, append-nil, append_assoc}
+use Rattle.std.proofs.Common.{◌≡◌, ℕ, ◌+◌, ◌≤◌, Bool, true, false, cond, ◌||◌, nat_lt, List, [], ◌∷◌, ◌++◌, length, Option, Some, None, option_map, Result, Ok, Err, bytes_eq, codes, refl, sym, ap, ◌∙◌, subst, arith, append-nil}
 use Rattle.std.specs.Prelude.{map}
-use Rattle.std.specs.List.{AllByRecursion, list_any, list_all}
-use Rattle.std.proofs.lemmas.Bool.{and_parts}
+use Rattle.std.specs.List.{AllByRecursion}
 use Rattle.std.proofs.lemmas.Bool.Decides.{nat_tests}
 use Rattle.std.proofs.lemmas.List.{map-append}
-use Rattle.term_core.specs.Names.{IsNames, Extends, number_of, is_atom_text}
+use Rattle.term_core.specs.Names.{IsNames, Extends, number_of}
 use Rattle.term_core.specs.TermText.{number_in}
-use Rattle.mod_core.specs.declared.fault.LineFault.{LineFault}
 use Rattle.mod_core.specs.declared.fault.LineFault.TheVariants as line_faults
-use Rattle.mod_core.specs.ModuleLine.{LineForm, title, header, label, instr, end, number_value, LineText}
+use Rattle.mod_core.specs.ModuleLine.{LineForm, title, header, label, instr, end, number_value}
 use Rattle.mod_core.specs.LineReading.{cut_at, line_reading}
-use Rattle.mod_core.specs.LineFaults.{line_atoms, names_after, overfills_names}
+use Rattle.mod_core.specs.LineFaults.{names_after}
 use Rattle.mod_core.specs.ModuleValue.{module_of}
 use Rattle.mod_core.specs.Reading.{kept, judged}
 use Rattle.mod_core.proofs.Cuts.{cut_here, cut_is}
 use Rattle.mod_core.proofs.LineAgain.{text_again}
 use Rattle.mod_core.proofs.LineNames.{line_atoms_are}
-use Rattle.mod_core.proofs.Options.{some_is, passed, failed, guarded, bytes_are, same_bytes}
+use Rattle.mod_core.proofs.Options.{guarded, bytes_are}
 use Rattle.server_core.specs.declared.command.ModRef.{ModRef}
 use Rattle.script_text.specs.declared.fault.Which.TheVariants as which
-use Rattle.script_text.specs.declared.fault.ScriptFault.TheVariants as faults
 use Rattle.script_text.specs.declared.reading.cause.LineCause.{LineCause}
 use Rattle.script_text.specs.declared.reading.cause.LineCause.TheVariants as causes
 use Rattle.script_text.specs.declared.reading.reader.Place.TheVariants.{Within}
 use Rattle.script_text.specs.declared.reading.reader.ScriptReader.{ScriptReader}
-use Rattle.script_text.specs.ScriptLine.{RefForm, ScriptLine, head, code, loader, load, spawn, go, is_ref_form, IsLine}
+use Rattle.script_text.specs.ScriptLine.{RefForm, ScriptLine, head, code, loader, load, on_module, trace, spawn, go, IsLine}
 use Rattle.script_text.specs.Counts.{is_given}
 use Rattle.script_text.specs.ScriptValue.{ref_in, commands_of}
-use Rattle.script_text.specs.LineFaults.{may_stand_between, may_stand, or_else, lack_in_texts, lack_in_loads}
+use Rattle.script_text.specs.LineFaults.{may_stand_between, may_stand, or_else, lack_in_texts}
 use Rattle.script_text.specs.LineReading.{ref_reading, titled, title_reading}
 use Rattle.script_text.specs.Naming.{or_syntax}
-use Rattle.script_text.specs.WrittenLine.{RefWords, ref_words}
+use Rattle.script_text.specs.WrittenLine.{ref_words}
 use Rattle.script_text.specs.Causes.{◌>>=◌}
 use Rattle.script_text.specs.Sets.{is_among, ref_added}
 use Rattle.script_text.specs.Reading.{by_code, title_step}
 use Rattle.script_text.proofs.CommandLaws.{ref_again, ref_is}
-use Rattle.script_text.proofs.HeldNames.{IsHeldText, held_in, held_all, Extends-all, number_in-more, number_is}
+use Rattle.script_text.proofs.HeldNames.{IsHeldText, held_all, Extends-all, number_in-more, number_is}
 use Rattle.script_text.proofs.Summaries.{Summary, summary_with, fault_by}
 use Rattle.script_text.proofs.FaultTables.{with_counts}
-use Rattle.script_text.proofs.Holding.{as_text, total, function_in, IsOpen, IsBetween, Stands, Knows, Holds, grown, no_load_more}
+use Rattle.script_text.proofs.Holding.{as_text, function_in, IsOpen, IsBetween, Knows, grown, no_load_more}
 use Rattle.script_text.proofs.Steps.{more_lines}
 use Rattle.script_text.proofs.Functions.{functions_held_in}
-use Rattle.script_text.proofs.CodeSteps.{IsRead, IsRefused, Judges, misplaced, code_fault, names_all-IsNames, at_after, titles_held_in}
+use Rattle.script_text.proofs.CodeSteps.{Judges, misplaced, code_fault, names_all-IsNames, at_after, titles_held_in}
 use Rattle.script_text.proofs.BlockSteps.{few}
 use Rattle.script_text.proofs.LoadSteps.{among_is}
 
@@ -78,6 +75,8 @@ no_title m text follows no_loader no_go none (code (instr i)) l = misplaced m (c
 no_title m text follows no_loader no_go none (code end) l = misplaced m (code end) (follows (code end))
 no_title m text follows no_loader no_go none loader l = let yes : bytes_eq text (codes "loader") ≡ true = ap (λ (t : List ℕ). bytes_eq t (codes "loader")) l.text_is in absurd cc
 no_title m text follows no_loader no_go none (load refs) l = misplaced m (load refs) (follows (load refs))
+no_title m text follows no_loader no_go none (on_module command name) l = misplaced m (on_module command name) (follows (on_module command name))
+no_title m text follows no_loader no_go none (trace f g arity on) l = misplaced m (trace f g arity on) (follows (trace f g arity on))
 no_title m text follows no_loader no_go none (spawn n f args) l = misplaced m (spawn n f args) (follows (spawn n f args))
 no_title m text follows no_loader no_go none go l = let yes : bytes_eq text (codes "go") ≡ true = ap (λ (t : List ℕ). bytes_eq t (codes "go")) l.text_is in absurd cc
 

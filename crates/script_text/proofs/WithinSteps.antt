@@ -1,39 +1,35 @@
 -- A line behind the title of a module's text.
-use Rattle.std.proofs.Common.{◌≡◌, ℕ, ◌+◌, ◌<◌, ◌≤◌, Bool, true, false, cond, not, ◌||◌, ◌&&◌, ◌==◌, nat_lt, List, [], ◌∷◌, ◌++◌, length, Option, Some, None, Result, Ok, Err, bytes_eq, IsTrue, refl, sym, ap, ◌∙◌, subst, arith, append-nil, append_assoc, length-append}
-use Rattle.std.specs.Prelude.{map, fold}
-use Rattle.std.specs.List.{AllByRecursion, list_any, list_all}
+use Rattle.std.proofs.Common.{◌≡◌, ℕ, ◌+◌, ◌≤◌, Bool, true, false, cond, ◌||◌, List, [], ◌∷◌, ◌++◌, length, Option, Some, None, Result, Ok, Err, bytes_eq, refl, sym, ap, ◌∙◌, subst, arith, append-nil, length-append}
+use Rattle.std.specs.Prelude.{map}
+use Rattle.std.specs.List.{AllByRecursion, list_any}
 use Rattle.std.proofs.lemmas.Bool.{and_parts}
 use Rattle.std.proofs.lemmas.Bool.Decides.{nat_tests}
 use Rattle.term_core.specs.declared.atom.Mfa.{Mfa}
-use Rattle.term_core.specs.Names.{IsNames, Extends}
-use Rattle.term_core.specs.TermText.{names_with_all}
-use Rattle.mod_core.specs.declared.code.Module.{Module}
+use Rattle.term_core.specs.Names.{IsNames}
 use Rattle.mod_core.specs.declared.fault.LineFault.{LineFault}
 use Rattle.mod_core.specs.declared.fault.LineFault.TheVariants as line_faults
-use Rattle.mod_core.specs.ModuleLine.{LineForm, title, header, label, instr, end, number_value, is_line_form, LineText}
+use Rattle.mod_core.specs.ModuleLine.{LineForm, title, header, label, instr, end, is_line_form, LineText}
 use Rattle.mod_core.specs.LineReading.{line_reading}
 use Rattle.mod_core.specs.LineFaults.{last_line, may_follow, line_atoms, names_after, is_repeated, overfills_names, is_seventeenth, ends_too_long, has_high_register, has_wide_integer, fault_of_line, counted_name, counted_by, counted_of}
-use Rattle.mod_core.specs.ModuleValue.{headers_in, is_header, IsTitled, title_of, module_of}
+use Rattle.mod_core.specs.ModuleValue.{headers_in, is_header, IsTitled, module_of}
 use Rattle.mod_core.specs.Reading.{judged, kept}
 use Rattle.mod_core.proofs.Options.{some_is, passed, failed, bytes_are}
 use Rattle.mod_core.proofs.LineLaws.{line_is}
 use Rattle.mod_core.proofs.LineAgain.{text_again}
 use Rattle.mod_core.proofs.LineNames.{line_atoms_are}
 use Rattle.mod_core.proofs.Keepings.{last_line-push}
-use Rattle.server_core.specs.declared.command.ModRef.{ModRef}
 use Rattle.script_text.specs.declared.fault.Which.TheVariants as which
 use Rattle.script_text.specs.declared.fault.ScriptFault.TheVariants as faults
 use Rattle.script_text.specs.declared.reading.cause.LineCause.{LineCause}
 use Rattle.script_text.specs.declared.reading.cause.LineCause.TheVariants as causes
 use Rattle.script_text.specs.declared.reading.reader.Place.TheVariants.{Within}
 use Rattle.script_text.specs.declared.reading.reader.ScriptReader.{ScriptReader}
-use Rattle.script_text.specs.declared.script.ScriptCmd.{ScriptCmd}
-use Rattle.script_text.specs.ScriptLine.{RefForm, ScriptLine, head, code, loader, load, spawn, go, IsLine}
+use Rattle.script_text.specs.ScriptLine.{RefForm, ScriptLine, head, code, loader, load, on_module, trace, spawn, go, IsLine}
 use Rattle.script_text.specs.Groups.{onto_last, last_group}
-use Rattle.script_text.specs.Counts.{FunctionForm, line_functions, functions_with, line_titles, is_title, home_after_line}
+use Rattle.script_text.specs.Counts.{line_functions, line_titles, is_title, home_after_line}
 use Rattle.script_text.specs.ScriptValue.{ref_in, commands_of}
 use Rattle.script_text.specs.LineFaults.{may_stand_within, may_stand_behind, may_stand, is_given_again, lack_in_texts, lack_in_loads, or_else}
-use Rattle.script_text.specs.Causes.{◌>>=◌, fault_at, cause_of_code}
+use Rattle.script_text.specs.Causes.{◌>>=◌}
 use Rattle.script_text.specs.Adding.{counted_added, passes_counted}
 use Rattle.script_text.specs.Reading.{is_text_end, text_closed, counted_step, repeat_cause, line_added, within_step}
 use Rattle.script_text.proofs.GroupLaws.{onto_last-snoc}
@@ -41,10 +37,10 @@ use Rattle.script_text.proofs.HeldNames.{IsHeldText, held_in, held_all, Extends-
 use Rattle.script_text.proofs.ModuleNames.{AreHeld, HaveHeld}
 use Rattle.script_text.proofs.Summaries.{Summary, summary_with, table, fault_by}
 use Rattle.script_text.proofs.FaultTables.{own_fault, with_counts}
-use Rattle.script_text.proofs.Holding.{as_text, total, function_in, IsFunctionHeld, IsOpen, IsWithin, Stands, Knows, Holds, grown, no_load_more, same_lack}
+use Rattle.script_text.proofs.Holding.{as_text, function_in, IsOpen, IsWithin, Knows, grown, no_load_more, same_lack}
 use Rattle.script_text.proofs.Steps.{more_lines, holds_text_closed}
 use Rattle.script_text.proofs.Functions.{AreFunctionsHeld, first, or_exports, passes_line, added_line, functions_more, functions_held_in, held_line, line_one, line_counted, line_held}
-use Rattle.script_text.proofs.CodeSteps.{IsRead, IsRefused, Judges, misplaced, exports_by, code_fault, names_all-IsNames, at_after, titles_held_in, have_held_in, have_held_snoc, last_group-snoc, text_is, text_more, titled_more, title_of-more, after_line}
+use Rattle.script_text.proofs.CodeSteps.{Judges, misplaced, exports_by, code_fault, names_all-IsNames, at_after, titles_held_in, have_held_in, have_held_snoc, last_group-snoc, text_is, text_more, titled_more, title_of-more, after_line}
 
 -- ---- where the line stands
 
@@ -68,6 +64,8 @@ only_syntax m before text follows none head l = misplaced m head (follows head)
 only_syntax m before text follows none (code line) l = none line (code_of text line l)
 only_syntax m before text follows none loader l = misplaced m loader (follows loader)
 only_syntax m before text follows none (load refs) l = misplaced m (load refs) (follows (load refs))
+only_syntax m before text follows none (on_module command name) l = misplaced m (on_module command name) (follows (on_module command name))
+only_syntax m before text follows none (trace f g arity on) l = misplaced m (trace f g arity on) (follows (trace f g arity on))
 only_syntax m before text follows none (spawn m' f args) l = misplaced m (spawn m' f args) (follows (spawn m' f args))
 only_syntax m before text follows none go l = misplaced m go (follows go)
 

@@ -1,13 +1,13 @@
 -- What the lines of a script name and have, counted over the lines: names, function names, titles, processes, loaders.
 -- Source: this project's script text. Plain lists in the order of first appearance; the code has hash tables.
-use Rattle.std.specs.Prelude.{ℕ, ◌+◌, ◌==◌, ◌&&◌, Bool, true, false, List, [], ◌∷◌, ◌++◌, map, length, fold, bytes_eq, if◌then◌else◌}
+use Rattle.std.specs.Prelude.{ℕ, ◌==◌, ◌&&◌, Bool, true, false, List, [], ◌∷◌, ◌++◌, map, length, fold, bytes_eq, if◌then◌else◌}
 use Rattle.std.specs.List.{flat_map, list_any}
 use Rattle.term_core.specs.Names.{given_names}
 use Rattle.term_core.specs.PlainTerm.{atoms_of}
 use Rattle.term_core.specs.TermText.{names_with_all}
 use Rattle.mod_core.specs.ModuleLine.{LineForm, InstrForm, move, add, sub, eq, less, jump, call, call_ext, ret, print, yield, title, header, label, instr, end, number_value}
 use Rattle.mod_core.specs.LineFaults.{line_atoms}
-use Rattle.script_text.specs.ScriptLine.{RefForm, ScriptLine, head, code, loader, load, spawn, go}
+use Rattle.script_text.specs.ScriptLine.{RefForm, ScriptLine, head, code, loader, load, on_module, trace, spawn, go}
 use Rattle.script_text.specs.Groups.{groups_of}
 
 -- ---- names
@@ -18,6 +18,8 @@ script_line_atoms head = []
 script_line_atoms (code line) = line_atoms line
 script_line_atoms loader = []
 script_line_atoms (load refs) = map (λ r. r.name) refs
+script_line_atoms (on_module command name) = name ∷ []
+script_line_atoms (trace «module» name arity on) = «module» ∷ name ∷ []
 script_line_atoms (spawn «module» name args) = «module» ∷ name ∷ flat_map atoms_of args
 script_line_atoms go = []
 
@@ -58,12 +60,14 @@ line_functions home (label name) = []
 line_functions home (instr i) = instr_functions i
 line_functions home end = []
 
--- the function that a line exports, calls from outside or spawns, behind the title of this module
+-- the function that a line exports, calls from outside or spawns, behind the title of this module; one that is traced is not among them
 abbrev pub script_line_functions : List ℕ → ScriptLine → List FunctionForm
 script_line_functions home head = []
 script_line_functions home (code line) = line_functions home line
 script_line_functions home loader = []
 script_line_functions home (load refs) = []
+script_line_functions home (on_module command name) = []
+script_line_functions home (trace «module» name arity on) = []
 script_line_functions home (spawn «module» name args) = record { «module» = «module»; name = name; arity = length args } ∷ []
 script_line_functions home go = []
 
@@ -81,6 +85,8 @@ home_after home head = home
 home_after home (code line) = home_after_line home line
 home_after home loader = home
 home_after home (load refs) = home
+home_after home (on_module command name) = home
+home_after home (trace «module» name arity on) = home
 home_after home (spawn «module» name args) = home
 home_after home go = home
 
@@ -105,6 +111,8 @@ code_lines head = []
 code_lines (code line) = line ∷ []
 code_lines loader = []
 code_lines (load refs) = []
+code_lines (on_module command name) = []
+code_lines (trace «module» name arity on) = []
 code_lines (spawn «module» name args) = []
 code_lines go = []
 
@@ -145,6 +153,8 @@ is_loader head = false
 is_loader (code line) = false
 is_loader loader = true
 is_loader (load refs) = false
+is_loader (on_module command name) = false
+is_loader (trace «module» name arity on) = false
 is_loader (spawn «module» name args) = false
 is_loader go = false
 
@@ -153,6 +163,8 @@ is_spawn head = false
 is_spawn (code line) = false
 is_spawn loader = false
 is_spawn (load refs) = false
+is_spawn (on_module command name) = false
+is_spawn (trace «module» name arity on) = false
 is_spawn (spawn «module» name args) = true
 is_spawn go = false
 
@@ -162,6 +174,8 @@ block_lines head = []
 block_lines (code line) = []
 block_lines loader = loader ∷ []
 block_lines (load refs) = load refs ∷ []
+block_lines (on_module command name) = on_module command name ∷ []
+block_lines (trace «module» name arity on) = trace «module» name arity on ∷ []
 block_lines (spawn «module» name args) = spawn «module» name args ∷ []
 block_lines go = []
 

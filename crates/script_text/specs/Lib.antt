@@ -14,3 +14,4 @@ pub mod WrittenLine
 pub mod Naming
 pub mod Adding
 pub mod Reading
+pub mod Canonical

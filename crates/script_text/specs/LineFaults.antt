@@ -1,7 +1,7 @@
 -- What may be wrong with a line of a script, after the lines before it: whether it may stand there, each limit, and what is
 -- given again. Then what is lacking, which is judged where no line is wrong.
 -- Source: this project's script text. The limits are counted over the lines before; the code counts as it goes.
-use Rattle.std.specs.Prelude.{ℕ, ◌+◌, ◌&&◌, ◌||◌, not, nat_lt, nat_le, Bool, true, false, List, [], ◌∷◌, ◌++◌, length, Option, Some, None, option_map, count_by, if◌then◌else◌}
+use Rattle.std.specs.Prelude.{ℕ, ◌+◌, ◌||◌, not, nat_lt, Bool, true, false, List, [], ◌∷◌, ◌++◌, length, Option, Some, None, option_map, count_by, if◌then◌else◌}
 use Rattle.std.specs.List.{list_all, list_any}
 use Rattle.term_core.specs.declared.names.TheConstants.{MOST_NAMES}
 use Rattle.term_core.specs.PlainTerm.{integer_leaf, atom_leaf, tuple_of, list_of}
@@ -13,7 +13,7 @@ use Rattle.script_text.specs.declared.script.TheConstants.{MOST_FUNCTION_NAMES, 
 use Rattle.script_text.specs.declared.fault.Which.TheVariants as which
 use Rattle.script_text.specs.declared.fault.ScriptFault.{ScriptFault}
 use Rattle.script_text.specs.declared.fault.ScriptFault.TheVariants as faults
-use Rattle.script_text.specs.ScriptLine.{RefForm, ScriptLine, head, code, loader, load, spawn, go}
+use Rattle.script_text.specs.ScriptLine.{RefForm, ScriptLine, head, code, loader, load, on_module, trace, spawn, go}
 use Rattle.script_text.specs.Groups.{last_group}
 use Rattle.script_text.specs.Counts.{names_of, functions_of, module_texts, titles_of, line_titles, is_given, is_loader, is_spawn}
 
@@ -25,6 +25,8 @@ may_stand_between head = false
 may_stand_between (code line) = may_follow None line
 may_stand_between loader = true
 may_stand_between (load refs) = false
+may_stand_between (on_module command name) = false
+may_stand_between (trace «module» name arity on) = false
 may_stand_between (spawn «module» name args) = false
 may_stand_between go = true
 
@@ -34,6 +36,8 @@ may_stand_within before head = false
 may_stand_within before (code line) = may_follow (Some before) line
 may_stand_within before loader = false
 may_stand_within before (load refs) = false
+may_stand_within before (on_module command name) = false
+may_stand_within before (trace «module» name arity on) = false
 may_stand_within before (spawn «module» name args) = false
 may_stand_within before go = false
 
@@ -51,6 +55,8 @@ may_stand_loading head = false
 may_stand_loading (code line) = false
 may_stand_loading loader = true
 may_stand_loading (load refs) = true
+may_stand_loading (on_module command name) = true
+may_stand_loading (trace «module» name arity on) = true
 may_stand_loading (spawn «module» name args) = true
 may_stand_loading go = true
 
@@ -59,6 +65,8 @@ is_head head = true
 is_head (code line) = false
 is_head loader = false
 is_head (load refs) = false
+is_head (on_module command name) = false
+is_head (trace «module» name arity on) = false
 is_head (spawn «module» name args) = false
 is_head go = false
 
@@ -70,6 +78,8 @@ may_stand (Some head) line = may_stand_between line
 may_stand (Some (code before)) line = may_stand_behind before line
 may_stand (Some loader) line = may_stand_loading line
 may_stand (Some (load refs)) line = may_stand_loading line
+may_stand (Some (on_module command name)) line = may_stand_loading line
+may_stand (Some (trace «module» name arity on)) line = may_stand_loading line
 may_stand (Some (spawn «module» name args)) line = may_stand_loading line
 may_stand (Some go) line = false
 
@@ -85,6 +95,8 @@ is_high head = false
 is_high (code line) = has_high_register line
 is_high loader = false
 is_high (load refs) = false
+is_high (on_module command name) = false
+is_high (trace «module» name arity on) = false
 is_high (spawn «module» name args) = false
 is_high go = false
 
@@ -103,6 +115,8 @@ is_wide head = false
 is_wide (code line) = has_wide_integer line
 is_wide loader = false
 is_wide (load refs) = false
+is_wide (on_module command name) = false
+is_wide (trace «module» name arity on) = false
 is_wide (spawn «module» name args) = list_any is_wide_argument args
 is_wide go = false
 
@@ -112,6 +126,8 @@ of_code test head = false
 of_code test (code line) = test line
 of_code test loader = false
 of_code test (load refs) = false
+of_code test (on_module command name) = false
+of_code test (trace «module» name arity on) = false
 of_code test (spawn «module» name args) = false
 of_code test go = false
 
@@ -165,6 +181,8 @@ is_lacking titles head = false
 is_lacking titles (code line) = false
 is_lacking titles loader = false
 is_lacking titles (load refs) = not (list_all (is_given titles) refs)
+is_lacking titles (on_module command name) = false
+is_lacking titles (trace «module» name arity on) = false
 is_lacking titles (spawn «module» name args) = false
 is_lacking titles go = false
 

@@ -5,10 +5,10 @@ use Rattle.std.specs.List.{slice_split}
 use Rattle.term_core.specs.Names.{is_atom_text}
 use Rattle.term_core.specs.PlainTerm.{integer_leaf, atom_leaf}
 use Rattle.term_core.specs.Written.{WrittenTerm, is_integer_text}
-use Rattle.mod_core.specs.declared.code.TheConstants.{MOST_ARGUMENTS, GREATEST_VERSION}
-use Rattle.mod_core.specs.ModuleLine.{is_number_text, number_value, is_version_text}
-use Rattle.mod_core.specs.LineReading.{◌>>=◌, cut_at, tested}
-use Rattle.script_text.specs.ScriptLine.{RefForm}
+use Rattle.mod_core.specs.declared.code.TheConstants.{MOST_ARGUMENTS}
+use Rattle.mod_core.specs.ModuleLine.{number_value, is_version_text, is_arity_text}
+use Rattle.mod_core.specs.LineReading.{◌>>=◌, cut_at, tested, numbered_reading}
+use Rattle.script_text.specs.ScriptLine.{RefForm, ModuleCommand, delete, soft_purge, purge, check_old}
 
 -- the parts between such bytes
 abbrev pub parts_of : ℕ → List ℕ → List (List ℕ)
@@ -37,6 +37,39 @@ each_reading read (part ∷ parts) = do
 -- the modules of a load
 abbrev pub refs_reading : List ℕ → Option (List RefForm)
 refs_reading text = each_reading ref_reading (parts_of 32 text)
+
+-- the command of one module that a word names
+abbrev pub command_reading : List ℕ → Option ModuleCommand
+command_reading word =
+    if bytes_eq word (codes "delete") then Some delete
+    else (if bytes_eq word (codes "soft_purge") then Some soft_purge
+    else (if bytes_eq word (codes "purge") then Some purge
+    else (if bytes_eq word (codes "check_old") then Some check_old else None)))
+
+-- a breakpoint, as it is written: its function with the digits of the arity, and whether it is set
+pub record TraceForm : Type 0 where
+  pub «module» : List ℕ
+  pub name : List ℕ
+  pub arity : List ℕ
+  pub on : Bool
+
+-- the arity that digits write
+abbrev pub arity_reading : List ℕ → Option ℕ
+arity_reading text = if is_arity_text text then Some (number_value text) else None
+
+-- whether a breakpoint is set, by its word
+abbrev pub switch_reading : List ℕ → Option Bool
+switch_reading text = if bytes_eq text (codes "on") then Some true else (if bytes_eq text (codes "off") then Some false else None)
+
+-- a breakpoint that is set or taken away, behind the word of its line
+abbrev pub trace_reading : List ℕ → Option TraceForm
+trace_reading text = do
+  parts ← cut_at 32 text
+  target ← cut_at 58 parts.0
+  «module» ← tested is_atom_text target.0
+  function ← numbered_reading 47 is_arity_text target.1
+  on ← switch_reading parts.1
+  Some (record { «module» = «module»; name = function.0; arity = function.1; on = on })
 
 -- an argument, which is an atom or an integer
 abbrev pub argument_reading : List ℕ → Option WrittenTerm

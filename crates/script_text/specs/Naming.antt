@@ -10,7 +10,7 @@ use Rattle.server_core.specs.declared.command.ModRef.{ModRef}
 use Rattle.script_text.specs.declared.fault.Which.TheVariants as which
 use Rattle.script_text.specs.declared.reading.cause.LineCause.{LineCause}
 use Rattle.script_text.specs.declared.reading.cause.LineCause.TheVariants as causes
-use Rattle.script_text.specs.WrittenLine.{RefWords, ArgumentWords, integer, atom, complex, CallWords}
+use Rattle.script_text.specs.WrittenLine.{RefWords, TraceWords, ArgumentWords, integer, atom, complex, CallWords}
 use Rattle.script_text.specs.Causes.{◌>>=◌}
 
 -- what was read, or a line of no form
@@ -40,6 +40,13 @@ ref_named names r = atom_named names r.0 >>= λ a. Ok (record { name = record { 
 -- the modules of a load, and the names after them
 abbrev pub refs_named : List (List ℕ) → List RefWords → Result (List ModRef × List (List ℕ)) LineCause
 refs_named names refs = each_named ref_named names refs
+
+-- the function of a breakpoint, and the names after it
+unfoldable pub trace_named : List (List ℕ) → TraceWords → Result (Mfa × List (List ℕ)) LineCause
+trace_named names t = do
+  target ← atom_named names t.«module»
+  name ← atom_named target.1 t.name
+  Ok (record { «module» = record { 0 = target.0 }; name = record { 0 = name.0 }; arity = t.arity }, name.1)
 
 -- an argument, and the names after it
 abbrev pub argument_named : List (List ℕ) → ArgumentWords → Result (PlainTerm × List (List ℕ)) LineCause

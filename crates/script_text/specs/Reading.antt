@@ -1,11 +1,9 @@
 -- The order in which the lines of a script are read and judged: what is known after each line, and what the next one adds. The
 -- relation of whole texts and scripts, in ScriptText, is shown to agree with it.
-use Rattle.std.specs.Prelude.{◌≡◌, ℕ, ◌+◌, ◌==◌, ◌&&◌, ◌||◌, not, nat_lt, nat_le, Bool, true, false, List, [], ◌∷◌, ◌++◌, length, map, Option, Some, None, option_map, Result, Ok, Err, bytes_eq, codes, if◌then◌else◌}
+use Rattle.std.specs.Prelude.{◌≡◌, ℕ, ◌+◌, ◌==◌, ◌&&◌, not, nat_lt, nat_le, Bool, true, false, List, [], ◌∷◌, ◌++◌, length, map, Option, Some, None, option_map, Result, Ok, Err, bytes_eq, codes, if◌then◌else◌}
 use Rattle.std.specs.List.{list_all}
 use Rattle.term_core.specs.declared.atom.Mfa.{Mfa}
 use Rattle.term_core.specs.Names.{number_of, given_names}
-use Rattle.mod_core.specs.declared.code.Module.{Module}
-use Rattle.mod_core.specs.declared.fault.LineFault.{LineFault}
 use Rattle.mod_core.specs.declared.fault.LineFault.TheVariants as line_faults
 use Rattle.mod_core.specs.ModuleLine.{LineForm, title, header, label, instr, end}
 use Rattle.mod_core.specs.LineFaults.{last_line, counted_of}
@@ -15,7 +13,7 @@ use Rattle.mod_core.specs.Reading.{Step, line_step, is_end}
 use Rattle.server_core.specs.declared.command.ModRef.{ModRef}
 use Rattle.script_text.specs.declared.script.TheConstants.{LONGEST_SCRIPT, LONGEST_LINE, MOST_LOADERS, MOST_PROCESSES}
 use Rattle.script_text.specs.declared.script.ScriptCmd.{ScriptCmd}
-use Rattle.script_text.specs.declared.script.ScriptCmd.TheVariants.{Load, Spawn}
+use Rattle.script_text.specs.declared.script.ScriptCmd.TheVariants.{Load, Trace, Spawn}
 use Rattle.script_text.specs.declared.script.Script.{Script}
 use Rattle.script_text.specs.declared.fault.Which.TheVariants as which
 use Rattle.script_text.specs.declared.fault.ScriptFault.{ScriptFault}
@@ -26,10 +24,11 @@ use Rattle.script_text.specs.declared.reading.reader.Place.{Place}
 use Rattle.script_text.specs.declared.reading.reader.Place.TheVariants.{Unread, Between, Within, Loading, Finished}
 use Rattle.script_text.specs.declared.reading.reader.ScriptReader.{ScriptReader}
 use Rattle.script_text.specs.Groups.{onto_last}
+use Rattle.script_text.specs.ScriptValue.{command_of}
 use Rattle.script_text.specs.LineFaults.{or_else}
-use Rattle.script_text.specs.LineReading.{refs_reading, call_reading, title_reading}
-use Rattle.script_text.specs.WrittenLine.{ref_words, call_words}
-use Rattle.script_text.specs.Naming.{or_syntax, refs_named, call_named}
+use Rattle.script_text.specs.LineReading.{refs_reading, command_reading, trace_reading, call_reading, title_reading}
+use Rattle.script_text.specs.WrittenLine.{ref_words, trace_words, call_words}
+use Rattle.script_text.specs.Naming.{or_syntax, atom_named, refs_named, trace_named, call_named}
 use Rattle.script_text.specs.Causes.{◌>>=◌, fault_at, cause_of_code}
 use Rattle.script_text.specs.Sets.{mfa_added, is_among, ref_added}
 use Rattle.script_text.specs.Adding.{counted_added, passes_counted}
@@ -123,6 +122,20 @@ load_step s number text = do
   refs ← refs_named s.names forms
   Ok (with_command (noted (record s { names = refs.1 }) number refs.0) (Load refs.0))
 
+-- a command of one module, by its word
+unfoldable pub module_step : ScriptReader → List ℕ → List ℕ → Result ScriptReader LineCause
+module_step s word text = do
+  command ← or_syntax (command_reading word)
+  atom ← atom_named s.names text
+  Ok (with_command (record s { names = atom.1 }) (command_of command (record { 0 = atom.0 })))
+
+-- a breakpoint that is set or taken away
+unfoldable pub trace_step : ScriptReader → List ℕ → Result ScriptReader LineCause
+trace_step s text = do
+  form ← or_syntax (option_map trace_words (trace_reading text))
+  target ← trace_named s.names form
+  Ok (with_command (record s { names = target.1 }) (Trace target.0 form.on))
+
 -- one process more
 abbrev pub process_added : ℕ → Result ℕ LineCause
 process_added processes = if nat_le MOST_PROCESSES processes then Err (causes.Limit which.Processes) else Ok (processes + 1)
@@ -141,7 +154,8 @@ abbrev pub command_by : ScriptReader → ℕ → Option (List ℕ × List ℕ) �
 command_by s number None = Err causes.Syntax
 command_by s number (Some parts) =
     if bytes_eq parts.0 (codes "load") then load_step s number parts.1
-    else (if bytes_eq parts.0 (codes "spawn") then spawn_step s parts.1 else Err causes.Syntax)
+    else (if bytes_eq parts.0 (codes "spawn") then spawn_step s parts.1
+    else (if bytes_eq parts.0 (codes "trace") then trace_step s parts.1 else module_step s parts.0 parts.1))
 
 abbrev pub command_step : ScriptReader → ℕ → List ℕ → Result ScriptReader LineCause
 command_step s number text = command_by s number (cut_at 32 text)

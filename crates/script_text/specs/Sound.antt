@@ -1,6 +1,6 @@
 -- What every script has that is the value of some text.
 -- Source: this project's limits of a script.
-use Rattle.std.specs.Prelude.{◌≡◌, ℕ, ◌+◌, ◌<◌, ◌≤◌, List, [], ◌∷◌, length, slice_get, Some, All, IsTrue, is_some, sum_by}
+use Rattle.std.specs.Prelude.{◌≡◌, ℕ, ◌<◌, ◌≤◌, List, length, IsTrue, is_some, sum_by}
 use Rattle.std.specs.List.{AllByRecursion}
 use Rattle.term_core.specs.Names.{IsNames}
 use Rattle.term_core.specs.PlainTerm.{PlainTerm, integer_leaf, atom_leaf, tuple_of, list_of}
@@ -10,7 +10,7 @@ use Rattle.server_core.specs.declared.command.ModRef.{ModRef}
 use Rattle.server_core.specs.CommandTable.{AreTexts, text_of}
 use Rattle.script_text.specs.declared.script.TheConstants.{MOST_LOADERS, MOST_PROCESSES}
 use Rattle.script_text.specs.declared.script.ScriptCmd.{ScriptCmd}
-use Rattle.script_text.specs.declared.script.ScriptCmd.TheVariants.{Load, Spawn}
+use Rattle.script_text.specs.declared.script.ScriptCmd.TheVariants.{Load, Delete, SoftPurge, Purge, CheckOld, Trace, Spawn}
 use Rattle.script_text.specs.declared.script.Script.{Script}
 
 -- a term of one word, whose atom has a name
@@ -25,6 +25,12 @@ pub record IsLoadOf (texts : List Module) (refs : List ModRef) : Type 0 where
   pub some : 0 < length refs
   pub given : AllByRecursion (λ r. IsTrue (is_some (text_of texts r))) refs
 
+-- a breakpoint of a function whose atoms have names
+pub record IsTraceOf (names : List (List ℕ)) (m f arity : ℕ) : Type 0 where
+  pub module_named : m < length names
+  pub name_named : f < length names
+  pub few : arity ≤ 15
+
 -- a spawn of a function whose atoms have names, with as many arguments as its arity, each of one word
 pub record IsSpawnOf (names : List (List ℕ)) (m f arity : ℕ) (args : List PlainTerm) : Type 0 where
   pub module_named : m < length names
@@ -33,13 +39,24 @@ pub record IsSpawnOf (names : List (List ℕ)) (m f arity : ℕ) (args : List Pl
   pub few : arity ≤ 15
   pub each : AllByRecursion (IsImmediateOf names) args
 
+-- a command that can be made: what a load or a spawn needs; and a module or function that is named
 abbrev pub IsCmdOf : List (List ℕ) → List Module → ScriptCmd → Type 0
 IsCmdOf names texts (Load refs) = IsLoadOf texts refs
+IsCmdOf names texts (Delete m) = m.0 < length names
+IsCmdOf names texts (SoftPurge m) = m.0 < length names
+IsCmdOf names texts (Purge m) = m.0 < length names
+IsCmdOf names texts (CheckOld m) = m.0 < length names
+IsCmdOf names texts (Trace target on) = IsTraceOf names target.«module».0 target.name.0 target.arity
 IsCmdOf names texts (Spawn target args) = IsSpawnOf names target.«module».0 target.name.0 target.arity args
 
 -- one for a spawn
 abbrev pub spawns_in : ScriptCmd → ℕ
 spawns_in (Load refs) = 0
+spawns_in (Delete m) = 0
+spawns_in (SoftPurge m) = 0
+spawns_in (Purge m) = 0
+spawns_in (CheckOld m) = 0
+spawns_in (Trace target on) = 0
 spawns_in (Spawn target args) = 1
 
 abbrev pub processes_of : Script → ℕ

@@ -1,4 +1,4 @@
-//! Why a text is no script's.
+//! Why a text is no script's, and why a script is not printed.
 
 use term_core::NoMemory;
 
@@ -52,5 +52,25 @@ impl From<NoMemory> for ScriptFault {
 
     fn from(_refused: NoMemory) -> ScriptFault {
         ScriptFault::NoMemory
+    }
+}
+
+/// Why a script was not printed.
+#[derive(Clone, Copy, Debug, PartialEq, Eq)]
+pub enum PrintFault {
+    /// The canonical text has more than 1,048,576 bytes, or a line of more than 4,096.
+    TooLong,
+    /// Memory was refused. No clause says when.
+    NoMemory,
+}
+
+impl From<NoMemory> for PrintFault {
+    ghost use Rattle.std.specs.Prelude.{◌≡◌};
+    ghost use Rattle.script_text.specs.declared.fault.PrintFault.TheVariants as faults;
+
+    ghost from_gives = { λ _ e. e ≡ faults.NoMemory };
+
+    fn from(_refused: NoMemory) -> PrintFault {
+        PrintFault::NoMemory
     }
 }

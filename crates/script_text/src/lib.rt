@@ -1,15 +1,24 @@
-//! The text of a script: what it says, and its reader with the one fault of every other text.
+//! The text of a script: what it says, its reader with the one fault of every other text, and its printer.
 #![tactic(auto)]
 
+#[cfg(test)]
+mod command_tests;
+mod copying;
 mod fault;
 mod fault_text;
+#[cfg(test)]
+mod pair_tests;
+mod printing;
+#[cfg(test)]
+mod printing_tests;
 mod reading;
 mod script;
 #[cfg(test)]
 mod tests;
 
-pub use fault::{ScriptFault, Which};
+pub use fault::{PrintFault, ScriptFault, Which};
 pub use fault_text::print_fault;
+pub use printing::{canonical_script_reads_back, print_script};
 pub use reading::read_script;
 pub use script::{
     CommandList, LONGEST_LINE, LONGEST_SCRIPT, LoaderList, MOST_FUNCTION_NAMES, MOST_LOADERS,

@@ -6,7 +6,7 @@ mod line;
 mod naming;
 mod reader;
 mod sets;
-mod words;
+pub(crate) mod words;
 mod written;
 
 ghost use Rattle.std.specs.Prelude.{◌≡◌, ◌≤◌, ◌⊎◌, length, IfOk, IfErr};

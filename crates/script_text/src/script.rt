@@ -1,6 +1,6 @@
 use mod_core::ModuleList;
 use server_core::RefList;
-use term_core::{Items, Mfa, Names, TermList};
+use term_core::{AtomId, Items, Mfa, Names, TermList};
 
 /// How many bytes a script has at most.
 pub const LONGEST_SCRIPT: usize = 1_048_576;
@@ -22,6 +22,16 @@ pub const MOST_PROCESSES: usize = 64;
 pub enum ScriptCmd {
     /// The modules of the texts that are named come in at once.
     Load(RefList),
+    /// The module's current code becomes old.
+    Delete(AtomId),
+    /// The module's old code goes, if no process stands in it.
+    SoftPurge(AtomId),
+    /// The module's old code goes, and processes that stand in it end.
+    Purge(AtomId),
+    /// Whether the module has old code.
+    CheckOld(AtomId),
+    /// A breakpoint of a function in its module's current instance is set or taken away.
+    Trace { target: Mfa, on: bool },
     /// A process enters the function with these arguments.
     Spawn { target: Mfa, args: TermList },
 }

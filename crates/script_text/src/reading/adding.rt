@@ -4,12 +4,15 @@ ghost use Rattle.std.specs.Prelude.{◌≡◌, OnOk};
 ghost use Rattle.script_text.specs.Causes.{Gives};
 ghost use Rattle.script_text.specs.Groups.{onto_last};
 ghost use Rattle.script_text.specs.Adding.{counted_added};
+ghost use Rattle.script_text.specs.ScriptValue.{command_of};
+ghost use Rattle.script_text.specs.WrittenLine.{kept_word};
 
 use crate::reading::cause::LineCause;
 use crate::reading::sets::FunctionSet;
+use crate::reading::written::ModuleWord;
 use crate::script::{CommandList, LoaderList, ScriptCmd};
 use std::alloc::Global;
-use term_core::{Mfa, NoMemory};
+use term_core::{AtomId, Mfa, NoMemory};
 
 /// The function of a line is counted, if it has one.
 pub fn add_counted(functions: &mut FunctionSet, counted: Option<Mfa>) -> Result<(), LineCause>
@@ -18,6 +21,18 @@ pub fn add_counted(functions: &mut FunctionSet, counted: Option<Mfa>) -> Result<
     match counted {
         Some(function) => functions.add(function),
         None => Ok(()),
+    }
+}
+
+/// The command of a module.
+pub fn command_of(word: ModuleWord, module: AtomId) -> ScriptCmd
+    ensures { result ≡ command_of (kept_word word) «module» }
+{
+    match word {
+        ModuleWord::Delete => ScriptCmd::Delete(module),
+        ModuleWord::SoftPurge => ScriptCmd::SoftPurge(module),
+        ModuleWord::Purge => ScriptCmd::Purge(module),
+        ModuleWord::CheckOld => ScriptCmd::CheckOld(module),
     }
 }
 

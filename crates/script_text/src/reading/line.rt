@@ -2,15 +2,16 @@
 
 ghost use Rattle.std.specs.Prelude.{◌≡◌, ◌≤◌, map, option_map, vec_len, IfOk};
 ghost use Rattle.term_core.specs.Names.{is_atom_text as is_atom};
-ghost use Rattle.mod_core.specs.LineReading.{tested};
+ghost use Rattle.mod_core.specs.ModuleLine.{is_arity_text};
+ghost use Rattle.mod_core.specs.LineReading.{tested, numbered_reading};
 ghost use Rattle.script_text.specs.Causes.{Gives};
-ghost use Rattle.script_text.specs.LineReading.{ref_reading, refs_reading, argument_reading, arguments_reading, each_reading, parts_of, closed_arguments, call_reading, title_reading};
+ghost use Rattle.script_text.specs.LineReading.{ref_reading, refs_reading, command_reading, switch_reading, trace_reading, argument_reading, arguments_reading, each_reading, parts_of, closed_arguments, call_reading, title_reading};
 ghost use Rattle.script_text.specs.Naming.{or_syntax};
-ghost use Rattle.script_text.specs.WrittenLine.{ref_words, kept_ref, argument_words, kept_argument, call_words, kept_call};
+ghost use Rattle.script_text.specs.WrittenLine.{ref_words, kept_ref, kept_word, function_words, trace_words, kept_trace, argument_words, kept_argument, call_words, kept_call};
 
 use crate::reading::cause::LineCause;
-use crate::reading::words::{cut_at, integer_of, is_integer_text, version_of};
-use crate::reading::written::{WrittenArgument, WrittenCall, WrittenRef};
+use crate::reading::words::{arity_of, cut_at, integer_of, is_integer_text, version_of};
+use crate::reading::written::{ModuleWord, WrittenArgument, WrittenCall, WrittenRef, WrittenTrace};
 use mod_core::MOST_ARGUMENTS;
 use std::alloc::Global;
 use term_core::is_atom_text;
@@ -43,6 +44,62 @@ pub fn read_refs(alloc: Global, text: &[u8]) -> Result<Vec<WrittenRef<'_>>, Line
     }
     refs.push(read_ref(rest).ok_or(LineCause::Syntax)?)?;
     Ok(refs)
+}
+
+/// The command of one module that a word names.
+pub fn read_word(word: &[u8]) -> Option<ModuleWord>
+    ensures { option_map kept_word result ≡ command_reading word.now }
+{
+    if word == b"delete".as_slice() {
+        Some(ModuleWord::Delete)
+    } else if word == b"soft_purge".as_slice() {
+        Some(ModuleWord::SoftPurge)
+    } else if word == b"purge".as_slice() {
+        Some(ModuleWord::Purge)
+    } else if word == b"check_old".as_slice() {
+        Some(ModuleWord::CheckOld)
+    } else {
+        None
+    }
+}
+
+/// A function's name and arity, as `main/0`.
+fn read_function(text: &[u8]) -> Option<(&[u8], u32)>
+    ensures { option_map (λ p. (p.0.now, p.1)) result ≡ option_map function_words (numbered_reading 47 is_arity_text text.now) }
+{
+    let (name, digits) = cut_at(text, b'/')?;
+    let name = read_atom(name)?;
+    let arity = arity_of(digits)?;
+    Some((name, arity))
+}
+
+fn read_switch(text: &[u8]) -> Option<bool>
+    ensures { result ≡ switch_reading text.now }
+{
+    if text == b"on".as_slice() {
+        Some(true)
+    } else if text == b"off".as_slice() {
+        Some(false)
+    } else {
+        None
+    }
+}
+
+/// A breakpoint that is set or taken away, behind its word, as `m:main/0 on`.
+pub fn read_trace(text: &[u8]) -> Option<WrittenTrace<'_>>
+    ensures { option_map kept_trace result ≡ option_map trace_words (trace_reading text.now) }
+{
+    let (target, switch) = cut_at(text, b' ')?;
+    let (module, function) = cut_at(target, b':')?;
+    let module = read_atom(module)?;
+    let (name, arity) = read_function(function)?;
+    let on = read_switch(switch)?;
+    Some(WrittenTrace {
+        module,
+        name,
+        arity,
+        on,
+    })
 }
 
 fn read_argument(text: &[u8]) -> Option<WrittenArgument<'_>>

@@ -4,12 +4,12 @@ ghost use Rattle.std.specs.Prelude.{◌≡◌, map, length, IfOk};
 ghost use Rattle.std.specs.List.{list_any};
 ghost use Rattle.term_core.specs.Plain.{plain};
 ghost use Rattle.script_text.specs.Causes.{Gives};
-ghost use Rattle.script_text.specs.Naming.{atom_named, ref_named, refs_named, argument_named, arguments_named, target_named, call_named, is_wide_word};
-ghost use Rattle.script_text.specs.WrittenLine.{kept_ref, kept_argument, kept_call};
+ghost use Rattle.script_text.specs.Naming.{atom_named, ref_named, refs_named, trace_named, argument_named, arguments_named, target_named, call_named, is_wide_word};
+ghost use Rattle.script_text.specs.WrittenLine.{kept_ref, kept_trace, kept_argument, kept_call};
 
 use crate::fault::Which;
 use crate::reading::cause::LineCause;
-use crate::reading::written::{WrittenArgument, WrittenCall, WrittenRef};
+use crate::reading::written::{WrittenArgument, WrittenCall, WrittenRef, WrittenTrace};
 use server_core::{ModRef, RefList};
 use std::alloc::Global;
 use term_core::{AtomId, Mfa, Names, Term, TermList, is_atom_text};
@@ -47,6 +47,20 @@ pub fn name_refs(
         named.push(name_ref(names, *to)?)?;
     }
     Ok(named)
+}
+
+/// The function of a breakpoint.
+#[tactic(auto, unfolding(crate::specs::Naming::trace_named))]
+pub fn name_trace(names: &mut Names, trace: WrittenTrace<'_>) -> Result<Mfa, LineCause>
+    ensures { Gives (λ target. (target, names.new)) result (trace_named names.old (kept_trace trace.entry)) }
+{
+    let module = name_atom(names, trace.module)?;
+    let name = name_atom(names, trace.name)?;
+    Ok(Mfa {
+        module,
+        name,
+        arity: trace.arity,
+    })
 }
 
 fn name_argument(names: &mut Names, argument: WrittenArgument<'_>) -> Result<Term, LineCause>

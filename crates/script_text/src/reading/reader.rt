@@ -1,10 +1,10 @@
 //! What is known of a script after some of its lines, and what the next line adds.
 
 use crate::fault::{ScriptFault, Which};
-use crate::reading::adding::{add_counted, push_command};
+use crate::reading::adding::{add_counted, command_of, push_command};
 use crate::reading::cause::LineCause;
-use crate::reading::line::{read_call, read_refs, read_title};
-use crate::reading::naming::{name_call, name_refs};
+use crate::reading::line::{read_call, read_refs, read_title, read_trace, read_word};
+use crate::reading::naming::{name_atom, name_call, name_refs, name_trace};
 use crate::reading::sets::{FunctionSet, RefSet};
 use crate::reading::words::cut_at;
 use crate::script::{
@@ -58,7 +58,7 @@ impl<'a> ScriptReader<'a> {
     ghost use Rattle.script_text.specs.LineFaults.{or_else};
     ghost use Rattle.script_text.specs.Causes.{Gives, GivesText};
     ghost use Rattle.script_text.specs.Sets.{is_among};
-    ghost use Rattle.script_text.specs.Reading.{opening, head_step, title_step, counted_step, within_step, text_closed, closed_by, block_step, load_step, spawn_step, command_step, other_step, line_at, line_judged, text_ended, IsCounted, repeat_cause, script_known};
+    ghost use Rattle.script_text.specs.Reading.{opening, head_step, title_step, counted_step, within_step, text_closed, closed_by, block_step, load_step, module_step, trace_step, spawn_step, command_step, other_step, line_at, line_judged, text_ended, IsCounted, repeat_cause, script_known};
 
     /// What is known before the first line.
     pub fn new(alloc: Global) -> Result<ScriptReader<'a>, NoMemory>
@@ -212,6 +212,29 @@ impl<'a> ScriptReader<'a> {
         Ok(())
     }
 
+    /// A command of one module, by its word.
+    #[tactic(auto, unfolding(crate::specs::Reading::module_step))]
+    fn take_module(&mut self, alloc: Global, word: &[u8], text: &[u8]) -> Result<(), LineCause>
+        ensures { Gives (λ _. self.new) result (module_step self.old word.now text.now) }
+    {
+        let command = read_word(word).ok_or(LineCause::Syntax)?;
+        let module = name_atom(&mut self.names, text)?;
+        push_command(alloc, &mut self.loaders, command_of(command, module))?;
+        Ok(())
+    }
+
+    /// A breakpoint that is set or taken away.
+    #[tactic(auto, unfolding(crate::specs::Reading::trace_step))]
+    fn take_trace(&mut self, alloc: Global, text: &[u8]) -> Result<(), LineCause>
+        ensures { Gives (λ _. self.new) result (trace_step self.old text.now) }
+    {
+        let trace = read_trace(text).ok_or(LineCause::Syntax)?;
+        let target = name_trace(&mut self.names, trace)?;
+        let on = trace.on;
+        push_command(alloc, &mut self.loaders, ScriptCmd::Trace { target, on })?;
+        Ok(())
+    }
+
     #[tactic(auto, unfolding(crate::specs::Reading::spawn_step))]
     fn take_spawn(&mut self, alloc: Global, text: &[u8]) -> Result<(), LineCause>
         ensures { Gives (λ _. self.new) result (spawn_step self.old text.now) }
@@ -238,8 +261,10 @@ impl<'a> ScriptReader<'a> {
                     self.take_load(alloc, rest, number)
                 } else if word == b"spawn".as_slice() {
                     self.take_spawn(alloc, rest)
+                } else if word == b"trace".as_slice() {
+                    self.take_trace(alloc, rest)
                 } else {
-                    Err(LineCause::Syntax)
+                    self.take_module(alloc, word, rest)
                 }
             }
         }

@@ -6,10 +6,10 @@ ghost use Rattle.std.specs.List.{list_all};
 ghost use Rattle.term_core.specs.Written.{IsTermInteger, is_positive_text, is_integer_text, integer_of};
 ghost use Rattle.mod_core.specs.LineReading.{cut_at};
 ghost use Rattle.mod_core.specs.ModuleLine.{is_number_text, small_number};
-ghost use Rattle.script_text.specs.LineReading.{version_reading};
+ghost use Rattle.script_text.specs.LineReading.{version_reading, arity_reading};
 ghost use Rattle.script_text.specs.WrittenLine.{term_integer};
 
-use mod_core::GREATEST_VERSION;
+use mod_core::{GREATEST_VERSION, MOST_ARGUMENTS};
 use std::str;
 use term_core::{GREATEST_INTEGER, LEAST_INTEGER};
 
@@ -90,6 +90,19 @@ pub fn version_of(text: &[u8]) -> Option<u32>
     }
     match parsed_number(text) {
         Some(version) if 1 <= version && version <= GREATEST_VERSION => Some(version),
+        _ => None,
+    }
+}
+
+/// The arity that digits write, at most 15.
+pub fn arity_of(text: &[u8]) -> Option<u32>
+    ensures { result ≡ arity_reading text.now }
+{
+    if !is_number_text(text) {
+        return None;
+    }
+    match parsed_number(text) {
+        Some(arity) if arity <= MOST_ARGUMENTS => Some(arity),
         _ => None,
     }
 }

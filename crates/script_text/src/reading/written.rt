@@ -10,6 +10,24 @@ pub struct WrittenRef<'a> {
     pub version: u32,
 }
 
+/// A command of one module, by its word.
+#[derive(Clone, Copy)]
+pub enum ModuleWord {
+    Delete,
+    SoftPurge,
+    Purge,
+    CheckOld,
+}
+
+/// A breakpoint, as a `trace` names it: its function, and whether it is set.
+#[derive(Clone, Copy)]
+pub struct WrittenTrace<'a> {
+    pub module: &'a [u8],
+    pub name: &'a [u8],
+    pub arity: u32,
+    pub on: bool,
+}
+
 /// An argument of a call.
 #[derive(Clone, Copy)]
 pub enum WrittenArgument<'a> {

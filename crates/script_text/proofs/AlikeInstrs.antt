@@ -1,0 +1,118 @@
+-- An instruction of a module text is written as one that names the same.
+use Rattle.std.proofs.Common.{◌≡◌, ℕ, ◌+◌, Bool, true, false, cond, ◌&&◌, List, [], ◌∷◌, ◌++◌, map, Option, Some, None, is_some, option_map, unwrap_or, slice_get, bytes_eq, refl, sym, ap, ◌∙◌, add-one}
+use Rattle.std.proofs.lemmas.Bool.{and_parts}
+use Rattle.std.proofs.lemmas.Option.{slice_get-map}
+use Rattle.term_core.specs.Names.{is_atom_text}
+use Rattle.term_core.specs.TermText.{atom_text, number_in}
+use Rattle.term_core.proofs.Places.{position-cons}
+use Rattle.mod_core.specs.declared.code.Function.{Function}
+use Rattle.mod_core.specs.Canonical.{written_operand, written_call, written_instr}
+use Rattle.mod_core.specs.LineFaults.{operand_atoms, instr_atoms}
+use Rattle.mod_core.specs.ModuleLine.{OperandForm, register, integer, atom, InstrForm, move, add, sub, eq, less, jump, call, call_ext, ret, print, yield, LineForm, title, header, label, instr, end, number_value, is_number_text, is_arity_text, is_function_form, is_instr_form}
+use Rattle.mod_core.specs.ModuleValue.{FunctionForm, HeaderForm, functions_in, headers_in, is_header, function_number, callee_in, operand_in, instr_in, function_in, is_settled}
+use Rattle.mod_core.proofs.Options.{map_some, some_is, bytes_are}
+use Rattle.script_text.specs.Counts.{instr_functions}
+use Rattle.script_text.proofs.HeldNames.{IsHeldText}
+use Rattle.script_text.proofs.ModuleNames.{AreHeld, held_first, held_second}
+use Rattle.script_text.proofs.TextsBack.{atom_again, arity_again}
+
+-- ---- a function that is called
+
+-- the name and arity of a function, as its header has them
+abbrev pub header_of : FunctionForm → HeaderForm
+header_of f = (f.name, f.arity)
+
+pub headers_are : (lines : List LineForm) → headers_in lines ≡ map header_of (functions_in lines)
+headers_are [] = refl
+headers_are (title name version ∷ lines) = headers_are lines
+headers_are (header exported name arity ∷ lines) = ap (λ (hs : List HeaderForm). (name, arity) ∷ hs) (headers_are lines)
+headers_are (label name ∷ lines) = headers_are lines
+headers_are (instr i ∷ lines) = headers_are lines
+headers_are (end ∷ lines) = headers_are lines
+
+-- the function at a place has this name
+record HasName (forms : List FunctionForm) (k : ℕ) (name : List ℕ) : Type 0 where
+  form : FunctionForm
+  at : slice_get forms k ≡ Some form
+  name_is : form.name ≡ name
+
+named_by : (forms : List FunctionForm) (form : FunctionForm) (name arity : List ℕ) (k : ℕ) (t : Bool) → is_header name arity (header_of form) ≡ t → cond t (Some 0) (option_map (λ i. i + 1) (function_number name arity (map header_of forms))) ≡ Some k → ((j : ℕ) → function_number name arity (map header_of forms) ≡ Some j → HasName forms j name) → HasName (form ∷ forms) k name
+named_by forms form name arity k true same is more =
+    let here : 0 ≡ k = some_is 0 k is in
+    record {
+      form = form;
+      at = ap (slice_get (form ∷ forms)) (sym here);
+      name_is = bytes_are form.name name (and_parts (bytes_eq form.name name) (bytes_eq form.arity arity) same).0;
+    }
+named_by forms form name arity k false same is more =
+    let later = map_some (λ i. i + 1) (function_number name arity (map header_of forms)) k is in
+    let found = more later.0 later.1 in
+    record { form = found.form; at = ap (slice_get (form ∷ forms)) (sym later.2 ∙ add-one later.0) ∙ found.at; name_is = found.name_is }
+
+named_at : (forms : List FunctionForm) (name arity : List ℕ) (k : ℕ) → function_number name arity (map header_of forms) ≡ Some k → HasName forms k name
+named_at [] name arity k is = absurd cc
+named_at (form ∷ forms) name arity k is =
+    named_by forms form name arity k (is_header name arity (header_of form)) refl (sym (position-cons (is_header name arity) (header_of form) (map header_of forms)) ∙ is) (named_at forms name arity)
+
+called_by : (names : List (List ℕ)) (hs : List HeaderForm) (forms : List FunctionForm) (name arity : List ℕ) (at : ℕ) (o : Option ℕ) → function_number name arity (map header_of forms) ≡ o → is_some o ≡ true → IsHeldText names name → instr_atoms (written_call names (slice_get (map (function_in names hs) forms) (unwrap_or o 0)) at) ≡ name ∷ []
+called_by names hs forms name arity at None is some held = absurd cc
+called_by names hs forms name arity at (Some k) is some held =
+    let found = named_at forms name arity k is in
+    ap (λ (f : Option Function). instr_atoms (written_call names f at)) (slice_get-map (function_in names hs) forms k ∙ ap (option_map (function_in names hs)) found.at)
+    ∙ ap (λ (n : List ℕ). atom_text names (number_in names n) ∷ []) found.name_is
+    ∙ ap (λ (t : List ℕ). t ∷ []) (atom_again names name held)
+
+no_functions : (names : List (List ℕ)) (o : Option Function) (at : ℕ) → instr_functions (written_call names o at) ≡ []
+no_functions names None at = refl
+no_functions names (Some f) at = refl
+
+-- ---- instructions
+
+-- two instructions name the same
+pub record IsInstrLike (x y : InstrForm) : Type 0 where
+  pub atoms : instr_atoms x ≡ instr_atoms y
+  pub functions : instr_functions x ≡ instr_functions y
+
+-- what an instruction has that stands in a module's text
+pub record IsGoodInstr (names : List (List ℕ)) (hs : List HeaderForm) (body : List LineForm) (i : InstrForm) : Type 0 where
+  pub sound : is_instr_form i ≡ true
+  pub held : AreHeld names (instr_atoms i)
+  pub settled : is_settled hs body i ≡ true
+
+operand_again : (names : List (List ℕ)) (o : OperandForm) → AreHeld names (operand_atoms o) → operand_atoms (written_operand names (operand_in names o)) ≡ operand_atoms o
+operand_again names (register digits) h = refl
+operand_again names (integer text) h = refl
+operand_again names (atom text) h = ap (λ (t : List ℕ). t ∷ []) (atom_again names text h.0)
+
+two_again : (names : List (List ℕ)) (a b : OperandForm) → AreHeld names (operand_atoms a ++ operand_atoms b) → operand_atoms (written_operand names (operand_in names a)) ++ operand_atoms (written_operand names (operand_in names b)) ≡ operand_atoms a ++ operand_atoms b
+two_again names a b h =
+    let p = operand_again names a (held_first names (operand_atoms a) (operand_atoms b) h) in
+    let q = operand_again names b (held_second names (operand_atoms a) (operand_atoms b) h) in
+    λ k. p k ++ q k
+
+external_arity : (name function arity at : List ℕ) → is_instr_form (call_ext name function arity at) ≡ true → is_arity_text arity ≡ true
+external_arity name function arity at h =
+    let first = and_parts (is_atom_text name) (is_function_form function arity && is_number_text at) h in
+    let second = and_parts (is_function_form function arity) (is_number_text at) first.1 in
+    (and_parts (is_atom_text function) (is_arity_text arity) second.0).1
+
+-- an instruction is written as one that names the same
+pub instr_like : (names : List (List ℕ)) (hs : List HeaderForm) (forms : List FunctionForm) (body : List LineForm) (i : InstrForm) → hs ≡ map header_of forms → IsGoodInstr names hs body i → IsInstrLike (written_instr names (map (function_in names hs) forms) (instr_in names hs body i)) i
+instr_like names hs forms body (move from to) are g = record { atoms = operand_again names from g.held; functions = refl }
+instr_like names hs forms body (add a b to) are g = record { atoms = two_again names a b g.held; functions = refl }
+instr_like names hs forms body (sub a b to) are g = record { atoms = two_again names a b g.held; functions = refl }
+instr_like names hs forms body (eq a b target) are g = record { atoms = two_again names a b g.held; functions = refl }
+instr_like names hs forms body (less a b target) are g = record { atoms = two_again names a b g.held; functions = refl }
+instr_like names hs forms body (jump target) are g = record { atoms = refl; functions = refl }
+instr_like names hs forms body (call name arity at) are g = record {
+  atoms = called_by names hs forms name arity (number_value at) (function_number name arity hs) (ap (function_number name arity) (sym are)) g.settled g.held.0;
+  functions = no_functions names (slice_get (map (function_in names hs) forms) (callee_in hs name arity)) (number_value at);
+}
+instr_like names hs forms body (call_ext m function arity at) are g =
+    let p = atom_again names m g.held.0 in
+    let q = atom_again names function g.held.1.0 in
+    let n = ap number_value (arity_again arity (external_arity m function arity at g.sound)) in
+    record { atoms = λ k. p k ∷ q k ∷ []; functions = λ k. record { «module» = p k; name = q k; arity = n k } ∷ [] }
+instr_like names hs forms body (ret value) are g = record { atoms = operand_again names value g.held; functions = refl }
+instr_like names hs forms body (print value) are g = record { atoms = operand_again names value g.held; functions = refl }
+instr_like names hs forms body yield are g = record { atoms = refl; functions = refl }

@@ -1,0 +1,166 @@
+-- What the lines of a script name and have, by the lines of its module texts and of its loader blocks.
+use Rattle.std.proofs.Common.{◌≡◌, ℕ, ◌+◌, Bool, false, cond, List, [], ◌∷◌, ◌++◌, Some, refl, sym, ap, ◌∙◌, append_assoc, append-nil, arith}
+use Rattle.std.specs.Prelude.{count_by}
+use Rattle.std.specs.List.{AllByRecursion, flat_map}
+use Rattle.std.proofs.lemmas.List.Sums.{sum_by-cons}
+use Rattle.mod_core.specs.ModuleLine.{LineForm}
+use Rattle.mod_core.specs.LineFaults.{line_atoms}
+use Rattle.script_text.specs.ScriptLine.{ScriptLine, head, code, loader, load, on_module, trace, spawn, go}
+use Rattle.script_text.specs.Counts.{script_line_atoms, FunctionForm, script_line_functions, home_after, functions_named, code_lines, block_lines}
+use Rattle.script_text.specs.Canonical.{code_form}
+use Rattle.script_text.specs.LineFaults.{last_of}
+use Rattle.script_text.proofs.GrownLines.{home_of, last_of-snoc}
+use Rattle.script_text.proofs.InOrder.{assemble}
+use Rattle.script_text.proofs.SoundnessGroups.{each_flat}
+
+-- ---- the lines of loader blocks
+
+abbrev pub IsBlockLine : ScriptLine → Type 0
+IsBlockLine head = ⊥
+IsBlockLine (code line) = ⊥
+IsBlockLine loader = Unit {0}
+IsBlockLine (load refs) = Unit {0}
+IsBlockLine (on_module command name) = Unit {0}
+IsBlockLine (trace f g arity on) = Unit {0}
+IsBlockLine (spawn m f args) = Unit {0}
+IsBlockLine go = ⊥
+
+its_block : (line : ScriptLine) → AllByRecursion IsBlockLine (block_lines line)
+its_block head = tt
+its_block (code line) = tt
+its_block loader = (tt, tt)
+its_block (load refs) = (tt, tt)
+its_block (on_module command name) = (tt, tt)
+its_block (trace f g arity on) = (tt, tt)
+its_block (spawn m f args) = (tt, tt)
+its_block go = tt
+
+each_block : (lines : List ScriptLine) → AllByRecursion (λ line. AllByRecursion IsBlockLine (block_lines line)) lines
+each_block [] = tt
+each_block (line ∷ lines) = (its_block line, each_block lines)
+
+pub block_lines_are : (lines : List ScriptLine) → AllByRecursion IsBlockLine (flat_map block_lines lines)
+block_lines_are lines = each_flat IsBlockLine block_lines lines (each_block lines)
+
+no_code : (line : ScriptLine) → IsBlockLine line → code_lines line ≡ []
+no_code head h = absurd h
+no_code (code line) h = absurd h
+no_code loader h = refl
+no_code (load refs) h = refl
+no_code (on_module command name) h = refl
+no_code (trace f g arity on) h = refl
+no_code (spawn m f args) h = refl
+no_code go h = absurd h
+
+own_block : (line : ScriptLine) → IsBlockLine line → block_lines line ≡ line ∷ []
+own_block head h = absurd h
+own_block (code line) h = absurd h
+own_block loader h = refl
+own_block (load refs) h = refl
+own_block (on_module command name) h = refl
+own_block (trace f g arity on) h = refl
+own_block (spawn m f args) h = refl
+own_block go h = absurd h
+
+-- ---- lines of module texts
+
+codes_behind : (blocks : List ScriptLine) → AllByRecursion IsBlockLine blocks → flat_map code_lines (blocks ++ go ∷ []) ≡ []
+codes_behind [] h = refl
+codes_behind (line ∷ blocks) h = λ i. no_code line h.0 i ++ codes_behind blocks h.1 i
+
+codes_in : (codes : List LineForm) (more : List ScriptLine) → flat_map code_lines (code_form codes ++ more) ≡ codes ++ flat_map code_lines more
+codes_in [] more = refl
+codes_in (line ∷ codes) more = ap (λ (ls : List LineForm). line ∷ ls) (codes_in codes more)
+
+-- the lines of module texts come back
+pub code_lines-assemble : (codes : List LineForm) (blocks : List ScriptLine) → AllByRecursion IsBlockLine blocks → flat_map code_lines (assemble codes blocks) ≡ codes
+code_lines-assemble codes blocks h = codes_in codes (blocks ++ go ∷ []) ∙ ap (λ (ls : List LineForm). codes ++ ls) (codes_behind blocks h) ∙ append-nil codes
+
+-- so do those at the front alone
+pub code_lines-front : (codes : List LineForm) → flat_map code_lines (head ∷ code_form codes) ≡ codes
+code_lines-front codes = ap (flat_map code_lines) (sym (append-nil (code_form codes))) ∙ codes_in codes [] ∙ append-nil codes
+
+-- ---- lines of loader blocks
+
+blocks_in : (blocks : List ScriptLine) → AllByRecursion IsBlockLine blocks → flat_map block_lines (blocks ++ go ∷ []) ≡ blocks
+blocks_in [] h = refl
+blocks_in (line ∷ blocks) h = λ i. own_block line h.0 i ++ blocks_in blocks h.1 i
+
+blocks_behind : (codes : List LineForm) (more : List ScriptLine) → flat_map block_lines (code_form codes ++ more) ≡ flat_map block_lines more
+blocks_behind [] more = refl
+blocks_behind (line ∷ codes) more = blocks_behind codes more
+
+-- and the lines of loader blocks
+pub block_lines-assemble : (codes : List LineForm) (blocks : List ScriptLine) → AllByRecursion IsBlockLine blocks → flat_map block_lines (assemble codes blocks) ≡ blocks
+block_lines-assemble codes blocks h = blocks_behind codes (blocks ++ go ∷ []) ∙ blocks_in blocks h
+
+-- ---- names and functions
+
+atoms_in : (codes : List LineForm) (more : List ScriptLine) → flat_map script_line_atoms (code_form codes ++ more) ≡ flat_map line_atoms codes ++ flat_map script_line_atoms more
+atoms_in [] more = refl
+atoms_in (line ∷ codes) more =
+    ap (λ (l : List (List ℕ)). line_atoms line ++ l) (atoms_in codes more) ∙ sym (append_assoc (line_atoms line) (flat_map line_atoms codes) (flat_map script_line_atoms more))
+
+pub atoms-assemble : (codes : List LineForm) (blocks : List ScriptLine) → flat_map script_line_atoms (assemble codes blocks) ≡ flat_map line_atoms codes ++ flat_map script_line_atoms (blocks ++ go ∷ [])
+atoms-assemble codes blocks = atoms_in codes (blocks ++ go ∷ [])
+
+pub functions_named-append : (home : List ℕ) (xs ys : List ScriptLine) → functions_named home (xs ++ ys) ≡ functions_named home xs ++ functions_named (home_of home xs) ys
+functions_named-append home [] ys = refl
+functions_named-append home (x ∷ xs) ys =
+    ap (λ (fs : List FunctionForm). script_line_functions home x ++ fs) (functions_named-append (home_after home x) xs ys)
+    ∙ sym (append_assoc (script_line_functions home x) (functions_named (home_after home x) xs) (functions_named (home_of (home_after home x) xs) ys))
+
+pub home_of-append : (home : List ℕ) (xs ys : List ScriptLine) → home_of home (xs ++ ys) ≡ home_of (home_of home xs) ys
+home_of-append home [] ys = refl
+home_of-append home (x ∷ xs) ys = home_of-append (home_after home x) xs ys
+
+-- ---- counts
+
+count_other : (test : ScriptLine → Bool) (line : ScriptLine) (lines : List ScriptLine) → test line ≡ false → count_by test (line ∷ lines) ≡ count_by test lines
+count_other test line lines other = sum_by-cons (λ l. cond (test l) 1 0) line lines ∙ ap (λ t. cond t 1 0 + count_by test lines) other ∙ none_more (count_by test lines)
+  where
+    none_more : (n : ℕ) → 0 + n ≡ n
+    none_more n = omega arith
+
+-- how many lines of loader blocks pass a test that no other line passes
+pub count-assemble : (test : ScriptLine → Bool) (codes : List LineForm) (blocks : List ScriptLine) → test head ≡ false → ((line : LineForm) → test (code line) ≡ false) → count_by test (assemble codes blocks) ≡ count_by test (blocks ++ go ∷ [])
+count-assemble test codes blocks no_head no_line = count_other test head (code_form codes ++ (blocks ++ go ∷ [])) no_head ∙ behind codes
+  where
+    behind : (ls : List LineForm) → count_by test (code_form ls ++ (blocks ++ go ∷ [])) ≡ count_by test (blocks ++ go ∷ [])
+    behind [] = refl
+    behind (l ∷ ls) = count_other test (code l) (code_form ls ++ (blocks ++ go ∷ [])) (no_line l) ∙ behind ls
+
+-- ---- what each line has
+
+each_code : (P : ScriptLine → Type 0) (codes : List LineForm) (more : List ScriptLine) → AllByRecursion (λ line. P (code line)) codes → AllByRecursion P more → AllByRecursion P (code_form codes ++ more)
+each_code P [] more h k = k
+each_code P (line ∷ codes) more h k = (h.0, each_code P codes more h.1 k)
+
+each_last : (P : ScriptLine → Type 0) (blocks : List ScriptLine) → AllByRecursion P blocks → P go → AllByRecursion P (blocks ++ go ∷ [])
+each_last P [] h k = (k, tt)
+each_last P (line ∷ blocks) h k = (h.0, each_last P blocks h.1 k)
+
+pub each-assemble : (P : ScriptLine → Type 0) (codes : List LineForm) (blocks : List ScriptLine) → P head → AllByRecursion (λ line. P (code line)) codes → AllByRecursion P blocks → P go → AllByRecursion P (assemble codes blocks)
+each-assemble P codes blocks first h k last = (first, each_code P codes (blocks ++ go ∷ []) h (each_last P blocks k last))
+
+each_front : (P : ScriptLine → Type 0) (xs ys : List ScriptLine) → AllByRecursion P (xs ++ ys) → AllByRecursion P xs
+each_front P [] ys h = tt
+each_front P (x ∷ xs) ys h = (h.0, each_front P xs ys h.1)
+
+each_back : (P : ScriptLine → Type 0) (codes : List LineForm) (more : List ScriptLine) → AllByRecursion P (code_form codes ++ more) → AllByRecursion P more
+each_back P [] more h = h
+each_back P (line ∷ codes) more h = each_back P codes more h.1
+
+-- what each line of a script has, each line of its loader blocks has
+pub each_of_blocks : (P : ScriptLine → Type 0) (codes : List LineForm) (blocks : List ScriptLine) → AllByRecursion P (assemble codes blocks) → AllByRecursion P blocks
+each_of_blocks P codes blocks h = each_front P blocks (go ∷ []) (each_back P codes (blocks ++ go ∷ []) h.1)
+
+last_of-more : (x : ScriptLine) (xs ys : List ScriptLine) → last_of (xs ++ x ∷ ys) ≡ last_of (x ∷ ys)
+last_of-more x [] ys = refl
+last_of-more x (y ∷ []) ys = refl
+last_of-more x (y ∷ z ∷ xs) ys = last_of-more x (z ∷ xs) ys
+
+-- `go` is the last
+pub last_of-assemble : (codes : List LineForm) (blocks : List ScriptLine) → last_of (assemble codes blocks) ≡ Some go
+last_of-assemble codes blocks =
+    ap last_of (sym (append_assoc (head ∷ code_form codes) blocks (go ∷ []))) ∙ last_of-snoc (head ∷ code_form codes ++ blocks) go

@@ -1,0 +1,207 @@
+-- The lines of a script stand in order: the head, the module texts, the loader blocks, and `go`.
+use Rattle.std.proofs.Common.{◌≡◌, true, List, [], ◌∷◌, ◌++◌, Option, Some, None, refl, sym, ap, ◌∙◌, subst, append_assoc, append-nil}
+use Rattle.std.specs.Prelude.{IsTrue}
+use Rattle.std.specs.List.{AllByRecursion, flat_map}
+use Rattle.std.proofs.lemmas.List.{map-append}
+use Rattle.mod_core.specs.ModuleLine.{LineForm, title, header, label, instr, end}
+use Rattle.script_text.specs.ScriptLine.{ScriptLine, head, code, loader, load, on_module, trace, spawn, go, is_script_line}
+use Rattle.script_text.specs.Counts.{code_lines, block_lines}
+use Rattle.script_text.specs.Canonical.{code_form}
+use Rattle.script_text.specs.LineFaults.{may_stand_between, may_stand_within, may_stand_behind, may_stand_loading, may_stand, last_of}
+use Rattle.script_text.specs.ScriptText.{HaveNoFault}
+use Rattle.script_text.proofs.GrownLines.{flat_map-snoc}
+use Rattle.script_text.proofs.SoundnessRows.{IsKept, kept}
+
+-- the lines of a script with these lines of module texts and of loader blocks
+abbrev pub assemble : List LineForm → List ScriptLine → List ScriptLine
+assemble codes blocks = head ∷ (code_form codes ++ (blocks ++ go ∷ []))
+
+-- the first of these lines begins a loader block
+abbrev pub IsOpened : List ScriptLine → Type 0
+IsOpened [] = ⊥
+IsOpened (head ∷ lines) = ⊥
+IsOpened (code line ∷ lines) = ⊥
+IsOpened (loader ∷ lines) = Unit {0}
+IsOpened (load refs ∷ lines) = ⊥
+IsOpened (on_module command name ∷ lines) = ⊥
+IsOpened (trace f g arity on ∷ lines) = ⊥
+IsOpened (spawn m f args ∷ lines) = ⊥
+IsOpened (go ∷ lines) = ⊥
+
+-- the same, or there are none
+abbrev pub AreBlocks : List ScriptLine → Type 0
+AreBlocks [] = Unit {0}
+AreBlocks (line ∷ lines) = IsOpened (line ∷ lines)
+
+-- the lines of a script are those of its module texts and of its loader blocks, in order
+pub record AreInOrder (lines : List ScriptLine) : Type 0 where
+  pub whole : lines ≡ assemble (flat_map code_lines lines) (flat_map block_lines lines)
+  pub opened : AreBlocks (flat_map block_lines lines)
+
+-- ---- the first lines
+
+before_go : List LineForm → List ScriptLine → List ScriptLine
+before_go codes blocks = head ∷ (code_form codes ++ blocks)
+
+-- in front of the loader blocks
+record BeforeBlocks (lines : List ScriptLine) : Type 0 where
+  whole : lines ≡ before_go (flat_map code_lines lines) (flat_map block_lines lines)
+  none : flat_map block_lines lines ≡ []
+
+-- among the loader blocks
+record InBlocks (lines : List ScriptLine) : Type 0 where
+  whole : lines ≡ before_go (flat_map code_lines lines) (flat_map block_lines lines)
+  opened : IsOpened (flat_map block_lines lines)
+
+-- how lines stand of which this is the last
+abbrev Stand : Option ScriptLine → List ScriptLine → Type 0
+Stand None lines = lines ≡ []
+Stand (Some head) lines = BeforeBlocks lines
+Stand (Some (code line)) lines = BeforeBlocks lines
+Stand (Some loader) lines = InBlocks lines
+Stand (Some (load refs)) lines = InBlocks lines
+Stand (Some (on_module command name)) lines = InBlocks lines
+Stand (Some (trace f g arity on)) lines = InBlocks lines
+Stand (Some (spawn m f args)) lines = InBlocks lines
+Stand (Some go) lines = AreInOrder lines
+
+-- ---- a line more
+
+opened_more : (lines : List ScriptLine) (more : List ScriptLine) → IsOpened lines → IsOpened (lines ++ more)
+opened_more [] more h = absurd h
+opened_more (head ∷ lines) more h = absurd h
+opened_more (code line ∷ lines) more h = absurd h
+opened_more (loader ∷ lines) more h = tt
+opened_more (load refs ∷ lines) more h = absurd h
+opened_more (on_module command name ∷ lines) more h = absurd h
+opened_more (trace f g arity on ∷ lines) more h = absurd h
+opened_more (spawn m f args ∷ lines) more h = absurd h
+opened_more (go ∷ lines) more h = absurd h
+
+are_blocks : (lines : List ScriptLine) → IsOpened lines → AreBlocks lines
+are_blocks [] h = tt
+are_blocks (line ∷ lines) h = h
+
+no_more : {X A : Type 0} (f : X → List A) (xs : List X) (x : X) → f x ≡ [] → flat_map f (xs ++ x ∷ []) ≡ flat_map f xs
+no_more f xs x none = flat_map-snoc f xs x ∙ ap (λ (l : List _). flat_map f xs ++ l) none ∙ append-nil (flat_map f xs)
+
+one_more : {X A : Type 0} (f : X → List A) (xs : List X) (x : X) (a : A) → f x ≡ a ∷ [] → flat_map f (xs ++ x ∷ []) ≡ flat_map f xs ++ a ∷ []
+one_more f xs x a one = flat_map-snoc f xs x ∙ ap (λ (l : List _). flat_map f xs ++ l) one
+
+-- a line of a loader block
+block_more : (lines : List ScriptLine) (line : ScriptLine) → lines ≡ before_go (flat_map code_lines lines) (flat_map block_lines lines) → code_lines line ≡ [] → block_lines line ≡ line ∷ [] → IsOpened (flat_map block_lines lines ++ line ∷ []) → InBlocks (lines ++ line ∷ [])
+unfolding before_go
+block_more lines line whole no_code own opened =
+    let codes = no_more code_lines lines line no_code in
+    let blocks = one_more block_lines lines line line own in
+    record {
+      whole =
+          ap (λ (ls : List ScriptLine). ls ++ line ∷ []) whole
+          ∙ ap (λ (ls : List ScriptLine). head ∷ ls) (append_assoc (code_form (flat_map code_lines lines)) (flat_map block_lines lines) (line ∷ []))
+          ∙ (λ i. before_go (sym codes i) (sym blocks i));
+      opened = subst IsOpened (sym blocks) opened;
+    }
+
+loader_more : (lines : List ScriptLine) → BeforeBlocks lines → InBlocks (lines ++ loader ∷ [])
+loader_more lines b = block_more lines loader b.whole refl refl (subst (λ (ls : List ScriptLine). IsOpened (ls ++ loader ∷ [])) (sym b.none) tt)
+
+in_block : (lines : List ScriptLine) (line : ScriptLine) → InBlocks lines → code_lines line ≡ [] → block_lines line ≡ line ∷ [] → InBlocks (lines ++ line ∷ [])
+in_block lines line b no_code own = block_more lines line b.whole no_code own (opened_more (flat_map block_lines lines) (line ∷ []) b.opened)
+
+-- a line of a module's text
+code_more : (lines : List ScriptLine) (line : LineForm) → BeforeBlocks lines → BeforeBlocks (lines ++ code line ∷ [])
+unfolding before_go
+code_more lines line b =
+    let codes = one_more code_lines lines (code line) line refl in
+    let blocks = no_more block_lines lines (code line) refl ∙ b.none in
+    let known : lines ≡ head ∷ code_form (flat_map code_lines lines) = b.whole ∙ ap (before_go (flat_map code_lines lines)) b.none ∙ ap (λ (ls : List ScriptLine). head ∷ ls) (append-nil (code_form (flat_map code_lines lines))) in
+    record {
+      whole =
+          ap (λ (ls : List ScriptLine). ls ++ code line ∷ []) known
+          ∙ ap (λ (ls : List ScriptLine). head ∷ ls) (sym (append-nil (code_form (flat_map code_lines lines) ++ code line ∷ [])))
+          ∙ ap (λ (ls : List ScriptLine). head ∷ (ls ++ [])) (sym (map-append (λ l. code l) (flat_map code_lines lines) (line ∷ [])))
+          ∙ (λ i. before_go (sym codes i) (sym blocks i));
+      none = blocks;
+    }
+
+-- the end
+go_more : (lines : List ScriptLine) → lines ≡ before_go (flat_map code_lines lines) (flat_map block_lines lines) → AreBlocks (flat_map block_lines lines) → AreInOrder (lines ++ go ∷ [])
+unfolding before_go
+go_more lines whole opened =
+    let codes = no_more code_lines lines go refl in
+    let blocks = no_more block_lines lines go refl in
+    record {
+      whole =
+          ap (λ (ls : List ScriptLine). ls ++ go ∷ []) whole
+          ∙ ap (λ (ls : List ScriptLine). head ∷ ls) (append_assoc (code_form (flat_map code_lines lines)) (flat_map block_lines lines) (go ∷ []))
+          ∙ (λ i. assemble (sym codes i) (sym blocks i));
+      opened = subst AreBlocks (sym blocks) opened;
+    }
+
+-- ---- each line
+
+first_line : (lines : List ScriptLine) (line : ScriptLine) → lines ≡ [] → may_stand None line ≡ true → Stand (Some line) (lines ++ line ∷ [])
+unfolding before_go
+first_line lines head none place = subst (λ (ls : List ScriptLine). BeforeBlocks (ls ++ head ∷ [])) (sym none) (record { whole = refl; none = refl })
+first_line lines (code line) none place = absurd cc
+first_line lines loader none place = absurd cc
+first_line lines (load refs) none place = absurd cc
+first_line lines (on_module command name) none place = absurd cc
+first_line lines (trace f g arity on) none place = absurd cc
+first_line lines (spawn m f args) none place = absurd cc
+first_line lines go none place = absurd cc
+
+line_between : (lines : List ScriptLine) (line : ScriptLine) → BeforeBlocks lines → may_stand_between line ≡ true → Stand (Some line) (lines ++ line ∷ [])
+line_between lines head b place = absurd cc
+line_between lines (code line) b place = code_more lines line b
+line_between lines loader b place = loader_more lines b
+line_between lines (load refs) b place = absurd cc
+line_between lines (on_module command name) b place = absurd cc
+line_between lines (trace f g arity on) b place = absurd cc
+line_between lines (spawn m f args) b place = absurd cc
+line_between lines go b place = go_more lines b.whole (subst AreBlocks (sym b.none) tt)
+
+line_within : (lines : List ScriptLine) (last : LineForm) (line : ScriptLine) → BeforeBlocks lines → may_stand_within last line ≡ true → Stand (Some line) (lines ++ line ∷ [])
+line_within lines last head b place = absurd cc
+line_within lines last (code line) b place = code_more lines line b
+line_within lines last loader b place = absurd cc
+line_within lines last (load refs) b place = absurd cc
+line_within lines last (on_module command name) b place = absurd cc
+line_within lines last (trace f g arity on) b place = absurd cc
+line_within lines last (spawn m f args) b place = absurd cc
+line_within lines last go b place = absurd cc
+
+line_behind : (lines : List ScriptLine) (last : LineForm) (line : ScriptLine) → BeforeBlocks lines → may_stand_behind last line ≡ true → Stand (Some line) (lines ++ line ∷ [])
+line_behind lines (title name version) line b place = line_within lines (title name version) line b place
+line_behind lines (header exported name arity) line b place = line_within lines (header exported name arity) line b place
+line_behind lines (label name) line b place = line_within lines (label name) line b place
+line_behind lines (instr i) line b place = line_within lines (instr i) line b place
+line_behind lines end line b place = line_between lines line b place
+
+line_loading : (lines : List ScriptLine) (line : ScriptLine) → InBlocks lines → may_stand_loading line ≡ true → Stand (Some line) (lines ++ line ∷ [])
+line_loading lines head b place = absurd cc
+line_loading lines (code line) b place = absurd cc
+line_loading lines loader b place = in_block lines loader b refl refl
+line_loading lines (load refs) b place = in_block lines (load refs) b refl refl
+line_loading lines (on_module command name) b place = in_block lines (on_module command name) b refl refl
+line_loading lines (trace f g arity on) b place = in_block lines (trace f g arity on) b refl refl
+line_loading lines (spawn m f args) b place = in_block lines (spawn m f args) b refl refl
+line_loading lines go b place = go_more lines b.whole (are_blocks (flat_map block_lines lines) b.opened)
+
+line_more : (lines : List ScriptLine) (last : Option ScriptLine) (line : ScriptLine) → Stand last lines → may_stand last line ≡ true → Stand (Some line) (lines ++ line ∷ [])
+line_more lines None line s place = first_line lines line s place
+line_more lines (Some head) line s place = line_between lines line s place
+line_more lines (Some (code last)) line s place = line_behind lines last line s place
+line_more lines (Some loader) line s place = line_loading lines line s place
+line_more lines (Some (load refs)) line s place = line_loading lines line s place
+line_more lines (Some (on_module command name)) line s place = line_loading lines line s place
+line_more lines (Some (trace f g arity on)) line s place = line_loading lines line s place
+line_more lines (Some (spawn m f args)) line s place = line_loading lines line s place
+line_more lines (Some go) line s place = absurd cc
+
+stand_kept : IsKept (λ m. Stand m.last m.lines)
+stand_kept = record { first = refl; more = λ m line s sound p. line_more m.lines m.last line s p.place }
+
+-- lines without a fault, of which `go` is the last, are in order
+pub in_order : (lines : List ScriptLine) → AllByRecursion (λ line. IsTrue (is_script_line line)) lines → HaveNoFault [] lines → last_of lines ≡ Some go → AreInOrder lines
+in_order lines sound none last = subst (λ (l : Option ScriptLine). Stand l lines) last (kept (λ m. Stand m.last m.lines) stand_kept lines sound none)

@@ -1,0 +1,124 @@
+-- How the text of a script is made of its parts, and whether a line of a text is too long.
+use Rattle.std.proofs.Common.{◌≡◌, ℕ, ◌≤◌, false, ◌||◌, List, [], ◌∷◌, ◌++◌, map, length, take, codes, Result, Ok, Err, OnOk, OnErr, Some, None, refl, sym, ap, ◌∙◌, arith, append_assoc}
+use Rattle.std.specs.Io.{StartsWith}
+use Rattle.std.specs.List.{flat_map, list_any}
+use Rattle.std.proofs.Math.Seq.{take-append_seam, take-length}
+use Rattle.std.proofs.lemmas.Grind.{flat_map-append}
+use Rattle.std.proofs.lemmas.List.{length-take, take-take, take_all}
+use Rattle.std.proofs.lemmas.List.Folds.{flat_map-map}
+use Rattle.std.proofs.lemmas.Result.{IfOk-equal}
+use Rattle.term_core.specs.declared.term.Term.{Term}
+use Rattle.term_core.specs.Plain.{plain}
+use Rattle.term_core.specs.PlainTerm.{row_of}
+use Rattle.term_core.specs.TermText.{term_text}
+use Rattle.term_core.specs.Written.{parted, behind}
+use Rattle.mod_core.specs.Canonical.{canonical as module_lines}
+use Rattle.mod_core.specs.LineReading.{cut_at}
+use Rattle.mod_core.specs.ModuleLine.{lines_written}
+use Rattle.mod_core.specs.Reading.{Lines, lines_of}
+use Rattle.mod_core.proofs.Cuts.{lines_of_cut, lines_of_tail, uncut_is}
+use Rattle.server_core.specs.declared.command.ModRef.{ModRef}
+use Rattle.script_text.specs.declared.script.Script.{Script}
+use Rattle.script_text.specs.declared.script.ScriptCmd.{ScriptCmd}
+use Rattle.script_text.specs.ScriptLine.{load, go, ref_written, script_line_written}
+use Rattle.script_text.specs.Canonical.{ref_form, argument_form, command_line, block_form, block_bytes, script_line_bytes, canonical_text, is_long_line}
+use Rattle.script_text.proofs.LinesJoined.{modules_written, assembled_bytes}
+
+-- ---- fronts
+
+-- a text begins with itself
+pub starts_own : (a t b : List ℕ) → b ≡ a ++ t → StartsWith b a
+starts_own a t b e = rw e (take-append_seam a t)
+
+-- what is as it was begins with what it was
+pub starts_same : (a b : List ℕ) → b ≡ a → StartsWith b a
+starts_same a b e = rw e (take-length a)
+
+-- what a call appended, or left as it was, begins with what it was
+pub starts_either : {T E : Type 0} (r : Result T E) (a t b : List ℕ) → OnOk r (b ≡ a ++ t) → OnErr r (b ≡ a) → StartsWith b a
+starts_either (Ok x) a t b p q = starts_own a t b p
+starts_either (Err e) a t b p q = starts_same a b q
+
+-- what begins with a text that begins with another
+pub starts_more : (a b c : List ℕ) → StartsWith b a → StartsWith c b → StartsWith c a
+starts_more a b c p q =
+    let n : length a ≤ length b = omega (arith, ap length p, length-take (length a) b) in
+    sym (take-take (length a) (length b) c n) ∙ ap (take (length a)) q ∙ p
+
+-- ---- parts
+
+-- the text of a load
+pub load_written : (names : List (List ℕ)) (refs : List ModRef) → script_line_written (load (map (ref_form names) refs)) ≡ codes "load" ++ flat_map (λ r. 32 ∷ ref_written (ref_form names r)) refs
+load_written names refs = ap (λ (t : List ℕ). codes "load" ++ t) (flat_map-map (λ r. 32 ∷ ref_written r) (ref_form names) refs)
+
+-- the text of a loader block
+pub block_written : (names : List (List ℕ)) (commands : List ScriptCmd) → block_bytes names commands ≡ codes "loader\n" ++ flat_map (λ command. script_line_bytes (command_line names command)) commands
+block_written names commands = ap (λ (t : List ℕ). codes "loader\n" ++ t) (flat_map-map script_line_bytes (command_line names) commands)
+
+behind_written : (names : List (List ℕ)) (terms : List Term) → behind (row_of (map (argument_form names) (map plain terms))) ≡ flat_map (λ term. 44 ∷ term_text names term) terms
+behind_written names [] = refl
+behind_written names (t ∷ terms) = ap (λ (l : List ℕ). 44 ∷ term_text names t ++ l) (behind_written names terms)
+
+-- the text of terms: the first, and the others with a comma before each
+pub terms_written : (names : List (List ℕ)) (terms others : List Term) (first : Term) → terms ≡ first ∷ others → parted (row_of (map (argument_form names) (map plain terms))) ≡ term_text names first ++ flat_map (λ term. 44 ∷ term_text names term) others
+terms_written names terms others first e =
+    ap (λ (ts : List Term). parted (row_of (map (argument_form names) (map plain ts)))) e ∙ ap (λ (l : List ℕ). term_text names first ++ l) (behind_written names others)
+
+blocks_bytes : (names : List (List ℕ)) (loaders : List (List ScriptCmd)) → flat_map script_line_bytes (flat_map (block_form names) loaders) ≡ flat_map (block_bytes names) loaders
+blocks_bytes names [] = refl
+blocks_bytes names (commands ∷ loaders) = flat_map-append script_line_bytes (block_form names commands) (flat_map (block_form names) loaders) ∙ ap (λ (l : List ℕ). block_bytes names commands ++ l) (blocks_bytes names loaders)
+
+-- the text of a script: the head, the modules, the loader blocks and the end
+pub script_written : (s : Script) → canonical_text s ≡ codes "beam script 1\n" ++ (flat_map (λ m. lines_written (module_lines s.names m)) s.modules ++ (flat_map (block_bytes s.names) s.loaders ++ codes "go\n"))
+script_written s =
+    let blocks = flat_map (block_form s.names) s.loaders in
+    assembled_bytes (flat_map (module_lines s.names) s.modules) blocks
+    ∙ (λ i. codes "beam script 1\n" ++ (modules_written s.names s.modules i ++ flat_map-append script_line_bytes blocks (go ∷ []) i))
+    ∙ ap (λ (l : List ℕ). codes "beam script 1\n" ++ (flat_map (λ m. lines_written (module_lines s.names m)) s.modules ++ (l ++ codes "go\n"))) (blocks_bytes s.names s.loaders)
+
+-- ---- long lines
+
+-- the line at the front is long, or another is
+pub any_long : (rest : List ℕ) (line behind : List ℕ) → cut_at 10 rest ≡ Some (line, behind) → list_any is_long_line (lines_of rest).ended ≡ (is_long_line line || list_any is_long_line (lines_of behind).ended)
+any_long rest line behind cut = ap (λ (w : Lines). list_any is_long_line w.ended) (lines_of_cut rest (line, behind) cut)
+
+-- where there is no line, none is long
+pub none_long : (rest : List ℕ) → cut_at 10 rest ≡ None → list_any is_long_line (lines_of rest).ended ≡ false
+none_long rest uncut = ap (λ (w : Lines). list_any is_long_line w.ended) (lines_of_tail rest (uncut_is 10 rest uncut))
+
+-- ---- ends
+
+-- a load of which all modules are written
+pub load_at : (names : List (List ℕ)) (refs : List ModRef) (i : ℕ) (start out : List ℕ) → out ≡ (start ++ codes "load") ++ flat_map (λ r. 32 ∷ ref_written (ref_form names r)) (take i refs) → length refs ≤ i → out ≡ start ++ script_line_written (load (map (ref_form names) refs))
+load_at names refs i start out so_far past =
+    let each : ModRef → List ℕ = λ r. 32 ∷ ref_written (ref_form names r) in
+    so_far
+    ∙ ap (λ (rs : List ModRef). (start ++ codes "load") ++ flat_map each rs) (take_all i refs past)
+    ∙ append_assoc start (codes "load") (flat_map each refs)
+    ∙ ap (λ (t : List ℕ). start ++ t) (sym (load_written names refs))
+
+-- a block of which all commands are written
+pub block_at : (names : List (List ℕ)) (commands : List ScriptCmd) (i : ℕ) (start out : List ℕ) → out ≡ (start ++ codes "loader\n") ++ flat_map (λ command. script_line_bytes (command_line names command)) (take i commands) → length commands ≤ i → out ≡ start ++ block_bytes names commands
+block_at names commands i start out so_far past =
+    let each : ScriptCmd → List ℕ = λ command. script_line_bytes (command_line names command) in
+    so_far
+    ∙ ap (λ (cs : List ScriptCmd). (start ++ codes "loader\n") ++ flat_map each cs) (take_all i commands past)
+    ∙ append_assoc start (codes "loader\n") (flat_map each commands)
+    ∙ ap (λ (t : List ℕ). start ++ t) (sym (block_written names commands))
+
+regroup : (start a b c d : List ℕ) → (((start ++ a) ++ b) ++ c) ++ d ≡ start ++ (a ++ (b ++ (c ++ d)))
+regroup start a b c d = simp append_assoc
+
+-- a script of which all parts are written
+pub script_at : {T E : Type 0} (r : Result T E) (s : Script) (start headed moduled loaded whole : List ℕ) →
+    headed ≡ start ++ codes "beam script 1\n" →
+    moduled ≡ headed ++ flat_map (λ m. lines_written (module_lines s.names m)) s.modules →
+    loaded ≡ moduled ++ flat_map (block_bytes s.names) s.loaders →
+    OnOk r (whole ≡ loaded ++ codes "go\n") → OnOk r (whole ≡ start ++ canonical_text s)
+script_at r s start headed moduled loaded whole e f g h =
+    let modules = flat_map (λ m. lines_written (module_lines s.names m)) s.modules in
+    let loaders = flat_map (block_bytes s.names) s.loaders in
+    IfOk-equal r whole (loaded ++ codes "go\n") (start ++ canonical_text s) h
+    (ap (λ (t : List ℕ). t ++ codes "go\n") (g ∙ ap (λ (t : List ℕ). t ++ loaders) (f ∙ ap (λ (t : List ℕ). t ++ modules) e))
+    ∙ regroup start (codes "beam script 1\n") modules loaders (codes "go\n")
+    ∙ ap (λ (t : List ℕ). start ++ t) (sym (script_written s)))

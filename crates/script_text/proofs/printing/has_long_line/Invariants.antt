@@ -1,0 +1,13 @@
+use Rattle.std.proofs.Common.{◌≡◌, length}
+use Rattle.std.specs.List.{list_any}
+use Rattle.script_text.specs.TextLines.{lines_of}
+use Rattle.script_text.specs.Canonical.{is_long_line}
+use Rattle.script_text.proofs.printing.has_long_line.Given as goal
+
+-- a line is long where one of those is that are left
+abbrev pub invariant-lines : goal.invariant-lines
+invariant-lines l = list_any is_long_line (lines_of l.rest).ended ≡ list_any is_long_line (lines_of l.fn.text).ended
+
+-- the bytes that are left
+abbrev pub decreases-lines : goal.decreases-lines
+decreases-lines l = length l.rest

@@ -1,0 +1,9 @@
+use Rattle.std.proofs.Common.{arith}
+use Rattle.std.proofs.lemmas.Grind.{common_steps}
+use Rattle.std.specs.Io.{StartsWith}
+use Rattle.script_text.proofs.PrintedText.{starts_more}
+use Rattle.script_text.proofs.printing.write_spawn.Goals as goal
+
+-- what was appended before and the part of the last call
+pub returns-in_err-write_terms-clause-kept : goal.returns-in_err-write_terms-clause-kept
+returns-in_err-write_terms-clause-kept c = let p : StartsWith c.push-2.new.self c.args.out.now = grind (arith, common_steps) in starts_more _ _ _ p c.in_err-write_terms.ensures.kept
