@@ -1,32 +1,29 @@
 -- A log of one load, one spawn and one process with one span is lawful where its turns follow.
-use Rattle.std.proofs.Common.{◌≡◌, ◌≢◌, ℕ, zero, suc, ◌≤◌, List, [], ◌∷◌, length, map, slice_get, Option, Some, None, IfSome, IsSome, All, refl, sym, ap, subst, ◌∙◌, arith, rules}
+use Rattle.std.proofs.Common.{◌≡◌, ◌≢◌, ℕ, zero, suc, ◌≤◌, List, [], ◌∷◌, length, slice_get, Some, None, IfSome, All, refl, ap, subst, arith}
 use Rattle.std.proofs.Math.Dec.{eqb-zero-suc}
 use Rattle.std.proofs.lemmas.Bool.{eq-eqb}
+use Rattle.std.proofs.lemmas.Option.{same_Some}
 use Rattle.term_core.specs.declared.atom.Mfa.{Mfa}
 use Rattle.term_core.specs.PlainTerm.{PlainTerm}
 use Rattle.mod_core.specs.declared.code.Module.{Module}
-use Rattle.mod_core.specs.Module.{IsModule}
 use Rattle.server_core.specs.declared.command.ModRef.{ModRef}
-use Rattle.server_core.specs.declared.command.Cmd.{Cmd}
 use Rattle.server_core.specs.declared.command.Cmd.TheVariants as cmds
-use Rattle.server_core.specs.declared.command.Reply.{Reply}
 use Rattle.server_core.specs.declared.command.Reply.TheVariants as replies
-use Rattle.server_core.specs.declared.command.Applied.{Applied}
 use Rattle.server_core.specs.ServerState.{ServerState, empty_state}
-use Rattle.server_core.specs.CommandTable.{AreTexts, Outcome, apply_of, published, with_loaded}
+use Rattle.server_core.specs.CommandTable.{apply_of, published, with_loaded}
 use Rattle.machine_core.specs.declared.process.End.{End}
-use Rattle.machine_core.specs.Process.{PlainProcess, new_process}
+use Rattle.machine_core.specs.Process.{new_process}
 use Rattle.script_text.specs.declared.script.Script.{Script}
 use Rattle.script_text.specs.declared.script.ScriptCmd.{ScriptCmd}
 use Rattle.script_text.specs.declared.script.ScriptCmd.TheVariants as script
-use Rattle.run_log.specs.declared.logs.Who.{Who}
-use Rattle.run_log.specs.declared.logs.Who.TheVariants.{Loader, Runtime}
+use Rattle.run_log.specs.declared.logs.Who.TheVariants.{Loader}
 use Rattle.run_log.specs.declared.logs.Entry.{Entry}
 use Rattle.run_log.specs.declared.logs.Span.{Span}
 use Rattle.run_log.specs.declared.logs.ProcessLog.{ProcessLog}
 use Rattle.run_log.specs.declared.logs.RunLog.{RunLog}
-use Rattle.run_log.specs.Journal.{state_after, next_state, state_at, published_before, entries_of}
-use Rattle.run_log.specs.Legal.{Legal, Complete, EntryFollows, Replays, SpawnBeforeTurns, TurnsFollow, SpansFollow, SpawnLine, cmd_of, commands_of, first_generation}
+use Rattle.run_log.specs.Journal.{state_after, next_state, state_at, published_before}
+use Rattle.run_log.specs.Legal.{Legal, Complete, LingersTold, LoadersInOrder, NothingRetired, PurgedUnnamed, ReleasedUnnamed, Replays, SpawnBeforeTurns, TurnsFollow, SpansFollow, SpawnLine, commands_in, commands_of, dropped_by, first_generation, state_before}
+use Rattle.run_log.proofs.Journals.{entry_follows}
 
 -- the reference to a module
 abbrev pub ref_of : Module → ModRef
@@ -79,23 +76,15 @@ all_one : {A : Type 0} (P : A → Type 0) (x : A) → P x → All P (x ∷ [])
 all_one P x h zero d below = h
 all_one P x h (suc k) d below = absurd (omega (arith, below))
 
--- an entry with the outcome of the table follows
-pub entry_follows : (texts : List Module) (s : ServerState) (e : Entry) (t : ServerState) → e.who ≢ Runtime → apply_of texts s e.cmd ≡ Some (record { state = t; answer = record { reply = e.reply; published = e.published } }) → EntryFollows texts s e
-entry_follows texts s e t loader h = record { by_loader = loader; applied = h ∙ ap (λ (x : ServerState). Some (record { state = x; answer = record { reply = e.reply; published = e.published } })) (sym (ap (state_after s) h)) }
-
--- a loader is not the runtime
-loader_no_runtime : (n : ℕ) → Loader n ≢ Runtime
-loader_no_runtime n h = cc
-
 replays : (code : Module) (target : Mfa) (args : List PlainTerm) → Replays (code ∷ []) empty_state (journal_of code target args)
-replays code target args = (
-  entry_follows (code ∷ []) empty_state (load_entry code) (loaded_state code) (loader_no_runtime 0) (first_load code),
-  (record { by_loader = loader_no_runtime 0; applied = refl }, tt),
-)
+replays code target args = (entry_follows (code ∷ []) empty_state (load_entry code) (loaded_state code) refl (first_load code), (record { by_whom = refl; applied = refl }, tt))
 
-in_order : (names : List (List ℕ)) (code : Module) (target : Mfa) (args : List PlainTerm) (loader : ℕ) → map (λ e. e.cmd) (entries_of loader (journal_of code target args)) ≡ map cmd_of (commands_of (script_of names code target args) loader)
-in_order names code target args zero = refl
-in_order names code target args (suc n) = rw (eqb-zero-suc n) refl
+commands_as_given : (names : List (List ℕ)) (code : Module) (target : Mfa) (args : List PlainTerm) (loader : ℕ) → commands_in loader (journal_of code target args) ≡ commands_of (script_of names code target args) loader
+commands_as_given names code target args zero = refl
+commands_as_given names code target args (suc n) = rw (eqb-zero-suc n) refl
+
+in_order : (names : List (List ℕ)) (code : Module) (target : Mfa) (args : List PlainTerm) → LoadersInOrder (script_of names code target args) (journal_of code target args)
+in_order names code target args = record { commands = commands_as_given names code target args; purges = (tt, (tt, refl)) }
 
 spawn_before : (names : List (List ℕ)) (code : Module) (target : Mfa) (args : List PlainTerm) (span : Span) (fin : End) → span.generation ≡ 1 → SpawnBeforeTurns (script_of names code target args) (log_of code target args span fin)
 spawn_before names code target args span fin g number line process h k =
@@ -123,6 +112,33 @@ one_span span e = absurd (omega (arith, e))
 complete : (names : List (List ℕ)) (code : Module) (target : Mfa) (args : List PlainTerm) (span : Span) (fin : End) → span.generation ≡ 1 → Complete (script_of names code target args) (log_of code target args span fin)
 complete names code target args span fin g = record { processes = (record { target = refl; args = refl }, tt); turns = all_one (λ (p : ProcessLog). length p.spans ≢ 0) (process_log target args span fin) (one_span span); generations = all_one (λ (p : ProcessLog). All (λ x. x.generation ≤ 1) p.spans) (process_log target args span fin) (all_one (λ (x : Span). x.generation ≤ 1) span (omega (arith, g))) }
 
+-- what holds of both entries holds of each in the journal
+each_entry : (P : ℕ → Entry → Type 0) (x y : Entry) → P 0 x → P 1 y → (place : ℕ) (e : Entry) → slice_get (x ∷ y ∷ []) place ≡ Some e → P place e
+each_entry P x y p q zero e h = subst (P 0) (same_Some x e h) p
+each_entry P x y p q (suc zero) e h = subst (P 1) (same_Some y e h) q
+each_entry P x y p q (suc (suc n)) e h = none_some e h
+
+released_unnamed : (names : List (List ℕ)) (code : Module) (target : Mfa) (args : List PlainTerm) (span : Span) (fin : End) → ReleasedUnnamed (script_of names code target args) (log_of code target args span fin)
+released_unnamed names code target args span fin place serial number e process h c k =
+    absurd (each_entry (λ place e. e.cmd ≡ cmds.Release serial → ⊥) (load_entry code) (spawn_entry target args) (λ is. cc) (λ is. cc) place e h c)
+
+lingers_told : (names : List (List ℕ)) (code : Module) (target : Mfa) (args : List PlainTerm) (span : Span) (fin : End) → LingersTold (script_of names code target args) (log_of code target args span fin)
+lingers_told names code target args span fin place serial e name linger h c old =
+    absurd (each_entry (λ place e. e.cmd ≡ cmds.SoftPurge name (Some linger) → ⊥) (load_entry code) (spawn_entry target args) (λ is. cc) (λ is. cc) place e h c)
+
+purged_unnamed : (names : List (List ℕ)) (code : Module) (target : Mfa) (args : List PlainTerm) (span : Span) (fin : End) → PurgedUnnamed (script_of names code target args) (log_of code target args span fin)
+purged_unnamed names code target args span fin =
+    let texts = code ∷ [] in
+    let journal = journal_of code target args in
+    record {
+      unnamed = λ place serial number e process h d k.
+          absurd (each_entry (λ place e. dropped_by (state_before texts place journal) e.cmd ≡ Some serial → ⊥) (load_entry code) (spawn_entry target args) (λ is. none_some serial is) (λ is. none_some serial is) place e h d);
+      told = λ place serial e name killed h c old. absurd (each_entry (λ place e. e.cmd ≡ cmds.Purge name killed → ⊥) (load_entry code) (spawn_entry target args) (λ is. cc) (λ is. cc) place e h c);
+    }
+
+nothing_retired : (names : List (List ℕ)) (code : Module) (target : Mfa) (args : List PlainTerm) (span : Span) (fin : End) → NothingRetired (script_of names code target args) (log_of code target args span fin)
+nothing_retired names code target args span fin = ap (λ (s : ServerState). s.retired) (ap (state_after empty_state) (first_load code))
+
 -- the run with these entries is lawful
 pub legal_log : (names : List (List ℕ)) (code : Module) (target : Mfa) (args : List PlainTerm) (span : Span) (fin : End) → span.generation ≡ 1 → SpansFollow (λ _. loaded_state code) (new_process 0 target args) (span ∷ []) fin
     → Legal (script_of names code target args) (log_of code target args span fin)
@@ -132,5 +148,9 @@ legal_log names code target args span fin g h =
       loaders_in_order = in_order names code target args;
       spawn_before_turns = spawn_before names code target args span fin g;
       turns_follow = turns_follow names code target args span fin g h;
+      released_unnamed = released_unnamed names code target args span fin;
+      lingers_told = lingers_told names code target args span fin;
+      purged_unnamed = purged_unnamed names code target args span fin;
+      nothing_retired = nothing_retired names code target args span fin;
       complete = complete names code target args span fin g;
     }

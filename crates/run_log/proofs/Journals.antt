@@ -1,28 +1,34 @@
 -- How a journal grows by an entry: the states of its generations stay, and the state after it is that of the newest.
-use Rattle.std.proofs.Common.{◌≡◌, ◌≢◌, ℕ, zero, suc, ◌+◌, ◌<◌, ◌≤◌, ◌==◌, Bool, true, false, cond, List, [], ◌∷◌, ◌++◌, length, Option, Some, None, is_some, option_map, if◌then◌else◌, refl, sym, ap, subst, ◌∙◌, arith, nat_lt}
-use Rattle.std.proofs.lemmas.Bool.{cond_both, cond-true, eqb-true, eqb-false, eq-eqb}
+use Rattle.std.proofs.Common.{◌≡◌, ℕ, zero, suc, ◌+◌, ◌<◌, ◌≤◌, ◌==◌, Bool, true, false, cond, List, [], ◌∷◌, ◌++◌, length, length-append, Option, Some, None, is_some, is_none, ◌&&◌, option_map, if◌then◌else◌, refl, sym, ap, subst, ◌∙◌, arith, nat_lt}
+use Rattle.std.proofs.lemmas.Bool.{cond_both, cond-true, cond-false, eqb-true, eqb-false, eq-eqb}
+use Rattle.std.proofs.lemmas.List.{append-nil}
+use Rattle.std.proofs.lemmas.Grind.{flat_map-append}
 use Rattle.std.proofs.lemmas.List.Elements.{filter-append}
+use Rattle.std.specs.Bool.{beq}
+use Rattle.std.specs.List.{flat_map}
 use Rattle.std.proofs.lemmas.List.Sums.{sum-map, sum_by-cons}
 use Rattle.std.proofs.lemmas.Option.{none-some}
 use Rattle.term_core.specs.declared.atom.AtomId.{AtomId}
 use Rattle.mod_core.specs.declared.code.Module.{Module}
 use Rattle.server_core.specs.declared.command.TheConstants.{MOST_INSTANCES}
 use Rattle.server_core.specs.declared.command.Cmd.{Cmd}
-use Rattle.server_core.specs.declared.command.Cmd.TheVariants.{Load, Spawn}
+use Rattle.server_core.specs.declared.command.Cmd.TheVariants.{Load, Delete, SoftPurge, Doom, Purge, CheckOld, Trace, Spawn, Release}
 use Rattle.server_core.specs.declared.command.Limit.TheVariants.{Instances}
 use Rattle.server_core.specs.declared.command.ModRef.{ModRef}
+use Rattle.server_core.specs.declared.command.Reply.{Reply}
 use Rattle.server_core.specs.declared.command.Reply.TheVariants as replies
-use Rattle.server_core.specs.ServerState.{ServerState, Instance, code_among, code_of, live_count}
-use Rattle.server_core.specs.CommandTable.{Outcome, apply_of, admitted, loaded, names_of, not_purged, published, repeated_after, texts_of, unchanged, with_all, with_loaded}
+use Rattle.server_core.specs.declared.command.Linger.{Linger}
+use Rattle.server_core.specs.ServerState.{ServerState, Entry as Function, Instance, code_among, code_of, current_of, is_doomed, is_retired, is_traced, live_count, old_of, traceable_of}
+use Rattle.server_core.specs.CommandTable.{Outcome, apply_of, admitted, answered, delete_of, doom_of, load_of, loaded, names_of, not_purged, published, purge_of, release_of, repeated_after, soft_purge_of, texts_of, trace_of, unchanged, while_none_doomed, with_all, with_deleted, with_dropped, with_loaded, with_purged, with_released, with_trace}
 use Rattle.machine_core.proofs.TurnLaws.{HasInstances}
-use Rattle.run_log.specs.declared.logs.Who.TheVariants.{Runtime}
 use Rattle.run_log.specs.declared.logs.Entry.{Entry}
-use Rattle.run_log.specs.Journal.{state_after, next_state, newest_state, state_at, publishes, published_count, is_of, entries_of, published_before}
-use Rattle.run_log.specs.Legal.{EntryFollows, Replays}
+use Rattle.run_log.specs.Journal.{state_after, next_state, newest_state, state_at, publishes, published_count, is_of, ends_one, ends_command, entries_of, published_before}
+use Rattle.run_log.specs.Legal.{EntryFollows, HalfPurge, MayStand, PurgesGo, Replays, commands_in, ended_by, half_after, is_release, is_runtime}
+use Rattle.run_log.proofs.StatesForTurns.{for_turns}
 
--- an outcome leaves the state as it is and publishes nothing, or makes the next generation, and keeps each instance
+-- an outcome leaves the state as turns see it and publishes nothing, or makes the next generation, and keeps each instance
 pub data IsStep (s : ServerState) (o : Outcome) : Type 0 where
-  stays : o.state ≡ s → o.answer.published ≡ None → IsStep s o
+  stays : for_turns o.state ≡ for_turns s → o.answer.published ≡ None → IsStep s o
   publishes_next : o.state.generation ≡ s.generation + 1 → o.answer.published ≡ Some (s.generation + 1) → HasInstances s o.state → IsStep s o
 
 choice_some : (b : Bool) (x : Module) (o p : Option Module) (m : Module) → (o ≡ Some m → p ≡ Some m) → (if b then Some x else o) ≡ Some m → (if b then Some x else p) ≡ Some m
@@ -71,13 +77,84 @@ mapped_step : (s : ServerState) (f : List Module → Outcome) (o : Option (List 
 mapped_step s f None h = tt
 mapped_step s f (Some modules) h = h modules
 
-pub step_in : (texts : List Module) (s : ServerState) (cmd : Cmd) → StepIn s (apply_of texts s cmd)
-step_in texts s (Load refs) = mapped_step s _ (texts_of texts refs) (λ modules. loaded_step s refs modules (repeated_after [] (names_of refs)))
-step_in texts s (Spawn target args) = stays refl refl
+-- where an instance is doomed a command may have no case
+none_doomed_step : (s : ServerState) (b : Bool) (o : Option Outcome) → StepIn s o → StepIn s (if b then None else o)
+none_doomed_step s true o h = tt
+none_doomed_step s false o h = h
 
--- a state after a command: the same, or one of the next generation
+-- a load
+pub load_step : (texts : List Module) (s : ServerState) (refs : List ModRef) → StepIn s (load_of texts s refs)
+load_step texts s refs = mapped_step s _ (texts_of texts refs) (λ modules. loaded_step s refs modules (repeated_after [] (names_of refs)))
+
+-- the instances stay where the state changes in other ways
+same_instances : (s t : ServerState) → t.instances ≡ s.instances → HasInstances s t
+same_instances s t e serial m h = ap (λ is. code_among is serial) e ∙ h
+
+-- a state with the same instances becomes the next generation
+next_step : (s t : ServerState) (reply : Reply) → t.generation ≡ s.generation → t.instances ≡ s.instances → IsStep s (published t reply)
+next_step s t reply g e = publishes_next (ap (λ n. n + 1) g) (ap (λ n. Some (n + 1)) g) (same_instances s (published t reply).state e)
+
+-- a delete
+delete_step : (s : ServerState) (name : ℕ) → IsStep s (delete_of s name)
+delete_step s name =
+    let same = unchanged s replies.False in
+    let next = published (with_deleted s name) replies.True in
+    choice_step s (is_some (old_of s name)) same (if is_none (current_of s name) then same else next) (stays refl refl)
+    (choice_step s (is_none (current_of s name)) same next (stays refl refl) (next_step s (with_deleted s name) replies.True refl refl))
+
+-- a soft purge
+soft_purge_step : (s : ServerState) (name : ℕ) (lingers : Option Linger) (old : Option ℕ) → StepIn s (soft_purge_of s name lingers old)
+soft_purge_step s name None None = stays refl refl
+soft_purge_step s name None (Some serial) = next_step s (with_dropped s name serial) replies.True refl refl
+soft_purge_step s name (Some linger) None = tt
+soft_purge_step s name (Some linger) (Some serial) = stays refl refl
+
+-- the first half of a purge
+doom_step : (s : ServerState) (old : Option ℕ) → StepIn s (doom_of s old)
+doom_step s None = tt
+doom_step s (Some serial) = next_step s (record s { doomed = s.doomed ++ serial ∷ [] }) replies.Ok refl refl
+
+alone_step : (s : ServerState) (killed : Bool) (o : Option Outcome) → StepIn s o → StepIn s (if killed then None else o)
+alone_step s true o h = tt
+alone_step s false o h = h
+
+doomed_step : (s : ServerState) (b : Bool) (o : Outcome) → IsStep s o → StepIn s (if b then Some o else None)
+doomed_step s true o h = h
+doomed_step s false o h = tt
+
+-- a purge
+purge_step : (s : ServerState) (name : ℕ) (killed : Bool) (old : Option ℕ) → StepIn s (purge_of s name killed old)
+purge_step s name killed None =
+    let same = Some (unchanged s replies.False) in
+    alone_step s killed (while_none_doomed s same) (none_doomed_step s (nat_lt 0 (length s.doomed)) same (stays refl refl))
+purge_step s name killed (Some serial) =
+    doomed_step s (is_doomed s serial) (published (with_purged s name serial) (answered killed)) (next_step s (with_purged s name serial) (answered killed) refl refl)
+
+-- a trace
+trace_step : (s : ServerState) (on : Bool) (at : Option Function) → IsStep s (trace_of s on at)
+trace_step s on None = stays refl refl
+trace_step s on (Some at) =
+    choice_step s (beq (is_traced s at) on) (unchanged s replies.True) (published (with_trace s at on) replies.True) (stays refl refl) (next_step s (with_trace s at on) replies.True refl refl)
+
+-- a release
+release_step : (s : ServerState) (serial : ℕ) → StepIn s (release_of s serial)
+release_step s serial = doomed_step s (is_retired s serial) (unchanged (with_released s serial) replies.Ok) (stays refl refl)
+
+pub step_in : (texts : List Module) (s : ServerState) (cmd : Cmd) → StepIn s (apply_of texts s cmd)
+step_in texts s (Load refs) = none_doomed_step s (nat_lt 0 (length s.doomed)) (load_of texts s refs) (load_step texts s refs)
+step_in texts s (Delete name) = none_doomed_step s (nat_lt 0 (length s.doomed)) (Some (delete_of s name.0)) (delete_step s name.0)
+step_in texts s (SoftPurge name lingers) =
+    none_doomed_step s (nat_lt 0 (length s.doomed)) (soft_purge_of s name.0 lingers (old_of s name.0)) (soft_purge_step s name.0 lingers (old_of s name.0))
+step_in texts s (Doom name) = none_doomed_step s (nat_lt 0 (length s.doomed)) (doom_of s (old_of s name.0)) (doom_step s (old_of s name.0))
+step_in texts s (Purge name killed) = purge_step s name.0 killed (old_of s name.0)
+step_in texts s (CheckOld name) = stays refl refl
+step_in texts s (Trace target on) = none_doomed_step s (nat_lt 0 (length s.doomed)) (Some (trace_of s on (traceable_of s target))) (trace_step s on (traceable_of s target))
+step_in texts s (Spawn target args) = stays refl refl
+step_in texts s (Release serial) = release_step s serial
+
+-- a state after a command: the same as turns see it, or one of the next generation
 pub data IsNext (s t : ServerState) : Type 0 where
-  same : t ≡ s → IsNext s t
+  same : for_turns t ≡ for_turns s → IsNext s t
   next : t.generation ≡ s.generation + 1 → HasInstances s t → IsNext s t
 
 step_next : (s : ServerState) (o : Option Outcome) → StepIn s o → IsNext s (state_after s o)
@@ -110,22 +187,22 @@ later texts s [] = omega arith
 later texts s (e ∷ journal) = omega (arith, (next_bounds s (next_state texts s e.cmd) (next_is texts s e.cmd)).0, later texts (next_state texts s e.cmd) journal)
 
 same_behind : (texts : List Module) (s t : ServerState) (journal : List Entry) → IsNext s t → (newest_state texts t journal).generation ≡ s.generation
-    → ((newest_state texts t journal).generation ≡ t.generation → newest_state texts t journal ≡ t) → newest_state texts t journal ≡ s
+    → ((newest_state texts t journal).generation ≡ t.generation → for_turns (newest_state texts t journal) ≡ for_turns t) → for_turns (newest_state texts t journal) ≡ for_turns s
 same_behind texts s t journal (same e) h rest = rest (h ∙ sym (ap (λ x. x.generation) e)) ∙ e
 same_behind texts s t journal (next g k) h rest = absurd (omega (arith, g, h, later texts t journal))
 
--- where no generation was made, the state is the one before
-pub same_state : (texts : List Module) (s : ServerState) (journal : List Entry) → (newest_state texts s journal).generation ≡ s.generation → newest_state texts s journal ≡ s
+-- where no generation was made, turns see the state before
+pub same_state : (texts : List Module) (s : ServerState) (journal : List Entry) → (newest_state texts s journal).generation ≡ s.generation → for_turns (newest_state texts s journal) ≡ for_turns s
 same_state texts s [] h = refl
 same_state texts s (e ∷ journal) h = same_behind texts s (next_state texts s e.cmd) journal (next_is texts s e.cmd) h (same_state texts (next_state texts s e.cmd) journal)
 
--- the newest generation's state is the one after the whole journal
-pub newest_at : (texts : List Module) (s : ServerState) (journal : List Entry) → state_at texts s journal (newest_state texts s journal).generation ≡ newest_state texts s journal
+-- turns see the newest generation's state as the one after the whole journal: what was released since does not count for them
+pub newest_at : (texts : List Module) (s : ServerState) (journal : List Entry) → for_turns (state_at texts s journal (newest_state texts s journal).generation) ≡ for_turns (newest_state texts s journal)
 newest_at texts s [] = refl
 newest_at texts s (e ∷ journal) =
     let t = next_state texts s e.cmd in
     let end = newest_state texts t journal in
-    cond_both (s.generation == end.generation) s (state_at texts t journal end.generation) (λ x. x ≡ end)
+    cond_both (s.generation == end.generation) s (state_at texts t journal end.generation) (λ x. for_turns x ≡ for_turns end)
     (λ h. sym (same_state texts s (e ∷ journal) (sym (eqb-true s.generation end.generation h))))
     (λ h. newest_at texts t journal)
 
@@ -157,9 +234,10 @@ count_of published = if is_some published then 1 else 0
 pub count-cons : (e : Entry) (journal : List Entry) → published_count (e ∷ journal) ≡ publishes e + published_count journal
 count-cons e journal = sum-map publishes (e ∷ journal) ∙ sum_by-cons publishes e journal ∙ ap (λ n. publishes e + n) (sym (sum-map publishes journal))
 
--- an entry of a loader with the outcome of the table follows
-pub entry_follows : (texts : List Module) (s : ServerState) (e : Entry) (t : ServerState) → e.who ≢ Runtime → apply_of texts s e.cmd ≡ Some (record { state = t; answer = record { reply = e.reply; published = e.published } }) → EntryFollows texts s e
-entry_follows texts s e t loader h = record { by_loader = loader; applied = h ∙ ap (λ (x : ServerState). Some (record { state = x; answer = record { reply = e.reply; published = e.published } })) (sym (ap (state_after s) h)) }
+-- an entry with the outcome of the table follows
+pub entry_follows : (texts : List Module) (s : ServerState) (e : Entry) (t : ServerState) → is_runtime e.who ≡ is_release e.cmd
+    → apply_of texts s e.cmd ≡ Some (record { state = t; answer = record { reply = e.reply; published = e.published } }) → EntryFollows texts s e
+entry_follows texts s e t by h = record { by_whom = by; applied = h ∙ ap (λ (x : ServerState). Some (record { state = x; answer = record { reply = e.reply; published = e.published } })) (sym (ap (state_after s) h)) }
 
 counted_step : (s : ServerState) (o : Outcome) → IsStep s o → count_of o.answer.published + s.generation ≡ o.state.generation
 counted_step s o (stays p q) =
@@ -183,43 +261,97 @@ counted texts s (e ∷ journal) r =
 pub entries_more : (loader : ℕ) (journal : List Entry) (e : Entry) → entries_of loader (journal ++ e ∷ []) ≡ entries_of loader journal ++ entries_of loader (e ∷ [])
 entries_more loader journal e = filter-append (λ (x : Entry). is_of loader x.who) journal (e ∷ [])
 
+-- what a loader's commands are with one entry more
+pub commands_more : (loader : ℕ) (journal : List Entry) (e : Entry) → commands_in loader (journal ++ e ∷ []) ≡ commands_in loader journal ++ commands_in loader (e ∷ [])
+commands_more loader journal e =
+    ap (flat_map (λ (x : Entry). ended_by x.cmd)) (entries_more loader journal e) ∙ flat_map-append (λ (x : Entry). ended_by x.cmd) (entries_of loader journal) (entries_of loader (e ∷ []))
+
+-- an entry of the loader ends what its command ends
+pub commands_own : (loader : ℕ) (journal : List Entry) (e : Entry) → is_of loader e.who ≡ true → commands_in loader (journal ++ e ∷ []) ≡ commands_in loader journal ++ ended_by e.cmd
+commands_own loader journal e own =
+    commands_more loader journal e
+    ∙ ap (λ (xs : List Entry). commands_in loader journal ++ flat_map (λ (x : Entry). ended_by x.cmd) xs) (cond-true (is_of loader e.who) (e ∷ []) [] own)
+    ∙ ap (λ xs. commands_in loader journal ++ xs) (append-nil (ended_by e.cmd))
+
+-- one of another ends nothing
+pub commands_other : (loader : ℕ) (journal : List Entry) (e : Entry) → is_of loader e.who ≡ false → commands_in loader (journal ++ e ∷ []) ≡ commands_in loader journal
+commands_other loader journal e other =
+    commands_more loader journal e
+    ∙ ap (λ (xs : List Entry). commands_in loader journal ++ flat_map (λ (x : Entry). ended_by x.cmd) xs) (cond-false (is_of loader e.who) (e ∷ []) [] other)
+    ∙ append-nil (commands_in loader journal)
+
+-- a command ends one command of a script, or none
+pub ended_length : (cmd : Cmd) → length (ended_by cmd) ≡ (if ends_one cmd then 1 else 0)
+ended_length (Load refs) = refl
+ended_length (Delete name) = refl
+ended_length (SoftPurge name lingers) = refl
+ended_length (Doom name) = refl
+ended_length (Purge name killed) = refl
+ended_length (CheckOld name) = refl
+ended_length (Trace target on) = refl
+ended_length (Spawn target args) = refl
+ended_length (Release serial) = refl
+
+own_count : (own one : Bool) (x : Entry) (xs : List Entry) → length (ended_by x.cmd) ≡ (if one then 1 else 0) → length (flat_map (λ (e : Entry). ended_by e.cmd) (cond own (x ∷ xs) xs)) ≡ (if own && one then 1 else 0) + length (flat_map (λ (e : Entry). ended_by e.cmd) xs)
+own_count true one x xs h = length-append (ended_by x.cmd) (flat_map (λ (e : Entry). ended_by e.cmd) xs) ∙ ap (λ n. n + length (flat_map (λ (e : Entry). ended_by e.cmd) xs)) h
+own_count false one x xs h = omega arith
+
+-- the first entry counts among the commands where it ends one
+commands_count : (loader : ℕ) (x : Entry) (journal : List Entry) → length (commands_in loader (x ∷ journal)) ≡ (if ends_command loader x then 1 else 0) + length (commands_in loader journal)
+commands_count loader x journal = own_count (is_of loader x.who) (ends_one x.cmd) x (entries_of loader journal) (ended_length x.cmd)
+
 -- before an entry stand at most all generations
 pub before_counted : (loader place : ℕ) (journal : List Entry) → published_before loader place journal ≤ published_count journal
 before_counted loader place [] = omega arith
 before_counted loader zero (e ∷ journal) =
-    rw (count-cons e journal) (cond_both (is_of loader e.who) 0 (publishes e + published_before loader zero journal) (λ n. n ≤ publishes e + published_count journal) (λ h. omega arith) (λ h. omega (arith, before_counted loader zero journal)))
+    rw (count-cons e journal)
+    (cond_both (ends_command loader e) 0 (publishes e + published_before loader zero journal) (λ n. n ≤ publishes e + published_count journal) (λ h. omega arith) (λ h. omega (arith, before_counted loader zero journal)))
 before_counted loader (suc place) (e ∷ journal) =
-    omega (arith, count-cons e journal, before_counted loader (if is_of loader e.who then place else suc place) journal)
+    omega (arith, count-cons e journal, before_counted loader (if ends_command loader e then place else suc place) journal)
 
-kept_first : (b : Bool) (n p q : ℕ) (x : Entry) (xs : List Entry) → (0 < length xs → p ≡ q) → 0 < length (cond b (x ∷ xs) xs) → (if b then 0 else n + p) ≡ (if b then 0 else n + q)
-kept_first true n p q x xs f h = refl
-kept_first false n p q x xs f h = ap (λ m. n + m) (f h)
+kept_first : (b : Bool) (n p q left all : ℕ) → (0 < left → p ≡ q) → all ≡ (if b then 1 else 0) + left → 0 < all → (if b then 0 else n + p) ≡ (if b then 0 else n + q)
+kept_first true n p q left all f e h = refl
+kept_first false n p q left all f e h = ap (λ m. n + m) (f (omega (arith, e, h)))
 
-within_rest : (b : Bool) (place : ℕ) (x : Entry) (xs : List Entry) → suc place < length (cond b (x ∷ xs) xs) → (if b then place else suc place) < length xs
-within_rest true place x xs h = omega (arith, h)
-within_rest false place x xs h = h
+within_rest : (b : Bool) (place left all : ℕ) → all ≡ (if b then 1 else 0) + left → suc place < all → (if b then place else suc place) < left
+within_rest true place left all e h = omega (arith, e, h)
+within_rest false place left all e h = omega (arith, e, h)
 
 -- one more entry changes nothing of what stands before those that are there
-pub before_kept : (loader place : ℕ) (journal : List Entry) (e : Entry) → place < length (entries_of loader journal) → published_before loader place (journal ++ e ∷ []) ≡ published_before loader place journal
+pub before_kept : (loader place : ℕ) (journal : List Entry) (e : Entry) → place < length (commands_in loader journal) → published_before loader place (journal ++ e ∷ []) ≡ published_before loader place journal
 before_kept loader place [] e h = absurd (omega (arith, h))
 before_kept loader zero (x ∷ journal) e h =
-    kept_first (is_of loader x.who) (publishes x) (published_before loader zero (journal ++ e ∷ [])) (published_before loader zero journal) x (entries_of loader journal) (before_kept loader zero journal e) h
+    kept_first (ends_command loader x) (publishes x) (published_before loader zero (journal ++ e ∷ [])) (published_before loader zero journal) (length (commands_in loader journal)) (length (commands_in loader (x ∷ journal)))
+    (before_kept loader zero journal e) (commands_count loader x journal) h
 before_kept loader (suc place) (x ∷ journal) e h =
-    ap (λ n. publishes x + n) (before_kept loader (if is_of loader x.who then place else suc place) journal e (within_rest (is_of loader x.who) place x (entries_of loader journal) h))
+    let left = length (commands_in loader journal) in
+    ap (λ n. publishes x + n)
+    (before_kept loader (if ends_command loader x then place else suc place) journal e (within_rest (ends_command loader x) place left (length (commands_in loader (x ∷ journal))) (commands_count loader x journal) h))
 
-new_first : (b : Bool) (n p q : ℕ) (x : Entry) (xs : List Entry) → (0 ≡ length xs → p ≡ q) → 0 ≡ length (cond b (x ∷ xs) xs) → (if b then 0 else n + p) ≡ n + q
-new_first true n p q x xs f h = absurd (omega (arith, h))
-new_first false n p q x xs f h = ap (λ m. n + m) (f h)
+new_first : (b : Bool) (n p q left all : ℕ) → (0 ≡ left → p ≡ q) → all ≡ (if b then 1 else 0) + left → 0 ≡ all → (if b then 0 else n + p) ≡ n + q
+new_first true n p q left all f e h = absurd (omega (arith, e, h))
+new_first false n p q left all f e h = ap (λ m. n + m) (f (omega (arith, e, h)))
 
-new_rest : (b : Bool) (place : ℕ) (x : Entry) (xs : List Entry) → suc place ≡ length (cond b (x ∷ xs) xs) → (if b then place else suc place) ≡ length xs
-new_rest true place x xs h = omega (arith, h)
-new_rest false place x xs h = h
+new_rest : (b : Bool) (place left all : ℕ) → all ≡ (if b then 1 else 0) + left → suc place ≡ all → (if b then place else suc place) ≡ left
+new_rest true place left all e h = omega (arith, e, h)
+new_rest false place left all e h = omega (arith, e, h)
 
--- before a new entry of a loader stand all generations
-pub before_new : (loader place : ℕ) (journal : List Entry) (e : Entry) → is_of loader e.who ≡ true → place ≡ length (entries_of loader journal) → published_before loader place (journal ++ e ∷ []) ≡ published_count journal
-before_new loader zero [] e own h = cond-true (is_of loader e.who) 0 (publishes e + 0) own
+-- before a new entry that ends a loader's command stand all generations
+pub before_new : (loader place : ℕ) (journal : List Entry) (e : Entry) → ends_command loader e ≡ true → place ≡ length (commands_in loader journal) → published_before loader place (journal ++ e ∷ []) ≡ published_count journal
+before_new loader zero [] e own h = cond-true (ends_command loader e) 0 (publishes e + 0) own
 before_new loader (suc place) [] e own h = absurd (omega (arith, h))
 before_new loader zero (x ∷ journal) e own h =
-    new_first (is_of loader x.who) (publishes x) (published_before loader zero (journal ++ e ∷ [])) (published_count journal) x (entries_of loader journal) (before_new loader zero journal e own) h ∙ sym (count-cons x journal)
+    new_first (ends_command loader x) (publishes x) (published_before loader zero (journal ++ e ∷ [])) (published_count journal) (length (commands_in loader journal)) (length (commands_in loader (x ∷ journal)))
+    (before_new loader zero journal e own) (commands_count loader x journal) h
+    ∙ sym (count-cons x journal)
 before_new loader (suc place) (x ∷ journal) e own h =
-    ap (λ n. publishes x + n) (before_new loader (if is_of loader x.who then place else suc place) journal e own (new_rest (is_of loader x.who) place x (entries_of loader journal) h)) ∙ sym (count-cons x journal)
+    let left = length (commands_in loader journal) in
+    ap (λ n. publishes x + n)
+    (before_new loader (if ends_command loader x then place else suc place) journal e own (new_rest (ends_command loader x) place left (length (commands_in loader (x ∷ journal))) (commands_count loader x journal) h))
+    ∙ sym (count-cons x journal)
+
+-- purges go on with an entry that may stand
+pub purges_more : (texts : List Module) (s : ServerState) (half last : Option HalfPurge) (journal : List Entry) (e : Entry) → PurgesGo texts s half journal last → MayStand (newest_state texts s journal) last e
+    → PurgesGo texts s half (journal ++ e ∷ []) (half_after last e.who e.cmd)
+purges_more texts s half last [] e go may = (subst (λ h. MayStand s h e) (sym go) may, ap (λ h. half_after h e.who e.cmd) go)
+purges_more texts s half last (x ∷ journal) e go may = (go.0, purges_more texts (next_state texts s x.cmd) (half_after half x.who x.cmd) last journal e go.1 may)

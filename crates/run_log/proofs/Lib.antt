@@ -1,6 +1,14 @@
 pub mod RenderingText
+pub mod StatesForTurns
 pub mod Journals
 pub mod TurnRuns
 pub mod SpanRuns
+pub mod Marks
 pub mod ApartSpans
 pub mod FirstLegal
+pub mod Clauses
+pub mod ExampleParts
+pub mod ExamplePurges
+pub mod ExampleLingers
+pub mod ExampleSpawns
+pub mod ExampleOrders

@@ -1,8 +1,9 @@
 -- A journal of commands, and the generations that it makes: the k-th published entry makes generation k.
 -- Source: this project's profile. The definition replays the command table; a running server keeps one state.
-use Rattle.std.specs.Prelude.{ℕ, zero, suc, ◌+◌, Bool, false, ◌==◌, List, [], ◌∷◌, map, filter, sum, Option, Some, None, is_some, if◌then◌else◌}
+use Rattle.std.specs.Prelude.{ℕ, zero, suc, ◌+◌, Bool, true, false, ◌&&◌, ◌==◌, List, [], ◌∷◌, map, filter, sum, Option, Some, None, is_some, if◌then◌else◌}
 use Rattle.mod_core.specs.declared.code.Module.{Module}
 use Rattle.server_core.specs.declared.command.Cmd.{Cmd}
+use Rattle.server_core.specs.declared.command.Cmd.TheVariants.{Load, Delete, SoftPurge, Doom, Purge, CheckOld, Trace, Spawn, Release}
 use Rattle.server_core.specs.ServerState.{ServerState}
 use Rattle.server_core.specs.CommandTable.{Outcome, apply_of}
 use Rattle.run_log.specs.declared.logs.Who.{Who}
@@ -45,8 +46,24 @@ is_of loader Runtime = false
 abbrev pub entries_of : ℕ → List Entry → List Entry
 entries_of loader journal = filter (λ e. is_of loader e.who) journal
 
--- how many generations were published before the entry of a loader that stands at a place among its entries, counted from 0
+-- whether a command of the server ends a command of a script: a doom does not, since its purge is still to come, and a release is in no script
+abbrev pub ends_one : Cmd → Bool
+ends_one (Load refs) = true
+ends_one (Delete name) = true
+ends_one (SoftPurge name lingers) = true
+ends_one (Doom name) = false
+ends_one (Purge name killed) = true
+ends_one (CheckOld name) = true
+ends_one (Trace target on) = true
+ends_one (Spawn target args) = true
+ends_one (Release serial) = false
+
+-- whether an entry ends a command of the loader with this number
+abbrev pub ends_command : ℕ → Entry → Bool
+ends_command loader e = is_of loader e.who && ends_one e.cmd
+
+-- how many generations were published before the entry that ends a loader's command at a place, counted from 0
 abbrev pub published_before : ℕ → ℕ → List Entry → ℕ
 published_before loader place [] = 0
-published_before loader zero (e ∷ journal) = if is_of loader e.who then 0 else publishes e + published_before loader zero journal
-published_before loader (suc place) (e ∷ journal) = publishes e + published_before loader (if is_of loader e.who then place else suc place) journal
+published_before loader zero (e ∷ journal) = if ends_command loader e then 0 else publishes e + published_before loader zero journal
+published_before loader (suc place) (e ∷ journal) = publishes e + published_before loader (if ends_command loader e then place else suc place) journal

@@ -3,3 +3,4 @@ pub mod Legal
 pub mod Report
 pub mod WholeSpans
 pub mod FirstRun
+pub mod Examples

@@ -1,6 +1,6 @@
 -- The text of a report: what a run did, line by line. Names are those of the script.
 -- Source: this project's report text. The definition gives the whole text; the code appends to a buffer.
-use Rattle.std.specs.Prelude.{ℕ, ◌+◌, List, [], ◌∷◌, ◌++◌, map, Option, Some, None, codes}
+use Rattle.std.specs.Prelude.{ℕ, ◌+◌, Bool, true, false, List, [], ◌∷◌, ◌++◌, map, Option, Some, None, codes}
 use Rattle.std.specs.List.{flat_map, join_with_byte}
 use Rattle.std.specs.Fmt.{decimal, signed_decimal}
 use Rattle.term_core.specs.declared.atom.Mfa.{Mfa}
@@ -9,15 +9,15 @@ use Rattle.term_core.specs.TermText.{atom_text, term_text}
 use Rattle.term_core.specs.Written.{written}
 use Rattle.server_core.specs.declared.command.ModRef.{ModRef}
 use Rattle.server_core.specs.declared.command.Cmd.{Cmd}
-use Rattle.server_core.specs.declared.command.Cmd.TheVariants.{Load, Spawn}
+use Rattle.server_core.specs.declared.command.Cmd.TheVariants.{Load, Delete, SoftPurge, Doom, Purge, CheckOld, Trace, Spawn, Release}
 use Rattle.server_core.specs.declared.command.Limit.{Limit}
 use Rattle.server_core.specs.declared.command.Limit.TheVariants.{Instances}
 use Rattle.server_core.specs.declared.command.Reply.{Reply}
 use Rattle.server_core.specs.declared.command.Reply.TheVariants as replies
 use Rattle.machine_core.specs.declared.process.Line.{Line}
-use Rattle.machine_core.specs.declared.process.Line.TheVariants.{Print}
+use Rattle.machine_core.specs.declared.process.Line.TheVariants as lines
 use Rattle.machine_core.specs.declared.process.End.{End}
-use Rattle.machine_core.specs.declared.process.End.TheVariants.{Normal, Undef, Badarg, Badarith, SystemLimit}
+use Rattle.machine_core.specs.declared.process.End.TheVariants.{Normal, Undef, Badarg, Badarith, SystemLimit, Killed}
 use Rattle.run_log.specs.declared.logs.Who.{Who}
 use Rattle.run_log.specs.declared.logs.Who.TheVariants.{Loader, Runtime}
 use Rattle.run_log.specs.declared.logs.Entry.{Entry}
@@ -51,10 +51,22 @@ who_text Runtime = codes "rt"
 abbrev pub reference_text : List (List ℕ) → ModRef → List ℕ
 reference_text names r = atom_text names r.name.0 ++ 46 ∷ decimal r.version
 
--- a command as its line has it
+-- `on` or `off`
+abbrev pub switch_text : Bool → List ℕ
+switch_text true = codes "on"
+switch_text false = codes "off"
+
+-- a command as its line has it: what a process did is in the reply
 abbrev pub cmd_text : List (List ℕ) → Cmd → List ℕ
 cmd_text names (Load refs) = codes "load" ++ flat_map (λ r. 32 ∷ reference_text names r) refs
+cmd_text names (Delete name) = codes "delete " ++ atom_text names name.0
+cmd_text names (SoftPurge name lingers) = codes "soft_purge " ++ atom_text names name.0
+cmd_text names (Doom name) = codes "doom " ++ atom_text names name.0
+cmd_text names (Purge name killed) = codes "purge " ++ atom_text names name.0
+cmd_text names (CheckOld name) = codes "check_old " ++ atom_text names name.0
+cmd_text names (Trace target on) = codes "trace " ++ mfa_text names target ++ 32 ∷ switch_text on
 cmd_text names (Spawn target args) = codes "spawn " ++ call_text names target args
+cmd_text names (Release serial) = codes "release " ++ decimal serial
 
 -- the word of a limit
 abbrev pub limit_text : Limit → List ℕ
@@ -63,6 +75,9 @@ limit_text Instances = codes "instances"
 -- a reply
 abbrev pub reply_text : List (List ℕ) → Reply → List ℕ
 reply_text names replies.Ok = codes "ok"
+reply_text names replies.True = codes "true"
+reply_text names replies.False = codes "false"
+reply_text names (replies.FalseBy linger) = codes "false " ++ decimal linger.process ++ 32 ∷ decimal linger.turn
 reply_text names (replies.NotPurged modules) = codes "not_purged [" ++ join_with_byte 44 (map (λ m. atom_text names m.0) modules) ++ codes "]"
 reply_text names (replies.Duplicated name) = codes "duplicated " ++ atom_text names name.0
 reply_text names (replies.SystemLimit limit) = codes "system_limit " ++ limit_text limit
@@ -78,7 +93,8 @@ entry_text names e = line_of (codes "entry " ++ who_text e.who ++ codes " " ++ c
 
 -- what a process showed, as a line
 abbrev pub shown_text : List (List ℕ) → Line → List ℕ
-shown_text names (Print term) = line_of (codes "print " ++ term_text names term)
+shown_text names (lines.Print term) = line_of (codes "print " ++ term_text names term)
+shown_text names (lines.Trace to args) = line_of (codes "trace " ++ call_text names to args)
 
 -- the lines of a span
 abbrev pub span_text : List (List ℕ) → Span → List ℕ
@@ -91,6 +107,7 @@ end_text names (Undef to) = codes "undef " ++ mfa_text names to
 end_text names Badarg = codes "badarg"
 end_text names Badarith = codes "badarith"
 end_text names SystemLimit = codes "system_limit"
+end_text names (Killed serial) = codes "killed " ++ decimal serial
 
 -- the lines of a process
 abbrev pub process_text : List (List ℕ) → ℕ → ProcessLog → List ℕ

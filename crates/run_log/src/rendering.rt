@@ -3,12 +3,12 @@ ghost use Rattle.std.specs.List.{flat_map, join_with_byte};
 ghost use Rattle.std.specs.Fmt.{decimal};
 ghost use Rattle.std.specs.Io.{StartsWith};
 ghost use Rattle.term_core.specs.TermText.{atom_text, term_text};
-ghost use Rattle.run_log.specs.Report.{line_of, mfa_text, call_text, who_text, reference_text, cmd_text, limit_text, reply_text, published_text, entry_text, shown_text, span_text, end_text, process_text, processes_text, rendering_of};
+ghost use Rattle.run_log.specs.Report.{line_of, mfa_text, call_text, who_text, reference_text, switch_text, cmd_text, limit_text, reply_text, published_text, entry_text, shown_text, span_text, end_text, process_text, processes_text, rendering_of};
 
 use crate::journal::published_count;
 use crate::logs::{Entry, EntryList, ProcessLog, ProcessLogList, RunLog, Span, SpanList, Who};
 use machine_core::{End, Line, LineList};
-use server_core::{Cmd, Limit, ModRef, RefList, Reply};
+use server_core::{Cmd, Limit, Linger, ModRef, RefList, Reply};
 use term_core::{
     AtomId, AtomList, ByteList, Mfa, Names, NoMemory, Term, TermList, print_atom, print_number,
     print_term,
@@ -87,8 +87,57 @@ fn write_cmd(names: &Names, cmd: &Cmd, out: &mut ByteList) -> Result<(), NoMemor
 {
     match cmd {
         Cmd::Load(refs) => write_load(names, refs, out),
+        Cmd::Delete(module) => write_on_module(b"delete ", names, *module, out),
+        Cmd::SoftPurge { module, .. } => write_on_module(b"soft_purge ", names, *module, out),
+        Cmd::Doom(module) => write_on_module(b"doom ", names, *module, out),
+        Cmd::Purge { module, .. } => write_on_module(b"purge ", names, *module, out),
+        Cmd::CheckOld(module) => write_on_module(b"check_old ", names, *module, out),
+        Cmd::Trace { target, on } => write_trace(names, *target, *on, out),
         Cmd::Spawn { target, args } => write_spawn(names, *target, args, out),
+        Cmd::Release(serial) => write_release(*serial, out),
     }
+}
+
+fn write_on_module(
+    word: &[u8],
+    names: &Names,
+    name: AtomId,
+    out: &mut ByteList,
+) -> Result<(), NoMemory>
+    ensures ok { OnOk result (out.new ≡ out.old ++ (word.now ++ atom_text names.now name.0)) }
+    ensures kept { StartsWith out.new out.old }
+{
+    out.extend_from_slice(word)?;
+    print_atom(names, name, out)
+}
+
+fn write_trace(names: &Names, target: Mfa, on: bool, out: &mut ByteList) -> Result<(), NoMemory>
+    ensures ok { OnOk result (out.new ≡ out.old ++ cmd_text names.now (Cmd.Trace target on)) }
+    ensures kept { StartsWith out.new out.old }
+{
+    out.extend_from_slice(b"trace ")?;
+    write_mfa(names, target, out)?;
+    out.push(b' ')?;
+    write_switch(on, out)
+}
+
+fn write_switch(on: bool, out: &mut ByteList) -> Result<(), NoMemory>
+    ensures ok { OnOk result (out.new ≡ out.old ++ switch_text on) }
+    ensures kept { StartsWith out.new out.old }
+{
+    if on {
+        out.extend_from_slice(b"on")
+    } else {
+        out.extend_from_slice(b"off")
+    }
+}
+
+fn write_release(serial: u64, out: &mut ByteList) -> Result<(), NoMemory>
+    ensures ok { OnOk result (out.new ≡ out.old ++ (codes "release " ++ decimal serial)) }
+    ensures kept { StartsWith out.new out.old }
+{
+    out.extend_from_slice(b"release ")?;
+    print_number(serial, out)
 }
 
 fn write_load(names: &Names, refs: &RefList, out: &mut ByteList) -> Result<(), NoMemory>
@@ -207,6 +256,9 @@ fn write_reply(names: &Names, reply: &Reply, out: &mut ByteList) -> Result<(), N
 {
     match reply {
         Reply::Ok => out.extend_from_slice(b"ok"),
+        Reply::True => out.extend_from_slice(b"true"),
+        Reply::False => out.extend_from_slice(b"false"),
+        Reply::FalseBy(linger) => write_linger(*linger, out),
         Reply::NotPurged(modules) => {
             out.extend_from_slice(b"not_purged [")?;
             write_atoms(names, modules, out)?;
@@ -221,6 +273,16 @@ fn write_reply(names: &Names, reply: &Reply, out: &mut ByteList) -> Result<(), N
             write_limit(*limit, out)
         }
     }
+}
+
+fn write_linger(linger: Linger, out: &mut ByteList) -> Result<(), NoMemory>
+    ensures ok { OnOk result (out.new ≡ out.old ++ (codes "false " ++ decimal linger.process ++ 32 ∷ decimal linger.turn)) }
+    ensures kept { StartsWith out.new out.old }
+{
+    out.extend_from_slice(b"false ")?;
+    print_number(u64::from(linger.process), out)?;
+    out.push(b' ')?;
+    print_number(u64::from(linger.turn), out)
 }
 
 fn write_published(published: Option<u64>, out: &mut ByteList) -> Result<(), NoMemory>
@@ -318,7 +380,22 @@ fn write_line(names: &Names, line: &Line, out: &mut ByteList) -> Result<(), NoMe
             print_term(names, term, out)?;
             out.push(b'\n')
         }
+        Line::Trace { to, args } => write_trace_line(names, *to, args, out),
     }
+}
+
+fn write_trace_line(
+    names: &Names,
+    to: Mfa,
+    args: &TermList,
+    out: &mut ByteList,
+) -> Result<(), NoMemory>
+    ensures ok { OnOk result (out.new ≡ out.old ++ shown_text names.now (Line.Trace to args.now)) }
+    ensures kept { StartsWith out.new out.old }
+{
+    out.extend_from_slice(b"trace ")?;
+    write_call(names, to, args, out)?;
+    out.push(b'\n')
 }
 
 fn write_end_line(names: &Names, end: End, out: &mut ByteList) -> Result<(), NoMemory>
@@ -343,5 +420,9 @@ fn write_end(names: &Names, end: End, out: &mut ByteList) -> Result<(), NoMemory
         End::Badarg => out.extend_from_slice(b"badarg"),
         End::Badarith => out.extend_from_slice(b"badarith"),
         End::SystemLimit => out.extend_from_slice(b"system_limit"),
+        End::Killed(serial) => {
+            out.extend_from_slice(b"killed ")?;
+            print_number(serial, out)
+        }
     }
 }

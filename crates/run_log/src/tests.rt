@@ -1,6 +1,6 @@
 use super::*;
 use machine_core::{End, Line, LineList};
-use server_core::{Cmd, Limit, ModRef, RefList, Reply};
+use server_core::{Cmd, Limit, Linger, ModRef, RefList, Reply};
 use std::alloc::Global;
 use std::test::Fail;
 use term_core::{AtomId, AtomList, ByteList, Mfa, NameFault, Names, NoMemory, Term, TermList};
@@ -10,22 +10,58 @@ const M: AtomId = AtomId(3);
 
 const N: AtomId = AtomId(4);
 
-/// A log with each form of a reply, and with ends that no short script shows; its report is written by hand.
-const REPORT: &str = "beam report 1
-generations 1
+const MAIN: Mfa = Mfa {
+    module: M,
+    name: N,
+    arity: 2,
+};
+
+/// A journal with each command and each reply; the lines are written by hand.
+const JOURNAL: &str = "beam report 1
+generations 9
 entry L0 load m.1 n.20 = ok @1
 entry L7 load m.1 = duplicated m -
 entry L0 load n.1 = not_purged [n,m] -
-entry rt load = system_limit instances -
+entry L1 load = system_limit instances -
 entry L10 spawn m:n([1],-7) = ok -
+entry L0 delete n = true @2
+entry L0 delete m = false -
+entry L2 soft_purge m = false 3 12 -
+entry L2 soft_purge m = true @3
+entry L1 doom n = ok @4
+entry L0 check_old n = true -
+entry L1 purge n = true @5
+entry L1 doom m = ok @6
+entry L1 purge m = false @7
+entry L0 check_old n = false -
+entry L0 trace m:n/2 on = true @8
+entry L0 trace m:n/2 off = true @9
+entry rt release 18446744073709551615 = ok -
+end report
+";
+
+/// Processes with each line and each end; the lines are written by hand.
+const PROCESSES: &str = "beam report 1
+generations 0
 process 0 m:n([1],-7)
 span 0 2
 print {1}
+trace m:n([1],-7)
 print n
 span 1 1
 end undef m:n/2
 process 1 n:m()
+span 4 1
+trace n:m()
+end killed 3
+process 2 m:n([1],-7)
+end normal
+process 3 m:n([1],-7)
 end badarg
+process 4 m:n([1],-7)
+end badarith
+process 5 m:n([1],-7)
+end system_limit
 end report
 ";
 
@@ -49,75 +85,146 @@ fn arguments(alloc: Global) -> Result<TermList, NoMemory> {
     Ok(terms)
 }
 
-fn call(module: AtomId, name: AtomId, arity: u32) -> Mfa {
-    Mfa {
-        module,
-        name,
-        arity,
+fn load(alloc: Global, refs: &[(AtomId, u32)]) -> Result<Cmd, NoMemory> {
+    let mut list = RefList::new(alloc);
+    for (name, version) in refs {
+        list.push(ModRef {
+            name: *name,
+            version: *version,
+        })?;
     }
+    Ok(Cmd::Load(list))
 }
 
-fn load(alloc: Global, refs: &[ModRef]) -> Result<Cmd, NoMemory> {
-    Ok(Cmd::Load(RefList::from_slice(alloc, refs)?))
+fn spawn(alloc: Global) -> Result<Cmd, NoMemory> {
+    Ok(Cmd::Spawn {
+        target: MAIN,
+        args: arguments(alloc)?,
+    })
 }
 
-fn journal(alloc: Global) -> Result<EntryList, NoMemory> {
-    let first = ModRef {
-        name: M,
-        version: 1,
-    };
-    let second = ModRef {
-        name: N,
-        version: 20,
-    };
-    let third = ModRef {
-        name: N,
-        version: 1,
-    };
-    let mut entries = EntryList::new(alloc);
-    entries.push(Entry {
-        who: Who::Loader(0),
-        cmd: load(alloc, &[first, second])?,
-        reply: Reply::Ok,
-        published: Some(1),
-    })?;
-    entries.push(Entry {
-        who: Who::Loader(7),
-        cmd: load(alloc, &[first])?,
-        reply: Reply::Duplicated(M),
-        published: None,
-    })?;
-    entries.push(Entry {
-        who: Who::Loader(0),
-        cmd: load(alloc, &[third])?,
-        reply: Reply::NotPurged(AtomList::from_slice(alloc, &[N, M])?),
-        published: None,
-    })?;
-    last_entries(alloc, entries)
+fn loads(alloc: Global, entries: &mut EntryList) -> Result<(), NoMemory> {
+    let not_purged = AtomList::from_slice(alloc, &[N, M])?;
+    let rows = [
+        (0, load(alloc, &[(M, 1), (N, 20)])?, Reply::Ok, Some(1)),
+        (7, load(alloc, &[(M, 1)])?, Reply::Duplicated(M), None),
+        (
+            0,
+            load(alloc, &[(N, 1)])?,
+            Reply::NotPurged(not_purged),
+            None,
+        ),
+        (
+            1,
+            load(alloc, &[])?,
+            Reply::SystemLimit(Limit::Instances),
+            None,
+        ),
+        (10, spawn(alloc)?, Reply::Ok, None),
+    ];
+    for (loader, cmd, reply, published) in rows {
+        let who = Who::Loader(loader);
+        entries.push(Entry {
+            who,
+            cmd,
+            reply,
+            published,
+        })?;
+    }
+    Ok(())
 }
 
-fn last_entries(alloc: Global, mut entries: EntryList) -> Result<EntryList, NoMemory> {
+fn purges(entries: &mut EntryList) -> Result<(), NoMemory> {
+    let lingers = Some(Linger {
+        process: 3,
+        turn: 12,
+    });
+    let rows = [
+        (0, Cmd::Delete(N), Reply::True, Some(2)),
+        (0, Cmd::Delete(M), Reply::False, None),
+        (
+            2,
+            Cmd::SoftPurge { module: M, lingers },
+            Reply::FalseBy(Linger {
+                process: 3,
+                turn: 12,
+            }),
+            None,
+        ),
+        (
+            2,
+            Cmd::SoftPurge {
+                module: M,
+                lingers: None,
+            },
+            Reply::True,
+            Some(3),
+        ),
+        (1, Cmd::Doom(N), Reply::Ok, Some(4)),
+        (0, Cmd::CheckOld(N), Reply::True, None),
+        (
+            1,
+            Cmd::Purge {
+                module: N,
+                killed: true,
+            },
+            Reply::True,
+            Some(5),
+        ),
+        (1, Cmd::Doom(M), Reply::Ok, Some(6)),
+        (
+            1,
+            Cmd::Purge {
+                module: M,
+                killed: false,
+            },
+            Reply::False,
+            Some(7),
+        ),
+        (0, Cmd::CheckOld(N), Reply::False, None),
+        (
+            0,
+            Cmd::Trace {
+                target: MAIN,
+                on: true,
+            },
+            Reply::True,
+            Some(8),
+        ),
+        (
+            0,
+            Cmd::Trace {
+                target: MAIN,
+                on: false,
+            },
+            Reply::True,
+            Some(9),
+        ),
+    ];
+    for (loader, cmd, reply, published) in rows {
+        let who = Who::Loader(loader);
+        entries.push(Entry {
+            who,
+            cmd,
+            reply,
+            published,
+        })?;
+    }
     entries.push(Entry {
         who: Who::Runtime,
-        cmd: load(alloc, &[])?,
-        reply: Reply::SystemLimit(Limit::Instances),
-        published: None,
-    })?;
-    entries.push(Entry {
-        who: Who::Loader(10),
-        cmd: Cmd::Spawn {
-            target: call(M, N, 2),
-            args: arguments(alloc)?,
-        },
+        cmd: Cmd::Release(u64::MAX),
         reply: Reply::Ok,
         published: None,
-    })?;
-    Ok(entries)
+    })
 }
 
-fn spans(alloc: Global) -> Result<SpanList, NoMemory> {
+fn first_spans(alloc: Global) -> Result<SpanList, NoMemory> {
     let mut lines = LineList::new(alloc);
     lines.push(Line::Print(Term::Tuple(one_term(alloc)?)))?;
+    lines.push(Line::Trace {
+        to: MAIN,
+        args: arguments(alloc)?,
+    })?;
     lines.push(Line::Print(Term::Atom(N)))?;
     let mut spans = SpanList::new(alloc);
     spans.push(Span {
@@ -133,32 +240,76 @@ fn spans(alloc: Global) -> Result<SpanList, NoMemory> {
     Ok(spans)
 }
 
+fn second_spans(alloc: Global, to: Mfa) -> Result<SpanList, NoMemory> {
+    let mut lines = LineList::new(alloc);
+    lines.push(Line::Trace {
+        to,
+        args: TermList::new(alloc),
+    })?;
+    let mut spans = SpanList::new(alloc);
+    spans.push(Span {
+        generation: 4,
+        turns: 1,
+        lines,
+    })?;
+    Ok(spans)
+}
+
 fn processes(alloc: Global) -> Result<ProcessLogList, NoMemory> {
+    let other = Mfa {
+        module: N,
+        name: M,
+        arity: 0,
+    };
     let mut logs = ProcessLogList::new(alloc);
     logs.push(ProcessLog {
-        target: call(M, N, 2),
+        target: MAIN,
         args: arguments(alloc)?,
-        spans: spans(alloc)?,
-        fin: End::Undef(call(M, N, 2)),
+        spans: first_spans(alloc)?,
+        fin: End::Undef(MAIN),
     })?;
     logs.push(ProcessLog {
-        target: call(N, M, 0),
+        target: other,
         args: TermList::new(alloc),
-        spans: SpanList::new(alloc),
-        fin: End::Badarg,
+        spans: second_spans(alloc, other)?,
+        fin: End::Killed(3),
     })?;
+    for fin in [End::Normal, End::Badarg, End::Badarith, End::SystemLimit] {
+        logs.push(ProcessLog {
+            target: MAIN,
+            args: arguments(alloc)?,
+            spans: SpanList::new(alloc),
+            fin,
+        })?;
+    }
     Ok(logs)
 }
 
 #[test]
-fn a_log_has_its_report(rt: HostRuntime) -> Result<(), Fail> {
+fn each_entry_has_its_line(rt: HostRuntime) -> Result<(), Fail> {
+    let alloc = rt.alloc();
+    let mut journal = EntryList::new(alloc);
+    loads(alloc, &mut journal)?;
+    purges(&mut journal)?;
+    let log = RunLog {
+        journal,
+        processes: ProcessLogList::new(alloc),
+    };
+    let mut report = ByteList::new(alloc);
+    render(&two_names(alloc)?, &log, &mut report)?;
+    assert_eq!(rt; report.as_slice(), JOURNAL.as_bytes());
+    Ok(())
+}
+
+#[test]
+fn each_line_and_each_end_is_written(rt: HostRuntime) -> Result<(), Fail> {
     let alloc = rt.alloc();
     let log = RunLog {
-        journal: journal(alloc)?,
+        journal: EntryList::new(alloc),
         processes: processes(alloc)?,
     };
     let mut report = ByteList::new(alloc);
     render(&two_names(alloc)?, &log, &mut report)?;
-    assert_eq!(rt; report.as_slice(), REPORT.as_bytes());
+    assert_eq!(rt; report.as_slice(), PROCESSES.as_bytes());
     Ok(())
 }

@@ -2,8 +2,8 @@
 use Rattle.std.proofs.Common.{◌≡◌, ℕ, Some, None, [], ◌∷◌, refl, ap, pos, Option, List, arith}
 use Rattle.std.specs.Fmt.{digits}
 use Rattle.term_core.specs.declared.term.Term.TheVariants.{Int}
-use Rattle.server_core.specs.declared.command.Cmd.{Cmd}
-use Rattle.server_core.specs.declared.command.Cmd.TheVariants as cmds
+use Rattle.script_text.specs.declared.script.ScriptCmd.{ScriptCmd}
+use Rattle.script_text.specs.declared.script.ScriptCmd.TheVariants as script
 use Rattle.server_core.specs.CommandTable.{Outcome}
 use Rattle.machine_core.specs.declared.process.Line.{Line}
 use Rattle.machine_core.specs.declared.process.Line.TheVariants as lines
@@ -20,8 +20,8 @@ number_of (lines.Print (Int (pos n)) ∷ rest) = n
 number_of _ = 0
 
 -- whether the first command is a load
-abbrev loads_first : List Cmd → ℕ
-loads_first (cmds.Load refs ∷ rest) = 1
+abbrev loads_first : List ScriptCmd → ℕ
+loads_first (script.Load refs ∷ rest) = 1
 loads_first _ = 0
 
 -- the generation that a command published
@@ -50,7 +50,7 @@ returns-clause-other_number c = λ legal. let t = legal.turns_follow 0 _ refl in
 
 -- the load is the loader's first command
 pub returns-clause-other_order : goal.returns-clause-other_order
-returns-clause-other_order c = λ legal. let e : 0 ≡ 1 = ap loads_first (legal.loaders_in_order 0) in absurd (omega (arith, e))
+returns-clause-other_order c = λ legal. let e : 0 ≡ 1 = ap loads_first (legal.loaders_in_order.commands 0) in absurd (omega (arith, e))
 
 -- the first turn ends the process
 pub returns-clause-turn_more : goal.returns-clause-turn_more
