@@ -1,33 +1,53 @@
 -- Before its first lap a run has made no command, and each process waits for its spawn.
-use Rattle.std.proofs.Common.{◌≡◌, ℕ, zero, suc, ◌+◌, ◌<◌, ◌≤◌, List, [], ◌∷◌, ◌++◌, length, length-append, append_assoc, drop, get_or, map, take, slice_get, sum_by, Some, option_map, refl, sym, ap, subst, ◌∙◌, arith}
+use Rattle.std.proofs.Common.{◌≡◌, ℕ, zero, suc, ◌+◌, ◌<◌, ◌≤◌, List, [], ◌∷◌, ◌++◌, length, length-append, append_assoc, drop, get_or, map, take, slice_get, sum_by, Some, None, option_map, refl, sym, ap, subst, ◌∙◌, arith}
+use Rattle.std.proofs.lemmas.Bool.{false≢true}
 use Rattle.std.proofs.lemmas.List.{append-nil, drop_all, drop_more, length-map}
 use Rattle.std.specs.List.{AllByRecursion}
 use Rattle.script_text.specs.declared.script.TheConstants.{MOST_PROCESSES}
 use Rattle.std.proofs.lemmas.List.Sums.{sum_by-cons}
-use Rattle.std.proofs.lemmas.Option.{none-some, same_Some, slice_get-map}
-use Rattle.server_core.specs.ServerState.{empty_state}
+use Rattle.std.proofs.lemmas.Option.{none-some, same_Some, slice_get-map, slice_get_within}
+use Rattle.server_core.specs.ServerState.{IsSound, empty_state}
 use Rattle.script_text.specs.declared.script.Script.{Script}
 use Rattle.script_text.specs.declared.script.ScriptCmd.{ScriptCmd}
-use Rattle.script_text.specs.declared.script.ScriptCmd.TheVariants.{Load, Spawn}
+use Rattle.script_text.specs.declared.script.ScriptCmd.TheVariants.{Spawn}
 use Rattle.script_text.specs.Sound.{IsCmdOf, IsScript, spawns_in}
 use Rattle.mod_core.specs.declared.code.Module.{Module}
-use Rattle.run_log.specs.Journal.{entries_of, newest_state, state_at}
-use Rattle.run_log.specs.Legal.{Replays, SpawnLine, cmd_of, commands_of, spawns_from, spawns_of}
+use Rattle.run_log.specs.Journal.{newest_state, state_at}
+use Rattle.run_log.specs.Legal.{PurgesGo, Replays, SpawnLine, commands_in, commands_of, spawns_from, spawns_of}
 use Rattle.lap_runner.specs.declared.process_run.ProcessRun.{ProcessRun}
 use Rattle.lap_runner.specs.declared.run.LoaderRun.{LoaderRun}
 use Rattle.lap_runner.specs.declared.run.Run.{Run}
-use Rattle.lap_runner.specs.Runs.{HasArity, IsRun, Stand, StandsIn, done_of, loaders_from, spawn_count, spawn_number, stand_of, waiting_from, waiting_of, waiting_stand}
-use Rattle.lap_runner.proofs.Lists.{JoinedAt, all_weaker, behind, get_behind, get_front, in_front, joined_at}
+use Rattle.lap_runner.specs.Answers.{AreKnown, Each, IsHistory}
+use Rattle.lap_runner.specs.Runs.{DoomsJust, HasArity, IsRun, StandsIn, done_of, half_of, histories_of, history_of, loaders_from, spawn_count, spawn_number, waiting_from, waiting_of, waiting_stand}
+use Rattle.lap_runner.specs.Steps.{Stand, stand_of}
+use Rattle.lap_runner.proofs.Answers.{known_at_start}
+use Rattle.lap_runner.proofs.AnswersLists.{each_map}
+use Rattle.lap_runner.proofs.AnswersMarks.{new_history}
+use Rattle.lap_runner.proofs.Lists.{JoinedAt, all_weaker, get_within, behind, get_behind, get_front, in_front, joined_at}
 use Rattle.lap_runner.proofs.SpawnLines.{lines_counted}
+
+-- generation 0 is a sound state
+empty_sound : IsSound empty_state
+empty_sound = record {
+  modules = λ serial. tt;
+  current = λ name. tt;
+  old = λ name. tt;
+  apart = λ name serial h. absurd (none-some serial h);
+  one_doomed = omega arith;
+  doomed = λ serial h. absurd (false≢true h);
+  retired = λ serial h. absurd (false≢true h);
+  released = λ serial h. absurd (false≢true h);
+  live = omega arith;
+}
 
 -- as many processes as spawns
 pub waiting_counted : (number : ℕ) (commands : List ScriptCmd) → length (waiting_from number commands) ≡ spawn_count commands
 waiting_counted number [] = refl
-waiting_counted number (Load refs ∷ commands) = waiting_counted number commands ∙ sym (sum_by-cons spawns_in (Load refs) commands ∙ omega arith)
 waiting_counted number (Spawn target args ∷ commands) =
     let rest = waiting_counted (number + 1) commands in
     let count = sum_by-cons spawns_in (Spawn target args) commands in
     omega (arith, rest, count)
+waiting_counted number (cmd ∷ commands) = waiting_counted number commands ∙ sym (sum_by-cons spawns_in cmd commands ∙ omega arith)
 
 many_waiting : (number first : ℕ) (loaders : List (List ScriptCmd)) → length (waiting_of number loaders) ≡ length (spawns_of first loaders)
 many_waiting number first [] = refl
@@ -39,11 +59,11 @@ stand_same n m line other e f = ap (λ k. Some (waiting_stand k line.target line
 
 waiting_from_at : (number loader place : ℕ) (commands : List ScriptCmd) (k : ℕ) (line : SpawnLine) → slice_get (spawns_from loader place commands) k ≡ Some line → slice_get (waiting_from number commands) k ≡ Some (waiting_stand (number + k) line.target line.args)
 waiting_from_at number loader place [] k line h = absurd (none-some line h)
-waiting_from_at number loader place (Load refs ∷ commands) k line h = waiting_from_at number loader (suc place) commands k line h
 waiting_from_at number loader place (Spawn target args ∷ commands) zero line h =
     stand_same number (number + 0) (record { loader = loader; place = place; target = target; args = args }) line (omega arith) (same_Some _ _ h)
 waiting_from_at number loader place (Spawn target args ∷ commands) (suc k) line h =
     waiting_from_at (number + 1) loader (suc place) commands k line h ∙ stand_same (number + 1 + k) (number + suc k) line line (omega arith) refl
+waiting_from_at number loader place (cmd ∷ commands) k line h = waiting_from_at number loader (suc place) commands k line h
 
 waiting_joined : (number first : ℕ) (commands : List ScriptCmd) (loaders : List (List ScriptCmd)) (k : ℕ) (line : SpawnLine)
     → ((n : ℕ) → slice_get (spawns_of (suc first) loaders) n ≡ Some line → slice_get (waiting_of (number + spawn_count commands) loaders) n ≡ Some (waiting_stand (number + spawn_count commands + n) line.target line.args))
@@ -87,7 +107,7 @@ begins_at number (commands ∷ loaders) (suc k) l h =
     let b = begins_at (number + spawn_count commands) loaders k l h in
     record { none = b.none; next = omega (arith, b.next) }
 
-module _ (s : Script) (run : Run) (server : run.server ≡ empty_state) (journal : run.journal ≡ []) (loaders : run.loaders.items ≡ loaders_from 0 s.loaders) (processes : map stand_of run.processes.items ≡ waiting_of 0 s.loaders) where
+module _ (s : Script) (run : Run) (server : run.server ≡ empty_state) (journal : run.journal ≡ []) (purging : run.purging ≡ None) (loaders : run.loaders.items ≡ loaders_from 0 s.loaders) (processes : map stand_of run.processes.items ≡ waiting_of 0 s.loaders) where
   done_none : (k : ℕ) → done_of run.loaders.items k ≡ 0
   done_none k = ap (λ ls. done_of ls k) loaders ∙ none_done 0 s.loaders k
 
@@ -104,19 +124,33 @@ module _ (s : Script) (run : Run) (server : run.server ≡ empty_state) (journal
       let e : 0 + number ≡ number = omega arith in
       same_Some _ _ (sym (stand_same (0 + number) number line line e refl) ∙ sym b ∙ ap (λ ps. slice_get ps number) (sym processes) ∙ a)
 
+  new_at : (number : ℕ) (p : ProcessRun) → slice_get run.processes.items number ≡ Some p → IsHistory 0 (history_of (state_at s.modules empty_state run.journal) (stand_of p))
+  new_at number p h =
+      let many : length run.processes.items ≡ length (spawns_of 0 s.loaders) = sym (length-map run.processes.items stand_of) ∙ ap length processes ∙ many_waiting 0 0 s.loaders in
+      let line = get_within (spawns_of 0 s.loaders) number (omega (arith, slice_get_within run.processes.items number p h, many)) in
+      subst (λ (x : Stand). IsHistory 0 (history_of (state_at s.modules empty_state run.journal) x)) (stand_at number line.0 p line.1 h)
+      (new_history 0 (history_of (state_at s.modules empty_state run.journal) (waiting_stand number line.0.target line.0.args)) refl refl refl)
+
+  all_new : Each (histories_of (state_at s.modules empty_state run.journal) run.processes.items) (IsHistory 0)
+  all_new = each_map (IsHistory 0) (λ p. history_of (state_at s.modules empty_state run.journal) (stand_of p)) run.processes.items new_at
+
   -- before its first lap a run is as it should be
   pub begun_is : IsRun s run
   begun_is = record {
     replays = subst (Replays s.modules empty_state) (sym journal) tt;
     server = server ∙ ap (newest_state s.modules empty_state) (sym journal);
+    sound = subst IsSound (sym server) empty_sound;
+    purges = subst (λ j. PurgesGo s.modules empty_state None j (option_map half_of run.purging)) (sym journal) (sym (ap (option_map half_of) purging));
+    dooms = subst (DoomsJust s run.server run.loaders.items) (sym purging) (ap (λ x. x.doomed) server);
     loaders = ap length loaders ∙ many_loaders 0 s.loaders;
     within = λ k. omega (arith, done_none k);
     numbers = number_of;
-    in_order = λ k. ap (λ j. map (λ e. e.cmd) (entries_of k j)) journal ∙ ap (λ n. map cmd_of (take n (commands_of s k))) (sym (done_none k));
+    in_order = λ k. ap (commands_in k) journal ∙ ap (λ n. take n (commands_of s k)) (sym (done_none k));
     processes = sym (length-map run.processes.items stand_of) ∙ ap length processes ∙ many_waiting 0 0 s.loaders;
     process = λ number line p line_is p_is.
         subst (λ x. StandsIn run.journal (state_at s.modules empty_state run.journal) run.server (done_of run.loaders.items line.loader) number line x x.phase) (stand_at number line p line_is p_is)
         (record { process = refl; spans = refl; still = omega (arith, done_none line.loader) });
+    answers = subst (λ j. AreKnown s.modules j (histories_of (state_at s.modules empty_state run.journal) run.processes.items)) (sym journal) (known_at_start s.modules (histories_of (state_at s.modules empty_state run.journal) run.processes.items) all_new);
   }
 
 -- one more loader and its processes, of those that are left
@@ -139,8 +173,8 @@ listed_more loaders made processes more commands rest so_far is =
     }
 
 has_arity : (names : List (List ℕ)) (texts : List Module) (cmd : ScriptCmd) → IsCmdOf names texts cmd → HasArity cmd
-has_arity names texts (Load refs) h = tt
 has_arity names texts (Spawn target args) h = sym h.arity_is
+has_arity names texts cmd h = tt
 
 -- before the first loader
 pub listed_none : (s : Script) → IsScript s → (made : List LoaderRun) (processes : List ProcessRun) (items : List (List ScriptCmd)) → made ≡ [] → processes ≡ [] → items ≡ s.loaders → ListedSoFar s.loaders made (map stand_of processes) items

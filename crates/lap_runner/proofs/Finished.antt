@@ -1,6 +1,6 @@
 -- A run that has no work left has made a lawful log.
 use Rattle.std.proofs.Common.{◌≡◌, ◌≢◌, ℕ, suc, ◌<◌, ◌≤◌, List, [], ◌∷◌, length, map, slice_get, Option, Some, None, option_map, IfSome, All, refl, sym, ap, subst, ◌∙◌, arith}
-use Rattle.std.proofs.lemmas.List.{take_all}
+use Rattle.std.proofs.lemmas.List.{length-map, take_all}
 use Rattle.std.proofs.lemmas.List.Elements.{All-from_recursion}
 use Rattle.std.proofs.lemmas.Option.{none-some, same_Some, slice_get-map, slice_get_within, slice_get-get_or}
 use Rattle.server_core.specs.ServerState.{ServerState, empty_state}
@@ -10,16 +10,19 @@ use Rattle.script_text.specs.declared.script.Script.{Script}
 use Rattle.run_log.specs.declared.logs.Entry.{Entry}
 use Rattle.run_log.specs.declared.logs.Span.{Span}
 use Rattle.run_log.specs.declared.logs.ProcessLog.{ProcessLog}
-use Rattle.run_log.specs.Journal.{newest_state, published_before, published_count, state_at}
-use Rattle.run_log.specs.Legal.{Complete, IsLogOf, Legal, LogsMatch, SpansFollow, SpawnBeforeTurns, SpawnLine, TurnsFollow, cmd_of, commands_of, first_generation, spawns_of}
+use Rattle.run_log.specs.declared.logs.RunLog.{RunLog}
+use Rattle.run_log.specs.Journal.{published_before, published_count, state_at}
+use Rattle.run_log.specs.Legal.{Complete, IsLogOf, Legal, LogsMatch, PurgesGo, SpansFollow, SpawnBeforeTurns, SpawnLine, TurnsFollow, commands_of, first_generation, marks_of, spawns_of}
 use Rattle.run_log.specs.WholeSpans.{AreWhole}
-use Rattle.run_log.proofs.Journals.{counted}
 use Rattle.lap_runner.specs.declared.process_run.Phase.{Phase}
 use Rattle.lap_runner.specs.declared.process_run.Phase.TheVariants.{Waiting, Going, Ended}
 use Rattle.lap_runner.specs.declared.process_run.ProcessRun.{ProcessRun}
 use Rattle.lap_runner.specs.declared.run.Run.{Run}
-use Rattle.lap_runner.specs.Runs.{HasNoWork, IsEnd, IsOver, IsRun, Rests, Stand, StandsIn, done_of, end_of, log_of, stand_of}
-use Rattle.lap_runner.proofs.Lists.{get_within}
+use Rattle.lap_runner.specs.Answers.{AreHistoriesOf, History}
+use Rattle.lap_runner.specs.Runs.{HasNoWork, IsEnd, IsOver, IsRun, Rests, StandsIn, done_of, end_of, fin_in, half_of, histories_of, history_of, log_of}
+use Rattle.lap_runner.specs.Steps.{Stand, stand_of}
+use Rattle.lap_runner.proofs.AnswersEnd.{lingers_told, purged_unnamed, released_unnamed}
+use Rattle.lap_runner.proofs.Joining.{generations_counted, line_for}
 use Rattle.lap_runner.proofs.Making.{line_text}
 
 -- a process that rests has ended, where its loader is past its spawn
@@ -67,13 +70,10 @@ module _ (s : Script) (run : Run) (known : IsRun s run) (over : HasNoWork s run)
   over_at number line p line_is p_is =
       over_in run.journal states run.server (done_of run.loaders.items line.loader) number line (stand_of p) p.phase (past_place number line line_is) (over.processes number p p_is) (known.process number line p line_is p_is)
 
-  line_for : (number : ℕ) (p : ProcessRun) → slice_get run.processes.items number ≡ Some p → (line : SpawnLine) × (slice_get (spawns_of 0 s.loaders) number ≡ Some line)
-  line_for number p h = get_within (spawns_of 0 s.loaders) number (omega (arith, slice_get_within run.processes.items number p h, known.processes))
-
   -- each process has ended
   pub all_ended : (number : ℕ) (p : ProcessRun) → slice_get run.processes.items number ≡ Some p → IsEnd p.phase
   all_ended number p h =
-      let line = line_for number p h in
+      let line = line_for s run known number p h in
       end_in run.journal states run.server (done_of run.loaders.items (line.0).loader) number line.0 (stand_of p) p.phase (past_place number line.0 line.1) (over.processes number p h) (known.process number line.0 p line.1 h)
 
   abbrev logs : List ProcessLog
@@ -89,7 +89,7 @@ module _ (s : Script) (run : Run) (known : IsRun s run) (over : HasNoWork s run)
 
   follow_at : (number : ℕ) (p : ProcessRun) → slice_get run.processes.items number ≡ Some p → SpansFollow states (new_process number p.process.target p.process.args) p.spans (end_of p.phase)
   follow_at number p h =
-      let line = line_for number p h in
+      let line = line_for s run known number p h in
       let o = over_at number line.0 p line.1 h in
       subst (λ x. SpansFollow states x p.spans (end_of p.phase)) (same_start number line.0 (stand_of p).process o.was.target o.was.args) o.follow
 
@@ -98,19 +98,13 @@ module _ (s : Script) (run : Run) (known : IsRun s run) (over : HasNoWork s run)
       let p = process_of_log number log log_is in
       subst (λ (x : ProcessLog). SpansFollow states (new_process number x.target x.args) x.spans x.fin) p.1.1 (follow_at number p.0 p.1.0)
 
-  generations_counted : run.server.generation ≡ published_count run.journal
-  generations_counted =
-      let n = counted s.modules empty_state run.journal known.replays in
-      let g : run.server.generation ≡ (newest_state s.modules empty_state run.journal).generation = ap (λ x. x.generation) known.server in
-      omega (arith, n, g)
-
   known_at : (number : ℕ) (log : ProcessLog) → slice_get logs number ≡ Some log → All (λ span. span.generation ≤ published_count run.journal) log.spans
   known_at number log h =
       let p = process_of_log number log h in
-      let line = line_for number p.0 p.1.0 in
+      let line = line_for s run known number p.0 p.1.0 in
       let o = over_at number line.0 p.0 line.1 p.1.0 in
       subst (λ (x : ProcessLog). All (λ span. span.generation ≤ published_count run.journal) x.spans) p.1.1
-      (subst (λ g. All (λ (span : Span). span.generation ≤ g) (p.0).spans) generations_counted (All-from_recursion (λ (span : Span). span.generation ≤ run.server.generation) (p.0).spans o.was.known))
+      (subst (λ g. All (λ (span : Span). span.generation ≤ g) (p.0).spans) (sym (generations_counted s run known)) (All-from_recursion (λ (span : Span). span.generation ≤ run.server.generation) (p.0).spans o.was.known))
 
   complete : Complete s (record { journal = run.journal; processes = logs })
   complete = record {
@@ -121,14 +115,57 @@ module _ (s : Script) (run : Run) (known : IsRun s run) (over : HasNoWork s run)
 
   -- turns in a row under one generation are one span
   pub all_whole : All (λ log. AreWhole log.spans) logs
-  all_whole = all_logs (λ log. AreWhole log.spans) logs (λ number log h. let p = process_of_log number log h in let line = line_for number p.0 p.1.0 in subst (λ (x : ProcessLog). AreWhole x.spans) p.1.1 (over_at number line.0 p.0 line.1 p.1.0).was.whole)
+  all_whole = all_logs (λ log. AreWhole log.spans) logs (λ number log h. let p = process_of_log number log h in let line = line_for s run known number p.0 p.1.0 in subst (λ (x : ProcessLog). AreWhole x.spans) p.1.1 (over_at number line.0 p.0 line.1 p.1.0).was.whole)
+
+  abbrev the_log : RunLog
+  the_log = record { journal = run.journal; processes = logs }
+
+  abbrev histories : List History
+  histories = histories_of states run.processes.items
+
+  process_of_history : (number : ℕ) (h : History) → slice_get histories number ≡ Some h → (p : ProcessRun) × ((slice_get run.processes.items number ≡ Some p) × (history_of states (stand_of p) ≡ h))
+  process_of_history number h at = mapped (λ p. history_of states (stand_of p)) (slice_get run.processes.items number) h (sym (slice_get-map (λ p. history_of states (stand_of p)) run.processes.items number) ∙ at)
+
+  same_marks : (number : ℕ) (p : ProcessRun) → slice_get run.processes.items number ≡ Some p → marks_of states (new_process p.process.number p.process.target p.process.args) p.spans ≡ marks_of states (new_process number p.process.target p.process.args) p.spans
+  same_marks number p h = let line = line_for s run known number p h in ap (λ n. marks_of states (new_process n p.process.target p.process.args) p.spans) (over_at number line.0 p line.1 h).was.numbered
+
+  same_fin : (phase : Phase) → IsEnd phase → fin_in phase ≡ Some (end_of phase)
+  same_fin Waiting h = absurd h
+  same_fin Going h = absurd h
+  same_fin (Ended fin) h = refl
+
+  -- the history of a process and its log
+  are_histories : AreHistoriesOf s the_log histories
+  are_histories = record {
+    many = length-map run.processes.items (λ p. history_of states (stand_of p)) ∙ sym (length-map run.processes.items log_of);
+    marks = λ number h log h_is log_is.
+        let p = process_of_history number h h_is in
+        let q = process_of_log number log log_is in
+        let same : p.0 ≡ q.0 = same_Some p.0 q.0 (sym p.1.0 ∙ q.1.0) in
+        ap (λ (x : History). x.marks) (sym p.1.1)
+        ∙ same_marks number p.0 p.1.0
+        ∙ ap (λ (x : ProcessRun). marks_of states (new_process number x.process.target x.process.args) x.spans) same
+        ∙ ap (λ (x : ProcessLog). marks_of states (new_process number x.target x.args) x.spans) q.1.1;
+    fin = λ number h log h_is log_is.
+        let p = process_of_history number h h_is in
+        let q = process_of_log number log log_is in
+        let same : p.0 ≡ q.0 = same_Some p.0 q.0 (sym p.1.0 ∙ q.1.0) in
+        ap (λ (x : History). x.fin) (sym p.1.1) ∙ same_fin p.0.phase (all_ended number p.0 p.1.0) ∙ ap (λ (x : ProcessRun). Some (end_of x.phase)) same ∙ ap (λ (x : ProcessLog). Some x.fin) q.1.1;
+  }
 
   -- what was done is lawful
   pub run_legal : Legal s (record { journal = run.journal; processes = logs })
   run_legal = record {
     replays = known.replays;
-    loaders_in_order = λ loader. known.in_order loader ∙ ap (map cmd_of) (take_all (done_of run.loaders.items loader) (commands_of s loader) (omega (arith, over.loaders loader)));
+    loaders_in_order = record {
+      commands = λ loader. known.in_order loader ∙ take_all (done_of run.loaders.items loader) (commands_of s loader) (omega (arith, over.loaders loader));
+      purges = subst (λ p. PurgesGo s.modules empty_state None run.journal (option_map half_of p)) over.purging known.purges;
+    };
     spawn_before_turns = spawn_before;
     turns_follow = turns_follow;
+    released_unnamed = released_unnamed s the_log histories known.answers.stand are_histories;
+    lingers_told = lingers_told s the_log histories known.answers.stand are_histories;
+    purged_unnamed = purged_unnamed s the_log histories known.answers.stand are_histories;
+    nothing_retired = ap (λ (x : ServerState). x.retired) (sym known.server) ∙ over.retired;
     complete = complete;
   }

@@ -1,5 +1,5 @@
 -- Elements of a list by their places, after a write and behind one another; and what holds of each element.
-use Rattle.std.proofs.Common.{◌≡◌, ℕ, zero, suc, ◌+◌, ◌<◌, List, [], ◌∷◌, ◌++◌, length, take, slice_get, slice_set, Some, refl, ap, subst, ◌∙◌, arith, add-one}
+use Rattle.std.proofs.Common.{◌≡◌, ℕ, zero, suc, ◌+◌, ◌<◌, List, [], ◌∷◌, ◌++◌, length, map, take, slice_get, slice_set, Some, refl, sym, ap, subst, ◌∙◌, arith, add-one}
 use Rattle.std.proofs.lemmas.Option.{none-some, same_Some}
 use Rattle.std.specs.List.{AllByRecursion}
 
@@ -42,6 +42,17 @@ pub take_next : {X : Type 0} (xs : List X) (i : ℕ) (x : X) → slice_get xs i 
 take_next [] i x h = absurd (none-some x h)
 take_next (y ∷ xs) zero x h = ap (λ z. z ∷ []) (same_Some y x h)
 take_next (y ∷ xs) (suc i) x h = rw add-one (ap (λ t. y ∷ t) (rw add-one at (take_next xs i x h)))
+
+-- functions that agree at the elements give the same list
+pub map_same : {X Y : Type 0} (f g : X → Y) (xs : List X) → ((k : ℕ) (x : X) → slice_get xs k ≡ Some x → f x ≡ g x) → map f xs ≡ map g xs
+map_same f g [] h = refl
+map_same f g (x ∷ xs) h = ap (λ y. y ∷ map f xs) (h 0 x refl) ∙ ap (λ ys. g x ∷ ys) (map_same f g xs (λ k y e. h (suc k) y e))
+
+-- and a write that a function does not tell apart leaves the list as it was
+pub map_kept : {X Y : Type 0} (f : X → Y) (xs : List X) (i : ℕ) (x y : X) → slice_get xs i ≡ Some x → f y ≡ f x → map f (slice_set xs i y) ≡ map f xs
+map_kept f [] i x y h e = refl
+map_kept f (z ∷ xs) zero x y h e = ap (λ w. w ∷ map f xs) (e ∙ ap f (sym (same_Some z x h)))
+map_kept f (z ∷ xs) (suc i) x y h e = ap (λ ws. f z ∷ ws) (map_kept f xs i x y h e)
 
 -- behind a front
 pub get_behind : {X : Type 0} (xs ys : List X) (k : ℕ) → slice_get (xs ++ ys) (length xs + k) ≡ slice_get ys k

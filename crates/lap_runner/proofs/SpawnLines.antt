@@ -5,7 +5,7 @@ use Rattle.std.proofs.lemmas.List.Sums.{sum_by-cons, sum_by-append}
 use Rattle.term_core.specs.declared.atom.Mfa.{Mfa}
 use Rattle.term_core.specs.PlainTerm.{PlainTerm}
 use Rattle.script_text.specs.declared.script.ScriptCmd.{ScriptCmd}
-use Rattle.script_text.specs.declared.script.ScriptCmd.TheVariants.{Load, Spawn}
+use Rattle.script_text.specs.declared.script.ScriptCmd.TheVariants.{Spawn}
 use Rattle.script_text.specs.Sound.{spawns_in}
 use Rattle.run_log.specs.Legal.{SpawnLine, spawns_from, spawns_of}
 use Rattle.lap_runner.specs.Runs.{spawn_count, spawn_number}
@@ -14,11 +14,11 @@ use Rattle.lap_runner.proofs.Lists.{JoinedAt, in_front, behind, joined_at, get_b
 -- as many spawn lines as spawns
 pub lines_counted : (loader place : ℕ) (commands : List ScriptCmd) → length (spawns_from loader place commands) ≡ spawn_count commands
 lines_counted loader place [] = refl
-lines_counted loader place (Load refs ∷ commands) = lines_counted loader (suc place) commands ∙ sym (sum_by-cons spawns_in (Load refs) commands ∙ omega arith)
 lines_counted loader place (Spawn target args ∷ commands) =
     let rest = lines_counted loader (suc place) commands in
     let count = sum_by-cons spawns_in (Spawn target args) commands in
     omega (arith, rest, count)
+lines_counted loader place (cmd ∷ commands) = lines_counted loader (suc place) commands ∙ sym (sum_by-cons spawns_in cmd commands ∙ omega arith)
 
 -- the commands of a loader that is there, or none
 abbrev pub commands_at : List (List ScriptCmd) → ℕ → List ScriptCmd
@@ -53,11 +53,11 @@ line_further loader place cmd commands number line l = record {
 
 line_from : (loader place : ℕ) (commands : List ScriptCmd) (number : ℕ) (line : SpawnLine) → slice_get (spawns_from loader place commands) number ≡ Some line → LineFrom loader place commands number line
 line_from loader place [] number line h = absurd (none-some line h)
-line_from loader place (Load refs ∷ commands) number line h =
-    subst (λ n. LineFrom loader place (Load refs ∷ commands) n line) (omega arith) (line_further loader place (Load refs) commands number line (line_from loader (suc place) commands number line h))
 line_from loader place (Spawn target args ∷ commands) zero line h = line_first loader place target args commands line (same_Some _ _ h)
 line_from loader place (Spawn target args ∷ commands) (suc number) line h =
     subst (λ n. LineFrom loader place (Spawn target args ∷ commands) n line) (omega arith) (line_further loader place (Spawn target args) commands number line (line_from loader (suc place) commands number line h))
+line_from loader place (cmd ∷ commands) number line h =
+    subst (λ n. LineFrom loader place (cmd ∷ commands) n line) (omega arith) (line_further loader place cmd commands number line (line_from loader (suc place) commands number line h))
 
 -- a spawn line of the loaders that are numbered from one on: its number is the count of spawns before it, and its command is there
 pub record LineAt (first : ℕ) (loaders : List (List ScriptCmd)) (number : ℕ) (line : SpawnLine) : Type 0 where
@@ -99,11 +99,6 @@ line_at first (commands ∷ loaders) number line h =
 spawn_from : (loader place : ℕ) (commands : List ScriptCmd) (at : ℕ) (target : Mfa) (args : List PlainTerm) → slice_get commands at ≡ Some (Spawn target args)
     → slice_get (spawns_from loader place commands) (spawn_count (take at commands)) ≡ Some (record { loader = loader; place = place + at; target = target; args = args })
 spawn_from loader place [] at target args h = absurd (none-some _ h)
-spawn_from loader place (Load refs ∷ commands) zero target args h = let e : Load refs ≡ Spawn target args = same_Some _ _ h in cc
-spawn_from loader place (Load refs ∷ commands) (suc at) target args h =
-    let n : spawn_count (take (suc at) (Load refs ∷ commands)) ≡ spawn_count (take at commands) = sum_by-cons spawns_in (Load refs) (take at commands) ∙ omega arith in
-    let p : suc place + at ≡ place + suc at = omega arith in
-    ap (slice_get (spawns_from loader (suc place) commands)) n ∙ spawn_from loader (suc place) commands at target args h ∙ ap (λ k. Some (record { loader = loader; place = k; target = target; args = args })) p
 spawn_from loader place (Spawn to given ∷ commands) zero target args h =
     let e : Spawn to given ≡ Spawn target args = same_Some _ _ h in
     let f : to ≡ target = cc in
@@ -114,6 +109,11 @@ spawn_from loader place (Spawn to given ∷ commands) (suc at) target args h =
     let n : spawn_count (take (suc at) (Spawn to given ∷ commands)) ≡ suc (spawn_count (take at commands)) = sum_by-cons spawns_in (Spawn to given) (take at commands) ∙ omega arith in
     let p : suc place + at ≡ place + suc at = omega arith in
     ap (slice_get (spawns_from loader place (Spawn to given ∷ commands))) n ∙ spawn_from loader (suc place) commands at target args h ∙ ap (λ k. Some (record { loader = loader; place = k; target = target; args = args })) p
+spawn_from loader place (cmd ∷ commands) zero target args h = let e : cmd ≡ Spawn target args = same_Some _ _ h in cc
+spawn_from loader place (cmd ∷ commands) (suc at) target args h =
+    let n : spawn_count (take (suc at) (cmd ∷ commands)) ≡ spawn_count (take at commands) = sum_by-cons spawns_in cmd (take at commands) ∙ omega arith in
+    let p : suc place + at ≡ place + suc at = omega arith in
+    ap (slice_get (spawns_from loader (suc place) commands)) n ∙ spawn_from loader (suc place) commands at target args h ∙ ap (λ k. Some (record { loader = loader; place = k; target = target; args = args })) p
 
 -- the line of a spawn that stands at a place of a loader
 pub spawn_at : (first : ℕ) (loaders : List (List ScriptCmd)) (loader place : ℕ) (target : Mfa) (args : List PlainTerm) → slice_get (commands_at loaders loader) place ≡ Some (Spawn target args)

@@ -4,7 +4,7 @@ use Rattle.machine_core.specs.declared.process.Line.{Line}
 use Rattle.run_log.specs.declared.logs.Span.{Span}
 use Rattle.run_log.specs.WholeSpans.{last_generation}
 use Rattle.run_log.proofs.ApartSpans.{last_is}
-use Rattle.lap_runner.specs.Runs.{IsTaken, new_one}
+use Rattle.lap_runner.specs.Steps.{IsTaken, new_one}
 
 -- the last span is of another generation, and is put back
 pub put_back : (generation : ℕ) (before popped after : List Span) (last : Span) (lines : List Line) → before ≡ popped ++ last ∷ [] → last.generation ≢ generation → after ≡ popped ++ last ∷ [] → lines ≡ []

@@ -9,16 +9,19 @@ use Rattle.machine_core.specs.declared.process.TurnEnd.{TurnEnd}
 use Rattle.machine_core.specs.declared.process.TurnEnd.TheVariants as turns
 use Rattle.machine_core.specs.Holds.{area_count}
 use Rattle.machine_core.specs.Process.{PlainProcess, names_of, new_process}
-use Rattle.machine_core.specs.Turn.{turn_of}
+use Rattle.machine_core.specs.Turn.{Turn, turn_of}
 use Rattle.run_log.specs.declared.logs.Entry.{Entry}
 use Rattle.run_log.specs.declared.logs.Span.{Span}
 use Rattle.run_log.specs.Journal.{published_before}
-use Rattle.run_log.specs.Legal.{SpawnLine, SpansFollow, SpansGo, first_generation, turns_of}
+use Rattle.run_log.specs.Legal.{Mark, SpawnLine, SpansFollow, SpansGo, first_generation, marks_of, process_after, turns_of}
 use Rattle.run_log.specs.WholeSpans.{AreApart, AreWhole, last_generation}
 use Rattle.run_log.proofs.ApartSpans.{apart_cut, apart_more}
+use Rattle.run_log.proofs.Marks.{marks_empty, marks_more, process_empty, process_now}
+use Rattle.run_log.proofs.StatesForTurns.{for_turns, turn_alike}
 use Rattle.run_log.proofs.TurnRuns.{no_turns, some_turn, turns_more}
 use Rattle.run_log.proofs.SpanRuns.{first_front, first_more, go_cut, go_more, go_over}
-use Rattle.lap_runner.specs.Runs.{Goes, HadTurn, IsOver, IsTaken, Stand, StandsIn, WasSpawned, last_one, new_one, phase_after}
+use Rattle.lap_runner.specs.Runs.{Goes, IsOver, StandsIn, WasSpawned}
+use Rattle.lap_runner.specs.Steps.{HadTurn, IsTaken, Stand, last_one, new_one, phase_after}
 use Rattle.lap_runner.proofs.Lists.{all_front, all_last, all_push, all_weaker}
 use Rattle.lap_runner.proofs.TurnLaws.{again_counted}
 use Rattle.machine_core.proofs.FewAreas.{turn_few}
@@ -87,7 +90,7 @@ open_taken states generation most first P spans others span now (new_one new sam
 abbrev pub span_after : ServerState → Span → PlainProcess → Span
 span_after s span p = record { generation = s.generation; turns = span.turns + 1; lines = span.lines ++ (turn_of s p).made }
 
-module _ (journal : List Entry) (states : ℕ → ServerState) (newest : ServerState) (done number : ℕ) (line : SpawnLine) (before after : Stand) (here : states newest.generation ≡ newest) (goes : Goes journal states newest done number line before) (had : HadTurn newest before after) where
+module _ (journal : List Entry) (states : ℕ → ServerState) (newest : ServerState) (done number : ℕ) (line : SpawnLine) (before after : Stand) (here : for_turns (states newest.generation) ≡ for_turns newest) (goes : Goes journal states newest done number line before) (had : HadTurn newest before after) where
   abbrev first : PlainProcess
   first = new_process number line.target line.args
 
@@ -97,16 +100,21 @@ module _ (journal : List Entry) (states : ℕ → ServerState) (newest : ServerS
   opened : IsOpen states newest.generation before.process.turns first Started had.others had.span before.process
   opened = open_taken states newest.generation before.process.turns first Started before.spans had.others had.span before.process had.taken goes.follow goes.was.known goes.ready.counted goes.was.started goes.was.whole
 
+  -- turns see the newest generation's state as the server's
+  same_turn : turn_of (states newest.generation) before.process ≡ turn_of newest before.process
+  same_turn = turn_alike (states newest.generation) newest before.process here
+
   turned : turns_of (states newest.generation) (had.span.turns + 1) opened.between [] ≡ some_turn (turn_of newest before.process).process (had.span.lines ++ (turn_of newest before.process).made) (turn_of newest before.process).end
   turned =
-      subst (λ s. turns_of (states newest.generation) (had.span.turns + 1) opened.between [] ≡ some_turn (turn_of s before.process).process (had.span.lines ++ (turn_of s before.process).made) (turn_of s before.process).end) here
+      subst (λ (t : Turn). turns_of (states newest.generation) (had.span.turns + 1) opened.between [] ≡ some_turn t.process (had.span.lines ++ t.made) t.end) same_turn
       (rw add-one (turns_more (states newest.generation) had.span.turns opened.between [] before.process had.span.lines opened.turns))
 
-  was : published_before line.loader line.place journal ≤ newest.generation → WasSpawned newest.generation done journal line after
+  was : published_before line.loader line.place journal ≤ newest.generation → WasSpawned newest.generation done number journal line after
   was later =
       let call = turn_same newest before.process in
       record {
         spawned = goes.was.spawned;
+        numbered = ap (λ x. x.number) (sym had.process) ∙ call.number ∙ goes.was.numbered;
         target = ap (λ x. x.target) (sym had.process) ∙ call.target ∙ goes.was.target;
         args = ap (λ x. x.args) (sym had.process) ∙ call.args ∙ goes.was.args;
         started = subst (λ x. IfSome (first_generation x) Started) (sym had.spans) (first_more Started had.others (span_after newest had.span before.process) opened.started later);
@@ -154,3 +162,39 @@ module _ (journal : List Entry) (states : ℕ → ServerState) (newest : ServerS
   -- after the turn the process stands in its new phase
   pub turn_stands : published_before line.loader line.place journal ≤ newest.generation → StandsIn journal states newest done number line after after.phase
   turn_stands later = subst (StandsIn journal states newest done number line after) (sym had.phase) (ended_as (turn_of newest before.process).end refl later)
+
+  abbrev the_mark : Mark
+  the_mark = record { generation = newest.generation; process = after.process }
+
+  mark_by : (span : Span) → span.generation ≡ newest.generation → before.spans ≡ had.others ++ span ∷ [] → after.spans ≡ had.others ++ record { generation = newest.generation; turns = span.turns + 1; lines = span.lines ++ (turn_of newest before.process).made } ∷ []
+      → marks_of states first after.spans ≡ marks_of states first before.spans ++ the_mark ∷ []
+  mark_by span same was now =
+      let one : Span = record { generation = newest.generation; turns = span.turns; lines = span.lines } in
+      let is : span ≡ one = ap (λ g. record { generation = g; turns = span.turns; lines = span.lines }) same in
+      let before_is : before.spans ≡ had.others ++ one ∷ [] = was ∙ ap (λ x. had.others ++ x ∷ []) is in
+      ap (marks_of states first) now
+      ∙ marks_more states first had.others newest.generation span.turns span.lines (span.lines ++ (turn_of newest before.process).made)
+      ∙ ap (λ (xs : List Span). marks_of states first xs ++ record { generation = newest.generation; process = (turn_of (states newest.generation) (process_after states first xs)).process } ∷ []) (sym before_is)
+      ∙ ap (λ (x : PlainProcess). marks_of states first before.spans ++ record { generation = newest.generation; process = (turn_of (states newest.generation) x).process } ∷ []) (process_now states first before.spans before.process goes.follow)
+      ∙ ap (λ (x : PlainProcess). marks_of states first before.spans ++ record { generation = newest.generation; process = x } ∷ []) (ap (λ (t : Turn). t.process) same_turn ∙ had.process)
+
+  mark_new : had.span ≡ record { generation = newest.generation; turns = 0; lines = [] } → had.others ≡ before.spans → marks_of states first after.spans ≡ marks_of states first before.spans ++ the_mark ∷ []
+  mark_new new same =
+      let none : Span = record { generation = newest.generation; turns = 0; lines = [] } in
+      let now : after.spans ≡ had.others ++ record { generation = newest.generation; turns = 0 + 1; lines = [] ++ (turn_of newest before.process).made } ∷ [] =
+      had.spans ∙ ap (λ (x : Span). had.others ++ record { generation = newest.generation; turns = x.turns + 1; lines = x.lines ++ (turn_of newest before.process).made } ∷ []) new in
+      ap (marks_of states first) now
+      ∙ marks_more states first had.others newest.generation 0 [] ([] ++ (turn_of newest before.process).made)
+      ∙ ap (λ (ms : List Mark). ms ++ record { generation = newest.generation; process = (turn_of (states newest.generation) (process_after states first (had.others ++ none ∷ []))).process } ∷ []) (marks_empty states first had.others newest.generation [])
+      ∙ ap (λ (x : PlainProcess). marks_of states first had.others ++ record { generation = newest.generation; process = (turn_of (states newest.generation) x).process } ∷ []) (process_empty states first had.others newest.generation [])
+      ∙ ap (λ (xs : List Span). marks_of states first xs ++ record { generation = newest.generation; process = (turn_of (states newest.generation) (process_after states first xs)).process } ∷ []) same
+      ∙ ap (λ (x : PlainProcess). marks_of states first before.spans ++ record { generation = newest.generation; process = (turn_of (states newest.generation) x).process } ∷ []) (process_now states first before.spans before.process goes.follow)
+      ∙ ap (λ (x : PlainProcess). marks_of states first before.spans ++ record { generation = newest.generation; process = x } ∷ []) (ap (λ (t : Turn). t.process) same_turn ∙ had.process)
+
+  one_mark : IsTaken newest.generation before.spans had.others had.span → marks_of states first after.spans ≡ marks_of states first before.spans ++ the_mark ∷ []
+  one_mark (last_one same parts) = mark_by had.span same parts had.spans
+  one_mark (new_one new same fresh) = mark_new new same
+
+  -- it has the turns that it had, and this one
+  pub turn_marks : marks_of states first after.spans ≡ marks_of states first before.spans ++ record { generation = newest.generation; process = after.process } ∷ []
+  turn_marks = one_mark had.taken

@@ -1,47 +1,36 @@
--- What a run of a script has between two of its steps, and what each step does to it.
--- Source: this project's order of laps: each loader makes one command, then each process that goes on has one turn.
+-- What a run of a script has between two of its steps.
+-- Source: this project's order of laps: each loader makes one command, then each process that goes on has one turn, then what no process names is released.
 -- The definitions replay the journal; the code keeps one server and its processes.
-use Rattle.std.specs.Prelude.{◌≡◌, ◌≢◌, ℕ, zero, suc, ◌+◌, ◌-◌, ◌<◌, ◌≤◌, Bool, true, false, List, [], ◌∷◌, ◌++◌, length, map, take, slice_get, slice_set, sum_by, Some, IfSome, IsSomeAnd, unwrap_or, option_map}
+use Rattle.std.specs.Prelude.{◌≡◌, ℕ, zero, suc, ◌+◌, ◌-◌, ◌<◌, ◌≤◌, Bool, true, false, is_some, List, [], ◌∷◌, ◌++◌, length, map, take, slice_get, sum_by, Option, Some, None, IfSome, IsSomeAnd, unwrap_or, option_map}
 use Rattle.std.specs.List.{AllByRecursion}
 use Rattle.term_core.specs.declared.hold.TheConstants.{MOST_AREAS}
 use Rattle.term_core.specs.declared.atom.Mfa.{Mfa}
 use Rattle.term_core.specs.PlainTerm.{PlainTerm}
-use Rattle.server_core.specs.ServerState.{ServerState, empty_state}
-use Rattle.server_core.specs.CommandTable.{apply_of}
+use Rattle.server_core.specs.ServerState.{ServerState, IsSound, empty_state, old_of}
 use Rattle.machine_core.specs.declared.process.TheConstants.{MOST_TURNS}
 use Rattle.machine_core.specs.declared.process.End.{End}
 use Rattle.machine_core.specs.declared.process.End.TheVariants.{Normal}
-use Rattle.machine_core.specs.declared.process.TurnEnd.{TurnEnd}
-use Rattle.machine_core.specs.declared.process.TurnEnd.TheVariants as turns
 use Rattle.machine_core.specs.Holds.{area_count}
-use Rattle.machine_core.specs.Process.{PlainProcess, names_of, new_process, process_of}
-use Rattle.machine_core.specs.Turn.{MayTurn, turn_of}
+use Rattle.machine_core.specs.Process.{names_of, new_process}
+use Rattle.machine_core.specs.Turn.{MayTurn}
 use Rattle.script_text.specs.declared.script.Script.{Script}
 use Rattle.script_text.specs.declared.script.ScriptCmd.{ScriptCmd}
-use Rattle.script_text.specs.declared.script.ScriptCmd.TheVariants.{Load, Spawn}
+use Rattle.script_text.specs.declared.script.ScriptCmd.TheVariants.{Load, Delete, SoftPurge, Purge, CheckOld, Trace, Spawn}
 use Rattle.script_text.specs.Sound.{spawns_in}
 use Rattle.run_log.specs.declared.logs.Who.TheVariants.{Loader}
 use Rattle.run_log.specs.declared.logs.Entry.{Entry}
-use Rattle.run_log.specs.declared.logs.Span.{Span}
 use Rattle.run_log.specs.declared.logs.ProcessLog.{ProcessLog}
-use Rattle.run_log.specs.Journal.{newest_state, state_at, entries_of, published_before}
-use Rattle.run_log.specs.Legal.{Replays, SpawnLine, SpansFollow, SpansGo, cmd_of, commands_of, first_generation, spawns_of}
-use Rattle.run_log.specs.WholeSpans.{AreWhole, last_generation}
+use Rattle.run_log.specs.Journal.{newest_state, state_at, published_before}
+use Rattle.run_log.specs.Legal.{HalfPurge, PurgesGo, Replays, SpawnLine, SpansFollow, SpansGo, commands_in, commands_of, first_generation, marks_of, spawns_of}
+use Rattle.run_log.specs.WholeSpans.{AreWhole}
 use Rattle.lap_runner.specs.declared.process_run.Phase.{Phase}
 use Rattle.lap_runner.specs.declared.process_run.Phase.TheVariants.{Waiting, Going, Ended}
 use Rattle.lap_runner.specs.declared.process_run.ProcessRun.{ProcessRun}
 use Rattle.lap_runner.specs.declared.run.LoaderRun.{LoaderRun}
+use Rattle.lap_runner.specs.declared.run.Purging.{Purging}
 use Rattle.lap_runner.specs.declared.run.Run.{Run}
-
--- a process of the script as definitions see it, with its spans so far and its phase
-pub record Stand : Type 0 where
-  pub process : PlainProcess
-  pub spans : List Span
-  pub phase : Phase
-
--- what a process of a run stands for
-abbrev pub stand_of : ProcessRun → Stand
-stand_of p = record { process = process_of p.process; spans = p.spans; phase = p.phase }
+use Rattle.lap_runner.specs.Answers.{AreKnown, History}
+use Rattle.lap_runner.specs.Steps.{Stand, stand_of}
 
 -- how many spawns stand among these commands
 abbrev pub spawn_count : List ScriptCmd → ℕ
@@ -64,8 +53,9 @@ pub record Waits (done number : ℕ) (line : SpawnLine) (stand : Stand) : Type 0
   pub still : done ≤ line.place
 
 -- a process that was spawned and has had turns: what they were under belongs to the journal
-pub record WasSpawned (top done : ℕ) (journal : List Entry) (line : SpawnLine) (stand : Stand) : Type 0 where
+pub record WasSpawned (top done number : ℕ) (journal : List Entry) (line : SpawnLine) (stand : Stand) : Type 0 where
   pub spawned : line.place < done
+  pub numbered : stand.process.number ≡ number
   pub target : stand.process.target ≡ line.target
   pub args : stand.process.args ≡ line.args
   pub started : IfSome (first_generation stand.spans) (λ g. published_before line.loader line.place journal ≤ g)
@@ -81,13 +71,13 @@ pub record IsReady (s : ServerState) (stand : Stand) : Type 0 where
 
 -- a process that was spawned and goes on
 pub record Goes (journal : List Entry) (states : ℕ → ServerState) (newest : ServerState) (done number : ℕ) (line : SpawnLine) (stand : Stand) : Type 0 where
-  pub was : WasSpawned newest.generation done journal line stand
+  pub was : WasSpawned newest.generation done number journal line stand
   pub follow : SpansGo states (new_process number line.target line.args) stand.spans stand.process
   pub ready : IsReady newest stand
 
 -- a process that has ended
 pub record IsOver (journal : List Entry) (states : ℕ → ServerState) (newest : ServerState) (done number : ℕ) (line : SpawnLine) (stand : Stand) (fin : End) : Type 0 where
-  pub was : WasSpawned newest.generation done journal line stand
+  pub was : WasSpawned newest.generation done number journal line stand
   pub follow : SpansFollow states (new_process number line.target line.args) stand.spans fin
 
 -- what is known of a process in a phase
@@ -96,68 +86,50 @@ StandsIn journal states newest done number line stand Waiting = Waits done numbe
 StandsIn journal states newest done number line stand Going = Goes journal states newest done number line stand
 StandsIn journal states newest done number line stand (Ended fin) = IsOver journal states newest done number line stand fin
 
--- a run of the script between two steps: the server is at the journal's newest state, the entries of each loader are the first of its commands,
--- and each process stands where its spawn and its turns so far have brought it
+-- how a process ended, if it did
+abbrev pub fin_in : Phase → Option End
+fin_in Waiting = None
+fin_in Going = None
+fin_in (Ended fin) = Some fin
+
+-- the turns of a process so far, the process now, and its end
+abbrev pub history_of : (ℕ → ServerState) → Stand → History
+history_of states stand = record { marks = marks_of states (new_process stand.process.number stand.process.target stand.process.args) stand.spans; now = stand.process; fin = fin_in stand.phase }
+
+-- the histories of processes
+abbrev pub histories_of : (ℕ → ServerState) → List ProcessRun → List History
+histories_of states ps = map (λ p. history_of states (stand_of p)) ps
+
+-- a purge as the journal has it
+abbrev pub half_of : Purging → HalfPurge
+half_of purging = record { who = Loader purging.loader; name = purging.«module» }
+
+-- a purge waits: it is the next command of its loader, and just the old code of its module is doomed
+pub record PurgeWaits (s : Script) (newest : ServerState) (loaders : List LoaderRun) (purging : Purging) : Type 0 where
+  pub next : slice_get (commands_of s purging.loader) (done_of loaders purging.loader) ≡ Some (Purge purging.«module»)
+  pub doomed : IsSomeAnd (old_of newest purging.«module».0) (λ serial. newest.doomed ≡ serial ∷ [])
+
+-- what is doomed while this purge waits, or none does
+abbrev pub DoomsJust : Script → ServerState → List LoaderRun → Option Purging → Type 0
+DoomsJust s newest loaders None = newest.doomed ≡ []
+DoomsJust s newest loaders (Some purging) = PurgeWaits s newest loaders purging
+
+-- a run of the script between two steps: the server is at the journal's newest state, the entries of each loader end the first of its commands,
+-- each process stands where its spawn and its turns so far have brought it, and what the journal tells of processes is so
 pub record IsRun (s : Script) (run : Run) : Type 0 where
   pub replays : Replays s.modules empty_state run.journal
   pub server : run.server ≡ newest_state s.modules empty_state run.journal
+  pub sound : IsSound run.server
+  pub purges : PurgesGo s.modules empty_state None run.journal (option_map half_of run.purging)
+  pub dooms : DoomsJust s run.server run.loaders.items run.purging
   pub loaders : length run.loaders.items ≡ length s.loaders
   pub within : (loader : ℕ) → done_of run.loaders.items loader ≤ length (commands_of s loader)
   pub numbers : (loader : ℕ) (l : LoaderRun) → slice_get run.loaders.items loader ≡ Some l → l.next_process ≡ spawn_number s.loaders loader l.done
-  pub in_order : (loader : ℕ) → map (λ e. e.cmd) (entries_of loader run.journal) ≡ map cmd_of (take (done_of run.loaders.items loader) (commands_of s loader))
+  pub in_order : (loader : ℕ) → commands_in loader run.journal ≡ take (done_of run.loaders.items loader) (commands_of s loader)
   pub processes : length run.processes.items ≡ length (spawns_of 0 s.loaders)
   pub process : (number : ℕ) (line : SpawnLine) (p : ProcessRun) → slice_get (spawns_of 0 s.loaders) number ≡ Some line → slice_get run.processes.items number ≡ Some p
       → StandsIn run.journal (state_at s.modules empty_state run.journal) run.server (done_of run.loaders.items line.loader) number line (stand_of p) p.phase
-
--- a loader after one of its commands
-abbrev pub loader_after : ScriptCmd → LoaderRun → LoaderRun
-loader_after cmd l = record { done = l.done + 1; next_process = l.next_process + spawns_in cmd }
-
--- there is the process that a command spawns
-abbrev pub CanSpawn : ScriptCmd → ℕ → List ProcessRun → Type 0
-CanSpawn (Load refs) next processes = Unit {0}
-CanSpawn (Spawn target args) next processes = next < length processes
-
--- the processes after a command of a loader: the one that a spawn names goes on from now
-abbrev pub SpawnsNext : ScriptCmd → ℕ → List ProcessRun → List ProcessRun → Type 0
-SpawnsNext (Load refs) next before after = after ≡ before
-SpawnsNext (Spawn target args) next before after = IsSomeAnd (slice_get before next) (λ p. after ≡ slice_set before next (record p { phase = Going }))
-
--- a command of a loader was made: its entry joined the journal with what the command table gives
-pub record HasMade (s : Script) (loader : ℕ) (cmd : ScriptCmd) (before after : Run) : Type 0 where
-  pub entry : Entry
-  pub who : entry.who ≡ Loader loader
-  pub command : entry.cmd ≡ cmd_of cmd
-  pub applied : apply_of s.modules before.server (cmd_of cmd) ≡ Some (record { state = after.server; answer = record { reply = entry.reply; published = entry.published } })
-  pub journal : after.journal ≡ before.journal ++ entry ∷ []
-  pub loader_is : IsSomeAnd (slice_get before.loaders.items loader) (λ l. after.loaders.items ≡ slice_set before.loaders.items loader (loader_after cmd l))
-  pub processes : IsSomeAnd (slice_get before.loaders.items loader) (λ l. SpawnsNext cmd l.next_process before.processes.items after.processes.items)
-
--- the span that a turn under a generation joins was taken out of the spans: the last one where it is of that generation, else a new one
-pub data IsTaken (generation : ℕ) (before after : List Span) (span : Span) : Type 0 where
-  last_one : span.generation ≡ generation → before ≡ after ++ span ∷ [] → IsTaken generation before after span
-  new_one : span ≡ record { generation = generation; turns = 0; lines = [] } → after ≡ before → IfSome (last_generation before) (λ g. g ≢ generation) → IsTaken generation before after span
-
--- the phase of a process after a turn
-abbrev pub phase_after : TurnEnd → Phase
-phase_after turns.Again = Going
-phase_after (turns.Ended end) = Ended end
-
--- a process had a turn under a state, and its span has one turn more, with the lines of the turn
-pub record HadTurn (s : ServerState) (before after : Stand) : Type 0 where
-  pub others : List Span
-  pub span : Span
-  pub taken : IsTaken s.generation before.spans others span
-  pub process : (turn_of s before.process).process ≡ after.process
-  pub spans : after.spans ≡ others ++ record { generation = s.generation; turns = span.turns + 1; lines = span.lines ++ (turn_of s before.process).made } ∷ []
-  pub phase : after.phase ≡ phase_after (turn_of s before.process).end
-  pub again : (turn_of s before.process).end ≡ turns.Again → MayTurn s (names_of after.process) after.process
-
--- a process in a lap: one that goes on has one turn, and no other changes
-abbrev pub LapOf : ServerState → ProcessRun → ProcessRun → Phase → Type 0
-LapOf s before after Waiting = after ≡ before
-LapOf s before after Going = HadTurn s (stand_of before) (stand_of after)
-LapOf s before after (Ended end) = after ≡ before
+  pub answers : AreKnown s.modules run.journal (histories_of (state_at s.modules empty_state run.journal) run.processes.items)
 
 -- a process that goes on may have a turn
 abbrev pub IsReadyIn : ServerState → ProcessRun → Phase → Type 0
@@ -180,14 +152,14 @@ commands_left [] ls = 0
 commands_left (commands ∷ loaders) [] = 0
 commands_left (commands ∷ loaders) (l ∷ ls) = (length commands - l.done) + commands_left loaders ls
 
--- the commands and turns that a run has left
-abbrev pub work_left : Script → Run → ℕ
-work_left s run = commands_left s.loaders run.loaders.items + sum_by turns_left run.processes.items
-
 -- one for what was done
 abbrev pub one_if : Bool → ℕ
 one_if true = 1
 one_if false = 0
+
+-- the steps and turns that a run has left: a command has two steps at most, and one of them is done where a purge waits
+abbrev pub work_left : Script → Run → ℕ
+work_left s run = (commands_left s.loaders run.loaders.items + commands_left s.loaders run.loaders.items - one_if (is_some run.purging)) + sum_by turns_left run.processes.items
 
 -- a process that does not go on now
 abbrev pub Rests : Phase → Type 0
@@ -195,10 +167,24 @@ Rests Waiting = Unit {0}
 Rests Going = ⊥
 Rests (Ended end) = Unit {0}
 
--- each loader has made all its commands, and no process goes on
+-- where no loader made a command: each has made all its commands and no purge waits, or a process goes on
+pub data AreIdle (s : Script) (run : Run) : Type 0 where
+  all_made : run.purging ≡ None → ((loader : ℕ) → done_of run.loaders.items loader ≡ length (commands_of s loader)) → AreIdle s run
+  one_goes : (number : ℕ) (p : ProcessRun) → slice_get run.processes.items number ≡ Some p → p.phase ≡ Going → AreIdle s run
+
+-- some areas were released: nothing else changed but the journal and the server
+pub record HasReleased (s : Script) (before after : Run) : Type 0 where
+  pub run : IsRun s after
+  pub purging : after.purging ≡ before.purging
+  pub loaders : after.loaders.items ≡ before.loaders.items
+  pub processes : after.processes.items ≡ before.processes.items
+
+-- each loader has made all its commands, no purge waits, no process goes on, and nothing waits for its release
 pub record HasNoWork (s : Script) (run : Run) : Type 0 where
+  pub purging : run.purging ≡ None
   pub loaders : (loader : ℕ) → done_of run.loaders.items loader ≡ length (commands_of s loader)
   pub processes : (number : ℕ) (p : ProcessRun) → slice_get run.processes.items number ≡ Some p → Rests p.phase
+  pub retired : run.server.retired ≡ []
 
 -- a phase that is an end
 abbrev pub IsEnd : Phase → Type 0
@@ -219,6 +205,11 @@ log_of p = record { target = p.process.target; args = p.process.args; spans = p.
 -- a spawn has as many arguments as its arity
 abbrev pub HasArity : ScriptCmd → Type 0
 HasArity (Load refs) = Unit {0}
+HasArity (Delete name) = Unit {0}
+HasArity (SoftPurge name) = Unit {0}
+HasArity (Purge name) = Unit {0}
+HasArity (CheckOld name) = Unit {0}
+HasArity (Trace target on) = Unit {0}
 HasArity (Spawn target args) = length args ≡ target.arity
 
 -- a process whose spawn is still to come
@@ -229,6 +220,11 @@ waiting_stand number target args = record { process = new_process number target 
 abbrev pub waiting_from : ℕ → List ScriptCmd → List Stand
 waiting_from number [] = []
 waiting_from number (Load refs ∷ commands) = waiting_from number commands
+waiting_from number (Delete name ∷ commands) = waiting_from number commands
+waiting_from number (SoftPurge name ∷ commands) = waiting_from number commands
+waiting_from number (Purge name ∷ commands) = waiting_from number commands
+waiting_from number (CheckOld name ∷ commands) = waiting_from number commands
+waiting_from number (Trace target on ∷ commands) = waiting_from number commands
 waiting_from number (Spawn target args ∷ commands) = waiting_stand number target args ∷ waiting_from (number + 1) commands
 
 -- the processes of all loaders

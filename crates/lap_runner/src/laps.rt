@@ -1,11 +1,13 @@
 ghost use Rattle.std.specs.Prelude.{All, ◌≡◌, ◌+◌, ◌≤◌, ◌<◌, ℕ, length, map, slice_get, Some, sum_by, IfOk, IfSome, IsSomeAnd, IsTrue, true, false};
 ghost use Rattle.script_text.specs.Sound.{IsScript};
-ghost use Rattle.run_log.specs.Legal.{Legal, commands_of};
+ghost use Rattle.run_log.specs.Legal.{Legal};
 ghost use Rattle.run_log.specs.WholeSpans.{AreWhole};
-ghost use Rattle.lap_runner.specs.Runs.{HasNoWork, IsEnd, IsReadyIn, IsRun, LapOf, Rests, commands_left, done_of, log_of, one_if, turns_left, work_left};
+ghost use Rattle.lap_runner.specs.Runs.{AreIdle, HasNoWork, IsEnd, IsReadyIn, IsRun, Rests, log_of, one_if, turns_left, work_left};
+ghost use Rattle.lap_runner.specs.Steps.{LapOf};
 
-use crate::commands::make_command;
+use crate::commands::make_next;
 use crate::process_run::{Phase, ProcessRun, log_of, take_turn};
+use crate::releases::release_areas;
 use crate::run::{Run, begin};
 use run_log::{ProcessLogList, RunLog};
 use script_text::Script;
@@ -15,9 +17,14 @@ use term_core::NoMemory;
 
 /// Runs a script on the calling thread, over one server, and answers what was done.
 ///
-/// It works in laps: each loader in order of number makes its next command, and then each process in order of number that was
-/// spawned and has not ended has one turn under the newest generation. A process is numbered by the place of its spawn in the
-/// text. The run ends with a lap in which nothing was left to do. It takes memory for the server, the processes and the log.
+/// It works in laps: each loader in order of number makes its next command, then each process in order of number that was
+/// spawned and has not ended has one turn under the newest generation, and then each area that was dropped and that no process
+/// names is released. A purge is a doom in one lap, and goes on in the first later lap at whose beginning no process stands in
+/// what is purged; meanwhile the other loaders do only `spawn` and `check_old`. A process is numbered by the place of its spawn in
+/// the text. The run ends with a lap in which no command was made and no process had a turn. It takes memory for the server, the
+/// processes and the log.
+///
+/// Rule: the manual page `erlang`, on `purge_module`; laps are this project's own.
 pub fn run_laps(alloc: Global, script: &Script) -> Result<RunLog, NoMemory>
     requires { IsScript script.now }
     // The log is a history of one code server.
@@ -51,6 +58,7 @@ fn lap(alloc: Global, script: &Script, run: &mut Run) -> Result<bool, NoMemory>
 {
     let made = loaders_lap(alloc, script, run)?;
     let turned = processes_lap(alloc, &run.server, &mut run.processes)?;
+    release_areas(script, run)?;
     Ok(made || turned)
 }
 
@@ -60,15 +68,14 @@ fn loaders_lap(alloc: Global, script: &Script, run: &mut Run) -> Result<bool, No
     requires run { IsRun script.now run.old }
     ensures run { IfOk result (λ _. IsRun script.now run.new) }
     ensures less { IfOk result (λ made. work_left script.now run.new + one_if made ≤ work_left script.now run.old) }
-    ensures done { IfOk result (λ made. made ≡ false → (loader : ℕ) → done_of run.new.loaders.items loader ≡ length (commands_of script.now loader)) }
+    ensures idle { IfOk result (λ made. made ≡ false → AreIdle script.now run.new) }
 {
     let mut made = false;
     for (number, commands) in script.loaders.as_slice().iter().enumerate() {
         let commands = commands.as_slice();
         let place = run.loaders[number].done;
         if place < commands.len() {
-            make_command(alloc, script, number as u32, &commands[place], run)?;
-            made = true;
+            made |= make_next(alloc, script, number as u32, &commands[place], run)?;
         }
     }
     Ok(made)
@@ -83,7 +90,7 @@ fn processes_lap(
     requires { (k : ℕ) (p : ProcessRun) → slice_get processes.old k ≡ Some p → IsReadyIn server.now p p.phase }
     ensures laps { IfOk result (λ _. (k : ℕ) (p q : ProcessRun) → slice_get processes.old k ≡ Some p → slice_get processes.new k ≡ Some q → LapOf server.now p q p.phase) }
     ensures less { IfOk result (λ turned. sum_by turns_left processes.new + one_if turned ≤ sum_by turns_left processes.old) }
-    ensures rest { IfOk result (λ turned. turned ≡ false → (k : ℕ) (p : ProcessRun) → slice_get processes.new k ≡ Some p → Rests p.phase) }
+    ensures rest { IfOk result (λ turned. turned ≡ false → (k : ℕ) (p : ProcessRun) → slice_get processes.old k ≡ Some p → Rests p.phase) }
 {
     let mut turned = false;
     for process in processes.iter_mut() {

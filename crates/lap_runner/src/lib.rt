@@ -2,8 +2,11 @@
 #![tactic(auto)]
 
 mod commands;
+mod entries;
 mod laps;
 mod process_run;
+mod purges;
+mod releases;
 mod run;
 #[cfg(test)]
 mod tests;

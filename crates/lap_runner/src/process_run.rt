@@ -1,7 +1,11 @@
-ghost use Rattle.std.specs.Prelude.{◌≡◌, ◌+◌, ◌≤◌, ◌<◌, IfOk};
-ghost use Rattle.lap_runner.specs.Runs.{HadTurn, IsReady, IsTaken, log_of, IsEnd, phase_after, stand_of};
+ghost use Rattle.std.specs.Prelude.{◌≡◌, ◌==◌, IfOk};
+ghost use Rattle.std.specs.List.{list_any};
+ghost use Rattle.machine_core.specs.Process.{process_of};
+ghost use Rattle.lap_runner.specs.Looks.{names_area, stands_in};
+ghost use Rattle.lap_runner.specs.Runs.{IsEnd, IsReady, log_of};
+ghost use Rattle.lap_runner.specs.Steps.{HadTurn, IsTaken, phase_after, stand_of};
 
-use machine_core::{End, LineList, PlainView, Process, TurnEnd, turn};
+use machine_core::{End, Frame, LineList, PlainView, Process, TurnEnd, turn};
 use run_log::{ProcessLog, Span, SpanList};
 use server_core::Server;
 use std::alloc::Global;
@@ -23,6 +27,27 @@ pub struct ProcessRun {
     pub process: Process,
     pub spans: SpanList,
     pub phase: Phase,
+}
+
+/// Whether a frame of the process is of this instance.
+pub fn stands_in(process: &Process, serial: u64) -> bool
+    ensures { result ≡ stands_in serial (process_of process.now) }
+{
+    some_frame_of(process.frames.as_slice(), serial)
+}
+
+/// Whether one of these frames is of this instance.
+fn some_frame_of(frames: &[Frame], serial: u64) -> bool
+    ensures { result ≡ list_any (λ f. f.code.area.serial == serial) frames.now }
+{
+    frames.iter().any(|frame| frame.code.area.serial == serial)
+}
+
+/// Whether the process names this area, in any way: as the instance of a frame.
+pub fn names(process: &Process, serial: u64) -> bool
+    ensures { result ≡ names_area serial (process_of process.now) }
+{
+    stands_in(process, serial)
 }
 
 /// One turn of a process that goes on, under the server's newest generation.

@@ -1,7 +1,8 @@
 ghost use Rattle.std.specs.Prelude.{◌≡◌, ◌+◌, ◌++◌, ◌≤◌, length, map, IfOk, OnOk};
 ghost use Rattle.std.specs.List.{AllByRecursion};
 ghost use Rattle.script_text.specs.Sound.{IsScript};
-ghost use Rattle.lap_runner.specs.Runs.{HasArity, IsRun, loaders_from, spawn_count, stand_of, waiting_from, waiting_of, waiting_stand};
+ghost use Rattle.lap_runner.specs.Runs.{HasArity, IsRun, loaders_from, spawn_count, waiting_from, waiting_of, waiting_stand};
+ghost use Rattle.lap_runner.specs.Steps.{stand_of};
 
 use crate::process_run::{Phase, ProcessRun};
 use machine_core::Process;
@@ -9,7 +10,7 @@ use run_log::{EntryList, SpanList};
 use script_text::{CommandList, MOST_PROCESSES, Script, ScriptCmd};
 use server_core::Server;
 use std::alloc::Global;
-use term_core::{Mfa, NoMemory, TermList};
+use term_core::{AtomId, Mfa, NoMemory, TermList};
 
 /// How far a loader is.
 #[derive(Clone, Copy, Debug, PartialEq, Eq)]
@@ -20,11 +21,21 @@ pub struct LoaderRun {
     pub next_process: usize,
 }
 
+/// A purge between its two halves: its module's old code is doomed, and is to go.
+#[derive(Clone, Copy, Debug, PartialEq, Eq)]
+pub struct Purging {
+    /// The number of the loader that makes it.
+    pub loader: u32,
+    pub module: AtomId,
+}
+
 /// What a run has between two of its steps.
 #[derive(Drop)]
 pub struct Run {
     pub server: Server,
     pub journal: EntryList,
+    /// The purge that waits for its second half, if one does.
+    pub purging: Option<Purging>,
     /// The loaders, by number.
     pub loaders: Vec<LoaderRun>,
     /// The processes of all spawn lines, by number.
@@ -41,6 +52,7 @@ pub fn begin(alloc: Global, script: &Script) -> Result<Run, NoMemory>
     Ok(Run {
         server,
         journal: EntryList::new(alloc),
+        purging: None,
         loaders,
         processes,
     })

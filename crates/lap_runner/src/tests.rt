@@ -55,13 +55,173 @@ end normal
 end report
 ";
 
+/// A process goes round in code that is purged, and a second purge finds no old code.
+const PURGE_KILLS: &str = "beam script 1
+module m.1
+export main/0
+label a
+yield
+jump a
+end
+module m.2
+end
+loader
+load m.1
+spawn m:main()
+load m.2
+purge m
+purge m
+go
+";
+
+/// The doom is made in lap 4, whose turn kills the process; the purge and the release are those of lap 5.
+const PURGE_KILLS_REPORT: &str = "beam report 1
+generations 4
+entry L0 load m.1 = ok @1
+entry L0 spawn m:main() = ok -
+entry L0 load m.2 = ok @2
+entry L0 doom m = ok @3
+entry L0 purge m = true @4
+entry rt release 1 = ok -
+entry L0 purge m = false -
+process 0 m:main()
+span 1 1
+span 2 1
+span 3 1
+end killed 1
+end report
+";
+
+/// Of three processes the second one stands in the old code at the first soft purge, and has ended at the second.
+const ONE_LINGERS: &str = "beam script 1
+module m.1
+export quick/0
+print 1
+export slow/0
+yield
+yield
+yield
+print 7
+end
+module m.2
+end
+loader
+load m.1
+spawn m:quick()
+spawn m:slow()
+spawn m:quick()
+load m.2
+soft_purge m
+soft_purge m
+go
+";
+
+/// The second process has its turns in laps 3 to 6, and the first soft purge is made in lap 6 before the last of them.
+const ONE_LINGERS_REPORT: &str = "beam report 1
+generations 3
+entry L0 load m.1 = ok @1
+entry L0 spawn m:quick() = ok -
+entry L0 spawn m:slow() = ok -
+entry L0 spawn m:quick() = ok -
+entry L0 load m.2 = ok @2
+entry L0 soft_purge m = false 1 3 -
+entry L0 soft_purge m = true @3
+entry rt release 1 = ok -
+process 0 m:quick()
+span 1 1
+print 1
+end normal
+process 1 m:slow()
+span 1 2
+span 2 2
+print 7
+end normal
+process 2 m:quick()
+span 1 1
+print 1
+end normal
+end report
+";
+
+/// Between the two halves of a purge a spawn and a look for old code are made, and a load waits.
+const ONE_WAITS: &str = "beam script 1
+module m.1
+export main/0
+label a
+yield
+jump a
+end
+module m.2
+export main/0
+print 2
+end
+module n.1
+end
+loader
+load m.1
+load m.2
+check_old m
+load n.1
+loader
+spawn m:main()
+check_old m
+purge m
+loader
+check_old m
+check_old m
+spawn m:main()
+loader
+check_old m
+check_old m
+check_old m
+go
+";
+
+/// The doom is made in lap 3, the purge in lap 4; the first loader, which comes before it in that lap, waits until lap 5.
+const ONE_WAITS_REPORT: &str = "beam report 1
+generations 5
+entry L0 load m.1 = ok @1
+entry L1 spawn m:main() = ok -
+entry L2 check_old m = false -
+entry L3 check_old m = false -
+entry L0 load m.2 = ok @2
+entry L1 check_old m = true -
+entry L2 check_old m = true -
+entry L3 check_old m = true -
+entry L0 check_old m = true -
+entry L1 doom m = ok @3
+entry L2 spawn m:main() = ok -
+entry L3 check_old m = true -
+entry L1 purge m = true @4
+entry rt release 1 = ok -
+entry L0 load n.1 = ok @5
+process 0 m:main()
+span 1 1
+span 2 1
+span 3 1
+end killed 1
+process 1 m:main()
+span 3 1
+print 2
+end normal
+end report
+";
+
 #[test]
-fn loaders_and_processes_take_turns(rt: HostRuntime) -> Result<(), Fail> {
+fn runs_have_these_reports(rt: HostRuntime) -> Result<(), Fail> {
     let alloc = rt.alloc();
-    let script = read_script(alloc, TWO_LOADERS.as_bytes())?;
-    let log = run_laps(alloc, &script)?;
-    let mut report = ByteList::new(alloc);
-    render(&script.names, &log, &mut report)?;
-    assert_eq!(rt; report.as_slice(), TWO_LOADERS_REPORT.as_bytes());
+    let cases = [
+        (TWO_LOADERS, TWO_LOADERS_REPORT),
+        (PURGE_KILLS, PURGE_KILLS_REPORT),
+        (ONE_LINGERS, ONE_LINGERS_REPORT),
+        (ONE_WAITS, ONE_WAITS_REPORT),
+    ];
+    for (script, report) in cases {
+        let script = read_script(alloc, script.as_bytes())?;
+        let log = run_laps(alloc, &script)?;
+        let mut text = ByteList::new(alloc);
+        render(&script.names, &log, &mut text)?;
+        assert_eq!(rt; text.as_slice(), report.as_bytes());
+    }
     Ok(())
 }

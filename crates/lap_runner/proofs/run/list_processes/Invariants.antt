@@ -1,7 +1,8 @@
 use Rattle.std.proofs.Common.{◌≡◌, ◌+◌, ◌++◌, ◌≤◌, drop, length, map}
 use Rattle.std.specs.List.{AllByRecursion}
 use Rattle.script_text.specs.declared.script.TheConstants.{MOST_PROCESSES}
-use Rattle.lap_runner.specs.Runs.{HasArity, spawn_count, stand_of, waiting_from}
+use Rattle.lap_runner.specs.Runs.{HasArity, spawn_count, waiting_from}
+use Rattle.lap_runner.specs.Steps.{stand_of}
 use Rattle.lap_runner.proofs.run.list_processes.Given as goal
 
 -- the processes so far, and those of the commands that are left

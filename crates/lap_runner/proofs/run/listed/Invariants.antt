@@ -1,5 +1,5 @@
 use Rattle.std.proofs.Common.{drop, map}
-use Rattle.lap_runner.specs.Runs.{stand_of}
+use Rattle.lap_runner.specs.Steps.{stand_of}
 use Rattle.lap_runner.proofs.Begun.{ListedSoFar}
 use Rattle.lap_runner.proofs.run.listed.Given as goal
 

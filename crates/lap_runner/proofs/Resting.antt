@@ -1,0 +1,78 @@
+-- After a lap in which nothing was done no work is left.
+use Rattle.std.proofs.Common.{◌≡◌, ◌||◌, ℕ, suc, Bool, true, false, List, [], ◌∷◌, length, slice_get, Some, None, IsSome, IsTrue, option_map, refl, sym, ap, subst, ◌∙◌, arith}
+use Rattle.std.proofs.lemmas.Bool.{eq-eqb, false≢true}
+use Rattle.std.proofs.lemmas.Option.{slice_get-map, slice_get_within}
+use Rattle.std.specs.List.{list_any}
+use Rattle.server_core.specs.ServerState.{ServerState, empty_state, is_serial_in}
+use Rattle.machine_core.specs.Holds.{is_area_held}
+use Rattle.machine_core.specs.Process.{frame_names, process_of}
+use Rattle.script_text.specs.declared.script.Script.{Script}
+use Rattle.run_log.specs.declared.logs.Entry.{Entry}
+use Rattle.run_log.specs.Journal.{state_at}
+use Rattle.run_log.specs.Legal.{SpawnLine, commands_of}
+use Rattle.lap_runner.specs.declared.process_run.Phase.{Phase}
+use Rattle.lap_runner.specs.declared.process_run.Phase.TheVariants.{Waiting, Going, Ended}
+use Rattle.lap_runner.specs.declared.process_run.ProcessRun.{ProcessRun}
+use Rattle.lap_runner.specs.declared.run.Run.{Run}
+use Rattle.lap_runner.specs.Looks.{AreNamed, names_area, some_names}
+use Rattle.lap_runner.specs.Runs.{AreIdle, all_made, one_goes, HasNoWork, HasReleased, IsRun, Rests, StandsIn, done_of, fin_in, history_of}
+use Rattle.lap_runner.specs.Steps.{LapOf, Stand, stand_of}
+use Rattle.lap_runner.proofs.Joining.{line_for, stands_at}
+use Rattle.lap_runner.proofs.Lists.{get_within}
+
+-- where each fails, none passes
+none_passes : {X : Type 0} (f : X → Bool) (xs : List X) → ((k : ℕ) (x : X) → slice_get xs k ≡ Some x → f x ≡ false) → list_any f xs ≡ false
+none_passes f [] h = refl
+none_passes f (x ∷ xs) h = ap (λ b. b || list_any f xs) (h 0 x refl) ∙ none_passes f xs (λ k y e. h (suc k) y e)
+
+-- a process that rests names nothing
+names_none : (journal : List Entry) (states : ℕ → ServerState) (newest : ServerState) (done number : ℕ) (line : SpawnLine) (stand : Stand) (phase : Phase) → StandsIn journal states newest done number line stand phase
+    → (IsSome (fin_in phase) → stand.process.frames ≡ []) → Rests phase → (serial : ℕ) → names_area serial stand.process ≡ false
+names_none journal states newest done number line stand Waiting h over rests serial = ap (names_area serial) h.process
+names_none journal states newest done number line stand Going h over rests serial = absurd rests
+names_none journal states newest done number line stand (Ended fin) h over rests serial = ap (λ fs. is_area_held (frame_names fs) serial) (over refl)
+
+-- where no serial is there, none is
+none_there : (serials : List ℕ) → ((serial : ℕ) → IsTrue (is_serial_in serials serial) → false ≡ true) → serials ≡ []
+none_there [] h = refl
+none_there (n ∷ ns) h = absurd (false≢true (h n (ap (λ b. b || is_serial_in ns n) (eq-eqb n n refl))))
+
+module _ (s : Script) (run : Run) (known : IsRun s run) (rest : (k : ℕ) (p : ProcessRun) → slice_get run.processes.items k ≡ Some p → Rests p.phase) where
+  none_named : (serial : ℕ) → some_names serial run.processes.items ≡ false
+  none_named serial =
+      none_passes (λ (p : ProcessRun). names_area serial (process_of p.process)) run.processes.items
+      (λ k p at. names_none run.journal (state_at s.modules empty_state run.journal) run.server _ k (line_for s run known k p at).0 (stand_of p) p.phase (stands_at s run known k p at)
+      (known.answers.processes k (history_of (state_at s.modules empty_state run.journal) (stand_of p))
+      (slice_get-map (λ p. history_of (state_at s.modules empty_state run.journal) (stand_of p)) run.processes.items k ∙ ap (option_map (λ p. history_of (state_at s.modules empty_state run.journal) (stand_of p))) at)).over
+      (rest k p at) serial)
+
+  -- so what each of them would have to name is nothing
+  nothing_retired : AreNamed run.server.retired run.processes.items → run.server.retired ≡ []
+  nothing_retired named = none_there run.server.retired (λ serial h. sym (none_named serial) ∙ named serial h)
+
+rests_same : (s : ServerState) (p q : ProcessRun) (phase : Phase) → Rests phase → LapOf s p q phase → q ≡ p
+rests_same s p q Waiting rests l = l
+rests_same s p q Going rests l = absurd rests
+rests_same s p q (Ended fin) rests l = l
+
+-- where a process went on one had a turn
+idle_made : (s : Script) (run : Run) → AreIdle s run → ((k : ℕ) (p : ProcessRun) → slice_get run.processes.items k ≡ Some p → Rests p.phase) → (run.purging ≡ None) × ((loader : ℕ) → done_of run.loaders.items loader ≡ length (commands_of s loader))
+idle_made s run (all_made none made) rest = (none, made)
+idle_made s run (one_goes k p at goes) rest = absurd (subst Rests goes (rest k p at))
+
+-- after a lap without a command and without a turn, and the releases behind it
+pub no_work : (s : Script) (run turned after : Run) → AreIdle s run → (before now : List ProcessRun) → before ≡ run.processes.items → turned.processes.items ≡ now → length now ≡ length before → turned.loaders.items ≡ run.loaders.items → turned.purging ≡ run.purging
+    → ((k : ℕ) (p : ProcessRun) → slice_get before k ≡ Some p → Rests p.phase) → ((k : ℕ) (p q : ProcessRun) → slice_get before k ≡ Some p → slice_get now k ≡ Some q → LapOf run.server p q p.phase) → HasReleased s turned after
+    → AreNamed after.server.retired after.processes.items → HasNoWork s after
+no_work s run turned after idle before now was is many loaders purging rest laps released named =
+    let made = idle_made s run idle (λ k p at. rest k p (ap (λ ps. slice_get ps k) was ∙ at)) in
+    let resting : (k : ℕ) (q : ProcessRun) → slice_get after.processes.items k ≡ Some q → Rests q.phase = λ k q at.
+    let at_now : slice_get now k ≡ Some q = ap (λ ps. slice_get ps k) (sym (released.processes ∙ is)) ∙ at in
+    let p = get_within before k (omega (arith, slice_get_within now k q at_now, many)) in
+    subst (λ (x : ProcessRun). Rests x.phase) (sym (rests_same run.server p.0 q p.0.phase (rest k p.0 p.1) (laps k p.0 q p.1 at_now))) (rest k p.0 p.1) in
+    record {
+      purging = released.purging ∙ purging ∙ made.0;
+      loaders = λ loader. ap (λ ls. done_of ls loader) (released.loaders ∙ loaders) ∙ made.1 loader;
+      processes = resting;
+      retired = nothing_retired s after released.run resting named;
+    }

@@ -1,0 +1,11 @@
+use Rattle.std.proofs.Common.{length}
+use Rattle.lap_runner.specs.Runs.{HasReleased}
+use Rattle.lap_runner.proofs.releases.release_areas.Given as goal
+
+-- so far some areas were released
+abbrev pub invariant-loop-serial : goal.invariant-loop-serial
+invariant-loop-serial l = HasReleased l.script l.fn.run l.run
+
+-- the areas that are left
+abbrev pub decreases-loop-serial : goal.decreases-loop-serial
+decreases-loop-serial l = length l.run.server.retired
