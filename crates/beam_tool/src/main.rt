@@ -7,6 +7,8 @@ mod form;
 mod gate;
 mod memory;
 #[cfg(test)]
+mod old_code_tests;
+#[cfg(test)]
 mod outside_tests;
 mod piece;
 mod progress_form;

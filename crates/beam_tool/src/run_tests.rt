@@ -6,7 +6,7 @@ use std::thread::Threads;
 
 /// Runs a script with these lines between its first and its last, and compares the report: how many generations it
 /// tells, and the lines behind that.
-fn runs_as<R: Threads + Wait + Sync + AllocGlobal>(
+pub fn runs_as<R: Threads + Wait + Sync + AllocGlobal>(
     rt: &R,
     lines: &str,
     generations: u64,
