@@ -1,39 +1,41 @@
 -- Lemmas on the terms and names that the tokens of a text make, as the loop takes them.
-use Rattle.std.proofs.Common.{◌≡◌, ℕ, ◌+◌, ◌-◌, ◌<◌, ◌≤◌, Bool, true, false, cond, List, [], ◌∷◌, ◌++◌, length, drop, take, get_or, refl, sym, ap, ◌∙◌, subst, arith}
-use Rattle.term_core.specs.declared.byte_kind.Bracket.{Bracket}
+use Rattle.std.proofs.Common.{◌≡◌, ℕ, ◌+◌, ◌-◌, ◌<◌, ◌≤◌, Bool, true, false, cond, List, [], ◌∷◌, ◌++◌, length, drop, take, get_or, refl, sym, ap, ◌∙◌, arith}
 use Rattle.term_core.specs.declared.byte_kind.ByteKind.{ByteKind}
 use Rattle.term_core.specs.declared.byte_kind.ByteKind.TheVariants.{Open, Close, Comma, Minus, Zero, Digit, Letter, NameByte, Foreign}
 use Rattle.term_core.specs.Bytes.{kind_of, is_leaf_kind, leaf_front}
 use Rattle.term_core.specs.Names.{Extends, is_atom_text, names_with}
 use Rattle.term_core.specs.TermText.{names_with_all}
-use Rattle.term_core.specs.Tokens.{Token, opened, shut, leaf, begins, token_at, tokens_in, atoms_among, AreLeaves, names_with_leaf}
+use Rattle.term_core.specs.Tokens.{Token, opened, shut, leaf, begins, token_at, tokens_in, atoms_among, IsLeaf, AreLeaves, names_with_leaf}
+use Rattle.term_core.proofs.GrownNames.{Extends-refl, names_with-Extends}
 use Rattle.term_core.proofs.Lefts.{left_byte, rest_is}
 use Rattle.term_core.proofs.Numbers.{names_with_all-Extends, names_with_all-append, length-Extends}
 
--- what opens and closes no bracket begins a leaf or nothing
-pub token_default : (inside : Bool) (kind : ByteKind) (front : List ℕ) → ((b : Bracket) → kind ≡ Open b → ⊥) → ((b : Bracket) → kind ≡ Close b → ⊥) → token_at inside kind front ≡ cond (begins inside kind) (leaf front ∷ []) []
-token_default inside (Open b) front o s = absurd (o b refl)
-token_default inside (Close b) front o s = absurd (s b refl)
-token_default inside Comma front o s = refl
-token_default inside Minus front o s = refl
-token_default inside Zero front o s = refl
-token_default inside Digit front o s = refl
-token_default inside Letter front o s = refl
-token_default inside NameByte front o s = refl
-token_default inside Foreign front o s = refl
+-- what begins with a byte is a leaf where each token is
+pub begun_leaf : (inside : Bool) (kind : ByteKind) (front : List ℕ) → begins inside kind ≡ true → AreLeaves (token_at inside kind front) → IsLeaf front
+begun_leaf inside (Open b) front begun h = cc
+begun_leaf inside (Close b) front begun h = cc
+begun_leaf inside Comma front begun h = cc
+begun_leaf false Minus front begun h = h.0
+begun_leaf false Zero front begun h = h.0
+begun_leaf false Digit front begun h = h.0
+begun_leaf false Letter front begun h = h.0
+begun_leaf false NameByte front begun h = h.0
+begun_leaf false Foreign front begun h = h.0
+begun_leaf true Minus front begun h = cc
+begun_leaf true Zero front begun h = cc
+begun_leaf true Digit front begun h = cc
+begun_leaf true Letter front begun h = cc
+begun_leaf true NameByte front begun h = cc
+begun_leaf true Foreign front begun h = cc
 
--- a leaf names its atom
-leaf_named : (b : Bool) (names : List (List ℕ)) (text : List ℕ) → cond b (names_with names text) names ≡ names_with_all names (cond b (text ∷ []) [])
-leaf_named true names text = refl
-leaf_named false names text = refl
+-- by whether a leaf is an atom
+leaf_joins : (b : Bool) (names : List (List ℕ)) (text : List ℕ) → Extends names (cond b (names_with names text) names)
+leaf_joins true names text = names_with-Extends names text
+leaf_joins false names text = Extends-refl names
 
--- as the atoms among its token do
-pub names_with_leaf-all : (names : List (List ℕ)) (text : List ℕ) → names_with_leaf names text ≡ names_with_all names (atoms_among (leaf text ∷ []))
-names_with_leaf-all names text = leaf_named (is_atom_text text) names text
-
--- and keeps the names before
+-- a leaf keeps the names before
 pub names_with_leaf-Extends : (names : List (List ℕ)) (text : List ℕ) → Extends names (names_with_leaf names text)
-names_with_leaf-Extends names text = subst (Extends names) (sym (names_with_leaf-all names text)) (names_with_all-Extends names (atoms_among (leaf text ∷ [])))
+names_with_leaf-Extends names text = leaf_joins (is_atom_text text) names text
 
 -- by the test of an atom
 atom_first : (b : Bool) (text : List ℕ) (xs ys : List (List ℕ)) → cond b (text ∷ (xs ++ ys)) (xs ++ ys) ≡ cond b (text ∷ xs) xs ++ ys

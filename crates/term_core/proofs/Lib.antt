@@ -1,8 +1,12 @@
 pub mod Building
 pub mod ByteKinds
+pub mod CutTerms
 pub mod Fronts
 pub mod GrownNames
 pub mod GrownTerms
+pub mod ImagePlaces
+pub mod ImageReadings
+pub mod ImageTerms
 pub mod IntegerTexts
 pub mod LeafFacts
 pub mod LeafTexts
@@ -10,7 +14,9 @@ pub mod Lefts
 pub mod NameTables
 pub mod Numbers
 pub mod OutsidePlaces
+pub mod PartedTerms
 pub mod Places
+pub mod PlainFacts
 pub mod PlainTerms
 pub mod PrintedTerms
 pub mod Ranges
@@ -26,11 +32,14 @@ pub mod ScanTerms
 pub mod Scans
 pub mod Shapes
 pub mod SyntaxPlaces
+pub mod TakenTerms
 pub mod TermBytes
+pub mod TermForms
 pub mod TermTexts
 pub mod TextForms
 pub mod TokenLaws
 pub mod TokenSteps
 pub mod Truths
+pub mod WordTags
 pub mod Words
 pub mod WrittenTokens

@@ -147,7 +147,7 @@ integer_is_some [] h = cc
 integer_is_some (c ∷ rest) h = omega arith
 
 -- no written term's text is empty
-nonempty-written : (t : WrittenTerm) → HasLeafTexts t → 0 < length (written t)
+pub nonempty-written : (t : WrittenTerm) → HasLeafTexts t → 0 < length (written t)
 nonempty-written (integer_leaf text) h = integer_is_some text h
 nonempty-written (atom_leaf text) h = atom_is_some text h
 nonempty-written (tuple_of row) h = omega arith

@@ -19,12 +19,12 @@ bits_back_negsuc n bits small e =
     ap (λ b. cond b (pos bits) (negsuc (1152921504606846975 - bits))) more ∙ ap negsuc back
 
 -- so the bits of an integer are read as it
-bits_back : (z : ℤ) → IsTermInteger z → integer_of_bits (low_bits z) ≡ z
+pub bits_back : (z : ℤ) → IsTermInteger z → integer_of_bits (low_bits z) ≡ z
 bits_back (pos n) range = bits_back_pos n (range_pos n range)
 bits_back (negsuc n) range = bits_back_negsuc n (low_bits (negsuc n)) (range_negsuc n range) refl
 
 -- a word has its bits and its tag
-tagged : (bits : ℕ) (tag : ℕ) → tag < 16 → ((bits * 16 + tag) % 16 ≡ tag) × ((bits * 16 + tag) / 16 ≡ bits)
+pub tagged : (bits : ℕ) (tag : ℕ) → tag < 16 → ((bits * 16 + tag) % 16 ≡ tag) × ((bits * 16 + tag) / 16 ≡ bits)
 tagged bits tag small = (omega arith, omega arith)
 
 -- what is tagged as an integer is read as one

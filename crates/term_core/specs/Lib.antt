@@ -2,6 +2,7 @@ pub mod Bytes
 pub mod Faults
 pub mod Gives
 pub mod Image
+pub mod ImageWords
 pub mod Names
 pub mod Plain
 pub mod PlainTerm
@@ -10,6 +11,8 @@ pub mod Reading
 pub mod Same
 pub mod Scanning
 pub mod TermCode
+pub mod TermForms
+pub mod TermParts
 pub mod TermSize
 pub mod TermText
 pub mod Tokens

@@ -29,6 +29,11 @@ abbrev pub terms_of : {Z A : Type 0} → RowOf Z A → List (TermOf Z A)
 terms_of no_terms = []
 terms_of (term_then t row) = t ∷ terms_of row
 
+-- how many terms a row has
+abbrev pub row_count : {Z A : Type 0} → RowOf Z A → ℕ
+row_count no_terms = 0
+row_count (term_then t row) = 1 + row_count row
+
 -- another thing at each leaf
 abbrev mutual
   pub map_leaves : {Z A Y B : Type 0} → (Z → Y) → (A → B) → TermOf Z A → TermOf Y B

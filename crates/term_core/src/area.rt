@@ -14,3 +14,14 @@ pub struct CodeRef {
     pub area: AreaRef,
     pub function: u32,
 }
+
+/// What a persistent term is found as under its key.
+#[derive(Clone, Copy, Debug, PartialEq, Eq)]
+pub enum Found {
+    /// The key holds no term.
+    Absent,
+    /// The word of an integer or an atom.
+    Word(u64),
+    /// The area that has the image of a tuple or a list.
+    Area(AreaRef),
+}

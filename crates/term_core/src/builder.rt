@@ -1,16 +1,17 @@
-ghost use Rattle.std.specs.Prelude.{◌≡◌, ◌<◌, [], ◌∷◌, ◌++◌, ℕ, List, false, IfOk, OnOk, OnErr, IsErrOf, length};
+ghost use Rattle.std.specs.Prelude.{◌≡◌, [], ◌∷◌, ◌++◌, List, false, IfOk, OnOk};
 ghost use Rattle.term_core.specs.Bytes.{leaf_front};
-ghost use Rattle.term_core.specs.Names.{IsNames, Extends};
+ghost use Rattle.term_core.specs.Faults.{IsReadable};
 ghost use Rattle.term_core.specs.Plain.{plain};
-ghost use Rattle.term_core.specs.TermText.{names_with_all, number_in};
-ghost use Rattle.term_core.specs.Tokens.{Token, IsLeaf, AreLeaves, token_at, tokens_in, atoms_among, leaf_of, bracketed, shut_terms, built, names_with_leaf};
+ghost use Rattle.term_core.specs.TermText.{number_in};
+ghost use Rattle.term_core.specs.Tokens.{Token, IsLeaf, AreLeaves, token_at, tokens_in, leaf_of, bracketed, shut_terms, built};
 ghost use Rattle.term_core.specs.Tops.{without_top};
 ghost use Rattle.term_core.specs.Written.{integer_of};
 
+use crate::atom::AtomId;
 use crate::byte_kind::{Bracket, ByteKind, is_leaf_kind, kind_of, leaf_front};
 use crate::integer::term_integer;
 use crate::leaves::begins;
-use crate::names::{MOST_NAMES, NameFault, Names, is_atom_text};
+use crate::names::{Names, is_atom_text};
 use crate::no_memory::NoMemory;
 use crate::stack::Stack;
 use crate::term::{Term, TermList};
@@ -69,82 +70,61 @@ impl Builder {
     }
 }
 
-fn read_leaf(names: &mut Names, text: &[u8]) -> Result<Term, NameFault>
+// An atom that the names do not hold is read as their first.
+fn read_leaf(names: &Names, text: &[u8]) -> Term
     requires { IsLeaf text.now }
-    ensures value { IfOk result (λ term. (final : List (List ℕ)) → Extends names.new final → plain term ≡ leaf_of integer_of (number_in final) text.now) }
-    ensures named { OnOk result (names.new ≡ names_with_leaf names.old text.now) }
-    ensures full { IsErrOf result NameFault.Full → MOST_NAMES < length (names_with_leaf names.old text.now) }
-    ensures err { OnErr result (names.new ≡ names.old) }
-    ensures sound { IsNames names.new }
+    ensures { plain result ≡ leaf_of integer_of (number_in names.now) text.now }
 {
-    // So the proof knows what a table keeps.
-    let _ = &names.texts;
     if is_atom_text(text) {
-        let atom = names.add(text)?;
-        Ok(Term::Atom(atom))
+        Term::Atom(names.get(text).unwrap_or(AtomId(0)))
     } else {
-        Ok(Term::Int(term_integer(text)))
+        Term::Int(term_integer(text))
     }
-}
-
-// Takes the leaf with which a text begins.
-fn take_leaf(builder: &mut Builder, names: &mut Names, text: &[u8]) -> Result<(), NameFault>
-    requires { IsLeaf (leaf_front text.now) }
-    ensures terms { OnOk result ((final : List (List ℕ)) → Extends names.new final → builder.new.terms ≡ builder.old.terms ++ leaf_of integer_of (number_in final) (leaf_front text.now) ∷ []) }
-    ensures outer { OnOk result (builder.new.outer ≡ builder.old.outer) }
-    ensures named { OnOk result (names.new ≡ names_with_leaf names.old (leaf_front text.now)) }
-    ensures full { IsErrOf result NameFault.Full → MOST_NAMES < length (names_with_leaf names.old (leaf_front text.now)) }
-    ensures grown { Extends names.old names.new }
-    ensures sound { IsNames names.new }
-{
-    let term = read_leaf(names, leaf_front(text))?;
-    builder.terms.push(term)?;
-    Ok(())
 }
 
 // Takes the token of the first byte, which is of this kind, if a token begins there.
 fn take_token(
+    alloc: Global,
     builder: &mut Builder,
-    names: &mut Names,
+    names: &Names,
     inside: bool,
     kind: ByteKind,
     text: &[u8],
-) -> Result<(), NameFault>
+) -> Result<(), NoMemory>
     requires { AreLeaves (token_at inside kind (leaf_front text.now)) }
-    ensures built { OnOk result ((final : List (List ℕ)) (more : List Token) → Extends names.new final → built integer_of (number_in final) (token_at inside kind (leaf_front text.now) ++ more) builder.old.terms builder.old.outer ≡ built integer_of (number_in final) more builder.new.terms builder.new.outer) }
-    ensures named { OnOk result (names.new ≡ names_with_all names.old (atoms_among (token_at inside kind (leaf_front text.now)))) }
-    ensures full { IsErrOf result NameFault.Full → MOST_NAMES < length (names_with_all names.old (atoms_among (token_at inside kind (leaf_front text.now)))) }
-    ensures grown { Extends names.old names.new }
-    ensures sound { IsNames names.new }
+    ensures { OnOk result ((more : List Token) → built integer_of (number_in names.now) (token_at inside kind (leaf_front text.now) ++ more) builder.old.terms builder.old.outer ≡ built integer_of (number_in names.now) more builder.new.terms builder.new.outer) }
 {
-    let alloc = *names.texts.allocator();
     match kind {
-        ByteKind::Open(bracket) => builder.begin(alloc, bracket)?,
-        ByteKind::Close(_) => builder.end()?,
-        _ => {
-            if begins(inside, kind) {
-                take_leaf(builder, names, text)?;
-            }
-        }
+        ByteKind::Open(bracket) => builder.begin(alloc, bracket),
+        ByteKind::Close(_) => builder.end(),
+        _ if begins(inside, kind) => builder.terms.push(read_leaf(names, leaf_front(text))),
+        _ => Ok(()),
     }
-    Ok(())
 }
 
-/// The terms of a text, with the next numbers for new atoms.
-pub(crate) fn build(names: &mut Names, text: &[u8]) -> Result<TermList, NameFault>
+/// The terms of a text, under the numbers of these names.
+pub(crate) fn build(alloc: Global, names: &Names, text: &[u8]) -> Result<TermList, NoMemory>
     requires { AreLeaves (tokens_in false text.now) }
-    ensures ok { IfOk result (λ terms. terms ≡ built integer_of (number_in names.new) (tokens_in false text.now) [] []) }
-    ensures named { OnOk result (names.new ≡ names_with_all names.old (atoms_among (tokens_in false text.now))) }
-    ensures full { IsErrOf result NameFault.Full → MOST_NAMES < length (names_with_all names.old (atoms_among (tokens_in false text.now))) }
-    ensures grown { Extends names.old names.new }
-    ensures sound { IsNames names.new }
+    ensures { IfOk result (λ terms. terms ≡ built integer_of (number_in names.now) (tokens_in false text.now) [] []) }
 {
-    let mut builder = Builder::new(*names.texts.allocator());
+    let mut builder = Builder::new(alloc);
     let mut inside = false;
     for (at, byte) in text.iter().enumerate() {
         let kind = kind_of(*byte);
-        take_token(&mut builder, names, inside, kind, &text[at..])?;
+        take_token(alloc, &mut builder, names, inside, kind, &text[at..])?;
         inside = is_leaf_kind(kind);
     }
     Ok(builder.terms)
+}
+
+/// The one term of a text, under the numbers of these names.
+pub(crate) fn build_one(alloc: Global, names: &Names, text: &[u8]) -> Result<Term, NoMemory>
+    requires { IsReadable text.now }
+    ensures { IfOk result (λ term. built integer_of (number_in names.now) (tokens_in false text.now) [] [] ≡ plain term ∷ []) }
+{
+    let mut terms = build(alloc, names, text)?;
+    match terms.pop() {
+        Some(term) => Ok(term),
+        None => unreachable!("the text has one term"),
+    }
 }

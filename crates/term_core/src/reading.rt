@@ -7,15 +7,18 @@ ghost use Rattle.term_core.specs.TermText.{number_in};
 ghost use Rattle.term_core.specs.Tokens.{tokens_in, built};
 ghost use Rattle.term_core.specs.Written.{integer_of};
 
-use crate::builder::build;
+use crate::builder::build_one;
 use crate::leaves::{outside_at, words_in};
 use crate::names::{MOST_NAMES, Names};
+use crate::naming::name_atoms;
 use crate::scan::syntax_fault;
 use crate::term::Term;
 use crate::term_fault::TermFault;
 use crate::term_text::MOST_WORDS;
+use std::alloc::Global;
 
-fn build_term(names: &mut Names, text: &[u8]) -> Result<Term, TermFault>
+#[tactic(auto, unfolding(crate::specs::TermForms::term_atoms))]
+fn build_term(alloc: Global, names: &mut Names, text: &[u8]) -> Result<Term, TermFault>
     requires { IsReadable text.now }
     ensures ok { IfOk result (λ term. built integer_of (number_in names.new) (tokens_in false text.now) [] [] ≡ plain term ∷ []) }
     ensures named { OnOk result (names.new ≡ names_after names.old text.now) }
@@ -23,11 +26,8 @@ fn build_term(names: &mut Names, text: &[u8]) -> Result<Term, TermFault>
     ensures grown { Extends names.old names.new }
     ensures sound { IsNames names.new }
 {
-    let mut terms = build(names, text)?;
-    match terms.pop() {
-        Some(term) => Ok(term),
-        None => unreachable!("the text has one term"),
-    }
+    name_atoms(names, text)?;
+    Ok(build_one(alloc, names, text)?)
 }
 
 /// Reads a text as its definition does.
@@ -46,5 +46,5 @@ pub(crate) fn read_text(names: &mut Names, text: &[u8]) -> Result<Term, TermFaul
     if words_in(text) > MOST_WORDS {
         return Err(TermFault::TooLong);
     }
-    build_term(names, text)
+    build_term(alloc, names, text)
 }

@@ -1,18 +1,21 @@
-ghost use Rattle.std.specs.Prelude.{◌≡◌, ◌<◌, ◌^◌};
+ghost use Rattle.std.specs.Prelude.{◌≡◌, ◌<◌};
 ghost use Rattle.term_core.specs.Plain.{plain};
-ghost use Rattle.term_core.specs.PlainTerm.{row_of, term_words, row_words};
 ghost use Rattle.term_core.specs.Written.{IsTermInteger};
-ghost use Rattle.term_core.specs.Image.{IsImmediate, HasSmallAtoms, low_bits, immediate_word, integer_of_bits, term_of_word};
+ghost use Rattle.term_core.specs.Image.{IsImmediate, HasSmallAtoms, low_bits, immediate_word, integer_of_bits, term_of_word, is_immediate, parts_of_word};
 
 use crate::atom::AtomId;
-use crate::term::{Term, TermList};
+use crate::term::Term;
 
 /// The low four bits of a word are its tag, which says what the others are.
-const TAG_COUNT: u64 = 16;
+pub(crate) const TAG_COUNT: u64 = 16;
 
-const INTEGER_TAG: u64 = 1;
+pub(crate) const INTEGER_TAG: u64 = 1;
 
-const ATOM_TAG: u64 = 2;
+pub(crate) const ATOM_TAG: u64 = 2;
+
+pub(crate) const TUPLE_TAG: u64 = 3;
+
+pub(crate) const LIST_TAG: u64 = 4;
 
 /// Integers are held modulo this number.
 const INTEGER_COUNT: i64 = 1152921504606846976;
@@ -20,7 +23,7 @@ const INTEGER_COUNT: i64 = 1152921504606846976;
 /// From this number on, the bits are those of an integer below zero.
 const NEGATIVE_BITS: u64 = 576460752303423488;
 
-const ATOM_COUNT: u64 = 4294967296;
+pub(crate) const ATOM_COUNT: u64 = 4294967296;
 
 fn low_bits(number: i64) -> u64
     requires { IsTermInteger number }
@@ -45,7 +48,24 @@ fn integer_of_bits(bits: u64) -> i64
     }
 }
 
+/// How many terms behind a word are its parts: as many as the word of a tuple or a list counts.
+pub fn parts_of_word(word: u64) -> u64
+    ensures { result ≡ parts_of_word word }
+{
+    match word % TAG_COUNT {
+        TUPLE_TAG | LIST_TAG => word / TAG_COUNT,
+        _ => 0,
+    }
+}
+
 impl Term {
+    /// Whether one word stands for it, as for an integer or an atom.
+    pub fn is_immediate(&self) -> bool
+        ensures { result ≡ is_immediate (plain self.now) }
+    {
+        matches!(self, Term::Int(_) | Term::Atom(_))
+    }
+
     /// The word that stands for an integer or an atom.
     pub fn word(&self) -> u64
         requires { IsImmediate self.now }
@@ -75,27 +95,3 @@ impl Term {
 pub fn words_read_back()
     ensures { (term : Term) → IsImmediate term → HasSmallAtoms term → term_of_word (immediate_word term) ≡ term }
 {}
-
-/// How many words the image of a term has.
-#[cycle(words)]
-pub fn image_len(term: &Term) -> u64
-    requires { term_words (plain term.now) < 2 ^ 64 }
-    ensures { result ≡ term_words (plain term.now) }
-{
-    match term {
-        Term::Int(_) | Term::Atom(_) => 1,
-        Term::Tuple(terms) | Term::List(terms) => 1 + row_len(terms),
-    }
-}
-
-#[cycle(words)]
-fn row_len(terms: &TermList) -> u64
-    requires { row_words (row_of terms.now) < 2 ^ 64 }
-    ensures { result ≡ row_words (row_of terms.now) }
-{
-    let mut words = 0;
-    for term in &terms.items {
-        words += image_len(term);
-    }
-    words
-}
