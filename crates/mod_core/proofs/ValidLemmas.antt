@@ -2,16 +2,15 @@
 use Rattle.std.proofs.Common.{◌≡◌, ℕ, ◌+◌, ◌*◌, ◌<◌, ◌≤◌, List, [], ◌∷◌, length, take, get_or, slice_get, Option, Some, None, MatchOption, ⊎_elim, refl, sym, ap, ◌∙◌, subst, sum_by, ◌-◌, arith}
 use Rattle.std.proofs.lemmas.Bool.{cases_lt}
 use Rattle.std.proofs.lemmas.List.{length-take-le, get_or-take, take_all}
-use Rattle.std.proofs.lemmas.List.Concat.{length-flat_map}
 use Rattle.std.proofs.lemmas.List.Sums.{sum_by-cons, sum_by_more_le}
 use Rattle.std.proofs.lemmas.Option.{same_Some, slice_get_read, slice_get_within}
 use Rattle.mod_core.specs.declared.code.Instr.{Instr}
 use Rattle.mod_core.specs.declared.code.Function.{Function}
 use Rattle.mod_core.specs.declared.code.Module.{Module}
 use Rattle.mod_core.specs.Module.{SameFunction, IsModule}
-use Rattle.mod_core.specs.ModuleImage.{instr_words, instr_len, function_len}
-use Rattle.mod_core.specs.Valid.{words_with, AreFunctions, HasTitle}
-use Rattle.mod_core.proofs.ImageWords.{image_len}
+use Rattle.mod_core.specs.ModuleImage.{code_constants, code_len, constants_len, constants_of, function_len}
+use Rattle.mod_core.specs.Valid.{function_words_with, words_with, AreFunctions, HasTitle}
+use Rattle.mod_core.proofs.Lengths.{constants_len-append, image_len}
 
 -- ---- functions that are one
 
@@ -65,29 +64,36 @@ apart_all fs number all so_far i j before same =
 
 -- ---- words
 
--- what is left behind the words of a function's code is left behind the function
-pub behind_function : (o : Option ℕ) (room left : ℕ) (f : Function) (code : List Instr) → code ≡ f.code → 6 ≤ room → left ≡ room - 6 → MatchOption o (left < sum_by instr_len code) (λ n. n + sum_by instr_len code ≡ left) → MatchOption o (room < 4 + function_len f) (λ n. n + (4 + function_len f) ≡ room)
-behind_function None room left f code is enough less few = omega (arith, length-flat_map instr_words f.code, ap (sum_by instr_len) is)
-behind_function (Some n) room left f code is enough less are = omega (arith, length-flat_map instr_words f.code, ap (sum_by instr_len) is)
+-- the words that are left behind a leading part and a second one are left behind both
+pub left_behind_both : (o : Option ℕ) (room left first second : ℕ) → first ≤ room → left ≡ room - first → MatchOption o (left < second) (λ n. n + second ≡ left) → MatchOption o (room < first + second) (λ n. n + (first + second) ≡ room)
+left_behind_both None room left first second enough less few = omega (arith, few)
+left_behind_both (Some n) room left first second enough less are = omega (arith, are)
 
-heads_and_code : (fs : List Function) → sum_by (λ f. 4 + function_len f) fs ≡ 4 * length fs + sum_by function_len fs
-heads_and_code [] = refl
-heads_and_code (f ∷ fs) = omega (arith, sum_by-cons (λ g. 4 + function_len g) f fs, sum_by-cons function_len f fs, heads_and_code fs)
+-- what is left behind the words of a function's code and constants is left behind the function
+pub behind_function : (o : Option ℕ) (room left : ℕ) (f : Function) (code : List Instr) → code ≡ f.code → 6 ≤ room → left ≡ room - 6 → MatchOption o (left < code_len code + constants_len (code_constants code)) (λ n. n + (code_len code + constants_len (code_constants code)) ≡ left) →
+    MatchOption o (room < function_words_with f) (λ n. n + function_words_with f ≡ room)
+behind_function None room left f code is enough less few = omega (arith, few, ap code_len is, ap (λ js. constants_len (code_constants js)) is)
+behind_function (Some n) room left f code is enough less are = omega (arith, are, ap code_len is, ap (λ js. constants_len (code_constants js)) is)
+
+functions_and_constants : (fs : List Function) → sum_by function_words_with fs ≡ 4 * length fs + (sum_by function_len fs + constants_len (constants_of fs))
+functions_and_constants [] = refl
+functions_and_constants (f ∷ fs) =
+    omega (arith, sum_by-cons function_words_with f fs, sum_by-cons function_len f fs, constants_len-append (code_constants f.code) (constants_of fs), functions_and_constants fs)
 
 -- the words of an image are its head's and those of the functions
-words_are : (fs : List Function) → words_with fs ≡ 4 + sum_by (λ f. 4 + function_len f) fs
-words_are fs = ap (λ n. 4 + n) (sym (heads_and_code fs))
+words_are : (fs : List Function) → words_with fs ≡ 4 + sum_by function_words_with fs
+words_are fs = ap (λ n. 4 + n) (sym (functions_and_constants fs))
 
 -- where a function has more words than are left, the image has too many
-pub too_many : (fs : List Function) (i : ℕ) (f : Function) (left : ℕ) → i < length fs → f ≡ get_or fs i f → left + sum_by (λ g. 4 + function_len g) (take i fs) ≡ 1020 → left < 4 + function_len f → words_with fs ≤ 1024 → ⊥
+pub too_many : (fs : List Function) (i : ℕ) (f : Function) (left : ℕ) → i < length fs → f ≡ get_or fs i f → left + sum_by function_words_with (take i fs) ≡ 1020 → left < function_words_with f → words_with fs ≤ 1024 → ⊥
 too_many fs i f left within is so_far over short =
-    let front = sum_by_more_le (λ g. 4 + function_len g) fs i f within in
-    let this = ap (λ (g : Function). 4 + function_len g) is in
+    let front = sum_by_more_le function_words_with fs i f within in
+    let this = ap function_words_with is in
     omega (arith, words_are fs, front, this)
 
 -- and where none has, it has few enough
-pub few_enough : (fs : List Function) (i left : ℕ) → length fs ≤ i → left + sum_by (λ g. 4 + function_len g) (take i fs) ≡ 1020 → words_with fs ≤ 1024
-few_enough fs i left all so_far = omega (arith, words_are fs, ap (sum_by (λ g. 4 + function_len g)) (take_all i fs all))
+pub few_enough : (fs : List Function) (i left : ℕ) → length fs ≤ i → left + sum_by function_words_with (take i fs) ≡ 1020 → words_with fs ≤ 1024
+few_enough fs i left all so_far = omega (arith, words_are fs, ap (sum_by function_words_with) (take_all i fs all))
 
 -- ---- modules
 

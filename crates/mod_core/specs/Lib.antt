@@ -1,14 +1,5 @@
-pub mod Canonical
-pub mod Ending
-pub mod Keeping
-pub mod LineFaults
-pub mod LineReading
-pub mod LineViews
+pub mod Decoding
+pub mod Draft
 pub mod Module
 pub mod ModuleImage
-pub mod ModuleLine
-pub mod ModuleText
-pub mod ModuleValue
-pub mod Reading
-pub mod Settling
 pub mod Valid

@@ -4,25 +4,25 @@ use Rattle.std.specs.Prelude.{◌≡◌, ℕ, ◌+◌, ◌<◌, ◌≤◌, List,
 use Rattle.term_core.specs.declared.atom.Mfa.{Mfa}
 use Rattle.term_core.specs.declared.names.TheConstants.{MOST_NAMES}
 use Rattle.term_core.specs.declared.term.Term.{Term}
-use Rattle.term_core.specs.declared.term.Term.TheVariants.{Int, Atom, Tuple, List as ListOf}
+use Rattle.term_core.specs.declared.term_text.TheConstants.{MOST_WORDS}
+use Rattle.term_core.specs.Plain.{plain}
+use Rattle.term_core.specs.PlainTerm.{EachLeaf, term_words}
 use Rattle.term_core.specs.Written.{IsTermInteger}
 use Rattle.mod_core.specs.declared.code.TheConstants.{REGISTERS, MOST_ARGUMENTS, GREATEST_VERSION, MOST_FUNCTIONS, LONGEST_IMAGE}
 use Rattle.mod_core.specs.declared.code.Operand.{Operand}
 use Rattle.mod_core.specs.declared.code.Operand.TheVariants.{Reg, Const}
 use Rattle.mod_core.specs.declared.code.Instr.{Instr}
-use Rattle.mod_core.specs.declared.code.Instr.TheVariants.{Move, Add, Sub, Eq, Less, Jump, Call, CallExt, Ret, Print, Yield}
+use Rattle.mod_core.specs.declared.code.Instr.TheVariants.{Move, Add, Sub, Eq, Less, Jump, Call, CallExt, Ret, Pget, PgetOr, Elem, Print, Yield}
 use Rattle.mod_core.specs.declared.code.Function.{Function}
 use Rattle.mod_core.specs.declared.code.Module.{Module}
 use Rattle.mod_core.specs.ModuleImage.{module_image}
 
--- a term of one word, whose atom is one of 4,096
-abbrev pub IsConstant : Term → Type 0
-IsConstant (Int z) = IsTermInteger z
-IsConstant (Atom a) = a.0 < MOST_NAMES
-IsConstant (Tuple ts) = ⊥
-IsConstant (ListOf ts) = ⊥
+-- a term of at most 64 words, each of whose atoms is one of 4,096
+pub record IsConstant (term : Term) : Type 0 where
+  pub leaves : EachLeaf IsTermInteger (λ atom. atom < MOST_NAMES) (plain term)
+  pub short : term_words (plain term) ≤ MOST_WORDS
 
--- a register of a frame, or a constant of one word
+-- a register of a frame, or a constant
 abbrev pub IsOperand : Operand → Type 0
 IsOperand (Reg register) = register < REGISTERS
 IsOperand (Const term) = IsConstant term
@@ -49,6 +49,9 @@ IsInstr fs len (Jump target) = target ≤ len
 IsInstr fs len (Call function at) = IsSomeAnd (slice_get fs function) (λ f. IsCallPlace at f.arity)
 IsInstr fs len (CallExt to at) = IsFunctionName to × IsCallPlace at to.arity
 IsInstr fs len (Ret value) = IsOperand value
+IsInstr fs len (Pget key to) = (key.0 < MOST_NAMES) × (to < REGISTERS)
+IsInstr fs len (PgetOr key other to) = (key.0 < MOST_NAMES) × IsOperand other × (to < REGISTERS)
+IsInstr fs len (Elem index from to) = IsOperand index × IsOperand from × (to < REGISTERS)
 IsInstr fs len (Print value) = IsOperand value
 IsInstr fs len Yield = Unit {0}
 

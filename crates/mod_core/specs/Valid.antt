@@ -6,11 +6,15 @@ use Rattle.mod_core.specs.declared.code.TheConstants.{GREATEST_VERSION, MOST_FUN
 use Rattle.mod_core.specs.declared.code.Function.{Function}
 use Rattle.mod_core.specs.declared.code.Module.{Module}
 use Rattle.mod_core.specs.Module.{IsFunction, SameFunction}
-use Rattle.mod_core.specs.ModuleImage.{function_len}
+use Rattle.mod_core.specs.ModuleImage.{code_constants, function_len, constants_len, constants_of}
+
+-- how many words of an image a function takes: its head, its code and the images of its constants
+abbrev pub function_words_with : Function → ℕ
+function_words_with f = 4 + (function_len f + constants_len (code_constants f.code))
 
 -- how many words the image of a module with these functions has
 abbrev pub words_with : List Function → ℕ
-words_with fs = 4 + (4 * length fs + sum_by function_len fs)
+words_with fs = 4 + (4 * length fs + (sum_by function_len fs + constants_len (constants_of fs)))
 
 -- the functions of some module
 pub record AreFunctions (fs : List Function) : Type 0 where

@@ -32,26 +32,74 @@ pub enum Operand {
 #[derive(Clone, Debug, Drop, PartialEq, Eq)]
 pub enum Instr {
     /// The register becomes the value.
-    Move { from: Operand, to: u32 },
+    Move {
+        from: Operand,
+        to: u32,
+    },
     /// The register becomes the sum of two integers.
-    Add { a: Operand, b: Operand, to: u32 },
+    Add {
+        a: Operand,
+        b: Operand,
+        to: u32,
+    },
     /// The register becomes the first integer less the second.
-    Sub { a: Operand, b: Operand, to: u32 },
+    Sub {
+        a: Operand,
+        b: Operand,
+        to: u32,
+    },
     /// Goes to the target if the terms are equal.
-    Eq { a: Operand, b: Operand, target: u32 },
+    Eq {
+        a: Operand,
+        b: Operand,
+        target: u32,
+    },
     /// Goes to the target if the first integer is less than the second.
-    Less { a: Operand, b: Operand, target: u32 },
+    Less {
+        a: Operand,
+        b: Operand,
+        target: u32,
+    },
     /// Goes to the target.
-    Jump { target: u32 },
+    Jump {
+        target: u32,
+    },
     /// Enters a function of the same instance, by its number in the module. Its arguments stand in the registers
     /// from `at` on; its value comes into `at`.
-    Call { function: u32, at: u32 },
+    Call {
+        function: u32,
+        at: u32,
+    },
     /// Enters a function of a current instance, as an external call of Erlang does.
-    CallExt { to: Mfa, at: u32 },
+    CallExt {
+        to: Mfa,
+        at: u32,
+    },
     /// Leaves the frame with the value.
-    Ret { value: Operand },
+    Ret {
+        value: Operand,
+    },
+    /// The register becomes the persistent term of the key, as by Erlang's `persistent_term:get/1`.
+    Pget {
+        key: AtomId,
+        to: u32,
+    },
+    /// The same, or the other value where the key has none, as by `persistent_term:get/2`.
+    PgetOr {
+        key: AtomId,
+        other: Operand,
+        to: u32,
+    },
+    /// The register becomes an element of a tuple or a list, counted from 1.
+    Elem {
+        index: Operand,
+        from: Operand,
+        to: u32,
+    },
     /// Makes a line of the value.
-    Print { value: Operand },
+    Print {
+        value: Operand,
+    },
     /// Ends the turn.
     Yield,
 }

@@ -1,21 +1,23 @@
-//! Modules of the call machine: what they are, their text, and the image of an instance.
+//! Modules of the call machine: what they are, and the image of an instance.
 #![tactic(auto)]
 
 mod code;
-mod fault;
+mod code_reading;
+mod decoding;
 mod image;
+mod instr_reading;
+mod laws;
+mod layout;
 #[cfg(test)]
 mod tests;
-mod text;
-#[cfg(test)]
-mod text_tests;
 mod validity;
+mod words;
 
 pub use code::{
     Function, FunctionList, GREATEST_VERSION, Instr, InstrList, LONGEST_IMAGE, MOST_ARGUMENTS,
     MOST_FUNCTIONS, Module, ModuleList, Operand, REGISTERS,
 };
-pub use fault::{FinishFault, LineFault, ModFault};
+pub use decoding::decode;
 pub use image::encode;
-pub use text::{ModuleReader, canonical_text_reads_back, print_module, read_module};
+pub use laws::{encoded_modules_are_read, images_are_of_one_module};
 pub use validity::validate;

@@ -1,21 +1,25 @@
 //! Whether a module is one that some text has.
 
-ghost use Rattle.std.specs.Prelude.{◌≡◌, ℕ, ◌+◌, ◌<◌, ◌≤◌, ◌↔◌, IsTrue, IsSomeAnd, MatchOption, All, length, slice_get, sum_by};
+ghost use Rattle.std.specs.Prelude.{◌≡◌, ℕ, ◌+◌, ◌<◌, ◌≤◌, ◌↔◌, IsTrue, IsSomeAnd, MatchOption, All, length, slice_get};
+ghost use Rattle.term_core.specs.Plain.{plain};
+ghost use Rattle.term_core.specs.PlainTerm.{EachInRow, EachLeaf, row_of, row_words, term_words};
+ghost use Rattle.term_core.specs.Written.{IsTermInteger};
 ghost use Rattle.mod_core.specs.Module.{IsConstant, IsOperand, IsFunctionName, IsCallPlace, IsInstr, IsFunction, SameFunction, IsModule};
-ghost use Rattle.mod_core.specs.ModuleImage.{instr_len, function_len};
-ghost use Rattle.mod_core.specs.Valid.{words_with, AreFunctions, HasTitle};
+ghost use Rattle.mod_core.specs.ModuleImage.{code_constants, code_len, constants_len, instr_constants, instr_len, operand_constants};
+ghost use Rattle.mod_core.specs.Valid.{function_words_with, words_with, AreFunctions, HasTitle};
 
 use crate::code::{
     Function, GREATEST_VERSION, Instr, LONGEST_IMAGE, MOST_ARGUMENTS, MOST_FUNCTIONS, Module,
     Operand, REGISTERS,
 };
-use term_core::{AtomId, GREATEST_INTEGER, LEAST_INTEGER, MOST_NAMES, Mfa, Term};
-
-/// How many words of an image stand before the functions.
-const HEAD_WORDS: usize = 4;
+use crate::image::instr_len;
+use crate::layout::{HEAD_WORDS, RETURN_WORDS};
+use term_core::{
+    AtomId, GREATEST_INTEGER, LEAST_INTEGER, MOST_NAMES, MOST_WORDS, Mfa, Term, TermList,
+};
 
 /// How many words a function has besides its instructions: its head and the return at its end.
-const FUNCTION_WORDS: usize = 6;
+const FUNCTION_WORDS: usize = HEAD_WORDS + RETURN_WORDS;
 
 fn is_atom(atom: AtomId) -> bool
     ensures { IsTrue result ↔ (atom.0 < MOST_NAMES) }
@@ -23,14 +27,57 @@ fn is_atom(atom: AtomId) -> bool
     (atom.0 as usize) < MOST_NAMES
 }
 
-fn is_constant(term: &Term) -> bool
-    ensures { IsTrue result ↔ IsConstant term.now }
+/// Whether each integer is a term's and each atom one of 4,096.
+#[cycle(leaves)]
+fn has_leaves(term: &Term) -> bool
+    ensures { IsTrue result ↔ EachLeaf IsTermInteger (λ atom. atom < MOST_NAMES) (plain term.now) }
 {
     match term {
         Term::Int(number) => *number >= LEAST_INTEGER && *number <= GREATEST_INTEGER,
         Term::Atom(atom) => is_atom(*atom),
-        Term::Tuple(_) | Term::List(_) => false,
+        Term::Tuple(terms) | Term::List(terms) => have_leaves(terms),
     }
+}
+
+#[cycle(leaves)]
+fn have_leaves(terms: &TermList) -> bool
+    ensures { IsTrue result ↔ EachInRow IsTermInteger (λ atom. atom < MOST_NAMES) (row_of terms.now) }
+{
+    for term in terms.as_slice() {
+        if !has_leaves(term) {
+            return false;
+        }
+    }
+    true
+}
+
+/// How many of so many words are left behind the image of a term, if there are enough.
+#[cycle(words)]
+fn left_behind_term(room: usize, term: &Term) -> Option<usize>
+    ensures { MatchOption result (room < term_words (plain term.now)) (λ left. left + term_words (plain term.now) ≡ room) }
+{
+    let left = room.checked_sub(1)?;
+    match term {
+        Term::Int(_) | Term::Atom(_) => Some(left),
+        Term::Tuple(terms) | Term::List(terms) => left_behind_terms(left, terms),
+    }
+}
+
+#[cycle(words)]
+fn left_behind_terms(room: usize, terms: &TermList) -> Option<usize>
+    ensures { MatchOption result (room < row_words (row_of terms.now)) (λ left. left + row_words (row_of terms.now) ≡ room) }
+{
+    let mut left = room;
+    for term in terms.as_slice() {
+        left = left_behind_term(left, term)?;
+    }
+    Some(left)
+}
+
+fn is_constant(term: &Term) -> bool
+    ensures { IsTrue result ↔ IsConstant term.now }
+{
+    left_behind_term(MOST_WORDS, term).is_some() && has_leaves(term)
 }
 
 fn is_operand(operand: &Operand) -> bool
@@ -76,6 +123,13 @@ fn is_instr(functions: &[Function], len: usize, instr: &Instr) -> bool
         Instr::Call { function, at } => is_local_call(functions, *function, *at),
         Instr::CallExt { to, at } => is_function_name(to) && is_call_place(*at, to.arity),
         Instr::Ret { value } => is_operand(value),
+        Instr::Pget { key, to } => is_atom(*key) && *to < REGISTERS,
+        Instr::PgetOr { key, other, to } => {
+            is_atom(*key) && is_operand(other) && *to < REGISTERS
+        }
+        Instr::Elem { index, from, to } => {
+            is_operand(index) && is_operand(from) && *to < REGISTERS
+        }
         Instr::Print { value } => is_operand(value),
         Instr::Yield => true,
     }
@@ -137,31 +191,64 @@ fn are_apart(functions: &[Function]) -> bool
     true
 }
 
-fn instr_len(instr: &Instr) -> usize
-    ensures { result ≡ instr_len instr.now }
+/// How many of so many words are left behind the image of an operand's complex constant, if there are enough.
+fn left_behind_operand(room: usize, operand: &Operand) -> Option<usize>
+    ensures { MatchOption result (room < constants_len (operand_constants operand.now)) (λ left. left + constants_len (operand_constants operand.now) ≡ room) }
 {
-    match instr {
-        Instr::Yield => 1,
-        Instr::Jump { .. } | Instr::Ret { .. } | Instr::Print { .. } => 2,
-        Instr::Move { .. } | Instr::Call { .. } | Instr::CallExt { .. } => 3,
-        Instr::Add { .. } | Instr::Sub { .. } | Instr::Eq { .. } | Instr::Less { .. } => 4,
+    match operand {
+        Operand::Const(term) if !term.is_immediate() => left_behind_term(room, term),
+        _ => Some(room),
     }
 }
 
-/// How many of so many words are left behind the code, if there are enough.
+/// How many of so many words are left behind the images of an instruction's constants, if there are enough.
+pub(crate) fn left_behind_constants(room: usize, instr: &Instr) -> Option<usize>
+    ensures { MatchOption result (room < constants_len (instr_constants instr.now)) (λ left. left + constants_len (instr_constants instr.now) ≡ room) }
+{
+    match instr {
+        Instr::Move { from: value, .. }
+        | Instr::Ret { value }
+        | Instr::PgetOr { other: value, .. }
+        | Instr::Print { value } => left_behind_operand(room, value),
+        Instr::Add { a, b, .. }
+        | Instr::Sub { a, b, .. }
+        | Instr::Eq { a, b, .. }
+        | Instr::Less { a, b, .. }
+        | Instr::Elem {
+            index: a,
+            from: b,
+            ..
+        } => left_behind_operand(left_behind_operand(room, a)?, b),
+        Instr::Jump { .. }
+        | Instr::Call { .. }
+        | Instr::CallExt { .. }
+        | Instr::Pget { .. }
+        | Instr::Yield => Some(room),
+    }
+}
+
+/// How many of so many words are left behind an instruction and its constants, if there are enough.
+fn left_behind_instr(room: usize, instr: &Instr) -> Option<usize>
+    ensures { MatchOption result (room < instr_len instr.now + constants_len (instr_constants instr.now)) (λ left. left + (instr_len instr.now + constants_len (instr_constants instr.now)) ≡ room) }
+{
+    let left = room.checked_sub(instr_len(instr) as usize)?;
+    left_behind_constants(left, instr)
+}
+
+/// How many of so many words are left behind code and its constants, if there are enough.
 fn left_behind_code(room: usize, code: &[Instr]) -> Option<usize>
-    ensures { MatchOption result (room < sum_by instr_len code.now) (λ left. left + sum_by instr_len code.now ≡ room) }
+    ensures { MatchOption result (room < code_len code.now + constants_len (code_constants code.now)) (λ left. left + (code_len code.now + constants_len (code_constants code.now)) ≡ room) }
 {
     let mut left = room;
     for instr in code {
-        left = left.checked_sub(instr_len(instr))?;
+        left = left_behind_instr(left, instr)?;
     }
     Some(left)
 }
 
 /// How many of so many words are left behind the function's, if there are enough.
 fn left_behind(room: usize, function: &Function) -> Option<usize>
-    ensures { MatchOption result (room < 4 + function_len function.now) (λ left. left + (4 + function_len function.now) ≡ room) }
+    ensures { MatchOption result (room < function_words_with function.now) (λ left. left + function_words_with function.now ≡ room) }
 {
     let left = room.checked_sub(FUNCTION_WORDS)?;
     left_behind_code(left, function.code.as_slice())

@@ -1,8 +1,0 @@
--- The labels so far are those of the lines so far.
-use Rattle.std.proofs.Common.{take}
-use Rattle.mod_core.specs.LineViews.{forms_of}
-use Rattle.mod_core.proofs.PlaceTables.{PlacesSoFar}
-use Rattle.mod_core.proofs.text.labels.places_of.Given as goal
-
-abbrev pub invariant-loop-line : goal.invariant-loop-line
-invariant-loop-line l = PlacesSoFar l.places l.number (forms_of (take l.line-index l.body))

@@ -1,8 +1,0 @@
--- The words that are left are as many as the whole has, less those of the lines so far.
-use Rattle.std.proofs.Common.{◌≡◌, ◌+◌, take, sum_by}
-use Rattle.mod_core.specs.LineViews.{forms_of}
-use Rattle.mod_core.specs.Keeping.{line_words}
-use Rattle.mod_core.proofs.text.limits.is_short.Given as goal
-
-abbrev pub invariant-loop-line : goal.invariant-loop-line
-invariant-loop-line l = l.left + sum_by line_words (forms_of (take l.line-index l.lines)) ≡ 1020

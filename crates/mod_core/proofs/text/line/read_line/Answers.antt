@@ -1,6 +1,0 @@
--- What is read as a line has the line's parts.
-use Rattle.mod_core.proofs.LineLaws.{sound_by}
-use Rattle.mod_core.proofs.text.line.read_line.Goals as goal
-
-pub returns-clause-sound : goal.returns-clause-sound
-returns-clause-sound c = sound_by c.args.text.now c.cut_line.result c.cut_line.ensures

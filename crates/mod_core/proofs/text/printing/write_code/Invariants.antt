@@ -1,6 +1,0 @@
--- The lines so far are written.
-use Rattle.mod_core.proofs.PrintedText.{CodeWritten}
-use Rattle.mod_core.proofs.text.printing.write_code.Given as goal
-
-abbrev pub invariant-loop-number : goal.invariant-loop-number
-invariant-loop-number l = CodeWritten l.names l.functions l.code l.number l.out l.fn.out

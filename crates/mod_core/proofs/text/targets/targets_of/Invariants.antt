@@ -1,9 +1,0 @@
--- The places that the instructions so far go to are marked.
-use Rattle.std.proofs.Common.{◌≡◌, ℕ, ◌<◌, false, length, take, get_or}
-use Rattle.std.specs.List.{list_any}
-use Rattle.mod_core.specs.Canonical.{goes_to}
-use Rattle.mod_core.proofs.text.targets.targets_of.Given as goal
-
-abbrev pub invariant-loop-instr : goal.invariant-loop-instr
-invariant-loop-instr l =
-    (length l.places ≡ 1025) × ((number : ℕ) → number < 1025 → get_or l.places number false ≡ list_any (goes_to number) (take l.instr-index l.code))

@@ -1,0 +1,91 @@
+-- The atoms of the module that lines say are held by the names it was read with.
+use Rattle.std.proofs.Common.{◌≡◌, ℕ, ◌<◌, Bool, true, ◌&&◌, List, [], ◌∷◌, ◌++◌, length, map, Option, Some, None, unwrap_or, refl, ap, subst, sym, arith}
+use Rattle.std.specs.Prelude.{All, IfOk, Result}
+use Rattle.std.proofs.lemmas.Option.{slice_get_within}
+use Rattle.std.proofs.lemmas.List.{length-take}
+use Rattle.std.proofs.lemmas.Bool.{and_parts}
+use Rattle.std.proofs.lemmas.List.Elements.{All-nil, All-cons, All-head, All-tail}
+use Rattle.term_core.specs.Names.{IsNames, is_atom_text, number_of, given_names}
+use Rattle.term_core.specs.TermText.{number_in}
+use Rattle.term_core.proofs.NameTables.{slice_get-number_of}
+use Rattle.mod_core.specs.declared.code.Module.{Module}
+use Rattle.mod_text.specs.declared.fault.ModFault.{ModFault}
+use Rattle.mod_text.specs.Canonical.{IsOperandAmong, HasAtomsAmong, IsFunctionHeld, IsModuleHeld}
+use Rattle.mod_text.specs.Ending.{Ends, read, missing, stopped, no_memory}
+use Rattle.mod_text.specs.ModuleLine.{OperandForm, register, integer, atom, complex, InstrForm, move, add, sub, eq, less, jump, call, call_ext, ret, pget, pget_or, elem, print, yield, LineForm, is_number_text, is_operand_form, is_instr_form}
+use Rattle.mod_text.specs.ModuleValue.{FunctionForm, HeaderForm, functions_in, headers_in, instrs_in, operand_in, instr_in, function_in, module_of}
+use Rattle.mod_text.specs.LineFaults.{names_after}
+use Rattle.mod_text.specs.ModuleText.{FollowOn}
+use Rattle.mod_text.proofs.Constants.{IsSound, says}
+use Rattle.mod_text.proofs.LineWords.{IsSoundInstr, IsSoundFunction, instrs_sound, functions_sound}
+use Rattle.mod_text.proofs.TextLaws.{bytes_are_read}
+
+-- a table of names is not empty
+pub some_names : (names : List (List ℕ)) → IsNames names → 0 < length names
+some_names names sound = omega (arith, ap length sound.given, length-take (length given_names) names)
+
+module _ (names : List (List ℕ)) (some : 0 < length names) where
+  number_by : (text : List ℕ) (o : Option ℕ) → number_of names text ≡ o → unwrap_or o 0 < length names
+  number_by text None is = some
+  number_by text (Some n) is = slice_get_within names n text (slice_get-number_of names text n is)
+
+  -- each number is that of a name
+  number_held : (text : List ℕ) → number_in names text < length names
+  number_held text = number_by text (number_of names text) refl
+
+  operand_held : (o : OperandForm) → is_operand_form o ≡ true → IsOperandAmong (length names) (operand_in names o)
+  operand_held (register digits) h = tt
+  operand_held (integer text) h = tt
+  operand_held (atom text) h = number_held text
+  operand_held (complex text) h = (says names text h).held (length names) number_held
+
+  two_held : (a b : OperandForm) (rest : Bool) → (is_operand_form a && (is_operand_form b && rest)) ≡ true → IsOperandAmong (length names) (operand_in names a) × IsOperandAmong (length names) (operand_in names b)
+  two_held a b rest h =
+      let first = and_parts (is_operand_form a) (is_operand_form b && rest) h in
+      (operand_held a first.0, operand_held b (and_parts (is_operand_form b) rest first.1).0)
+
+  instr_held : (headers : List HeaderForm) (body : List LineForm) (i : InstrForm) → is_instr_form i ≡ true → HasAtomsAmong (length names) (instr_in names headers body i)
+  instr_held headers body (move from to) h = operand_held from (and_parts (is_operand_form from) (is_number_text to) h).0
+  instr_held headers body (add a b to) h = two_held a b (is_number_text to) h
+  instr_held headers body (sub a b to) h = two_held a b (is_number_text to) h
+  instr_held headers body (eq a b target) h = two_held a b (is_atom_text target) h
+  instr_held headers body (less a b target) h = two_held a b (is_atom_text target) h
+  instr_held headers body (jump target) h = tt
+  instr_held headers body (call name arity at) h = tt
+  instr_held headers body (call_ext name function arity at) h = (number_held name, number_held function)
+  instr_held headers body (ret value) h = operand_held value h
+  instr_held headers body (pget key to) h = number_held key
+  instr_held headers body (pget_or key other to) h = (number_held key, operand_held other (and_parts (is_operand_form other) (is_number_text to) (and_parts (is_atom_text key) (is_operand_form other && is_number_text to) h).1).0)
+  instr_held headers body (elem index from to) h = two_held index from (is_number_text to) h
+  instr_held headers body (print value) h = operand_held value h
+  instr_held headers body yield h = tt
+
+  code_held : (headers : List HeaderForm) (body : List LineForm) (is : List InstrForm) → All IsSoundInstr is → All (HasAtomsAmong (length names)) (map (instr_in names headers body) is)
+  code_held headers body [] h = All-nil (HasAtomsAmong (length names))
+  code_held headers body (i ∷ is) h =
+      All-cons (HasAtomsAmong (length names)) (instr_in names headers body i) (map (instr_in names headers body) is)
+      (instr_held headers body i (All-head IsSoundInstr i is h)) (code_held headers body is (All-tail IsSoundInstr i is h))
+
+  functions_held : (headers : List HeaderForm) (fs : List FunctionForm) → All IsSoundFunction fs → All (IsFunctionHeld (length names)) (map (function_in names headers) fs)
+  functions_held headers [] h = All-nil (IsFunctionHeld (length names))
+  functions_held headers (f ∷ fs) h =
+      All-cons (IsFunctionHeld (length names)) (function_in names headers f) (map (function_in names headers) fs)
+      (record { name = number_held f.name; code = code_held headers f.body (instrs_in f.body) (instrs_sound f.body (All-head IsSoundFunction f fs h)) })
+      (functions_held headers fs (All-tail IsSoundFunction f fs h))
+
+  -- the atoms of the module that lines say
+  pub module_held : (lines : List LineForm) → All IsSound lines → IsModuleHeld names (module_of names lines)
+  module_held lines sound = record { name = number_held _; functions = functions_held (headers_in lines) (functions_in lines) (functions_sound lines sound) }
+
+-- lines that follow on are of their forms
+pub sound_lines : (names : List (List ℕ)) (before lines : List LineForm) → FollowOn names before lines → All IsSound lines
+sound_lines names before [] follow = All-nil IsSound
+sound_lines names before (line ∷ lines) follow = All-cons IsSound line lines follow.0.stands.is_text.sound (sound_lines (names_after names line) (before ++ line ∷ []) lines follow.1)
+
+-- the atoms of a module that was read
+pub held_is : (before : List (List ℕ)) (bytes : List ℕ) (first : ℕ) (after : List (List ℕ)) (r : Result Module ModFault) → IsNames after → Ends before bytes first after r → IfOk r (λ m. IsModuleHeld after m)
+held_is before bytes first after _ sound (read forms m e value settled) =
+    subst (IsModuleHeld after) (sym value) (module_held after (some_names after sound) forms (sound_lines before [] forms (bytes_are_read before bytes after forms e).faultless))
+held_is before bytes first after _ sound (missing forms number fault e lacking is) = tt
+held_is before bytes first after _ sound (stopped stop fault so is) = tt
+held_is before bytes first after _ sound (no_memory fault is) = tt

@@ -1,0 +1,119 @@
+-- The labels of a function, line by line.
+use Rattle.std.proofs.Common.{◌≡◌, ℕ, suc, ◌+◌, ◌<◌, Bool, true, false, cond, List, [], ◌∷◌, ◌++◌, length, take, get_or, Option, Some, None, option_map, is_some, bytes_eq, refl, sym, ap, ◌∙◌, subst, arith}
+use Rattle.std.specs.Borrow.{Bor}
+use Rattle.std.specs.HashMap.{UpdatesBy}
+use Rattle.std.proofs.lemmas.Map.Text.{hash_map_updates_str}
+use Rattle.std.proofs.lemmas.List.{take_more}
+use Rattle.std.proofs.lemmas.Slice.Eq.{bytes_eq-Decides}
+use Rattle.mod_text.specs.LineViews.{form_of, forms_of}
+use Rattle.mod_text.specs.ModuleLine.{LineForm, title, header, label, instr, end}
+use Rattle.mod_text.specs.ModuleValue.{instrs_in, label_number, earlier}
+use Rattle.mod_text.specs.Settling.{Places, place_in, ArePlaces, HasPlace, label_at, TakesLine, number_after}
+use Rattle.mod_text.proofs.Keepings.{map-append}
+
+no_place : (o : Option ℕ) → is_some o ≡ false → o ≡ None
+no_place None h = refl
+no_place (Some n) h = absurd cc
+
+earlier-none : (o : Option ℕ) → earlier o None ≡ o
+earlier-none None = refl
+earlier-none (Some n) = refl
+
+-- a label that was added has its number, and each other one what it had
+pub place_added : (old new : Places) (name : Bor (List ℕ)) (number : ℕ) (o : Option ℕ) → o ≡ place_in old name.now → is_some o ≡ false → UpdatesBy (λ x y. bytes_eq x.now y.now) (λ k. bytes_eq name.now k.now) old new (Some number) → HasPlace old new name.now number
+place_added old new name number o is none updates = λ wanted.
+    hash_map_updates_str name.now old new (Some number) updates wanted ∙ by_test wanted (bytes_eq name.now wanted) refl (sym is ∙ no_place o none)
+  where
+    by_test : (wanted : List ℕ) (t : Bool) → bytes_eq name.now wanted ≡ t → place_in old name.now ≡ None → cond t (Some number) (place_in old wanted) ≡ earlier (place_in old wanted) (cond t (Some number) None)
+    by_test wanted true e before = ap (λ p. earlier p (Some number)) (sym (ap (place_in old) (sym ((bytes_eq-Decides name.now wanted).0 e)) ∙ before))
+    by_test wanted false e before = sym (earlier-none (place_in old wanted))
+
+earlier-is : (o : Option ℕ) (other : Option ℕ) → is_some o ≡ true → o ≡ earlier o other
+earlier-is None other h = absurd cc
+earlier-is (Some n) other h = refl
+
+-- a label that had a number keeps it
+pub place_kept : (old : Places) (name : Bor (List ℕ)) (number : ℕ) (o : Option ℕ) → o ≡ place_in old name.now → is_some o ≡ true → HasPlace old old name.now number
+place_kept old name number o is some = λ wanted. by_test wanted (bytes_eq name.now wanted) refl
+  where
+    by_test : (wanted : List ℕ) (t : Bool) → bytes_eq name.now wanted ≡ t → place_in old wanted ≡ earlier (place_in old wanted) (cond t (Some number) None)
+    by_test wanted true e = earlier-is (place_in old wanted) (Some number) (ap is_some (ap (place_in old) (sym ((bytes_eq-Decides name.now wanted).0 e)) ∙ sym is) ∙ some)
+    by_test wanted false e = sym (earlier-none (place_in old wanted))
+
+-- ---- the labels of lines
+
+earlier-suc : (a b : Option ℕ) → option_map suc (earlier a b) ≡ earlier (option_map suc a) (option_map suc b)
+earlier-suc None b = refl
+earlier-suc (Some n) b = refl
+
+suc_if : (t : Bool) (n : ℕ) → option_map suc (cond t (Some n) None) ≡ cond t (Some (suc n)) None
+suc_if true n = refl
+suc_if false n = refl
+
+label_at-suc : (number : ℕ) (wanted : List ℕ) (line : LineForm) → option_map suc (label_at number wanted line) ≡ label_at (suc number) wanted line
+label_at-suc number wanted (title name version) = refl
+label_at-suc number wanted (header exported name arity) = refl
+label_at-suc number wanted (label name) = suc_if (bytes_eq name wanted) number
+label_at-suc number wanted (instr i) = refl
+label_at-suc number wanted end = refl
+
+first_label : (wanted : List ℕ) (line : LineForm) → label_number wanted (line ∷ []) ≡ label_at 0 wanted line
+first_label wanted (title name version) = refl
+first_label wanted (header exported name arity) = refl
+first_label wanted (label name) = refl
+first_label wanted (instr i) = refl
+first_label wanted end = refl
+
+-- a line more gives its label a number, unless it had one
+pub label_number-push : (wanted : List ℕ) (lines : List LineForm) (line : LineForm) → label_number wanted (lines ++ line ∷ []) ≡ earlier (label_number wanted lines) (label_at (length (instrs_in lines)) wanted line)
+label_number-push wanted [] line = first_label wanted line
+label_number-push wanted (title name version ∷ lines) line = label_number-push wanted lines line
+label_number-push wanted (header exported name arity ∷ lines) line = label_number-push wanted lines line
+label_number-push wanted (label name ∷ lines) line =
+    elim (bytes_eq name wanted) as (λ t. cond t (Some 0) (label_number wanted (lines ++ line ∷ [])) ≡ earlier (cond t (Some 0) (label_number wanted lines)) (label_at (length (instrs_in lines)) wanted line)) [
+      | true ↦ refl
+      | false ↦ label_number-push wanted lines line
+    ]
+label_number-push wanted (instr i ∷ lines) line =
+    ap (option_map suc) (label_number-push wanted lines line) ∙ earlier-suc (label_number wanted lines) (label_at (length (instrs_in lines)) wanted line)
+    ∙ ap (earlier (option_map suc (label_number wanted lines))) (label_at-suc (length (instrs_in lines)) wanted line)
+label_number-push wanted (end ∷ lines) line = label_number-push wanted lines line
+
+last_count : (line : LineForm) → length (instrs_in (line ∷ [])) ≡ number_after 0 line
+last_count (title name version) = refl
+last_count (header exported name arity) = refl
+last_count (label name) = refl
+last_count (instr i) = refl
+last_count end = refl
+
+number_after-suc : (number : ℕ) (line : LineForm) → suc (number_after number line) ≡ number_after (suc number) line
+number_after-suc number (title name version) = refl
+number_after-suc number (header exported name arity) = refl
+number_after-suc number (label name) = refl
+number_after-suc number (instr i) = omega arith
+number_after-suc number end = refl
+
+pub count-push : (lines : List LineForm) (line : LineForm) → length (instrs_in (lines ++ line ∷ [])) ≡ number_after (length (instrs_in lines)) line
+count-push [] line = last_count line
+count-push (title name version ∷ lines) line = count-push lines line
+count-push (header exported name arity ∷ lines) line = count-push lines line
+count-push (label name ∷ lines) line = count-push lines line
+count-push (instr i ∷ lines) line = ap suc (count-push lines line) ∙ number_after-suc (length (instrs_in lines)) line
+count-push (end ∷ lines) line = count-push lines line
+
+-- what the loop keeps
+pub record PlacesSoFar (places : Places) (number : ℕ) (lines : List LineForm) : Type 0 where
+  pub places_are : ArePlaces places lines
+  pub counted : number ≡ length (instrs_in lines)
+
+forms_more : (body : List (Bor (List ℕ))) (i : ℕ) (d : Bor (List ℕ)) → i < length body → forms_of (take (i + 1) body) ≡ forms_of (take i body) ++ form_of (get_or body i d) ∷ []
+forms_more body i d within = ap forms_of (take_more body i d within) ∙ map-append form_of (take i body) (get_or body i d ∷ [])
+
+pub places_more : (old new : Places) (number next : ℕ) (body : List (Bor (List ℕ))) (i : ℕ) (d : Bor (List ℕ)) → i < length body → PlacesSoFar old number (forms_of (take i body)) → TakesLine old new number (form_of (get_or body i d)) → next ≡ number_after number (form_of (get_or body i d)) → PlacesSoFar new next (forms_of (take (i + 1) body))
+places_more old new number next body i d within so_far takes counts =
+    let line = form_of (get_or body i d) in
+    subst (PlacesSoFar new next) (sym (forms_more body i d within))
+    (record {
+      places_are = λ wanted. takes wanted ∙ ap (λ o. earlier o (label_at number wanted line)) (so_far.places_are wanted) ∙ ap (λ n. earlier (label_number wanted (forms_of (take i body))) (label_at n wanted line)) so_far.counted ∙ sym (label_number-push wanted (forms_of (take i body)) line);
+      counted = counts ∙ ap (λ n. number_after n line) so_far.counted ∙ sym (count-push (forms_of (take i body)) line);
+    })

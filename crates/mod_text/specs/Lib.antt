@@ -1,0 +1,11 @@
+pub mod Canonical
+pub mod Ending
+pub mod Keeping
+pub mod LineFaults
+pub mod LineReading
+pub mod LineViews
+pub mod ModuleLine
+pub mod ModuleText
+pub mod ModuleValue
+pub mod Reading
+pub mod Settling
