@@ -1,20 +1,25 @@
 -- What a command came to: nothing changed, or one change of the command table, with what held for it.
-use Rattle.std.proofs.Common.{◌≡◌, ℕ, ◌+◌, Bool, true, false, nat_lt, IsTrue, List, [], ◌∷◌, ◌++◌, length, Option, Some, None, is_some, is_none, option_map, if◌then◌else◌, refl, sym, ap, ◌∙◌, arith}
+use Rattle.std.proofs.Common.{◌≡◌, ℕ, ◌+◌, Bool, true, false, not, ◌&&◌, nat_le, nat_lt, IsTrue, List, [], ◌∷◌, ◌++◌, length, Option, Some, None, is_some, is_none, option_map, if◌then◌else◌, refl, sym, ap, ◌∙◌, arith}
 use Rattle.std.proofs.lemmas.Bool.{lt-ltb}
 use Rattle.std.specs.Bool.{beq}
 use Rattle.term_core.specs.declared.atom.AtomId.{AtomId}
 use Rattle.term_core.specs.declared.atom.Mfa.{Mfa}
+use Rattle.term_core.specs.declared.term.Term.{Term}
+use Rattle.term_core.specs.Image.{is_immediate}
+use Rattle.term_core.specs.Plain.{plain}
+use Rattle.term_core.specs.PlainTerm.{PlainTerm}
 use Rattle.mod_core.specs.declared.code.Module.{Module}
-use Rattle.server_core.specs.declared.command.TheConstants.{MOST_INSTANCES}
+use Rattle.server_core.specs.declared.command.TheConstants.{MOST_INSTANCES, MOST_KEYS, MOST_TERMS}
 use Rattle.server_core.specs.declared.command.ModRef.{ModRef}
 use Rattle.server_core.specs.declared.command.Cmd.{Cmd}
-use Rattle.server_core.specs.declared.command.Cmd.TheVariants.{Load, Delete, SoftPurge, Doom, Purge, CheckOld, Trace, Spawn, Release}
+use Rattle.server_core.specs.declared.command.Cmd.TheVariants.{Load, Delete, SoftPurge, Doom, Purge, CheckOld, Put, Erase, Trace, Spawn, Release}
 use Rattle.server_core.specs.declared.command.Linger.{Linger}
-use Rattle.server_core.specs.declared.command.Limit.TheVariants.{Instances}
+use Rattle.server_core.specs.declared.command.Limit.TheVariants.{Areas, Instances, Keys}
 use Rattle.server_core.specs.declared.command.Reply.{Reply}
 use Rattle.server_core.specs.declared.command.Reply.TheVariants as replies
-use Rattle.server_core.specs.ServerState.{ServerState, Entry, current_of, is_doomed, is_retired, is_traced, live_count, old_of, traceable_of}
-use Rattle.server_core.specs.CommandTable.{Outcome, answered, apply_of, delete_of, doom_of, loaded, names_of, not_purged, published, purge_of, repeated_after, soft_purge_of, texts_of, trace_of, unchanged, while_none_doomed, with_all, with_deleted, with_dropped, with_purged, with_released, with_trace}
+use Rattle.server_core.specs.Rooms.{HasPlace}
+use Rattle.server_core.specs.ServerState.{Persistent, ServerState, Entry, current_of, is_doomed, is_retired, is_traced, live_areas, live_count, old_of, persistent_of, traceable_of}
+use Rattle.server_core.specs.CommandTable.{Outcome, answered, apply_of, delete_of, doom_of, erase_of, holds_equal, loaded, names_of, not_purged, published, purge_of, put_of, repeated_after, soft_purge_of, texts_of, trace_of, unchanged, while_none_doomed, with_all, with_deleted, with_dropped, with_erased, with_purged, with_put, with_released, with_trace}
 
 -- what a load asks of a state to come in
 pub record ComesIn (texts : List Module) (s : ServerState) (refs : List ModRef) (modules : List Module) : Type 0 where
@@ -22,6 +27,11 @@ pub record ComesIn (texts : List Module) (s : ServerState) (refs : List ModRef) 
   pub once : repeated_after [] (names_of refs) ≡ None
   pub purged : nat_lt 0 (length (not_purged s refs)) ≡ false
   pub room : nat_lt MOST_INSTANCES (live_count s.versions + length refs) ≡ false
+
+-- what a put asks of a state to come in
+pub record IsPutIn (s : ServerState) (key : ℕ) (term : PlainTerm) : Type 0 where
+  pub other : holds_equal (persistent_of s key) term ≡ false
+  pub place : HasPlace s.keys key term
 
 -- what a command came to
 pub data Came (texts : List Module) (s : ServerState) (cmd : Cmd) (o : Outcome) : Type 0 where
@@ -31,6 +41,8 @@ pub data Came (texts : List Module) (s : ServerState) (cmd : Cmd) (o : Outcome) 
   was_soft_purged : (name : AtomId) (serial : ℕ) → cmd ≡ SoftPurge name None → s.doomed ≡ [] → old_of s name.0 ≡ Some serial → o ≡ published (with_dropped s name.0 serial) replies.True → Came texts s cmd o
   was_doomed : (name : AtomId) (serial : ℕ) → cmd ≡ Doom name → s.doomed ≡ [] → old_of s name.0 ≡ Some serial → o ≡ published (record s { doomed = s.doomed ++ serial ∷ [] }) replies.Ok → Came texts s cmd o
   was_purged : (name : AtomId) (killed : Bool) (serial : ℕ) → cmd ≡ Purge name killed → IsTrue (is_doomed s serial) → old_of s name.0 ≡ Some serial → o ≡ published (with_purged s name.0 serial) (answered killed) → Came texts s cmd o
+  was_put : (key : AtomId) (term : Term) → cmd ≡ Put key term → s.doomed ≡ [] → IsPutIn s key.0 (plain term) → o ≡ published (with_put s key.0 (plain term)) replies.Ok → Came texts s cmd o
+  was_erased : (key : AtomId) (p : Persistent) → cmd ≡ Erase key → s.doomed ≡ [] → persistent_of s key.0 ≡ Some p → o ≡ published (with_erased s key.0) replies.True → Came texts s cmd o
   was_traced : (target : Mfa) (on : Bool) (e : Entry) → cmd ≡ Trace target on → s.doomed ≡ [] → traceable_of s target ≡ Some e → beq (is_traced s e) on ≡ false → o ≡ published (with_trace s e on) replies.True → Came texts s cmd o
   was_released : (serial : ℕ) → cmd ≡ Release serial → IsTrue (is_retired s serial) → o ≡ unchanged (with_released s serial) replies.Ok → Came texts s cmd o
 
@@ -91,6 +103,21 @@ purge_came texts s name killed o (Some serial) old h = by (is_doomed s serial) r
     by true doomed h = was_purged name killed serial refl doomed old (some_outcome _ o h)
     by false doomed h = no_outcome o h
 
+put_came : (texts : List Module) (s : ServerState) (key : AtomId) (term : Term) (o : Outcome) → s.doomed ≡ [] → o ≡ put_of s key.0 (plain term) → Came texts s (Put key term) o
+put_came texts s key term o rest e =
+    by (holds_equal (persistent_of s key.0) (plain term)) refl (is_none (persistent_of s key.0) && nat_le MOST_KEYS (length s.keys)) refl (not (is_immediate (plain term)) && nat_le MOST_TERMS (live_areas s.keys)) refl e
+  where
+    by : (b : Bool) → holds_equal (persistent_of s key.0) (plain term) ≡ b → (c : Bool) → (is_none (persistent_of s key.0) && nat_le MOST_KEYS (length s.keys)) ≡ c → (d : Bool) → (not (is_immediate (plain term)) && nat_le MOST_TERMS (live_areas s.keys)) ≡ d
+        → o ≡ (if b then unchanged s replies.Ok else if c then unchanged s (replies.SystemLimit Keys) else if d then unchanged s (replies.SystemLimit Areas) else published (with_put s key.0 (plain term)) replies.Ok) → Came texts s (Put key term) o
+    by true same c full d many e = as_before replies.Ok e
+    by false same true full d many e = as_before (replies.SystemLimit Keys) e
+    by false same false full true many e = as_before (replies.SystemLimit Areas) e
+    by false same false full false many e = was_put key term refl rest (record { other = same; place = record { for_key = full; for_area = many } }) e
+
+erase_came : (texts : List Module) (s : ServerState) (key : AtomId) (o : Outcome) → s.doomed ≡ [] → (held : Option Persistent) → persistent_of s key.0 ≡ held → o ≡ erase_of s key.0 held → Came texts s (Erase key) o
+erase_came texts s key o rest None held e = as_before replies.False e
+erase_came texts s key o rest (Some p) held e = was_erased key p refl rest held e
+
 trace_came : (texts : List Module) (s : ServerState) (target : Mfa) (on : Bool) (o : Outcome) → s.doomed ≡ [] → (at : Option Entry) → traceable_of s target ≡ at → o ≡ trace_of s on at → Came texts s (Trace target on) o
 trace_came texts s target on o rest None at e = as_before replies.False e
 trace_came texts s target on o rest (Some f) at e = by (beq (is_traced s f) on) refl e
@@ -111,6 +138,8 @@ came texts s (SoftPurge name lingers) o h = let r = at_rest s _ o h in soft_purg
 came texts s (Doom name) o h = let r = at_rest s _ o h in doom_came texts s name o r.0 (old_of s name.0) refl r.1
 came texts s (Purge name killed) o h = purge_came texts s name killed o (old_of s name.0) refl h
 came texts s (CheckOld name) o h = as_before (answered (is_some (old_of s name.0))) (some_outcome _ o h)
+came texts s (Put key term) o h = let r = at_rest s _ o h in put_came texts s key term o r.0 (some_outcome _ o r.1)
+came texts s (Erase key) o h = let r = at_rest s _ o h in erase_came texts s key o r.0 (persistent_of s key.0) refl (some_outcome _ o r.1)
 came texts s (Trace target on) o h = let r = at_rest s _ o h in trace_came texts s target on o r.0 (traceable_of s target) refl (some_outcome _ o r.1)
 came texts s (Spawn target args) o h = as_before replies.Ok (some_outcome _ o h)
 came texts s (Release serial) o h = release_came texts s serial o (is_retired s serial) refl h

@@ -1,17 +1,22 @@
 -- What a command leaves: current and old code, serials, the generation, and what is doomed, retired and released. And which commands have a case.
-use Rattle.std.proofs.Common.{◌≡◌, ℕ, ◌+◌, ◌≤◌, Bool, true, false, cond, nat_eq, nat_lt, IsTrue, List, [], ◌∷◌, ◌++◌, length, Option, Some, None, IsSome, is_some, option_map, if◌then◌else◌, not, ◌||◌, refl, sym, ap, ◌∙◌, inl, inr, ◌⊎◌, arith}
+use Rattle.std.proofs.Common.{◌≡◌, ℕ, ◌+◌, ◌≤◌, Bool, true, false, cond, nat_eq, nat_lt, IsTrue, List, [], ◌∷◌, ◌++◌, length, Option, Some, None, IsSome, is_some, option_map, if◌then◌else◌, not, ◌||◌, refl, sym, ap, ◌∙◌, inl, inr, ◌⊎◌, append-nil, arith}
 use Rattle.std.proofs.lemmas.Bool.Decides.{nat_tests}
+use Rattle.std.specs.Option.{option_to_list}
 use Rattle.term_core.specs.declared.atom.AtomId.{AtomId}
 use Rattle.term_core.specs.declared.atom.Mfa.{Mfa}
+use Rattle.term_core.specs.declared.term.Term.{Term}
+use Rattle.term_core.specs.Image.{is_immediate}
+use Rattle.term_core.specs.Plain.{plain}
+use Rattle.term_core.specs.PlainTerm.{PlainTerm}
 use Rattle.mod_core.specs.declared.code.Module.{Module}
 use Rattle.server_core.specs.declared.command.ModRef.{ModRef}
 use Rattle.server_core.specs.declared.command.Cmd.{Cmd}
-use Rattle.server_core.specs.declared.command.Cmd.TheVariants.{Load, Delete, SoftPurge, Doom, Purge, CheckOld, Trace, Spawn, Release}
+use Rattle.server_core.specs.declared.command.Cmd.TheVariants.{Load, Delete, SoftPurge, Doom, Purge, CheckOld, Put, Erase, Trace, Spawn, Release}
 use Rattle.server_core.specs.declared.command.Linger.{Linger}
 use Rattle.server_core.specs.declared.command.Reply.TheVariants as replies
-use Rattle.server_core.specs.ServerState.{Instance, ServerState, IsSound, code_among, code_of, current_of, is_doomed, is_retired, is_serial_in, old_of, traceable_of}
-use Rattle.server_core.specs.CommandTable.{Outcome, answered, apply_of, delete_of, doom_of, loaded, names_of, published, purge_of, repeated_after, soft_purge_of, texts_of, trace_of, unchanged, while_none_doomed, with_all, with_deleted, with_dropped, with_loaded, with_purged, with_released, without_number}
-use Rattle.server_core.proofs.Changes.{Came, at_rest, came, no_outcome, as_before, came_in, was_deleted, was_soft_purged, was_doomed, was_purged, was_traced, was_released}
+use Rattle.server_core.specs.ServerState.{Instance, ServerState, IsSound, code_among, code_of, current_of, is_doomed, is_retired, is_serial_in, key_area, old_of, persistent_of, traceable_of}
+use Rattle.server_core.specs.CommandTable.{Outcome, answered, apply_of, delete_of, doom_of, erase_of, loaded, names_of, published, purge_of, put_of, repeated_after, soft_purge_of, texts_of, trace_of, unchanged, while_none_doomed, with_all, with_complex, with_deleted, with_dropped, with_immediate, with_loaded, with_purged, with_put, with_released, without_number}
+use Rattle.server_core.proofs.Changes.{Came, at_rest, came, no_outcome, as_before, came_in, was_deleted, was_soft_purged, was_doomed, was_purged, was_put, was_erased, was_traced, was_released}
 use Rattle.server_core.proofs.Soundness.{current_set, old_set}
 
 -- the current code after a delete
@@ -89,6 +94,14 @@ old_all s (m ∷ ms) name serial h = later (old_all (with_loaded s m) ms name se
     later (inr (inl e)) = current (either_some (nat_eq name m.name.0) _ _ serial (sym (current_set s.versions (record { name = m.name.0; current = Some s.next_serial; old = current_of s m.name.0 }) name) ∙ e))
     later (inr (inr e)) = inr (inr (omega (arith, e)))
 
+-- what a put leaves, whether its term is complex or not
+pub put_keeps : {A : Type 0} (f : ServerState → A) (s : ServerState) (key : ℕ) (term : PlainTerm) (x : A) → f (with_immediate s key term) ≡ x → f (with_complex s key term) ≡ x → f (with_put s key term) ≡ x
+put_keeps f s key term x immediate complex = by (is_immediate term)
+  where
+    by : (b : Bool) → f (if b then with_immediate s key term else with_complex s key term) ≡ x
+    by true = immediate
+    by false = complex
+
 not_first : (b : Bool) (p : Option ℕ) (k : ℕ) → cond b None p ≡ Some k → p ≡ Some k
 not_first true p k h = none_is k h
 not_first false p k h = h
@@ -100,6 +113,8 @@ current_came texts s cmd o name serial (was_deleted m is rest old current e) h =
 current_came texts s cmd o name serial (was_soft_purged m k is rest old e) h = inl (sym (current_dropped s m.0 k name) ∙ sym (ap (λ r. current_of r.state name) e) ∙ h)
 current_came texts s cmd o name serial (was_doomed m k is rest old e) h = inl (sym (ap (λ r. current_of r.state name) e) ∙ h)
 current_came texts s cmd o name serial (was_purged m killed k is doomed old e) h = inl (sym (current_dropped s m.0 k name) ∙ sym (ap (λ r. current_of r.state name) e) ∙ h)
+current_came texts s cmd o name serial (was_put key term is rest into e) h = inl (sym (put_keeps (λ t. current_of t name) s key.0 (plain term) (current_of s name) refl refl) ∙ sym (ap (λ r. current_of r.state name) e) ∙ h)
+current_came texts s cmd o name serial (was_erased key p is rest held e) h = inl (sym (ap (λ r. current_of r.state name) e) ∙ h)
 current_came texts s cmd o name serial (was_traced target on f is rest at same e) h = inl (sym (ap (λ r. current_of r.state name) e) ∙ h)
 current_came texts s cmd o name serial (was_released k is retired e) h = inl (sym (ap (λ r. current_of r.state name) e) ∙ h)
 
@@ -118,6 +133,8 @@ old_came texts s cmd o name serial (was_deleted m is rest old current e) h = by 
 old_came texts s cmd o name serial (was_soft_purged m k is rest old e) h = inl (not_first (nat_eq name m.0) _ serial (sym (old_dropped s m.0 k name) ∙ sym (ap (λ r. old_of r.state name) e) ∙ h))
 old_came texts s cmd o name serial (was_doomed m k is rest old e) h = inl (sym (ap (λ r. old_of r.state name) e) ∙ h)
 old_came texts s cmd o name serial (was_purged m killed k is doomed old e) h = inl (not_first (nat_eq name m.0) _ serial (sym (old_dropped s m.0 k name) ∙ sym (ap (λ r. old_of r.state name) e) ∙ h))
+old_came texts s cmd o name serial (was_put key term is rest into e) h = inl (sym (put_keeps (λ t. old_of t name) s key.0 (plain term) (old_of s name) refl refl) ∙ sym (ap (λ r. old_of r.state name) e) ∙ h)
+old_came texts s cmd o name serial (was_erased key p is rest held e) h = inl (sym (ap (λ r. old_of r.state name) e) ∙ h)
 old_came texts s cmd o name serial (was_traced target on f is rest at same e) h = inl (sym (ap (λ r. old_of r.state name) e) ∙ h)
 old_came texts s cmd o name serial (was_released k is retired e) h = inl (sym (ap (λ r. old_of r.state name) e) ∙ h)
 
@@ -162,6 +179,13 @@ code_all : (s : ServerState) (ms : List Module) (serial : ℕ) (m : Module) → 
 code_all s [] serial m h = h
 code_all s (n ∷ ms) serial m h = code_all (with_loaded s n) ms serial m (code_kept s.instances _ serial m h)
 
+put_serials : (s : ServerState) (key : ℕ) (term : PlainTerm) → s.next_serial ≤ (with_put s key term).next_serial
+put_serials s key term = by (is_immediate term)
+  where
+    by : (b : Bool) → s.next_serial ≤ (if b then with_immediate s key term else with_complex s key term).next_serial
+    by true = omega arith
+    by false = omega arith
+
 serials_came : (texts : List Module) (s : ServerState) (cmd : Cmd) (o : Outcome) → Came texts s cmd o → s.next_serial ≤ o.state.next_serial
 serials_came texts s cmd o (as_before reply e) = omega (arith, ap (λ r. r.state.next_serial) e)
 serials_came texts s cmd o (came_in refs modules is rest comes e) = omega (arith, all_serials s modules, ap (λ r. r.state.next_serial) e)
@@ -169,6 +193,8 @@ serials_came texts s cmd o (was_deleted m is rest old current e) = omega (arith,
 serials_came texts s cmd o (was_soft_purged m k is rest old e) = omega (arith, ap (λ r. r.state.next_serial) e)
 serials_came texts s cmd o (was_doomed m k is rest old e) = omega (arith, ap (λ r. r.state.next_serial) e)
 serials_came texts s cmd o (was_purged m killed k is doomed old e) = omega (arith, ap (λ r. r.state.next_serial) e)
+serials_came texts s cmd o (was_put key term is rest into e) = omega (arith, put_serials s key.0 (plain term), ap (λ r. r.state.next_serial) e)
+serials_came texts s cmd o (was_erased key p is rest held e) = omega (arith, ap (λ r. r.state.next_serial) e)
 serials_came texts s cmd o (was_traced target on f is rest at same e) = omega (arith, ap (λ r. r.state.next_serial) e)
 serials_came texts s cmd o (was_released k is retired e) = omega (arith, ap (λ r. r.state.next_serial) e)
 
@@ -183,6 +209,8 @@ code_came texts s cmd o serial m (was_deleted n is rest old current e) h = ap (�
 code_came texts s cmd o serial m (was_soft_purged n k is rest old e) h = ap (λ r. code_of r.state serial) e ∙ h
 code_came texts s cmd o serial m (was_doomed n k is rest old e) h = ap (λ r. code_of r.state serial) e ∙ h
 code_came texts s cmd o serial m (was_purged n killed k is doomed old e) h = ap (λ r. code_of r.state serial) e ∙ h
+code_came texts s cmd o serial m (was_put key term is rest into e) h = ap (λ r. code_of r.state serial) e ∙ put_keeps (λ t. code_of t serial) s key.0 (plain term) (code_of s serial) refl refl ∙ h
+code_came texts s cmd o serial m (was_erased key p is rest held e) h = ap (λ r. code_of r.state serial) e ∙ h
 code_came texts s cmd o serial m (was_traced target on f is rest at same e) h = ap (λ r. code_of r.state serial) e ∙ h
 code_came texts s cmd o serial m (was_released k is retired e) h = ap (λ r. code_of r.state serial) e ∙ h
 
@@ -203,6 +231,8 @@ generation_came texts s cmd o (was_deleted m is rest old current e) = next_publi
 generation_came texts s cmd o (was_soft_purged m k is rest old e) = next_published (ap (λ r. r.answer.published) e) (ap (λ r. r.state.generation) e)
 generation_came texts s cmd o (was_doomed m k is rest old e) = next_published (ap (λ r. r.answer.published) e) (ap (λ r. r.state.generation) e)
 generation_came texts s cmd o (was_purged m killed k is doomed old e) = next_published (ap (λ r. r.answer.published) e) (ap (λ r. r.state.generation) e)
+generation_came texts s cmd o (was_put key term is rest into e) = let same = put_keeps (λ t. t.generation) s key.0 (plain term) s.generation refl refl in next_published (ap (λ r. r.answer.published) e ∙ ap (λ n. Some (n + 1)) same) (ap (λ r. r.state.generation) e ∙ ap (λ n. n + 1) same)
+generation_came texts s cmd o (was_erased key p is rest held e) = next_published (ap (λ r. r.answer.published) e) (ap (λ r. r.state.generation) e)
 generation_came texts s cmd o (was_traced target on f is rest at same e) = next_published (ap (λ r. r.answer.published) e) (ap (λ r. r.state.generation) e)
 generation_came texts s cmd o (was_released k is retired e) = unpublished (ap (λ r. r.answer.published) e) (ap (λ r. r.state.generation) e)
 
@@ -245,6 +275,8 @@ doomed_came texts s cmd o sound (was_soft_purged m k is rest old e) = doom_kept 
 doomed_came texts s cmd o sound (was_doomed m k is rest old e) = doom_set m k is rest old (ap (λ r. r.state.doomed) e ∙ ap (λ ds. ds ++ k ∷ []) rest)
 doomed_came texts s cmd o sound (was_purged m killed k is doomed old e) =
     let one = only_doomed s k sound doomed in doom_lifted m killed k is one old (ap (λ r. r.state.doomed) e ∙ ap (without_number k) one ∙ without_itself k)
+doomed_came texts s cmd o sound (was_put key term is rest into e) = doom_kept (ap (λ r. r.state.doomed) e ∙ put_keeps (λ t. t.doomed) s key.0 (plain term) s.doomed refl refl)
+doomed_came texts s cmd o sound (was_erased key p is rest held e) = doom_kept (ap (λ r. r.state.doomed) e)
 doomed_came texts s cmd o sound (was_traced target on f is rest at same e) = doom_kept (ap (λ r. r.state.doomed) e)
 doomed_came texts s cmd o sound (was_released k is retired e) = doom_kept (ap (λ r. r.state.doomed) e)
 
@@ -256,7 +288,12 @@ doomed_after texts s cmd out sound made = doomed_came texts s cmd out sound (cam
 pub data RetiredAfter (s : ServerState) (cmd : Cmd) (t : ServerState) : Type 0 where
   retired_kept : t.retired ≡ s.retired → RetiredAfter s cmd t
   retired_joins : (name serial : ℕ) → old_of s name ≡ Some serial → t.retired ≡ s.retired ++ serial ∷ [] → RetiredAfter s cmd t
+  retired_held : (key serial : ℕ) → key_area s key ≡ Some serial → t.retired ≡ s.retired ++ serial ∷ [] → RetiredAfter s cmd t
   retired_leaves : (serial : ℕ) → cmd ≡ Release serial → IsTrue (is_retired s serial) → t.retired ≡ without_number serial s.retired → RetiredAfter s cmd t
+
+former_retired : (s : ServerState) (cmd : Cmd) (t : ServerState) (key : ℕ) (area : Option ℕ) → key_area s key ≡ area → t.retired ≡ s.retired ++ option_to_list area → RetiredAfter s cmd t
+former_retired s cmd t key None held e = retired_kept (e ∙ append-nil s.retired)
+former_retired s cmd t key (Some serial) held e = retired_held key serial held e
 
 retired_came : (texts : List Module) (s : ServerState) (cmd : Cmd) (o : Outcome) → Came texts s cmd o → RetiredAfter s cmd o.state
 retired_came texts s cmd o (as_before reply e) = retired_kept (ap (λ r. r.state.retired) e)
@@ -265,10 +302,12 @@ retired_came texts s cmd o (was_deleted m is rest old current e) = retired_kept 
 retired_came texts s cmd o (was_soft_purged m k is rest old e) = retired_joins m.0 k old (ap (λ r. r.state.retired) e)
 retired_came texts s cmd o (was_doomed m k is rest old e) = retired_kept (ap (λ r. r.state.retired) e)
 retired_came texts s cmd o (was_purged m killed k is doomed old e) = retired_joins m.0 k old (ap (λ r. r.state.retired) e)
+retired_came texts s cmd o (was_put key term is rest into e) = former_retired s cmd o.state key.0 (key_area s key.0) refl (ap (λ r. r.state.retired) e ∙ put_keeps (λ t. t.retired) s key.0 (plain term) (s.retired ++ option_to_list (key_area s key.0)) refl refl)
+retired_came texts s cmd o (was_erased key p is rest held e) = former_retired s cmd o.state key.0 (key_area s key.0) refl (ap (λ r. r.state.retired) e)
 retired_came texts s cmd o (was_traced target on f is rest at same e) = retired_kept (ap (λ r. r.state.retired) e)
 retired_came texts s cmd o (was_released k is retired e) = retired_leaves k is retired (ap (λ r. r.state.retired) e)
 
--- what is retired after a command was retired before, or was the old code that it dropped
+-- what is retired after a command was retired before, or was the old code that it dropped, or the area of a key that holds something else now
 pub retired_after : (texts : List Module) (s : ServerState) (cmd : Cmd) (out : Outcome) → apply_of texts s cmd ≡ Some out → RetiredAfter s cmd out.state
 retired_after texts s cmd out made = retired_came texts s cmd out (came texts s cmd out made)
 
@@ -284,6 +323,8 @@ released_came texts s cmd o (was_deleted m is rest old current e) = released_kep
 released_came texts s cmd o (was_soft_purged m k is rest old e) = released_kept (ap (λ r. r.state.released) e)
 released_came texts s cmd o (was_doomed m k is rest old e) = released_kept (ap (λ r. r.state.released) e)
 released_came texts s cmd o (was_purged m killed k is doomed old e) = released_kept (ap (λ r. r.state.released) e)
+released_came texts s cmd o (was_put key term is rest into e) = released_kept (ap (λ r. r.state.released) e ∙ put_keeps (λ t. t.released) s key.0 (plain term) s.released refl refl)
+released_came texts s cmd o (was_erased key p is rest held e) = released_kept (ap (λ r. r.state.released) e)
 released_came texts s cmd o (was_traced target on f is rest at same e) = released_kept (ap (λ r. r.state.released) e)
 released_came texts s cmd o (was_released k is retired e) = released_joins k is retired (ap (λ r. r.state.released) e)
 
@@ -319,6 +360,14 @@ delete_case texts s name rest = case_at_rest s (Some (delete_of s name.0)) rest
 -- and a trace
 pub trace_case : (texts : List Module) (s : ServerState) (target : Mfa) (on : Bool) → s.doomed ≡ [] → apply_of texts s (Trace target on) ≡ Some (trace_of s on (traceable_of s target))
 trace_case texts s target on rest = case_at_rest s (Some (trace_of s on (traceable_of s target))) rest
+
+-- and a put
+pub put_case : (texts : List Module) (s : ServerState) (key : AtomId) (term : Term) → s.doomed ≡ [] → apply_of texts s (Put key term) ≡ Some (put_of s key.0 (plain term))
+put_case texts s key term rest = case_at_rest s (Some (put_of s key.0 (plain term))) rest
+
+-- and an erase
+pub erase_case : (texts : List Module) (s : ServerState) (key : AtomId) → s.doomed ≡ [] → apply_of texts s (Erase key) ≡ Some (erase_of s key.0 (persistent_of s key.0))
+erase_case texts s key rest = case_at_rest s (Some (erase_of s key.0 (persistent_of s key.0))) rest
 
 soft_some : (s : ServerState) (name : ℕ) (old : Option ℕ) → IsSome (soft_purge_of s name None old)
 soft_some s name None = refl
@@ -375,6 +424,8 @@ goes_on texts s (SoftPurge name lingers) out serial doomed h = not_at_rest s ser
 goes_on texts s (Doom name) out serial doomed h = not_at_rest s serial doomed (at_rest s _ out h).0
 goes_on texts s (Purge name killed) out serial doomed h = purge_goes_on s name killed out serial doomed (old_of s name.0) refl h
 goes_on texts s (CheckOld name) out serial doomed h = still_checks name refl
+goes_on texts s (Put key term) out serial doomed h = not_at_rest s serial doomed (at_rest s _ out h).0
+goes_on texts s (Erase key) out serial doomed h = not_at_rest s serial doomed (at_rest s _ out h).0
 goes_on texts s (Trace target on) out serial doomed h = not_at_rest s serial doomed (at_rest s _ out h).0
 goes_on texts s (Spawn target args) out serial doomed h = still_spawns target args refl
 goes_on texts s (Release k) out serial doomed h = still_releases k refl

@@ -1,8 +1,13 @@
+pub mod AreaPlaces
 pub mod Changes
 pub mod CommandLaws
 pub mod CurrentCode
 pub mod GivenTexts
+pub mod KeyChanges
+pub mod KeyEntries
+pub mod KeyLaws
 pub mod Loads
 pub mod SoundAfter
+pub mod SoundParts
 pub mod Soundness
 pub mod Traced

@@ -1,7 +1,7 @@
 -- What a load of modules leaves: their instances behind those before, their versions, and a sound state.
-use Rattle.std.proofs.Common.{◌≡◌, ℕ, ◌-◌, drop, take, zero, suc, ◌+◌, ◌<◌, ◌≤◌, Bool, true, false, cond, nat_eq, List, [], ◌∷◌, ◌++◌, length, Option, Some, None, IfSome, IsSomeAnd, slice_get, All, refl, sym, ap, ◌∙◌, inl, inr, arith, append-nil, append_assoc, length-append}
+use Rattle.std.proofs.Common.{◌≡◌, ℕ, suc, map, ◌+◌, ◌<◌, ◌≤◌, Bool, true, false, cond, nat_eq, List, [], ◌∷◌, ◌++◌, length, Option, Some, None, IfSome, IsSomeAnd, All, refl, sym, ap, ◌∙◌, inl, inr, arith, append-nil, append_assoc, length-append}
+use Rattle.std.proofs.lemmas.List.{length-map}
 use Rattle.std.proofs.lemmas.Bool.Decides.{nat_tests}
-use Rattle.std.proofs.lemmas.List.{drop_at, take_rest}
 use Rattle.std.proofs.lemmas.Option.{IfSome_then}
 use Rattle.mod_core.specs.declared.code.Module.{Module}
 use Rattle.mod_core.specs.Module.{IsModule}
@@ -9,43 +9,51 @@ use Rattle.server_core.specs.declared.command.TheConstants.{MOST_INSTANCES}
 use Rattle.server_core.specs.ServerState.{Instance, ServerState, Versions, IsDropped, IsInstanceOf, IsSound, code_among, current_of, live_count, old_of}
 use Rattle.server_core.specs.CommandTable.{with_all, with_loaded}
 use Rattle.server_core.specs.Rooms.{with_current, with_currents}
-use Rattle.server_core.specs.Tables.{numbered}
+use Rattle.server_core.specs.declared.areas.Area.{Area}
+use Rattle.server_core.specs.declared.areas.Area.TheVariants.{Loaded, Stored}
+use Rattle.server_core.specs.Areas.{instances_in, numbered, terms_in}
 use Rattle.server_core.proofs.CurrentCode.{live_after}
+use Rattle.server_core.proofs.SoundParts.{sound_terms, sound_whole, terms_kept}
 use Rattle.server_core.proofs.Soundness.{IsFit, IsGone, at_some, instance_known, some_same, sound_versions, with_instance}
 
--- serials below the first are those of no instance
-pub numbered_below : (n serial : ℕ) (ms : List Module) → serial < n → code_among (numbered n ms) serial ≡ None
-numbered_below n serial [] below = refl
-numbered_below n serial (m ∷ ms) below =
-    let other : nat_eq n serial ≡ false = grind (arith, nat_tests) in
-    rw other (numbered_below (n + 1) serial ms (omega arith))
+-- instances that were loaded, behind those before
+pub instances_loaded : (n : ℕ) (areas : List Area) (ms : List Module) → instances_in n (areas ++ map Loaded ms) ≡ instances_in n areas ++ numbered (n + length areas) ms
+instances_loaded n [] [] = refl
+instances_loaded n [] (m ∷ ms) =
+    let e : n + 1 ≡ n + 1 + 0 = omega arith in
+    let f : n ≡ n + 0 = omega arith in
+    ap (λ is. record { serial = n; code = m } ∷ is) (instances_loaded (n + 1) [] ms) ∙ (λ i. record { serial = f i; code = m } ∷ numbered (add_one i) ms)
+  where
+    add_one : n + 1 + 0 ≡ n + 0 + 1
+    add_one = omega arith
+instances_loaded n (Loaded m ∷ areas) ms =
+    let e : n + 1 + length areas ≡ n + suc (length areas) = omega arith in
+    ap (λ is. record { serial = n; code = m } ∷ is) (instances_loaded (n + 1) areas ms ∙ ap (λ k. instances_in (n + 1) areas ++ numbered k ms) e)
+instances_loaded n (Stored t ∷ areas) ms =
+    let e : n + 1 + length areas ≡ n + suc (length areas) = omega arith in
+    instances_loaded (n + 1) areas ms ∙ ap (λ k. instances_in (n + 1) areas ++ numbered k ms) e
 
--- and the instances of the others stand in order
-pub numbered_at : (n k : ℕ) (ms : List Module) → code_among (numbered n ms) (n + k) ≡ slice_get ms k
-numbered_at n k [] = refl
-numbered_at n zero (m ∷ ms) = let same : nat_eq n (n + zero) ≡ true = grind (arith, nat_tests) in rw same refl
-numbered_at n (suc k) (m ∷ ms) =
-    let other : nat_eq n (n + suc k) ≡ false = grind (arith, nat_tests) in
-    let next : n + suc k ≡ (n + 1) + k = omega arith in
-    rw other (ap (code_among (numbered (n + 1) ms)) next ∙ numbered_at (n + 1) k ms)
+-- modules are no terms
+pub terms_loaded : (n : ℕ) (areas : List Area) (ms : List Module) → terms_in n (areas ++ map Loaded ms) ≡ terms_in n areas
+terms_loaded n [] [] = refl
+terms_loaded n [] (m ∷ ms) = terms_loaded (n + 1) [] ms
+terms_loaded n (Loaded m ∷ areas) ms = terms_loaded (n + 1) areas ms
+terms_loaded n (Stored t ∷ areas) ms = ap (λ ts. record { serial = n; term = t } ∷ ts) (terms_loaded (n + 1) areas ms)
 
--- more modules are numbered on
-pub numbered-append : (n : ℕ) (xs ys : List Module) → numbered n (xs ++ ys) ≡ numbered n xs ++ numbered (n + length xs) ys
-numbered-append n [] ys = let e : n ≡ n + 0 = omega arith in ap (λ k. numbered k ys) e
-numbered-append n (x ∷ xs) ys =
-    let e : (n + 1) + length xs ≡ n + suc (length xs) = omega arith in
-    ap (λ is. record { serial = n; code = x } ∷ is) (numbered-append (n + 1) xs ys ∙ ap (λ k. numbered (n + 1) xs ++ numbered k ys) e)
+-- the names of modules
+abbrev pub names_of_modules : List Module → List ℕ
+names_of_modules ms = map (λ m. m.name.0) ms
 
 -- the parts of a state after all loads
 pub with_all_parts : (s : ServerState) (ms : List Module)
-    → with_all s ms ≡ record s { next_serial = s.next_serial + length ms; instances = s.instances ++ numbered s.next_serial ms; versions = with_currents s.versions s.next_serial ms }
+    → with_all s ms ≡ record s { next_serial = s.next_serial + length ms; instances = s.instances ++ numbered s.next_serial ms; versions = with_currents s.versions s.next_serial (names_of_modules ms) }
 with_all_parts s [] =
     let e : s.next_serial ≡ s.next_serial + 0 = omega arith in
     λ i. record s { next_serial = e i; instances = sym (append-nil s.instances) i }
 with_all_parts s (m ∷ ms) =
     let e : (s.next_serial + 1) + length ms ≡ s.next_serial + suc (length ms) = omega arith in
     let is : (s.instances ++ record { serial = s.next_serial; code = m } ∷ []) ++ numbered (s.next_serial + 1) ms ≡ s.instances ++ numbered s.next_serial (m ∷ ms) = append_assoc s.instances _ (numbered (s.next_serial + 1) ms) in
-    with_all_parts (with_loaded s m) ms ∙ (λ i. record s { next_serial = e i; instances = is i; versions = with_currents s.versions s.next_serial (m ∷ ms) })
+    with_all_parts (with_loaded s m) ms ∙ (λ i. record s { next_serial = e i; instances = is i; versions = with_currents s.versions s.next_serial (names_of_modules (m ∷ ms)) })
 
 -- the instances before a load are modules with serials before the next one, and so with the new one
 modules_push : (is : List Instance) (n : ℕ) (m : Module) (k : ℕ) → IfSome (code_among is k) (λ x. IsModule x × (k < n)) → IsModule m
@@ -90,11 +98,16 @@ stays s m name o h = IfSome_then o h (λ k at. instance_kept s.instances (record
 
 -- an area that was dropped stays one
 dropped_stays : (s : ServerState) (m : Module) (serial : ℕ) → IsDropped s serial → IsDropped (with_instance s m) serial
-dropped_stays s m serial d = record { known = omega (arith, d.known); not_current = d.not_current; not_old = d.not_old }
+dropped_stays s m serial d = record { known = omega (arith, d.known); not_current = d.not_current; not_old = d.not_old; not_held = d.not_held }
+
+-- serials below the new one are those of the instances before
+pub code_pushed : (is : List Instance) (n k : ℕ) (m : Module) → k < n → code_among (is ++ record { serial = n; code = m } ∷ []) k ≡ code_among is k
+code_pushed [] n k m below = let other : nat_eq n k ≡ false = grind (arith, nat_tests) in ap (λ b. cond b (Some m) None) other
+code_pushed (i ∷ is) n k m below = ap (cond (nat_eq i.serial k) (Some i.code)) (code_pushed is n k m below)
 
 -- one more instance keeps a state sound
 sound_instance : (s : ServerState) (m : Module) → IsSound s → IsModule m → IsSound (with_instance s m)
-sound_instance s m sound module_sound = record {
+sound_instance s m sound module_sound = sound_whole (with_instance s m) (record {
   modules = λ serial. modules_push s.instances s.next_serial m serial (sound.modules serial) module_sound;
   current = λ name. stays s m name (current_of s name) (sound.current name);
   old = λ name. stays s m name (old_of s name) (sound.old name);
@@ -104,7 +117,7 @@ sound_instance s m sound module_sound = record {
   retired = λ serial h. dropped_stays s m serial (sound.retired serial h);
   released = λ serial h. dropped_stays s m serial (sound.released serial h);
   live = sound.live;
-}
+}) (terms_kept s (with_instance s m) (omega arith) (λ serial known none. code_pushed s.instances s.next_serial serial m known ∙ none) (sound_terms s sound))
 
 -- an instance that came in has a serial below the next one
 some_known : (s : ServerState) (name serial : ℕ) → IsSound s → current_of s name ≡ Some serial → serial < s.next_serial
@@ -137,21 +150,15 @@ sound_all s (m ∷ ms) sound rest modules places =
     sound_all (with_loaded s m) ms (sound_loaded s m sound rest (modules 0 m (omega arith)) (omega arith)) rest (λ k d h. modules (suc k) d (omega arith)) (omega (arith, live_after s.versions m.name.0 s.next_serial))
 
 -- the state that a server's tables show once the modules came in; what a load leaves alone is that of `other`
-pub brought_in : (generation next : ℕ) (items staged all : List Module) (vs after : List Versions) (other s : ServerState)
-    → record other { generation = generation; next_serial = length items + 1; instances = numbered 1 items; versions = vs } ≡ s
-    → next ≡ generation + 1 → all ≡ items ++ staged → after ≡ with_currents vs (length items + 1) staged
-    → record (with_all s staged) { generation = (with_all s staged).generation + 1 } ≡ record other { generation = next; next_serial = length all + 1; instances = numbered 1 all; versions = after }
-brought_in generation next items staged all vs after other s shown gen appended put =
+pub brought_in : (generation next : ℕ) (areas all : List Area) (staged : List Module) (vs after : List Versions) (other s : ServerState)
+    → record other { generation = generation; next_serial = length areas + 1; instances = instances_in 1 areas; versions = vs; terms = terms_in 1 areas } ≡ s
+    → next ≡ generation + 1 → all ≡ areas ++ map Loaded staged → after ≡ with_currents vs (length areas + 1) (names_of_modules staged)
+    → record (with_all s staged) { generation = (with_all s staged).generation + 1 } ≡ record other { generation = next; next_serial = length all + 1; instances = instances_in 1 all; versions = after; terms = terms_in 1 all }
+brought_in generation next areas all staged vs after other s shown gen appended put =
     let publish : ServerState → ServerState = λ t. record t { generation = t.generation + 1 } in
-    let serial : (length items + 1) + length staged ≡ length all + 1 = omega (arith, length-append items staged, ap length appended) in
-    let first : length items + 1 ≡ 1 + length items = omega arith in
-    let is : numbered 1 items ++ numbered (length items + 1) staged ≡ numbered 1 all = ap (λ k. numbered 1 items ++ numbered k staged) first ∙ sym (numbered-append 1 items staged) ∙ ap (numbered 1) (sym appended) in
-    ap publish (ap (λ t. with_all t staged) (sym shown) ∙ with_all_parts (record other { generation = generation; next_serial = length items + 1; instances = numbered 1 items; versions = vs }) staged)
-    ∙ (λ i. record other { generation = sym gen i; next_serial = serial i; instances = is i; versions = sym put i })
-
--- the versions after the modules at the end of a list came in
-pub currents_added : (items staged all : List Module) (before : ℕ) (old vs after : List Versions) → before ≡ length items → all ≡ items ++ staged → vs ≡ old → after ≡ with_currents vs (before + 1) (take (length all - before) (drop before all))
-    → after ≡ with_currents old (length items + 1) staged
-currents_added items staged all before old vs after len appended kept put =
-    let rest : take (length all - before) (drop before all) ≡ staged = take_rest all before ∙ ap (drop before) appended ∙ drop_at items staged before (sym len) in
-    put ∙ (λ i. with_currents (kept i) (len i + 1) (rest i))
+    let serial : (length areas + 1) + length staged ≡ length all + 1 = omega (arith, length-append areas (map Loaded staged), length-map staged Loaded, ap length appended) in
+    let first : length areas + 1 ≡ 1 + length areas = omega arith in
+    let is : instances_in 1 areas ++ numbered (length areas + 1) staged ≡ instances_in 1 all = ap (λ k. instances_in 1 areas ++ numbered k staged) first ∙ sym (instances_loaded 1 areas staged) ∙ ap (instances_in 1) (sym appended) in
+    let ts : terms_in 1 areas ≡ terms_in 1 all = sym (terms_loaded 1 areas staged) ∙ ap (terms_in 1) (sym appended) in
+    ap publish (ap (λ t. with_all t staged) (sym shown) ∙ with_all_parts (record other { generation = generation; next_serial = length areas + 1; instances = instances_in 1 areas; versions = vs; terms = terms_in 1 areas }) staged)
+    ∙ (λ i. record other { generation = sym gen i; next_serial = serial i; instances = is i; versions = sym put i; terms = ts i })

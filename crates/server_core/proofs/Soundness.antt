@@ -1,6 +1,7 @@
 -- What keeps a state sound: new versions of a module, an area that is retired, and one that is released.
-use Rattle.std.proofs.Common.{◌≡◌, ◌≢◌, ℕ, ◌+◌, ◌<◌, ◌≤◌, Bool, true, false, not, cond, nat_eq, nat_lt, ◌&&◌, ◌||◌, IsTrue, List, [], ◌∷◌, ◌++◌, length, Option, Some, None, IfSome, IsSomeAnd, refl, sym, ap, ◌∙◌, subst, inl, inr, ◌⊎◌, arith}
+use Rattle.std.proofs.Common.{◌≡◌, ◌≢◌, ℕ, ◌+◌, ◌<◌, ◌≤◌, Bool, true, false, not, cond, nat_eq, nat_lt, ◌&&◌, ◌||◌, IsTrue, List, [], ◌∷◌, ◌++◌, length, Option, Some, None, IfSome, IsSomeAnd, option_and_then, refl, sym, ap, ◌∙◌, subst, inl, inr, ◌⊎◌, arith}
 use Rattle.std.proofs.lemmas.Bool.Decides.{nat_tests}
+use Rattle.term_core.specs.PlainTerm.{PlainTerm}
 use Rattle.mod_core.specs.declared.code.Module.{Module}
 use Rattle.mod_core.specs.Module.{IsModule}
 use Rattle.server_core.specs.declared.command.Applied.{Applied}
@@ -8,9 +9,10 @@ use Rattle.server_core.specs.declared.command.Linger.{Linger}
 use Rattle.server_core.specs.declared.command.Reply.{Reply}
 use Rattle.server_core.specs.declared.command.Reply.TheVariants as replies
 use Rattle.server_core.specs.declared.command.TheConstants.{MOST_INSTANCES}
-use Rattle.server_core.specs.ServerState.{Entry, ServerState, Versions, IsDropped, IsInstanceOf, IsOldCode, IsSound, code_of, current_among, current_of, is_retired, is_serial_in, live_count, old_among, old_of}
+use Rattle.server_core.specs.ServerState.{Entry, Persistent, ServerState, Versions, HasItsArea, IsDropped, IsInstanceOf, IsOldCode, IsPersistent, IsSound, IsTermArea, code_of, current_among, current_of, is_retired, is_serial_in, key_area, live_count, old_among, old_of, persistent_of, term_of_area}
 use Rattle.server_core.specs.CommandTable.{Outcome, published, soft_purge_of, while_none_doomed, with_deleted, with_dropped, with_purged, with_released, with_trace, with_versions, without_number}
 use Rattle.server_core.proofs.CurrentCode.{live_set}
+use Rattle.server_core.proofs.SoundParts.{sound_terms, sound_whole, terms_kept}
 
 -- a serial among these and one more
 pub held_push : (xs : List ℕ) (n k : ℕ) → is_serial_in (xs ++ n ∷ []) k ≡ (is_serial_in xs k || nat_eq n k)
@@ -119,6 +121,25 @@ one_module s a b serial p q = by (code_of s serial) p q
     by None p q = absurd p
     by (Some m) p q = sym p ∙ q
 
+-- what is known of a key's area: a complex term stands in it
+pub area_is : (s : ServerState) (key serial : ℕ) → IsSound s → key_area s key ≡ Some serial → (term : PlainTerm) × (term_of_area s serial ≡ Some term) × IsTermArea s serial term
+area_is s key serial sound e = by (persistent_of s key) e (sound.keys key)
+  where
+    found : (term : PlainTerm) (area : Option ℕ) → area ≡ Some serial → HasItsArea s term area → term_of_area s serial ≡ Some term
+    found term None e h = none_some serial e
+    found term (Some k) e h = ap (term_of_area s) (sym (some_same k serial e)) ∙ h
+
+    stands : (term : PlainTerm) → term_of_area s serial ≡ Some term → IsTermArea s serial term
+    stands term at = subst (λ o. IfSome o (IsTermArea s serial)) at (sound.terms serial)
+
+    by : (o : Option Persistent) → option_and_then (λ p. p.area) o ≡ Some serial → IfSome o (IsPersistent s) → (term : PlainTerm) × (term_of_area s serial ≡ Some term) × IsTermArea s serial term
+    by None e h = none_some serial e
+    by (Some p) e h = let at = found p.term p.area e h.area in (p.term, at, stands p.term at)
+
+-- no instance stands in the area of a term
+pub no_instance : (s : ServerState) (serial : ℕ) → IsSound s → (term : PlainTerm) × (term_of_area s serial ≡ Some term) × IsTermArea s serial term → (name : ℕ) → IsInstanceOf s name serial → ⊥
+no_instance s serial sound area name at = subst (λ o. IsSomeAnd o (λ m. m.name.0 ≡ name)) area.2.no_code at
+
 -- an area that was dropped
 abbrev pub IsGone : ServerState → ℕ → Type 0
 IsGone s serial = IsTrue (is_retired s serial) ⊎ IsTrue (is_serial_in s.released serial)
@@ -148,6 +169,7 @@ dropped_set s new serial fit gone d = record {
   known = d.known;
   not_current = λ name e. neither (nat_eq name new.name) new.current (current_of s name) serial (fit.current_stands serial gone) (d.not_current name) (sym (current_set s.versions new name) ∙ e);
   not_old = λ name e. neither (nat_eq name new.name) new.old (old_of s name) serial (fit.old_stands serial gone) (d.not_old name) (sym (old_set s.versions new name) ∙ e);
+  not_held = d.not_held;
 }
 
 fits_at : (s : ServerState) (new : Versions) (name : ℕ) (o p : Option ℕ) → IfSome o (IsInstanceOf s new.name) → IfSome p (IsInstanceOf s name) → IfSome (cond (nat_eq name new.name) o p) (IsInstanceOf s name)
@@ -156,7 +178,7 @@ fits_at s new name o p first second =
 
 -- versions that fit keep a state sound while nothing is doomed
 pub sound_versions : (s : ServerState) (new : Versions) → IsSound s → IsFit s new → s.doomed ≡ [] → live_count (with_versions s.versions new) ≤ MOST_INSTANCES → IsSound (record s { versions = with_versions s.versions new })
-sound_versions s new sound fit rest room = record {
+sound_versions s new sound fit rest room = sound_whole (record s { versions = with_versions s.versions new }) (record {
   modules = sound.modules;
   current = λ name. subst (λ o. IfSome o (IsInstanceOf s name)) (sym (current_set s.versions new name)) (fits_at s new name new.current (current_of s name) fit.current (sound.current name));
   old = λ name. subst (λ o. IfSome o (IsInstanceOf s name)) (sym (old_set s.versions new name)) (fits_at s new name new.old (old_of s name) fit.old (sound.old name));
@@ -167,14 +189,24 @@ sound_versions s new sound fit rest room = record {
   retired = λ serial h. dropped_set s new serial fit (inl h) (sound.retired serial h);
   released = λ serial h. dropped_set s new serial fit (inr h) (sound.released serial h);
   live = room;
-}
+}) (terms_kept s (record s { versions = with_versions s.versions new }) (omega arith) (λ serial known none. none) (sound_terms s sound))
 
 -- the number of the generation is no part of what makes a state sound
 pub sound_published : (s : ServerState) (generation : ℕ) → IsSound s → IsSound (record s { generation = generation })
-sound_published s generation sound = record { modules = sound.modules; current = sound.current; old = sound.old; apart = sound.apart; one_doomed = sound.one_doomed; doomed = sound.doomed; retired = λ k h. dropped_as (sound.retired k h); released = λ k h. dropped_as (sound.released k h); live = sound.live }
+sound_published s generation sound = sound_whole (record s { generation = generation }) (record {
+  modules = sound.modules;
+  current = sound.current;
+  old = sound.old;
+  apart = sound.apart;
+  one_doomed = sound.one_doomed;
+  doomed = sound.doomed;
+  retired = λ k h. dropped_as (sound.retired k h);
+  released = λ k h. dropped_as (sound.released k h);
+  live = sound.live;
+}) (terms_kept s (record s { generation = generation }) (omega arith) (λ serial known none. none) (sound_terms s sound))
   where
     dropped_as : {k : ℕ} → IsDropped s k → IsDropped (record s { generation = generation }) k
-    dropped_as d = record { known = d.known; not_current = d.not_current; not_old = d.not_old }
+    dropped_as d = record { known = d.known; not_current = d.not_current; not_old = d.not_old; not_held = d.not_held }
 
 gone_dropped : (s : ServerState) (serial : ℕ) → IsSound s → IsGone s serial → IsDropped s serial
 gone_dropped s serial sound (inl h) = sound.retired serial h
@@ -203,6 +235,7 @@ dropped_now s name serial sound was =
       not_current = λ other e.
           elsewhere other (nat_eq other name) refl (current_of s name) (current_of s other) at (λ c. sound.apart name serial c was) (sound.current other) (sym (current_set s.versions new other) ∙ e);
       not_old = λ other e. elsewhere other (nat_eq other name) refl None (old_of s other) at (λ c. none_some serial c) (sound.old other) (sym (old_set s.versions new other) ∙ e);
+      not_held = λ key e. no_instance s serial sound (area_is s key serial sound e) name at;
     }
   where
     elsewhere : (other : ℕ) (b : Bool) → nat_eq other name ≡ b → (o p : Option ℕ) → IsInstanceOf s name serial → o ≢ Some serial → IfSome p (IsInstanceOf s other) → cond b o p ≢ Some serial
@@ -213,17 +246,17 @@ dropped_now s name serial sound was =
 pub sound_purged : (s : ServerState) (name serial : ℕ) → IsSound s → old_of s name ≡ Some serial → without_number serial s.doomed ≡ [] → IsSound (with_purged s name serial)
 sound_purged s name serial sound was rest =
     let new : Versions = record { name = name; current = current_of s name; old = None } in
-    let one : IsSound (record s { doomed = without_number serial s.doomed }) = record {
+    let one : IsSound (record s { doomed = without_number serial s.doomed }) = sound_whole (record s { doomed = without_number serial s.doomed }) (record {
       modules = sound.modules;
       current = sound.current;
       old = sound.old;
       apart = sound.apart;
       one_doomed = omega (arith, ap length rest);
       doomed = λ k h. nobody_doomed (without_number serial s.doomed) k rest h;
-      retired = λ k h. let d = sound.retired k h in record { known = d.known; not_current = d.not_current; not_old = d.not_old };
-      released = λ k h. let d = sound.released k h in record { known = d.known; not_current = d.not_current; not_old = d.not_old };
+      retired = λ k h. let d = sound.retired k h in record { known = d.known; not_current = d.not_current; not_old = d.not_old; not_held = d.not_held };
+      released = λ k h. let d = sound.released k h in record { known = d.known; not_current = d.not_current; not_old = d.not_old; not_held = d.not_held };
       live = sound.live;
-    } in
+    }) (terms_kept s (record s { doomed = without_number serial s.doomed }) (omega arith) (λ k known none. none) (sound_terms s sound)) in
     let fit : IsFit (record s { doomed = without_number serial s.doomed }) new = record {
       current = sound.current name;
       old = tt;
@@ -232,25 +265,25 @@ sound_purged s name serial sound was rest =
       old_stands = λ k gone o. none_some k o;
     } in
     let two = sound_versions (record s { doomed = without_number serial s.doomed }) new one fit rest (omega (arith, live_set s.versions new, sound.live)) in
-    record {
+    sound_whole (with_purged s name serial) (record {
       modules = two.modules;
       current = two.current;
       old = two.old;
       apart = two.apart;
       one_doomed = two.one_doomed;
       doomed = two.doomed;
-      retired = λ k h. at_retired k (held_later s.retired serial k h) (λ g. let d = two.retired k g in record { known = d.known; not_current = d.not_current; not_old = d.not_old });
-      released = λ k h. let d = two.released k h in record { known = d.known; not_current = d.not_current; not_old = d.not_old };
+      retired = λ k h. at_retired k (held_later s.retired serial k h) (λ g. let d = two.retired k g in record { known = d.known; not_current = d.not_current; not_old = d.not_old; not_held = d.not_held });
+      released = λ k h. let d = two.released k h in record { known = d.known; not_current = d.not_current; not_old = d.not_old; not_held = d.not_held };
       live = two.live;
-    }
+    }) (terms_kept s (with_purged s name serial) (omega arith) (λ k known none. none) (sound_terms s sound))
   where
     at_retired : (k : ℕ) → (is_serial_in s.retired k ≡ true) ⊎ (serial ≡ k) → (is_serial_in s.retired k ≡ true → IsDropped (with_purged s name serial) k) → IsDropped (with_purged s name serial) k
     at_retired k (inl h) before = before h
-    at_retired k (inr h) before = let d = dropped_now s name serial sound was in subst (λ n. IsDropped (with_purged s name serial) n) h (record { known = d.known; not_current = d.not_current; not_old = d.not_old })
+    at_retired k (inr h) before = let d = dropped_now s name serial sound was in subst (λ n. IsDropped (with_purged s name serial) n) h (record { known = d.known; not_current = d.not_current; not_old = d.not_old; not_held = d.not_held })
 
 -- an area that is released
 pub sound_released : (s : ServerState) (serial : ℕ) → IsSound s → IsTrue (is_retired s serial) → IsSound (with_released s serial)
-sound_released s serial sound was = record {
+sound_released s serial sound was = sound_whole (with_released s serial) (record {
   modules = sound.modules;
   current = sound.current;
   old = sound.old;
@@ -260,10 +293,10 @@ sound_released s serial sound was = record {
   retired = λ k h. dropped_as (sound.retired k (held_before s.retired serial k h));
   released = λ k h. at_released k (held_later s.released serial k h);
   live = sound.live;
-}
+}) (terms_kept s (with_released s serial) (omega arith) (λ k known none. none) (sound_terms s sound))
   where
     dropped_as : {k : ℕ} → IsDropped s k → IsDropped (with_released s serial) k
-    dropped_as d = record { known = d.known; not_current = d.not_current; not_old = d.not_old }
+    dropped_as d = record { known = d.known; not_current = d.not_current; not_old = d.not_old; not_held = d.not_held }
 
     at_released : (k : ℕ) → (is_serial_in s.released k ≡ true) ⊎ (serial ≡ k) → IsDropped (with_released s serial) k
     at_released k (inl h) = dropped_as (sound.released k h)
@@ -271,17 +304,17 @@ sound_released s serial sound was = record {
 
 -- an old instance that is doomed
 pub sound_doomed : (s : ServerState) (name serial : ℕ) → IsSound s → s.doomed ≡ [] → old_of s name ≡ Some serial → IsSound (record s { doomed = s.doomed ++ serial ∷ [] })
-sound_doomed s name serial sound rest was = record {
+sound_doomed s name serial sound rest was = sound_whole (record s { doomed = s.doomed ++ serial ∷ [] }) (record {
   modules = sound.modules;
   current = sound.current;
   old = sound.old;
   apart = sound.apart;
   one_doomed = omega (arith, ap (λ ds. length (ds ++ serial ∷ [])) rest);
   doomed = λ k h. at_doomed k (held_later s.doomed serial k h);
-  retired = λ k h. let d = sound.retired k h in record { known = d.known; not_current = d.not_current; not_old = d.not_old };
-  released = λ k h. let d = sound.released k h in record { known = d.known; not_current = d.not_current; not_old = d.not_old };
+  retired = λ k h. let d = sound.retired k h in record { known = d.known; not_current = d.not_current; not_old = d.not_old; not_held = d.not_held };
+  released = λ k h. let d = sound.released k h in record { known = d.known; not_current = d.not_current; not_old = d.not_old; not_held = d.not_held };
   live = sound.live;
-}
+}) (terms_kept s (record s { doomed = s.doomed ++ serial ∷ [] }) (omega arith) (λ k known none. none) (sound_terms s sound))
   where
     at_doomed : (k : ℕ) → (is_serial_in s.doomed k ≡ true) ⊎ (serial ≡ k) → IsOldCode s k
     at_doomed k (inl h) = nobody_doomed s.doomed k rest h
@@ -289,17 +322,17 @@ sound_doomed s name serial sound rest was = record {
 
 -- breakpoints are no part of what makes a state sound
 pub sound_traced : (s : ServerState) (e : Entry) (on : Bool) → IsSound s → IsSound (with_trace s e on)
-sound_traced s e on sound = record {
+sound_traced s e on sound = sound_whole (with_trace s e on) (record {
   modules = sound.modules;
   current = sound.current;
   old = sound.old;
   apart = sound.apart;
   one_doomed = sound.one_doomed;
   doomed = sound.doomed;
-  retired = λ k h. let d = sound.retired k h in record { known = d.known; not_current = d.not_current; not_old = d.not_old };
-  released = λ k h. let d = sound.released k h in record { known = d.known; not_current = d.not_current; not_old = d.not_old };
+  retired = λ k h. let d = sound.retired k h in record { known = d.known; not_current = d.not_current; not_old = d.not_old; not_held = d.not_held };
+  released = λ k h. let d = sound.released k h in record { known = d.known; not_current = d.not_current; not_old = d.not_old; not_held = d.not_held };
   live = sound.live;
-}
+}) (terms_kept s (with_trace s e on) (omega arith) (λ k known none. none) (sound_terms s sound))
 
 -- outside a purge, what a drop leaves is what the end of a purge leaves
 pub purged_at_rest : (s : ServerState) (name serial : ℕ) → s.doomed ≡ [] → with_purged s name serial ≡ with_dropped s name serial

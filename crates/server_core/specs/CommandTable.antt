@@ -1,21 +1,26 @@
 -- The command table: for each command the first case that holds decides the reply, the new state and whether it is published.
--- Source: the manual pages `code` and `erlang`; the order of the cases and the limit are this project's own.
-use Rattle.std.specs.Prelude.{◌≡◌, ℕ, ◌+◌, ◌<◌, ◌&&◌, ◌==◌, nat_lt, Bool, not, List, [], ◌∷◌, ◌++◌, length, map, filter, find, Option, Some, None, is_some, is_none, option_and_then, option_map, slice_get, All, if◌then◌else◌}
+-- Source: the manual pages `code`, `erlang` and `persistent_term`; the order of the cases and the limits are this project's own.
+use Rattle.std.specs.Prelude.{◌≡◌, ℕ, ◌+◌, ◌<◌, ◌&&◌, ◌==◌, nat_lt, nat_le, Bool, false, not, List, [], ◌∷◌, ◌++◌, length, map, filter, find, Option, Some, None, is_some, is_none, option_and_then, option_map, slice_get, All, if◌then◌else◌}
 use Rattle.std.specs.Bool.{beq}
 use Rattle.std.specs.List.{list_any}
+use Rattle.std.specs.Option.{option_to_list}
 use Rattle.term_core.specs.declared.atom.AtomId.{AtomId}
+use Rattle.term_core.specs.Image.{is_immediate}
+use Rattle.term_core.specs.Plain.{plain}
+use Rattle.term_core.specs.PlainTerm.{PlainTerm}
+use Rattle.term_core.specs.Same.{is_same}
 use Rattle.mod_core.specs.declared.code.Module.{Module}
 use Rattle.mod_core.specs.Module.{IsModule}
-use Rattle.server_core.specs.declared.command.TheConstants.{MOST_INSTANCES}
+use Rattle.server_core.specs.declared.command.TheConstants.{MOST_INSTANCES, MOST_KEYS, MOST_TERMS}
 use Rattle.server_core.specs.declared.command.ModRef.{ModRef}
 use Rattle.server_core.specs.declared.command.Cmd.{Cmd}
-use Rattle.server_core.specs.declared.command.Cmd.TheVariants.{Load, Delete, SoftPurge, Doom, Purge, CheckOld, Trace, Spawn, Release}
+use Rattle.server_core.specs.declared.command.Cmd.TheVariants.{Load, Delete, SoftPurge, Doom, Purge, CheckOld, Put, Erase, Trace, Spawn, Release}
 use Rattle.server_core.specs.declared.command.Linger.{Linger}
-use Rattle.server_core.specs.declared.command.Limit.TheVariants.{Instances}
+use Rattle.server_core.specs.declared.command.Limit.TheVariants.{Instances, Keys, Areas}
 use Rattle.server_core.specs.declared.command.Reply.{Reply}
 use Rattle.server_core.specs.declared.command.Reply.TheVariants as replies
 use Rattle.server_core.specs.declared.command.Applied.{Applied}
-use Rattle.server_core.specs.ServerState.{ServerState, Entry, Versions, current_of, old_of, live_count, is_traced, is_doomed, is_retired, is_same_entry, traceable_of}
+use Rattle.server_core.specs.ServerState.{ServerState, Entry, Versions, Persistent, IsShortTerm, key_area, live_areas, persistent_of, current_of, old_of, live_count, is_traced, is_doomed, is_retired, is_same_entry, traceable_of}
 
 -- the modules that can be loaded: each is one, and no two agree in name and version
 pub record AreTexts (texts : List Module) : Type 0 where
@@ -155,6 +160,73 @@ abbrev pub trace_of : ServerState → Bool → Option Entry → Outcome
 trace_of s on None = unchanged s replies.False
 trace_of s on (Some e) = if beq (is_traced s e) on then unchanged s replies.True else published (with_trace s e on) replies.True
 
+-- whether a key holds an equal term
+abbrev pub holds_equal : Option Persistent → PlainTerm → Bool
+holds_equal None term = false
+holds_equal (Some p) term = is_same p.term term
+
+-- what a key comes to hold stands in the place of what it held, or behind the others
+abbrev pub with_key : List Persistent → Persistent → List Persistent
+with_key [] new = new ∷ []
+with_key (p ∷ ps) new = if p.key == new.key then new ∷ ps else p ∷ with_key ps new
+
+-- the persistent terms of the other keys
+abbrev pub without_key : ℕ → List Persistent → List Persistent
+without_key key persistents = filter (λ p. not (p.key == key)) persistents
+
+-- a key holds an integer or an atom; the area of what it held is retired
+abbrev pub with_immediate : ServerState → ℕ → PlainTerm → ServerState
+with_immediate s key term =
+    record s {
+      keys = with_key s.keys (record { key = key; term = term; area = None });
+      retired = s.retired ++ option_to_list (key_area s key);
+    }
+
+-- a key holds a complex term, which gets an area of its own; the area of what it held is retired
+abbrev pub with_complex : ServerState → ℕ → PlainTerm → ServerState
+with_complex s key term =
+    record s {
+      next_serial = s.next_serial + 1;
+      terms = s.terms ++ (record { serial = s.next_serial; term = term }) ∷ [];
+      keys = with_key s.keys (record { key = key; term = term; area = Some s.next_serial });
+      retired = s.retired ++ option_to_list (key_area s key);
+    }
+
+-- a key holds a term
+abbrev pub with_put : ServerState → ℕ → PlainTerm → ServerState
+with_put s key term = if is_immediate term then with_immediate s key term else with_complex s key term
+
+-- a put: nothing changes where the key holds an equal term, or where there are as many keys or areas as can be
+abbrev pub put_of : ServerState → ℕ → PlainTerm → Outcome
+put_of s key term =
+    if holds_equal (persistent_of s key) term then unchanged s replies.Ok
+    else if is_none (persistent_of s key) && nat_le MOST_KEYS (length s.keys) then unchanged s (replies.SystemLimit Keys)
+    else if not (is_immediate term) && nat_le MOST_TERMS (live_areas s.keys) then unchanged s (replies.SystemLimit Areas)
+    else published (with_put s key term) replies.Ok
+
+-- a key holds nothing; the area of what it held is retired
+abbrev pub with_erased : ServerState → ℕ → ServerState
+with_erased s key = record s { keys = without_key key s.keys; retired = s.retired ++ option_to_list (key_area s key) }
+
+-- an erase, by what the key holds
+abbrev pub erase_of : ServerState → ℕ → Option Persistent → Outcome
+erase_of s key None = unchanged s replies.False
+erase_of s key (Some p) = published (with_erased s key) replies.True
+
+-- the term of a put is one that a text can say
+abbrev pub IsOfText : Cmd → Type 0
+IsOfText (Load refs) = Unit {0}
+IsOfText (Delete name) = Unit {0}
+IsOfText (SoftPurge name lingers) = Unit {0}
+IsOfText (Doom name) = Unit {0}
+IsOfText (Purge name killed) = Unit {0}
+IsOfText (CheckOld name) = Unit {0}
+IsOfText (Put key term) = IsShortTerm (plain term)
+IsOfText (Erase key) = Unit {0}
+IsOfText (Trace target on) = Unit {0}
+IsOfText (Spawn target args) = Unit {0}
+IsOfText (Release serial) = Unit {0}
+
 -- an area that no process names is retired no more
 abbrev pub with_released : ServerState → ℕ → ServerState
 with_released s serial = record s { retired = without_number serial s.retired; released = s.released ++ serial ∷ [] }
@@ -171,6 +243,8 @@ apply_of texts s (SoftPurge name lingers) = while_none_doomed s (soft_purge_of s
 apply_of texts s (Doom name) = while_none_doomed s (doom_of s (old_of s name.0))
 apply_of texts s (Purge name killed) = purge_of s name.0 killed (old_of s name.0)
 apply_of texts s (CheckOld name) = Some (unchanged s (answered (is_some (old_of s name.0))))
+apply_of texts s (Put key term) = while_none_doomed s (Some (put_of s key.0 (plain term)))
+apply_of texts s (Erase key) = while_none_doomed s (Some (erase_of s key.0 (persistent_of s key.0)))
 apply_of texts s (Trace target on) = while_none_doomed s (Some (trace_of s on (traceable_of s target)))
 apply_of texts s (Spawn target args) = Some (unchanged s replies.Ok)
 apply_of texts s (Release serial) = release_of s serial

@@ -2,4 +2,6 @@ pub mod ServerState
 pub mod CommandTable
 pub mod Rooms
 pub mod VersionTable
+pub mod KeyTable
+pub mod Areas
 pub mod Tables

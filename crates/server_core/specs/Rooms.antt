@@ -1,12 +1,25 @@
--- What contracts see of the table of current and old code.
-use Rattle.std.specs.Prelude.{ℕ, ◌+◌, List, [], ◌∷◌, Some, None}
-use Rattle.mod_core.specs.declared.code.Module.{Module}
-use Rattle.server_core.specs.ServerState.{Versions, current_among}
+-- What contracts see of the tables that grow: what they hold, and for how much more they have room.
+use Rattle.std.specs.Prelude.{◌≡◌, ℕ, ◌+◌, ◌&&◌, false, nat_le, not, length, is_none, List, [], ◌∷◌, Option, Some, None, option_and_then}
+use Rattle.term_core.specs.Image.{IsImmediate, is_immediate}
+use Rattle.term_core.specs.Plain.{term_of}
+use Rattle.term_core.specs.PlainTerm.{PlainTerm}
+use Rattle.server_core.specs.declared.command.TheConstants.{MOST_KEYS, MOST_TERMS}
+use Rattle.server_core.specs.ServerState.{Persistent, Versions, current_among, live_areas, persistent_among}
 use Rattle.server_core.specs.CommandTable.{with_versions}
 
 -- the versions of each module, and for how many modules more there is room
 pub record Rooms : Type 0 where
   pub versions : List Versions
+  pub room : ℕ
+
+-- the persistent terms, and for how many keys more there is room
+pub record KeyRooms : Type 0 where
+  pub persistents : List Persistent
+  pub room : ℕ
+
+-- serials, the newest last, and for how many more there is room
+pub record SerialRooms : Type 0 where
+  pub serials : List ℕ
   pub room : ℕ
 
 -- the instance with a serial is the current code of a module, and what was current is old
@@ -21,7 +34,20 @@ with_made_old vs name = with_versions vs (record { name = name; current = None; 
 abbrev pub without_old : List Versions → ℕ → List Versions
 without_old vs name = with_versions vs (record { name = name; current = current_among vs name; old = None })
 
--- a load for each of these modules, with serials in order
-abbrev pub with_currents : List Versions → ℕ → List Module → List Versions
+-- a load for each module of these names, with serials in order
+abbrev pub with_currents : List Versions → ℕ → List ℕ → List Versions
 with_currents vs serial [] = vs
-with_currents vs serial (m ∷ ms) = with_currents (with_current vs m.name.0 serial) (serial + 1) ms
+with_currents vs serial (name ∷ names) = with_currents (with_current vs name serial) (serial + 1) names
+
+-- the area of what a key holds among these, if it holds a complex term
+abbrev pub area_among : List Persistent → ℕ → Option ℕ
+area_among ps key = option_and_then (λ p. p.area) (persistent_among ps key)
+
+-- what is found without an area is found as a word
+abbrev pub HasWord : Persistent → Type 0
+HasWord p = p.area ≡ None → IsImmediate (term_of p.term)
+
+-- there is a place for what a key is to hold: it holds a term already, or there are few keys; and a complex term comes where there are few areas
+pub record HasPlace (keys : List Persistent) (key : ℕ) (term : PlainTerm) : Type 0 where
+  pub for_key : (is_none (persistent_among keys key) && nat_le MOST_KEYS (length keys)) ≡ false
+  pub for_area : (not (is_immediate term) && nat_le MOST_TERMS (live_areas keys)) ≡ false

@@ -1,7 +1,13 @@
-use term_core::{AtomId, AtomList, Items, Mfa, TermList};
+use term_core::{AtomId, AtomList, Items, Mfa, Term, TermList};
 
 /// How many instances are live at most: current and old ones.
 pub const MOST_INSTANCES: usize = 55;
+
+/// How many keys hold a persistent term at most.
+pub const MOST_KEYS: usize = 384;
+
+/// How many of the persistent terms are complex at most.
+pub const MOST_TERMS: usize = 256;
 
 /// A version of a module, as a `load` names it.
 #[derive(Clone, Copy, Debug, PartialEq, Eq)]
@@ -34,6 +40,13 @@ pub enum Cmd {
     },
     /// Whether the module has old code.
     CheckOld(AtomId),
+    /// The key holds the term, as by Erlang's `persistent_term:put/2`.
+    Put {
+        key: AtomId,
+        term: Term,
+    },
+    /// The key holds nothing, as by `persistent_term:erase/1`.
+    Erase(AtomId),
     /// A breakpoint in the current code is set, or taken away.
     Trace {
         target: Mfa,
@@ -60,6 +73,10 @@ pub struct Linger {
 pub enum Limit {
     /// More than 55 live instances.
     Instances,
+    /// More than 384 keys.
+    Keys,
+    /// More than 256 complex terms that keys hold.
+    Areas,
 }
 
 /// What the server answers to a command. Replies are answers, not faults.

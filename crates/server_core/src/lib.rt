@@ -1,14 +1,21 @@
 //! The code server of one thread: what each command answers, and what it leaves.
 #![tactic(auto)]
 
+mod answers;
+mod areas;
+mod breakpoints;
 mod command;
-#[cfg(test)]
-mod command_tests;
 mod fault;
+mod functions;
 mod instance;
+mod keys;
 mod loading;
+mod purges;
+mod releases;
 mod serials;
 mod server;
+mod stored_term;
+mod terms;
 #[cfg(test)]
 mod tests;
 mod texts;

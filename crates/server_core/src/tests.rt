@@ -1,15 +1,18 @@
 ghost use Rattle.std.specs.Prelude.{◌≡◌, ◌<◌, ◌≤◌, IfOk};
+ghost use Rattle.term_core.specs.Plain.{plain};
 ghost use Rattle.mod_core.specs.Module.{IsModule};
-ghost use Rattle.server_core.specs.CommandTable.{AreTexts};
+ghost use Rattle.server_core.specs.CommandTable.{AreTexts, IsOfText};
+ghost use Rattle.server_core.specs.ServerState.{IsShortTerm};
 
 use super::*;
 use mod_core::{Function, FunctionList, Instr, InstrList, Module, ModuleList, Operand};
 use std::alloc::Global;
+use std::ops::Range;
 use std::process::Abort;
 use std::test::Fail;
-use term_core::{AreaRef, AtomId, Mfa, NoMemory, TermList};
+use term_core::{AreaRef, AtomId, CodeRef, Found, Mfa, NoMemory, Term, TermList};
 
-pub const MAIN: AtomId = AtomId(900);
+const MAIN: AtomId = AtomId(900);
 
 // A module of one function, `main/1`.
 fn text(alloc: Global, name: u32, version: u32, exported: bool) -> Result<Module, NoMemory>
@@ -40,7 +43,7 @@ fn text(alloc: Global, name: u32, version: u32, exported: bool) -> Result<Module
 
 // The versions 1, 2 and 3 of the modules whose atoms have the numbers 3, 4, 5 and so on. `main/1` is
 // local in version 3, and exported in the others.
-pub fn texts(alloc: Global, count: u32) -> Result<ModuleList, NoMemory>
+fn texts(alloc: Global, count: u32) -> Result<ModuleList, NoMemory>
     requires { count < 1000 }
     ensures { IfOk result AreTexts }
 {
@@ -51,15 +54,142 @@ pub fn texts(alloc: Global, count: u32) -> Result<ModuleList, NoMemory>
     Ok(texts)
 }
 
-pub fn load_of(alloc: Global, refs: &[(u32, u32)]) -> Result<Cmd, NoMemory> {
-    let mut list = RefList::new(alloc);
-    for (name, version) in refs {
-        list.push(ModRef {
+// A term to put.
+#[derive(Clone, Copy, Debug)]
+enum Value {
+    Seven,
+    EmptyTuple,
+    EmptyList,
+    // a tuple of 7 alone
+    TupleOfSeven,
+}
+
+// A command on the module or the key whose atom has the number, short enough for a row of a table.
+#[derive(Clone, Copy, Debug)]
+enum Step {
+    Load(u32, u32),
+    // a load of the versions 1 and 2 of a module
+    LoadBoth(u32),
+    Delete(u32),
+    SoftPurge(u32),
+    // the soft purge that found process 7 in its third turn
+    Linger(u32),
+    Doom(u32),
+    Purge(u32),
+    // the purge that killed a process
+    Kill(u32),
+    CheckOld(u32),
+    Put(u32, Value),
+    Erase(u32),
+    // a breakpoint at `main/1`
+    Trace(u32),
+    Untrace(u32),
+    Spawn(u32),
+    Release(u64),
+}
+
+fn term_of(alloc: Global, value: Value) -> Result<Term, NoMemory>
+    ensures { IfOk result (λ term. IsShortTerm (plain term)) }
+{
+    match value {
+        Value::Seven => Ok(Term::Int(7)),
+        Value::EmptyTuple => Ok(Term::Tuple(TermList::new(alloc))),
+        Value::EmptyList => Ok(Term::List(TermList::new(alloc))),
+        Value::TupleOfSeven => tuple_of_seven(alloc),
+    }
+}
+
+fn tuple_of_seven(alloc: Global) -> Result<Term, NoMemory>
+    ensures { IfOk result (λ term. IsShortTerm (plain term)) }
+{
+    let mut terms = TermList::new(alloc);
+    terms.push(Term::Int(7))?;
+    Ok(Term::Tuple(terms))
+}
+
+fn command_of(alloc: Global, step: Step) -> Result<Cmd, NoMemory>
+    ensures { IfOk result IsOfText }
+{
+    let cmd = match step {
+        Step::Load(name, version) => load_of(alloc, &[(name, version)])?,
+        Step::LoadBoth(name) => load_of(alloc, &[(name, 1), (name, 2)])?,
+        Step::Delete(name) => Cmd::Delete(AtomId(name)),
+        Step::SoftPurge(name) => Cmd::SoftPurge {
+            module: AtomId(name),
+            lingers: None,
+        },
+        Step::Linger(name) => Cmd::SoftPurge {
+            module: AtomId(name),
+            lingers: Some(Linger {
+                process: 7,
+                turn: 2,
+            }),
+        },
+        Step::Doom(name) => Cmd::Doom(AtomId(name)),
+        Step::Purge(name) => purge_of(name, false),
+        Step::Kill(name) => purge_of(name, true),
+        Step::CheckOld(name) => Cmd::CheckOld(AtomId(name)),
+        Step::Put(key, value) => Cmd::Put {
+            key: AtomId(key),
+            term: term_of(alloc, value)?,
+        },
+        Step::Erase(key) => Cmd::Erase(AtomId(key)),
+        Step::Trace(name) => trace_of(name, true),
+        Step::Untrace(name) => trace_of(name, false),
+        Step::Spawn(name) => Cmd::Spawn {
+            target: main_of(name),
+            args: TermList::new(alloc),
+        },
+        Step::Release(serial) => Cmd::Release(serial),
+    };
+    Ok(cmd)
+}
+
+fn load_of(alloc: Global, versions: &[(u32, u32)]) -> Result<Cmd, NoMemory>
+    ensures { IfOk result IsOfText }
+{
+    let mut refs = RefList::new(alloc);
+    for (name, version) in versions {
+        refs.push(ModRef {
             name: AtomId(*name),
             version: *version,
         })?;
     }
-    Ok(Cmd::Load(list))
+    Ok(Cmd::Load(refs))
+}
+
+fn purge_of(name: u32, killed: bool) -> Cmd
+    ensures { IsOfText result }
+{
+    Cmd::Purge {
+        module: AtomId(name),
+        killed,
+    }
+}
+
+fn trace_of(name: u32, on: bool) -> Cmd
+    ensures { IsOfText result }
+{
+    Cmd::Trace {
+        target: main_of(name),
+        on,
+    }
+}
+
+fn main_of(name: u32) -> Mfa {
+    Mfa {
+        module: AtomId(name),
+        name: MAIN,
+        arity: 1,
+    }
+}
+
+// The first function of an instance.
+fn first_of(serial: u64) -> CodeRef {
+    CodeRef {
+        area: AreaRef { serial, block: 0 },
+        function: 0,
+    }
 }
 
 fn names_text(alloc: Global, word: &str, names: &[AtomId]) -> Result<String, Fail> {
@@ -80,7 +210,7 @@ fn applied_text(alloc: Global, applied: &Applied) -> Result<String, Fail> {
         Reply::FalseBy(by) => format!(in alloc; "false by {}.{}", by.process, by.turn)?,
         Reply::NotPurged(names) => names_text(alloc, "not_purged", names.as_slice())?,
         Reply::Duplicated(name) => names_text(alloc, "duplicated", &[*name])?,
-        Reply::SystemLimit(Limit::Instances) => names_text(alloc, "system_limit instances", &[])?,
+        Reply::SystemLimit(limit) => format!(in alloc; "system_limit {limit:?}")?,
     };
     let reply = reply.as_str();
     match applied.published {
@@ -89,7 +219,7 @@ fn applied_text(alloc: Global, applied: &Applied) -> Result<String, Fail> {
     }
 }
 
-pub fn answer_text(alloc: Global, answer: Result<Applied, ApplyFault>) -> Result<String, Fail> {
+fn answer_text(alloc: Global, answer: Result<Applied, ApplyFault>) -> Result<String, Fail> {
     match answer {
         Ok(applied) => applied_text(alloc, &applied),
         Err(ApplyFault::NotEnabled) => Ok(String::from_str(alloc, "not enabled")?),
@@ -97,178 +227,214 @@ pub fn answer_text(alloc: Global, answer: Result<Applied, ApplyFault>) -> Result
     }
 }
 
-// Makes the loads in turn on a new server, and compares each answer.
-fn answers(
+// Makes the commands of the rows in turn, and compares each answer.
+fn make(
     rt: &(impl AllocGlobal + Abort),
-    loads: &[(&[(u32, u32)], &str)],
-) -> Result<Server, Fail> {
+    server: &mut Server,
+    rows: &[(Step, &str)],
+) -> Result<(), Fail> {
     let alloc = rt.alloc();
     let texts = texts(alloc, 9).expect(rt, "texts");
-    let mut server = Server::new(alloc).expect(rt, "a server");
-    for (refs, expected) in loads {
-        let cmd = load_of(alloc, refs).expect(rt, "a command");
+    for (step, expected) in rows {
+        let cmd = command_of(alloc, *step).expect(rt, "a command");
         let answer = answer_text(alloc, server.apply(&cmd, &texts))?;
-        assert_eq!(rt; answer.as_str(), *expected, "load of {refs:?}");
+        assert_eq!(rt; answer.as_str(), *expected, "{step:?}");
     }
+    Ok(())
+}
+
+// The same on a new server.
+fn answers(rt: &(impl AllocGlobal + Abort), rows: &[(Step, &str)]) -> Result<Server, Fail> {
+    let mut server = Server::new(rt.alloc()).expect(rt, "a server");
+    make(rt, &mut server, rows)?;
     Ok(server)
 }
 
 #[test]
-fn a_load_keeps_old_code_until_it_is_purged(rt: HostRuntime) -> Result<(), Fail> {
-    answers(
-        &rt,
-        &[
-            (&[(3, 1)], "ok @1"),
-            (&[(3, 2)], "ok @2"),
-            (&[(3, 3)], "not_purged 3 -"),
-        ],
-    )?;
-    answers(
-        &rt,
-        &[
-            (&[(3, 1), (4, 1)], "ok @1"),
-            (&[(4, 2), (3, 2)], "ok @2"),
-            (&[(5, 1), (4, 3), (3, 3)], "not_purged 4 3 -"),
-            (&[(5, 1)], "ok @3"),
-        ],
-    )?;
-    Ok(())
-}
-
-#[test]
-fn a_load_is_made_whole_or_not_at_all(rt: HostRuntime) -> Result<(), Fail> {
+fn code_comes_in_and_goes(rt: HostRuntime) -> Result<(), Fail> {
     let server = answers(
         &rt,
         &[
-            (&[(3, 1)], "ok @1"),
-            (&[(3, 2)], "ok @2"),
-            (&[(4, 1), (3, 3)], "not_purged 3 -"),
+            (Step::LoadBoth(3), "duplicated 3 -"),
+            (Step::Load(3, 1), "ok @1"),
+            (Step::Load(3, 2), "ok @2"),
+            (Step::Load(3, 3), "not_purged 3 -"),
+            (Step::Delete(3), "false -"),
+            (Step::Linger(3), "false by 7.2 -"),
+            (Step::SoftPurge(3), "true @3"),
+            (Step::SoftPurge(3), "true -"),
+            (Step::Release(1), "ok -"),
+            (Step::Release(1), "not enabled"),
+            (Step::Delete(3), "true @4"),
+            (Step::CheckOld(3), "true -"),
+            (Step::Load(3, 4), "not enabled"),
         ],
     )?;
-    assert!(rt; server.current(AtomId(4)).is_none());
+    assert!(rt; server.current(AtomId(3)).is_none());
+    assert!(rt; server.old(AtomId(3)) == Some(2));
+    assert!(rt; server.dispatch(main_of(3)).is_none());
+    assert!(rt; server.generation() == 4);
+    assert!(rt; server.retired_areas().is_empty());
     Ok(())
 }
 
 #[test]
-fn a_name_stands_once_in_a_load(rt: HostRuntime) -> Result<(), Fail> {
-    answers(&rt, &[(&[(3, 1), (3, 2)], "duplicated 3 -")])?;
-    answers(
+fn few_commands_go_on_while_code_is_doomed(rt: HostRuntime) -> Result<(), Fail> {
+    let mut server = answers(
         &rt,
         &[
-            (&[(4, 1), (3, 1), (3, 2), (4, 2)], "duplicated 3 -"),
-            (&[(3, 1)], "ok @1"),
-            (&[(3, 2)], "ok @2"),
-            (&[(3, 3), (4, 1), (4, 1)], "duplicated 4 -"),
+            (Step::Load(3, 1), "ok @1"),
+            (Step::Load(3, 2), "ok @2"),
+            (Step::Purge(3), "not enabled"),
+            (Step::Doom(3), "ok @3"),
+            (Step::Put(3, Value::Seven), "not enabled"),
+            (Step::Erase(3), "not enabled"),
+            (Step::Trace(3), "not enabled"),
+            (Step::CheckOld(3), "true -"),
+            (Step::Spawn(3), "ok -"),
         ],
     )?;
-    answers(&rt, &[(&[(3, 1); 1023], "duplicated 3 -")])?;
+    assert!(rt; server.doomed_area() == Some(1));
+    assert!(rt; server.doomed(1) && !server.doomed(2));
+    let rows = [
+        (Step::Kill(3), "true @4"),
+        (Step::Kill(3), "not enabled"),
+        (Step::Purge(3), "false -"),
+    ];
+    make(&rt, &mut server, &rows)?;
+    assert!(rt; server.doomed_area().is_none());
+    assert!(rt; server.retired(1) && !server.retired(2));
     Ok(())
 }
 
 #[test]
-fn a_load_names_given_texts(rt: HostRuntime) -> Result<(), Fail> {
-    answers(
+fn a_breakpoint_goes_with_its_instance(rt: HostRuntime) -> Result<(), Fail> {
+    let mut server = answers(
         &rt,
         &[
-            (&[(3, 4)], "not enabled"),
-            (&[(3, 1), (3, 1), (6, 1)], "not enabled"),
-            (&[(5, 3)], "ok @1"),
+            (Step::Trace(3), "false -"),
+            (Step::Load(3, 1), "ok @1"),
+            (Step::Trace(3), "true @2"),
+            (Step::Trace(3), "true -"),
+            (Step::Load(3, 3), "ok @3"),
+            (Step::Untrace(3), "true -"),
+            (Step::Trace(3), "true @4"),
         ],
     )?;
+    assert!(rt; server.traced(first_of(1)) && server.traced(first_of(2)));
+    make(&rt, &mut server, &[(Step::SoftPurge(3), "true @5")])?;
+    assert!(rt; !server.traced(first_of(1)) && server.traced(first_of(2)));
     Ok(())
 }
 
 #[test]
-fn fifty_five_instances_are_live(rt: HostRuntime) -> Result<(), Fail> {
-    let alloc = rt.alloc();
-    let texts = texts(alloc, 180).expect(&rt, "texts");
-    let mut server = Server::new(alloc).expect(&rt, "a server");
-    for number in 1..=55u32 {
-        let cmd = load_of(alloc, &[(2 + number, 1)]).expect(&rt, "a command");
-        let expected = format!(in alloc; "ok @{number}")?;
-        let answer = answer_text(alloc, server.apply(&cmd, &texts))?;
-        assert_eq!(rt; answer.as_str(), expected.as_str());
-    }
-    for load in [(58, 1), (3, 2)] {
-        let cmd = load_of(alloc, &[load]).expect(&rt, "a command");
-        let answer = answer_text(alloc, server.apply(&cmd, &texts))?;
-        assert_eq!(rt;
-            answer.as_str(),
-            "system_limit instances -",
-            "load of {load:?}"
-        );
-    }
-    Ok(())
-}
-
-#[test]
-fn a_spawn_changes_nothing(rt: HostRuntime) -> Result<(), Fail> {
-    let alloc = rt.alloc();
-    let texts = texts(alloc, 3).expect(&rt, "texts");
-    let mut server = answers(&rt, &[(&[(3, 1)], "ok @1")])?;
-    let cmd = Cmd::Spawn {
-        target: main_of(3),
-        args: TermList::new(alloc),
+fn a_key_holds_the_last_term_that_was_put(rt: HostRuntime) -> Result<(), Fail> {
+    let mut server = answers(
+        &rt,
+        &[
+            (Step::Erase(20), "false -"),
+            (Step::Put(20, Value::TupleOfSeven), "ok @1"),
+            (Step::Put(20, Value::TupleOfSeven), "ok -"),
+            (Step::Load(3, 1), "ok @2"),
+            (Step::Put(20, Value::EmptyTuple), "ok @3"),
+            (Step::Put(20, Value::EmptyList), "ok @4"),
+            (Step::Put(20, Value::EmptyList), "ok -"),
+            (Step::Put(21, Value::Seven), "ok @5"),
+            (Step::Put(21, Value::Seven), "ok -"),
+        ],
+    )?;
+    assert!(rt; server.retired_areas() == [1, 3].as_slice());
+    let rows = [
+        (Step::Put(20, Value::Seven), "ok @6"),
+        (Step::Put(20, Value::TupleOfSeven), "ok @7"),
+        (Step::Release(3), "ok -"),
+        (Step::Erase(20), "true @8"),
+        (Step::Erase(20), "false -"),
+        (Step::Put(22, Value::TupleOfSeven), "ok @9"),
+    ];
+    make(&rt, &mut server, &rows)?;
+    assert!(rt; server.retired_areas() == [1, 4, 5].as_slice());
+    assert!(rt; server.term(AtomId(20)) == Found::Absent);
+    assert!(rt; server.term(AtomId(21)) == Found::Word(113));
+    let area = AreaRef {
+        serial: 6,
+        block: 0,
     };
-    let answer = answer_text(alloc, server.apply(&cmd, &texts))?;
-    assert_eq!(rt; answer.as_str(), "ok -");
-    assert!(rt; server.current(AtomId(3)) == Some(1));
+    assert!(rt; server.term(AtomId(22)) == Found::Area(area));
     Ok(())
 }
 
-pub fn main_of(name: u32) -> Mfa {
-    Mfa {
-        module: AtomId(name),
-        name: MAIN,
-        arity: 1,
-    }
-}
-
+// The words are worked out by hand: a tuple's counts its terms, tag 3, a list's tag 4, and an integer's tag is 1.
 #[test]
-fn readers_see_the_instances(rt: HostRuntime) -> Result<(), Fail> {
-    let loads: [(&[(u32, u32)], &str); 2] = [(&[(3, 1)], "ok @1"), (&[(3, 2), (4, 1)], "ok @2")];
-    let server = answers(&rt, &loads)?;
-    let serials = [(3, Some(2), Some(1)), (4, Some(3), None), (5, None, None)];
-    for (name, current, old) in serials {
-        assert!(rt;
-            server.current(AtomId(name)) == current,
-            "current code of {name}"
-        );
-        assert!(rt; server.old(AtomId(name)) == old, "old code of {name}");
-        let serial = server.dispatch(main_of(name)).map(|at| at.area.serial);
-        assert!(rt; serial == current, "a call to {name}");
-    }
-    assert!(rt;
-        server
-            .dispatch(Mfa {
-                arity: 0,
-                ..main_of(3)
-            })
-            .is_none()
-    );
-    assert!(rt;
-        server
-            .dispatch(Mfa {
-                name: AtomId(901),
-                ..main_of(3)
-            })
-            .is_none()
-    );
+fn areas_keep_their_words(rt: HostRuntime) -> Result<(), Fail> {
+    let server = answers(
+        &rt,
+        &[
+            (Step::Load(3, 2), "ok @1"),
+            (Step::Put(20, Value::TupleOfSeven), "ok @2"),
+            (Step::Put(20, Value::EmptyTuple), "ok @3"),
+            (Step::Put(20, Value::EmptyList), "ok @4"),
+        ],
+    )?;
     let words = [
         (1, 0, Some(1)),
         (1, 1, Some(3)),
-        (1, 2, Some(1)),
-        (2, 0, Some(2)),
-        (2, 2, Some(2)),
-        (3, 1, Some(4)),
-        (3, 11, Some(34)),
-        (3, 12, None),
+        (1, 2, Some(2)),
+        (1, 11, Some(34)),
+        (1, 12, None),
+        (2, 0, Some(19)),
+        (2, 1, Some(113)),
+        (2, 2, None),
+        (3, 0, Some(3)),
+        (4, 0, Some(4)),
         (0, 0, None),
-        (4, 0, None),
+        (5, 0, None),
     ];
     for (serial, at, word) in words {
         let area = AreaRef { serial, block: 0 };
         assert!(rt; server.word(area, at) == word, "word {at} of {serial}");
     }
+    let serial = server.dispatch(main_of(3)).map(|at| at.area.serial);
+    assert!(rt; serial == Some(1));
     Ok(())
+}
+
+// Puts the term under the keys with these numbers, each of which is new.
+fn put_all(
+    rt: &(impl AllocGlobal + Abort),
+    server: &mut Server,
+    value: Value,
+    keys: Range<u32>,
+) -> Result<(), Fail> {
+    let alloc = rt.alloc();
+    let texts = ModuleList::new(alloc);
+    for key in keys {
+        let cmd = command_of(alloc, Step::Put(key, value)).expect(rt, "a command");
+        let answer = answer_text(alloc, server.apply(&cmd, &texts))?;
+        assert!(rt;
+            answer.as_str().starts_with("ok @"),
+            "{value:?} under {key}"
+        );
+    }
+    Ok(())
+}
+
+#[test]
+fn keys_and_areas_are_limited(rt: HostRuntime) -> Result<(), Fail> {
+    let mut server = Server::new(rt.alloc()).expect(&rt, "a server");
+    put_all(&rt, &mut server, Value::EmptyTuple, 0..256)?;
+    let rows = [
+        (Step::Put(0, Value::EmptyList), "system_limit Areas -"),
+        (Step::Put(256, Value::EmptyTuple), "system_limit Areas -"),
+        (Step::Put(0, Value::EmptyTuple), "ok -"),
+    ];
+    make(&rt, &mut server, &rows)?;
+    put_all(&rt, &mut server, Value::Seven, 256..384)?;
+    let rows = [
+        (Step::Put(384, Value::Seven), "system_limit Keys -"),
+        (Step::Put(384, Value::EmptyTuple), "system_limit Keys -"),
+        (Step::Erase(0), "true @385"),
+        (Step::Put(384, Value::EmptyList), "ok @386"),
+    ];
+    make(&rt, &mut server, &rows)
 }

@@ -1,11 +1,14 @@
 -- The tables after the change are the state that the end of a purge leaves.
-use Rattle.std.proofs.Common.{◌≡◌, ap, ◌∙◌, sym, subst, Some, None}
+use Rattle.std.proofs.Common.{◌≡◌, [], ◌∷◌, ◌++◌, ap, ◌∙◌, sym, subst, Some, None}
 use Rattle.server_core.specs.declared.command.Reply.TheVariants as replies
 use Rattle.server_core.specs.CommandTable.{answered, published, with_purged, without_number}
 use Rattle.server_core.specs.ServerState.{IsSound}
 use Rattle.server_core.specs.Tables.{state_of}
 use Rattle.server_core.proofs.Soundness.{published_as, sound_published, sound_purged}
 use Rattle.server_core.proofs.server.Server.drop_old.Goals as goal
+
+retired : (c : goal.After-published) → c.push.new.self.serials ≡ c.self.inside.retired.serials ++ c.args.serial ∷ []
+retired c = c.push.ensures ∙ ap (λ serials. serials ++ c.args.serial ∷ []) c.in_ok-reserve.ensures.same
 
 state_after : (c : goal.After-published)
     → (published (with_purged c.args.self.now c.args.«module».0 c.args.serial) replies.True).state
@@ -15,7 +18,7 @@ state_after c =
     let serial = c.args.serial in
     let none = ap (λ s. without_number serial s.doomed) c.self.view_is ∙ c.requires.doomed in
     ap (λ s. (published (with_purged s name serial) replies.True).state) (sym c.self.view_is)
-    ∙ (λ i. record (state_of c.self.inside) { generation = sym c.in_ok-generation.ensures i; versions = sym c.drop_old.ensures i; traced = sym c.forget.ensures i; doomed = none i; retired = sym c.in_ok-push.ensures.ok i })
+    ∙ (λ i. record (state_of c.self.inside) { generation = sym c.in_ok-generation.ensures i; versions = sym c.drop_old.ensures i; traced = sym c.forget.ensures i; doomed = none i; retired = sym (retired c) i })
 
 pub invariant_of-self-2 : goal.invariant_of-self-2
 invariant_of-self-2 c =

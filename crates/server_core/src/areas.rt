@@ -1,0 +1,113 @@
+ghost use Rattle.std.specs.Prelude.{◌≡◌, ◌+◌, ◌^◌, ◌≤◌, [], ◌∷◌, ◌++◌, IfOk, OnErr, OnOk, length, map, option_and_then, slice_get};
+ghost use Rattle.std.specs.Option.{option_copied};
+ghost use Rattle.server_core.specs.Areas.{area_at, instances_in, words_among};
+ghost use Rattle.server_core.specs.ServerState.{code_among};
+
+use crate::instance::LoadedModule;
+use crate::stored_term::StoredTerm;
+use mod_core::Module;
+use std::alloc::Global;
+use std::marker::Model;
+use term_core::NoMemory;
+
+/// What has an area of its own: an instance of a module, or a complex term.
+#[derive(Drop)]
+pub enum Area {
+    Loaded(LoadedModule),
+    Stored(StoredTerm),
+}
+
+/// The areas that came in: the one with serial n stands at place n - 1.
+#[derive(Drop)]
+pub struct AreaTable {
+    areas: Vec<Area>,
+}
+
+impl Model for AreaTable {
+    ghost use Rattle.std.specs.Prelude.{List};
+    ghost use Rattle.std.specs.Coded.{coded_list};
+    ghost use Rattle.server_core.specs.declared.areas.Area.{Area};
+    ghost use Rattle.server_core.specs.contracts.areas.Area as area_contracts;
+
+    ghost Value = { List Area };
+
+    ghost coded = { coded_list area_contracts.the_row.coded };
+
+    ghost view = { λ it. it.areas.items };
+}
+
+impl AreaTable {
+    /// No areas. It takes no memory.
+    pub fn new(alloc: Global) -> AreaTable
+        ensures { result ≡ [] }
+    {
+        AreaTable {
+            areas: Vec::new(alloc),
+        }
+    }
+
+    /// The serial of the area that comes in next.
+    pub fn next_serial(&self) -> u64
+        ensures value { result ≡ length self.now + 1 }
+        ensures small { result ≤ 2 ^ 63 }
+    {
+        self.areas.len() as u64 + 1
+    }
+
+    /// The module of the instance with a serial.
+    pub fn code(&self, serial: u64) -> Option<&Module>
+        ensures { option_copied result ≡ code_among (instances_in 1 self.now) serial }
+    {
+        match self.get(serial)? {
+            Area::Loaded(instance) => Some(instance.code()),
+            Area::Stored(_) => None,
+        }
+    }
+
+    /// A word of the area with a serial; places count words from 0.
+    pub fn word(&self, serial: u64, at: u32) -> Option<u64>
+        ensures { result ≡ option_and_then (λ words. slice_get words at) (words_among self.now serial) }
+    {
+        match self.get(serial)? {
+            Area::Loaded(instance) => instance.word(serial, at),
+            Area::Stored(term) => term.word(at),
+        }
+    }
+
+    fn get(&self, serial: u64) -> Option<&Area>
+        ensures { option_copied result ≡ area_at self.now serial }
+    {
+        let areas = self.areas.as_slice();
+        areas.get(serial.checked_sub(1)? as usize)
+    }
+
+    /// The term gets the next serial. Where memory is refused, nothing comes in.
+    pub fn push(&mut self, term: StoredTerm) -> Result<(), NoMemory>
+        ensures ok { OnOk result (self.new ≡ self.old ++ Area.Stored term ∷ []) }
+        ensures err { OnErr result (self.new ≡ self.old) }
+    {
+        self.areas.push(Area::Stored(term))?;
+        Ok(())
+    }
+
+    /// The modules get the next serials, in order. Where memory is refused, nothing comes in.
+    pub fn append(&mut self, alloc: Global, modules: Vec<LoadedModule>) -> Result<(), NoMemory>
+        ensures ok { OnOk result (self.new ≡ self.old ++ map Area.Loaded modules.items) }
+        ensures err { OnErr result (self.new ≡ self.old) }
+    {
+        let mut areas = as_areas(alloc, modules)?;
+        self.areas.append(&mut areas)?;
+        Ok(())
+    }
+}
+
+/// Each of the modules as what has an area.
+fn as_areas(alloc: Global, modules: Vec<LoadedModule>) -> Result<Vec<Area>, NoMemory>
+    ensures { IfOk result (λ areas. areas.items ≡ map Area.Loaded modules.items) }
+{
+    let mut areas = Vec::new(alloc);
+    for instance in modules {
+        areas.push(Area::Loaded(instance))?;
+    }
+    Ok(areas)
+}
