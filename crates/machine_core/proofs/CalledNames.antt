@@ -4,9 +4,9 @@ use Rattle.std.proofs.lemmas.Option.{same_Some, slice_get-get_or, unwrap_or-slic
 use Rattle.mod_core.specs.declared.code.Function.{Function}
 use Rattle.mod_core.specs.declared.code.Module.{Module}
 use Rattle.mod_core.specs.Module.{IsModule}
-use Rattle.mod_core.specs.ModuleImage.{code_start, function_heads, function_len, functions_words, module_image}
-use Rattle.mod_core.proofs.Places.{heads_len}
-use Rattle.server_core.specs.ServerState.{ServerState, Entry, code_of, instance_image}
+use Rattle.mod_core.specs.ModuleImage.{code_start, constants_of, constants_start, constants_words, function_heads, function_len, functions_words, module_image}
+use Rattle.mod_core.proofs.Lengths.{heads_len}
+use Rattle.server_core.specs.ServerState.{ServerState, Entry, code_of}
 use Rattle.machine_core.specs.View.{HasFunction, IsImagePlace, IsLawful, IsReadable, Shown}
 use Rattle.machine_core.specs.Turn.{arity_of, function_name, module_name}
 use Rattle.machine_core.proofs.Fetching.{readable_at, sound_function, view_word}
@@ -33,12 +33,12 @@ head_at (g ∷ fs) place (suc i) rest f h =
 
 head_in_image : (m : Module) (i : ℕ) (f : Function) → slice_get m.functions i ≡ Some f → IsHead (module_image m) (4 + 4 * i) f
 head_in_image m i f h =
-    let first = head_at m.functions (code_start m.functions) i (functions_words (code_start m.functions) m.functions) f h in
+    let first = head_at m.functions (code_start m.functions) i (functions_words (code_start m.functions) (constants_start m.functions) m.functions ++ constants_words (constants_of m.functions)) f h in
     let e : 4 + 4 * i ≡ suc (suc (suc (suc (4 * i)))) = omega arith in
     rw e (record { name = first.name; arity = first.arity })
 
 image_within : (m : Module) (i : ℕ) → i < length m.functions → 4 + 4 * i + 3 < length (module_image m)
-image_within m i h = omega (arith, heads_len (code_start m.functions) m.functions, length-append (function_heads (code_start m.functions) m.functions) (functions_words (code_start m.functions) m.functions))
+image_within m i h = omega (arith, heads_len (code_start m.functions) m.functions, length-append (function_heads (code_start m.functions) m.functions) (functions_words (code_start m.functions) (constants_start m.functions) m.functions ++ constants_words (constants_of m.functions)))
 
 module_place : (m : Module) → 0 < length m.functions → IsImagePlace m 1
 module_place m h = record { within = omega (arith, image_within m 0 h); no_entry = λ j below e. omega arith }
@@ -52,10 +52,6 @@ arity_place m i h = record { within = omega (arith, image_within m i h); no_entr
 index_of : (words : List ℕ) (at word : ℕ) → slice_get words at ≡ Some word → slice_index words at ≡ word
 index_of words at word h = sym (unwrap_or-slice_get words at 0) ∙ ap (λ o. unwrap_or o 0) h
 
-image_index : (serial at : ℕ) (m : Module) → 1 ≤ at → slice_index (instance_image serial m) at ≡ slice_index (module_image m) at
-image_index serial zero m h = absurd (omega arith)
-image_index serial (suc at) m h = refl
-
 -- a word of an instance, as the view shows it
 pub record IsWordOf (shown : Shown) (serial at word : ℕ) : Type 0 where
   pub readable : IsReadable shown.state serial at
@@ -65,7 +61,7 @@ word_of_image : (shown : Shown) (serial at word : ℕ) (m : Module) → IsLawful
     IsWordOf shown serial at word
 word_of_image shown serial at word m lawful c p h w = record {
   readable = readable_at shown.state serial at m c p;
-  value = view_word shown serial at m lawful c p ∙ (image_index serial at m h ∙ index_of (module_image m) at word w);
+  value = view_word shown serial at m lawful c p h ∙ index_of (module_image m) at word w;
 }
 
 halved : (n : ℕ) (b : Bool) → (n * 2 + (if b then 1 else 0)) / 2 ≡ n

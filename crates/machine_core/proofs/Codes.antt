@@ -2,17 +2,16 @@
 use Rattle.std.proofs.Common.{◌≡◌, ◌≤◌, ◌+◌, ◌∙◌, ℕ, zero, suc, refl, arith, ap, List, [], ◌∷◌, length-append, take, slice_get, option_map, unwrap_or, Some, None, Option}
 use Rattle.std.proofs.lemmas.Bool.Decides.{nat_tests}
 use Rattle.std.proofs.lemmas.Option.{slice_get-map}
-use Rattle.std.specs.List.{flat_map}
 use Rattle.mod_core.specs.declared.code.Instr.{Instr}
 use Rattle.mod_core.specs.declared.code.Module.{Module}
-use Rattle.mod_core.specs.ModuleImage.{function_place, instr_len, instr_words, place_in, placed, placed_code, return_ok}
+use Rattle.mod_core.specs.ModuleImage.{function_place, instr_len, place_in, placed, placed_code, return_ok}
 use Rattle.mod_core.proofs.Places.{numbered}
 use Rattle.machine_core.specs.Turn.{code_at, instr_from, module_instr}
 use Rattle.machine_core.proofs.Decoding.{len_least}
 
 -- the place of what stands behind the first instruction
 pub place_in-cons : (start number : ℕ) (i : Instr) (is : List Instr) → place_in start (i ∷ is) (suc number) ≡ place_in (start + instr_len i) is number
-place_in-cons start number i is = omega (arith, length-append (instr_words i) (flat_map instr_words (take number is)))
+place_in-cons start number i is = omega arith
 
 first_at : (start : ℕ) (i : Instr) (is : List Instr) → instr_from start (i ∷ is) (start + 0) ≡ i
 first_at start i is = grind (arith, nat_tests)

@@ -6,11 +6,12 @@ use Rattle.std.specs.List.{list_any}
 use Rattle.server_core.specs.ServerState.{ServerState, is_doomed}
 use Rattle.machine_core.specs.declared.process.Frame.{Frame}
 use Rattle.machine_core.specs.Holds.{Holds, is_area_held, is_among}
-use Rattle.machine_core.specs.Process.{frames_of}
+use Rattle.machine_core.specs.Process.{Words, frame_names, frames_of}
 use Rattle.machine_core.specs.Stand.{AreHeld}
 use Rattle.machine_core.specs.Turn.{doomed_serial}
-use Rattle.machine_core.proofs.HoldLists.{among-frames, frames_of-push}
-use Rattle.machine_core.proofs.Pausing.{all_held}
+use Rattle.machine_core.proofs.CodeNames.{among-frames, frames_of-push}
+use Rattle.machine_core.proofs.NamedAreas.{frames_held, instance_serials}
+use Rattle.machine_core.proofs.SerialLists.{among-serials_of}
 
 first_same : (n : ℕ) (b : Bool) → (n == n || b) ≡ true
 first_same n b = grind (arith, nat_tests)
@@ -28,14 +29,16 @@ any_at [] n d h = absurd (omega arith)
 any_at (f ∷ fs) zero d h = first_same f.code.area.serial (list_any (λ g. g.code.area.serial == f.code.area.serial) fs)
 any_at (f ∷ fs) (suc n) d h = or_later _ (list_any (λ g. g.code.area.serial == (get_or fs n d).code.area.serial) fs) (any_at fs n d (omega arith))
 
--- the area of a frame is held
-pub named_frame : (held : Holds) (fs : List Frame) (n : ℕ) (f : Frame) → n < length fs → f ≡ get_or fs n f → AreHeld held (frames_of fs) → IsTrue (is_area_held held f.code.area.serial)
-named_frame held fs n f below is h =
-    let any : list_any (λ g. g.code.area.serial == f.code.area.serial) fs ≡ true = ap (λ (e : Frame). list_any (λ g. g.code.area.serial == e.code.area.serial) fs) is ∙ any_at fs n f below in
-    or_first (is_among held.frames f.code.area.serial) (is_among held.literals f.code.area.serial) (all_held held (frames_of fs) f.code.area.serial h (among-frames fs f.code.area.serial ∙ any))
+module _ (words : Words) where
+  -- the area of a frame is held
+  pub named_frame : (held : Holds) (fs : List Frame) (n : ℕ) (f : Frame) → n < length fs → f ≡ get_or fs n f → AreHeld held (frames_of words fs) → IsTrue (is_area_held held f.code.area.serial)
+  named_frame held fs n f below is h =
+      let any : list_any (λ g. g.code.area.serial == f.code.area.serial) fs ≡ true = ap (λ (e : Frame). list_any (λ g. g.code.area.serial == e.code.area.serial) fs) is ∙ any_at fs n f below in
+      or_first (is_among held.frames f.code.area.serial) (is_among held.literals f.code.area.serial)
+      (frames_held held (frames_of words fs) f.code.area.serial h (among-serials_of (instance_serials (frames_of words fs)) f.code.area.serial ∙ among-frames words fs f.code.area.serial ∙ any))
 
--- with one more frame, it is that one where it stands in doomed code, else the one so far
-pub doomed_next : (s : ServerState) (fs : List Frame) (n : ℕ) (f : Frame) → n < length fs → f ≡ get_or fs n f →
-    doomed_serial s (frames_of (take (n + 1) fs)) ≡ (if is_doomed s f.code.area.serial then Some f.code.area.serial else doomed_serial s (frames_of (take n fs)))
-doomed_next s fs n f below is =
-    ap (λ xs. doomed_serial s (frames_of xs)) (take_more fs n f below) ∙ ap (λ g. doomed_serial s (frames_of (take n fs ++ g ∷ []))) (sym is) ∙ ap (doomed_serial s) (frames_of-push (take n fs) f)
+  -- with one more frame, it is that one where it stands in doomed code, else the one so far
+  pub doomed_next : (s : ServerState) (fs : List Frame) (n : ℕ) (f : Frame) → n < length fs → f ≡ get_or fs n f →
+      doomed_serial s (frames_of words (take (n + 1) fs)) ≡ (if is_doomed s f.code.area.serial then Some f.code.area.serial else doomed_serial s (frames_of words (take n fs)))
+  doomed_next s fs n f below is =
+      ap (λ xs. doomed_serial s (frames_of words xs)) (take_more fs n f below) ∙ ap (λ g. doomed_serial s (frames_of words (take n fs ++ g ∷ []))) (sym is) ∙ ap (doomed_serial s) (frames_of-push words (take n fs) f)

@@ -1,12 +1,12 @@
 -- That a lawful hold has room, and how many areas frames name.
 use Rattle.std.proofs.Common.{◌≡◌, ◌<◌, ◌≤◌, ◌∙◌, ◌+◌, ℕ, zero, suc, refl, sym, ap, arith, Bool, true, false, not, ◌&&◌, ◌||◌, ◌==◌, cond, List, [], ◌∷◌, ◌++◌, length, map, take, filter, get_or, subst}
 use Rattle.std.proofs.lemmas.Bool.Decides.{nat_tests}
-use Rattle.std.proofs.lemmas.List.{map-append, reverse-append, take_more}
-use Rattle.std.proofs.lemmas.List.Folds.{list_any-append}
+use Rattle.std.proofs.lemmas.List.{take_more}
 use Rattle.std.specs.List.{list_any}
-use Rattle.machine_core.specs.declared.process.Frame.{Frame}
-use Rattle.machine_core.specs.Holds.{Holds, IsIncreasing, area_count, is_among, other_areas, with_serial, without_serial}
-use Rattle.machine_core.specs.Process.{frame_names, frame_of, frames_of}
+use Rattle.term_core.specs.declared.area.AreaRef.{AreaRef}
+use Rattle.machine_core.specs.Holds.{Holds, IsIncreasing, area_count, is_among, other_areas, serials_of, with_serial, without_serial}
+use Rattle.machine_core.specs.Process.{area_serials, names_of_areas}
+use Rattle.machine_core.proofs.AreaLists.{among-areas, serials-pushed}
 use Rattle.machine_core.proofs.SerialLists.{among-filter, among-serials_of, among-without, increasing-filter, increasing-serials_of, length-among, length-more, length-parts, without-none}
 
 -- there is room for a frame's instance that is not held yet
@@ -46,52 +46,52 @@ room_of_literals held serial i few fresh =
     let both = length-among (filter p held.literals) (without_serial held.frames serial) (increasing-filter p held.literals i) (λ q. shared held.literals held.frames serial q fresh) in
     omega (arith, few)
 
--- the frame that was put back is the topmost
-pub frames_of-push : (frames : List Frame) (top : Frame) → frames_of (frames ++ top ∷ []) ≡ frame_of top ∷ frames_of frames
-frames_of-push frames top = rw (map-append frame_of frames (top ∷ []), reverse-append (map frame_of frames) (frame_of top ∷ []))
+-- where few areas are held, few are held for each kind
+pub few_frames : (held : Holds) → area_count held ≤ 16 → length held.frames ≤ 16
+few_frames held few = omega (arith, few)
 
--- what the code's frames name
-pub among-frames : (fs : List Frame) (q : ℕ) → is_among (map (λ f. f.serial) (frames_of fs)) q ≡ list_any (λ f. f.code.area.serial == q) fs
-among-frames [] q = refl
-among-frames (f ∷ fs) q =
-    ap (λ xs. is_among (map (λ f. f.serial) xs) q) (reverse-append (frame_of f ∷ []) (map frame_of fs))
-    ∙ ap (λ ns. is_among ns q) (map-append (λ f. f.serial) (frames_of fs) (frame_of f ∷ []))
-    ∙ list_any-append (λ n. n == q) (map (λ f. f.serial) (frames_of fs)) (f.code.area.serial ∷ [])
-    ∙ ap (λ b. b || (f.code.area.serial == q || false)) (among-frames fs q)
-    ∙ swapped (list_any (λ f. f.code.area.serial == q) fs) (f.code.area.serial == q)
+pub few_literals : (held : Holds) → IsIncreasing held.literals → area_count held ≤ 16 → length held.literals ≤ 16
+few_literals held i few =
+    let p = is_among held.frames in
+    let parts = length-parts p held.literals in
+    let both = length-among (filter p held.literals) held.frames (increasing-filter p held.literals i) (λ q h. both_true (is_among held.literals q) (p q) (sym (among-filter p held.literals q) ∙ h)) in
+    omega (arith, few)
   where
-    swapped : (a b : Bool) → (a || (b || false)) ≡ (b || a)
-    swapped true true = refl
-    swapped true false = refl
-    swapped false true = refl
-    swapped false false = refl
+    both_true : (a b : Bool) → (a && b) ≡ true → b ≡ true
+    both_true true b e = e
+    both_true false b e = absurd (cc)
 
-any_or : (a b c : Bool) → (b ≡ true → c ≡ true) → (a || b) ≡ true → (a || c) ≡ true
-any_or true b c h e = refl
-any_or false b c h e = h e
+-- some areas have no more serials than all
+fewer_areas : (areas : List AreaRef) (n : ℕ) → length (serials_of (area_serials (take n areas))) ≤ length (serials_of (area_serials areas))
+fewer_areas areas n =
+    length-among _ _ (increasing-serials_of (area_serials (take n areas))) (λ q h.
+    among-serials_of (area_serials areas) q ∙ among-areas areas q
+    ∙ any_first (λ a. a.serial == q) n areas (sym (among-serials_of (area_serials (take n areas)) q ∙ among-areas (take n areas) q) ∙ h))
+  where
+    any_or : (a b c : Bool) → (b ≡ true → c ≡ true) → (a || b) ≡ true → (a || c) ≡ true
+    any_or true b c h e = refl
+    any_or false b c h e = h e
 
-any_first : {X : Type 0} (p : X → Bool) (n : ℕ) (xs : List X) → list_any p (take n xs) ≡ true → list_any p xs ≡ true
-any_first p zero xs h = absurd (cc)
-any_first p (suc n) [] h = absurd (cc)
-any_first p (suc n) (x ∷ xs) h = any_or (p x) (list_any p (take n xs)) (list_any p xs) (any_first p n xs) h
+    any_first : {X : Type 0} (p : X → Bool) (n : ℕ) (xs : List X) → list_any p (take n xs) ≡ true → list_any p xs ≡ true
+    any_first p zero xs h = absurd (cc)
+    any_first p (suc n) [] h = absurd (cc)
+    any_first p (suc n) (x ∷ xs) h = any_or (p x) (list_any p (take n xs)) (list_any p xs) (any_first p n xs) h
 
--- some of the frames name no more areas than all
-pub fewer_frames : (fs : List Frame) (n : ℕ) → length (frame_names (frames_of (take n fs))).frames ≤ length (frame_names (frames_of fs)).frames
-fewer_frames fs n =
-    length-among _ _ (increasing-serials_of (map (λ f. f.serial) (frames_of (take n fs)))) (λ q h.
-    among-serials_of (map (λ f. f.serial) (frames_of fs)) q ∙ among-frames fs q
-    ∙ any_first (λ f. f.code.area.serial == q) n fs (sym (among-serials_of (map (λ f. f.serial) (frames_of (take n fs))) q ∙ among-frames (take n fs) q) ∙ h))
+-- the serials of areas up to the next one
+pub next_serials : (areas : List AreaRef) (n : ℕ) (d : AreaRef) (so_far : List ℕ) → n < length areas → so_far ≡ serials_of (area_serials (take n areas)) →
+    serials_of (area_serials (take (n + 1) areas)) ≡ with_serial so_far (get_or areas n d).serial
+next_serials areas n d so_far below e =
+    ap (λ xs. serials_of (area_serials xs)) (take_more areas n d below) ∙ serials-pushed (take n areas) (get_or areas n d) ∙ ap (λ ns. with_serial ns (get_or areas n d).serial) (sym e)
 
--- there is room for the next frame's instance
-pub room_of_next : (fs : List Frame) (n serial : ℕ) (so_far : List ℕ) → area_count (frame_names (frames_of fs)) ≤ 16 →
-    (frame_names (frames_of (take n fs))).frames ≡ with_serial so_far serial → is_among so_far serial ≡ false → length so_far < 16
-room_of_next fs n serial so_far few next fresh = omega (arith, few, fewer_frames fs n, ap length next, length-more so_far serial fresh)
+-- there is room for the next area's serial
+pub room_of_next : (areas : List AreaRef) (n serial : ℕ) (so_far : List ℕ) → length (serials_of (area_serials areas)) ≤ 16 →
+    serials_of (area_serials (take (n + 1) areas)) ≡ with_serial so_far serial → is_among so_far serial ≡ false → length so_far < 16
+room_of_next areas n serial so_far few next fresh = omega (arith, few, fewer_areas areas (n + 1), ap length next, length-more so_far serial fresh)
 
--- the frames before a place, and the one there, name what they name together
-pub next_names : (fs : List Frame) (n : ℕ) (f : Frame) (so_far : List ℕ) → n < length fs → f ≡ get_or fs n f → so_far ≡ (frame_names (frames_of (take n fs))).frames →
-    (frame_names (frames_of (take (n + 1) fs))).frames ≡ with_serial so_far f.code.area.serial
-next_names fs n f so_far below is e =
-    ap (λ xs. (frame_names (frames_of xs)).frames) (take_more fs n f below)
-    ∙ ap (λ g. (frame_names (frames_of (take n fs ++ g ∷ []))).frames) (sym is)
-    ∙ ap (λ xs. (frame_names xs).frames) (frames_of-push (take n fs) f)
-    ∙ ap (λ ns. with_serial ns f.code.area.serial) (sym e)
+-- so the areas of few names are few
+pub few_frames_of : (frames literals : List AreaRef) (named : Holds) → names_of_areas frames literals ≡ named → area_count named ≤ 16 → length (serials_of (area_serials frames)) ≤ 16
+few_frames_of frames literals named e few = let f = few_frames named few in omega (arith, ap (λ (x : Holds). length x.frames) e)
+
+pub few_literals_of : (frames literals : List AreaRef) (named : Holds) → names_of_areas frames literals ≡ named → area_count named ≤ 16 → length (serials_of (area_serials literals)) ≤ 16
+few_literals_of frames literals named e few =
+    few_literals (names_of_areas frames literals) (increasing-serials_of (area_serials literals)) (subst (λ (h : Holds). area_count h ≤ 16) (sym e) few)

@@ -1,123 +1,24 @@
 -- When a turn ends a process as killed, and that what goes on stands in no doomed code.
-use Rattle.std.proofs.Common.{◌≡◌, ◌==◌, ◌||◌, ◌⊎◌, ◌∙◌, ℕ, zero, suc, ℤ, ◌+ℤ◌, ◌-ℤ◌, int_lt, refl, sym, ap, arith, inl, inr, subst, Bool, true, false, List, [], ◌∷◌, ◌++◌, find, Option, Some, None, Result, Ok, Err, IsSomeAnd, IsTrue, if◌then◌else◌}
+use Rattle.std.proofs.Common.{◌≡◌, ◌==◌, ◌||◌, ◌⊎◌, ◌∙◌, ℕ, refl, sym, ap, arith, inl, inr, subst, Bool, true, false, List, [], ◌∷◌, find, Option, Some, None, IsSomeAnd, IsTrue, if◌then◌else◌}
 use Rattle.std.proofs.lemmas.Bool.Decides.{nat_tests}
-use Rattle.term_core.specs.declared.atom.Mfa.{Mfa}
 use Rattle.term_core.specs.declared.hold.Kind.TheVariants.{Frame}
-use Rattle.term_core.specs.declared.term.Term.{Term}
-use Rattle.term_core.specs.declared.term.Term.TheVariants.{Int}
-use Rattle.term_core.specs.PlainTerm.{PlainTerm}
-use Rattle.mod_core.specs.declared.code.Instr.{Instr}
-use Rattle.mod_core.specs.declared.code.Instr.TheVariants as instrs
 use Rattle.mod_core.specs.declared.code.Module.{Module}
-use Rattle.server_core.specs.ServerState.{ServerState, Entry, IsSound, code_of, current_of, dispatch_of, is_doomed, old_of}
+use Rattle.server_core.specs.ServerState.{ServerState, Entry, IsSound, code_of, current_of, is_doomed, old_of}
 use Rattle.machine_core.specs.declared.process.End.{End}
-use Rattle.machine_core.specs.declared.process.End.TheVariants.{Normal, Undef, Badarg, Badarith, SystemLimit, Killed}
-use Rattle.machine_core.specs.declared.process.Line.{Line}
-use Rattle.machine_core.specs.declared.process.TheConstants.{MOST_TURNS, TURN_INSTRUCTIONS}
+use Rattle.machine_core.specs.declared.process.End.TheVariants.{Killed, SystemLimit}
+use Rattle.machine_core.specs.declared.process.TheConstants.{MOST_TURNS}
 use Rattle.machine_core.specs.declared.process.TurnEnd.{TurnEnd}
-use Rattle.machine_core.specs.declared.process.TurnEnd.TheVariants.{Again, Ended}
-use Rattle.machine_core.specs.declared.process.Value.{Value}
+use Rattle.machine_core.specs.declared.process.TurnEnd.TheVariants.{Ended}
 use Rattle.machine_core.specs.Holds.{Holds, is_among, is_held, serials_of}
-use Rattle.machine_core.specs.Process.{PlainFrame, PlainProcess, names_of, owned_values}
-use Rattle.machine_core.specs.Turn.{Step, goes_on, yields, ends, after_step, begun, called_by_name, computed, difference_of, doomed_serial, ended_with, executed, fits, fitting, held_after, instr_at, integer_of, is_same, less_of, moved_past, of_integers, operand_term, ran_of, ran_unless_doomed, returned, run_of, stacked, step_of, sum_of, tested, trace_of, turn_of, value_of}
-use Rattle.machine_core.proofs.Pausing.{frame_serials}
+use Rattle.machine_core.specs.Process.{PlainFrame, PlainProcess, PlainValue, first_registers, frame_names, names_of, owned_values}
+use Rattle.machine_core.specs.Turn.{Ran, Step, begun, copied, doomed_serial, ended_with, executed, held_after, instr_at, ran_of, step_of, turn_of}
+use Rattle.machine_core.proofs.NamedAreas.{instance_serials}
+use Rattle.machine_core.proofs.OwnEnds.{IsOwnEnd, IsOwnTurnEnd}
+use Rattle.machine_core.proofs.RunLaws.{IsKept, KeepsSo, ran_kept}
 use Rattle.machine_core.proofs.SerialLists.{among-serials_of}
+use Rattle.machine_core.proofs.StepCases.{Came, it_calls, it_calls_out, it_ends, it_moves, it_pauses, it_returns, it_stores, IsCalled, call_refused, call_stacks, IsCalledOut, out_reaches, out_refused, called_out_is, came}
 use Rattle.machine_core.proofs.TurnNames.{IsCurrent, turn_names}
 use Rattle.machine_core.proofs.Turns.{is_below}
-
--- an end that is none of a doomed instance
-abbrev IsOwnEnd : End → Type 0
-IsOwnEnd Normal = Unit {0}
-IsOwnEnd (Undef to) = Unit {0}
-IsOwnEnd Badarg = Unit {0}
-IsOwnEnd Badarith = Unit {0}
-IsOwnEnd SystemLimit = Unit {0}
-IsOwnEnd (Killed serial) = ⊥
-
-abbrev IsOwnTurnEnd : TurnEnd → Type 0
-IsOwnTurnEnd Again = Unit {0}
-IsOwnTurnEnd (Ended end) = IsOwnEnd end
-
--- so is each refusal
-abbrev IsOwnFault : {A : Type 0} → Result A End → Type 0
-IsOwnFault (Ok value) = Unit {0}
-IsOwnFault (Err end) = IsOwnEnd end
-
-abbrev IsOwnStep : Step → Type 0
-IsOwnStep (goes_on frames now line) = Unit {0}
-IsOwnStep (yields frames) = Unit {0}
-IsOwnStep (ends end) = IsOwnEnd end
-
-fitting_own : (z : ℤ) (b : Bool) → IsOwnFault {A = Term} (if b then Ok (Int z) else Err SystemLimit)
-fitting_own z true = tt
-fitting_own z false = tt
-
-integers_own : {A : Type 0} (give : ℤ → ℤ → Result A End) (end : End) (a b : Option ℤ) → ((x y : ℤ) → IsOwnFault (give x y)) → IsOwnEnd end → IsOwnFault (of_integers give end a b)
-integers_own give end (Some x) (Some y) h e = h x y
-integers_own give end (Some x) None h e = e
-integers_own give end None y h e = e
-
-sum_own : (a b : Term) → IsOwnFault (sum_of a b)
-sum_own a b = integers_own {A = Term} (λ x y. fitting (x +ℤ y)) Badarith (integer_of a) (integer_of b) (λ x y. fitting_own (x +ℤ y) (fits (x +ℤ y))) tt
-
-difference_own : (a b : Term) → IsOwnFault (difference_of a b)
-difference_own a b = integers_own {A = Term} (λ x y. fitting (x -ℤ y)) Badarith (integer_of a) (integer_of b) (λ x y. fitting_own (x -ℤ y) (fits (x -ℤ y))) tt
-
-less_own : (a b : Term) → IsOwnFault (less_of a b)
-less_own a b = integers_own {A = Bool} (λ x y. Ok (int_lt x y)) Badarg (integer_of a) (integer_of b) (λ x y. tt {0}) tt
-
-module _ (s : ServerState) where
-  stacked_own : (frames : List PlainFrame) (held : Holds) (serial : ℕ) (line : List Line) (o : Option PlainFrame) → IsOwnStep (stacked frames held serial line o)
-  stacked_own frames held serial line None = tt
-  stacked_own frames held serial line (Some f) = tt
-
-  by_name_own : (frames : List PlainFrame) (held : Holds) (to : Mfa) (back : ℕ) (args : List Value) (o : Option Entry) → IsOwnStep (called_by_name s frames held to back args o)
-  by_name_own frames held to back args None = tt
-  by_name_own frames held to back args (Some e) = stacked_own frames held e.serial (trace_of s e to args) _
-
-  returned_own : (below : List PlainFrame) (held : Holds) (back : ℕ) (value : Value) → IsOwnStep (returned below held back value)
-  returned_own [] held back value = tt
-  returned_own (caller ∷ below) held back value = tt
-
-  computed_own : (f : PlainFrame) (below : List PlainFrame) (held : Holds) (i : Instr) (to : ℕ) (r : Result Term End) → IsOwnFault r → IsOwnStep (computed f below held i to r)
-  computed_own f below held i to (Ok term) h = tt
-  computed_own f below held i to (Err end) h = h
-
-  tested_own : (f : PlainFrame) (below : List PlainFrame) (held : Holds) (i : Instr) (target : ℕ) (r : Result Bool End) → IsOwnFault r → IsOwnStep (tested f below held i target r)
-  tested_own f below held i target (Ok b) h = tt
-  tested_own f below held i target (Err end) h = h
-
-  executed_own : (f : PlainFrame) (below : List PlainFrame) (held : Holds) (i : Instr) → IsOwnStep (executed s f below held i)
-  executed_own f below held (instrs.Move from to) = tt
-  executed_own f below held (instrs.Add a b to) = computed_own f below held (instrs.Add a b to) to _ (sum_own (operand_term f a) (operand_term f b))
-  executed_own f below held (instrs.Sub a b to) = computed_own f below held (instrs.Sub a b to) to _ (difference_own (operand_term f a) (operand_term f b))
-  executed_own f below held (instrs.Eq a b target) = tested_own f below held (instrs.Eq a b target) target (Ok (is_same (operand_term f a) (operand_term f b))) tt
-  executed_own f below held (instrs.Less a b target) = tested_own f below held (instrs.Less a b target) target _ (less_own (operand_term f a) (operand_term f b))
-  executed_own f below held (instrs.Jump target) = tt
-  executed_own f below held (instrs.Call function at) = stacked_own (moved_past f (instrs.Call function at) ∷ below) held f.serial _ _
-  executed_own f below held (instrs.CallExt to at) = by_name_own (moved_past f (instrs.CallExt to at) ∷ below) held to at _ (dispatch_of s to)
-  executed_own f below held (instrs.Ret value) = returned_own below held f.back (value_of f.registers value)
-  executed_own f below held (instrs.Print value) = tt
-  executed_own f below held instrs.Yield = tt
-
-  step_own : (frames : List PlainFrame) (held : Holds) → IsOwnStep (step_of s frames held)
-  step_own [] held = tt
-  step_own (f ∷ below) held = executed_own f below held (instr_at s f)
-
-  after_own : (n : ℕ) (held : Holds) (made : List Line) (step : Step) → IsOwnStep step →
-      ((frames : List PlainFrame) (held : Holds) (made : List Line) → IsOwnTurnEnd (run_of s n frames held made).end) → IsOwnTurnEnd (after_step (run_of s n) held made step).end
-  after_own n held made (goes_on frames now line) h next = next frames now (made ++ line)
-  after_own n held made (yields frames) h next = tt
-  after_own n held made (ends end) h next = h
-
-  run_own : (n : ℕ) (frames : List PlainFrame) (held : Holds) (made : List Line) → IsOwnTurnEnd (run_of s n frames held made).end
-  unfolding run_of
-  run_own zero frames held made = tt
-  run_own (suc n) frames held made = after_own n held made (step_of s frames held) (step_own frames held) (λ frames held made. run_own n frames held made)
-
-  begun_own : (target : Mfa) (args : List PlainTerm) (held : Holds) (frames : List PlainFrame) → IsOwnStep (begun s target args held frames)
-  begun_own target args held [] = by_name_own [] held target 0 (owned_values args) (dispatch_of s target)
-  begun_own target args held (f ∷ below) = tt
 
 first_same : (n : ℕ) (b : Bool) → (n == n || b) ≡ true
 first_same n b = grind (arith, nat_tests)
@@ -180,20 +81,60 @@ pub record HasKiller (s : ServerState) (p : PlainProcess) (serial : ℕ) : Type 
 
 killer_of : (s : ServerState) (p : PlainProcess) (serial : ℕ) → (p.turns ≡ MOST_TURNS → ⊥) → doomed_serial s p.frames ≡ Some serial → HasKiller s p serial
 killer_of s p serial t d =
-    let f = found_is (is_doomed s) (frame_serials p.frames) serial d in record { below = t; topmost = d; doomed = f.0; named = among-serials_of (frame_serials p.frames) serial ∙ f.1 }
+    let f = found_is (is_doomed s) (instance_serials p.frames) serial d in record { below = t; topmost = d; doomed = f.0; named = among-serials_of (instance_serials p.frames) serial ∙ f.1 }
 
-unless_killed : (s : ServerState) (p : PlainProcess) (serial : ℕ) (o : Option ℕ) → (ran_unless_doomed s p o).end ≡ Ended (Killed serial) → o ≡ Some serial
-unless_killed s p serial None e =
-    absurd (subst IsOwnTurnEnd e (after_own s TURN_INSTRUCTIONS (names_of p) [] (begun s p.target p.args (names_of p) p.frames) (begun_own s p.target p.args (names_of p) p.frames) (run_own s TURN_INSTRUCTIONS)))
-unless_killed s p serial (Some n) e = cc
+module _ (s : ServerState) (p : PlainProcess) where
+  HasItsKiller : Ran → Type 0
+  HasItsKiller ran = (serial : ℕ) → ran.end ≡ Ended (Killed serial) → HasKiller s p serial
 
-ran_killer : (s : ServerState) (p : PlainProcess) (serial : ℕ) (b : Bool) → (p.turns == MOST_TURNS) ≡ b → (ran_of s p).end ≡ Ended (Killed serial) → HasKiller s p serial
-ran_killer s p serial true t e = absurd (subst IsOwnTurnEnd e (rw t tt))
-ran_killer s p serial false t e = killer_of s p serial (λ h. grind (arith, nat_tests)) (unless_killed s p serial (doomed_serial s p.frames) (rw t at e))
+  abbrev StepOwn : Holds → Step → Type 0
+  StepOwn held step = KeepsSo s (λ _ _. Unit {0}) IsOwnEnd HasItsKiller held step
+
+  called_own : (standing : List PlainFrame) (held : Holds) (e : Entry) (back : ℕ) (registers : List PlainValue) (step : Step) → IsCalled s standing held e back registers step → StepOwn held step
+  called_own standing held e back registers step (call_refused end own) = own
+  called_own standing held e back registers step (call_stacks line room) = tt
+
+  called_out_own : (standing : List PlainFrame) (held : Holds) (back : ℕ) (registers : List PlainValue) (step : Step) → IsCalledOut s standing held back registers step → StepOwn held step
+  called_out_own standing held back registers step (out_refused end own) = own
+  called_out_own standing held back registers step (out_reaches e same current known called) = called_own standing held e back registers step called
+
+  came_own : (f : PlainFrame) (below : List PlainFrame) (held : Holds) (step : Step) → Came s f below held step → StepOwn held step
+  came_own f below held step (it_ends end own) = own
+  came_own f below held step (it_pauses place) = tt
+  came_own f below held step (it_moves place line) = tt
+  came_own f below held step (it_stores place to value now fetched) = tt
+  came_own f below held step (it_returns caller rest back value now is fetched) = tt
+  came_own f below held step (it_calls place e back registers same is from called) = called_own (record f { place = place } ∷ below) held e back registers step called
+  came_own f below held step (it_calls_out place back registers same from called) = called_out_own (record f { place = place } ∷ below) held back registers step called
+
+  step_own : (frames : List PlainFrame) (held : Holds) → StepOwn held (step_of s frames held)
+  step_own [] held = tt
+  step_own (f ∷ below) held = came_own f below held (executed s f below held (instr_at s f)) (came s f below held (instr_at s f))
+
+  begun_own : (held : Holds) (frames : List PlainFrame) → StepOwn held (begun s p.target p.args held frames)
+  begun_own held [] = called_out_own [] held 0 (first_registers (owned_values p.args)) _ (called_out_is s [] held p.target 0 (owned_values p.args))
+  begun_own held (f ∷ below) = tt
+
+  not_killed : (end : End) (serial : ℕ) → IsOwnEnd end → ◌≡◌ {A = TurnEnd} (Ended end) (Ended (Killed serial)) → ⊥
+  not_killed end serial own e = subst IsOwnTurnEnd e own
+
+  own_kept : IsKept s (λ _ _. Unit {0}) IsOwnEnd HasItsKiller
+  unfolding HasItsKiller
+  own_kept = record { step = λ frames held h. step_own frames held; pause = λ frames held made h serial e. absurd (cc); end = λ held made end own serial e. absurd (not_killed end serial own e) }
+
+  killer_found : (serial found : ℕ) → (p.turns == MOST_TURNS) ≡ false → doomed_serial s p.frames ≡ Some found → ◌≡◌ {A = TurnEnd} (Ended (Killed found)) (Ended (Killed serial)) → HasKiller s p serial
+  killer_found serial found t d e = let same : found ≡ serial = cc in killer_of s p serial (λ h. grind (arith, nat_tests)) (d ∙ ap (λ n. Some n) same)
+
+  ran_killer : HasItsKiller (ran_of s p)
+  unfolding HasItsKiller
+  ran_killer =
+      ran_kept s (λ _ _. Unit {0}) IsOwnEnd HasItsKiller p own_kept (begun_own (frame_names (copied s p.frames)) (copied s p.frames)) (λ found t d serial e. killer_found serial found t d e)
+      (λ serial e. absurd (not_killed SystemLimit serial tt e))
 
 -- a process is killed only so
 pub killed_is_doomed : (s : ServerState) (p : PlainProcess) (serial : ℕ) → (turn_of s p).end ≡ Ended (Killed serial) → HasKiller s p serial
-killed_is_doomed s p serial e = ran_killer s p serial (p.turns == MOST_TURNS) refl e
+unfolding HasItsKiller
+killed_is_doomed s p serial e = ran_killer s p serial e
 
 -- no current code is doomed
 abbrev pub AreCurrentSpared : ServerState → Type 0
@@ -229,15 +170,15 @@ pub turn_spares : (s : ServerState) (p : PlainProcess) (serial : ℕ) → AreCur
 turn_spares s p serial spared h = spares (left_or_spared s p (p.turns == MOST_TURNS) (doomed_serial s p.frames) refl refl)
   where
     by_name : doomed_serial s p.frames ≡ None → (IsTrue (is_held (names_of p) serial Frame) ⊎ IsCurrent s serial) → is_doomed s serial ≡ false
-    by_name d (inl named) = none_passes (is_doomed s) (frame_serials p.frames) serial d (sym (among-serials_of (frame_serials p.frames) serial) ∙ named)
+    by_name d (inl named) = none_passes (is_doomed s) (instance_serials p.frames) serial d (sym (among-serials_of (instance_serials p.frames) serial) ∙ named)
     by_name d (inr current) = spared serial current
 
     spares : ((turn_of s p).process.frames ≡ []) ⊎ (doomed_serial s p.frames ≡ None) → is_doomed s serial ≡ false
-    spares (inl e) = let g : false ≡ true = sym (ap (λ fs. is_among (serials_of (frame_serials fs)) serial) e) ∙ h in absurd (cc)
+    spares (inl e) = let g : false ≡ true = sym (ap (λ fs. is_among (serials_of (instance_serials fs)) serial) e) ∙ h in absurd (cc)
     spares (inr d) = by_name d (turn_names s p serial h)
 
 -- so none of its frames stands in doomed code
 pub turn_leaves_none_doomed : (s : ServerState) (p : PlainProcess) → AreCurrentSpared s → doomed_serial s (turn_of s p).process.frames ≡ None
 turn_leaves_none_doomed s p spared =
     let after = (turn_of s p).process.frames in
-    none_found (is_doomed s) (frame_serials after) (λ n h. turn_spares s p n spared (among-serials_of (frame_serials after) n ∙ h))
+    none_found (is_doomed s) (instance_serials after) (λ n h. turn_spares s p n spared (among-serials_of (instance_serials after) n ∙ h))

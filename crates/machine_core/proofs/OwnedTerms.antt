@@ -5,7 +5,7 @@ use Rattle.term_core.specs.declared.term.Term.TheVariants.{Int, Atom, Tuple, Lis
 use Rattle.term_core.specs.Plain.{plain, term_of}
 use Rattle.term_core.specs.PlainTerm.{TermOf, row_of, terms_of}
 use Rattle.machine_core.specs.declared.process.Value.TheVariants.{Owned}
-use Rattle.machine_core.specs.Process.{owned_values}
+use Rattle.machine_core.specs.Process.{owned_terms}
 
 terms_of-row_of : {Z A : Type 0} (ts : List (TermOf Z A)) → terms_of (row_of ts) ≡ ts
 terms_of-row_of [] = refl
@@ -19,6 +19,6 @@ term_of-plain (Tuple ts) = ap Tuple (terms_of-row_of ts)
 term_of-plain (ListOf ts) = ap ListOf (terms_of-row_of ts)
 
 -- terms as values are what they show as values
-pub owned_values-plain : (ts : List Term) → owned_values (map plain ts) ≡ map Owned ts
-owned_values-plain [] = refl
-owned_values-plain (t ∷ ts) = cc (term_of-plain t, owned_values-plain ts)
+pub owned_terms-plain : (ts : List Term) → owned_terms (map plain ts) ≡ map Owned ts
+owned_terms-plain [] = refl
+owned_terms-plain (t ∷ ts) = cc (term_of-plain t, owned_terms-plain ts)

@@ -1,153 +1,153 @@
--- Whom the frames of a process name after a turn: instances that its frames named before, or that are current.
-use Rattle.std.proofs.Common.{◌≡◌, ◌==◌, ◌||◌, ◌⊎◌, ◌∙◌, ℕ, zero, suc, refl, sym, arith, inl, inr, subst, Bool, true, false, List, [], ◌∷◌, ◌++◌, length, nat_le, Option, Some, None, Result, Ok, Err, IsTrue, if◌then◌else◌}
-use Rattle.std.proofs.lemmas.Bool.Decides.{nat_tests}
-use Rattle.term_core.specs.declared.atom.Mfa.{Mfa}
-use Rattle.term_core.specs.declared.hold.Kind.TheVariants.{Frame}
-use Rattle.term_core.specs.declared.term.Term.{Term}
-use Rattle.term_core.specs.PlainTerm.{PlainTerm}
-use Rattle.mod_core.specs.declared.code.Instr.{Instr}
-use Rattle.mod_core.specs.declared.code.Instr.TheVariants as instrs
-use Rattle.server_core.specs.ServerState.{ServerState, Entry, current_of, dispatch_of}
-use Rattle.machine_core.specs.declared.process.End.{End}
-use Rattle.machine_core.specs.declared.process.Line.{Line}
-use Rattle.machine_core.specs.declared.process.TheConstants.{MOST_FRAMES, MOST_TURNS, TURN_INSTRUCTIONS}
-use Rattle.machine_core.specs.declared.process.Value.{Value}
-use Rattle.machine_core.specs.Holds.{Holds, MayHold, is_among, is_full, is_held}
-use Rattle.machine_core.specs.Process.{PlainFrame, PlainProcess, first_registers, names_of, owned_values}
-use Rattle.machine_core.specs.Stand.{AreHeld}
-use Rattle.machine_core.specs.Turn.{Step, goes_on, yields, ends, after_step, begun, branched, called, called_by_name, called_out, computed, difference_of, doomed_serial, executed, frame_at, instr_at, is_same, less_of, moved_past, operand_term, ran_of, ran_unless_doomed, returned, run_of, stacked, step_of, sum_of, tested, trace_of, turn_of, value_of}
-use Rattle.machine_core.proofs.Calling.{dispatch_reaches}
-use Rattle.machine_core.proofs.Pausing.{frame_serials}
+-- Which areas the frames of a process name after a turn: instances and areas that they named before, or that are current, a key's, or an instance's of theirs.
+use Rattle.std.proofs.Common.{◌≡◌, ◌⊎◌, ◌∙◌, ℕ, refl, sym, inl, inr, subst, Bool, true, false, All, List, [], ◌∷◌, IsTrue}
+use Rattle.std.proofs.lemmas.List.Elements.{All-set}
+use Rattle.term_core.specs.declared.hold.Kind.TheVariants.{Frame, Literal}
+use Rattle.server_core.specs.ServerState.{ServerState, Entry, IsDropped, is_retired}
+use Rattle.machine_core.specs.Holds.{Holds, IsKeyArea, is_held}
+use Rattle.machine_core.specs.Process.{PlainFrame, PlainProcess, PlainValue, first_registers, frame_names, literal, literal_serials, names_of, owned, owned_values}
+use Rattle.machine_core.specs.Turn.{Ran, Step, begun, copied, executed, instr_at, step_of, turn_of}
+use Rattle.machine_core.proofs.CopiedFrames.{IsKeptArea, copied_within}
+use Rattle.machine_core.proofs.NamedAreas.{AreWithin, HasArea, instance_serials, instance_within, literal_within, register_area, frames_within, within_wider}
+use Rattle.machine_core.proofs.RunLaws.{IsKept, KeepsSo, ran_kept}
 use Rattle.machine_core.proofs.SerialLists.{among-serials_of}
-use Rattle.machine_core.proofs.Turns.{names_held}
+use Rattle.machine_core.proofs.StepCases.{Came, it_calls, it_calls_out, it_ends, it_moves, it_pauses, it_returns, it_stores, IsAtHand, IsCalled, call_refused, call_stacks, IsCalledOut, out_reaches, out_refused, IsRegisterArea, called_out_is, came, owned_area}
+pub use Rattle.machine_core.proofs.StepCases.{IsCurrent}
 
--- the instance is the current code of some module
-abbrev pub IsCurrent : ServerState → ℕ → Type 0
-IsCurrent s serial = (name : ℕ) × (current_of s name ≡ Some serial)
+-- what takes in all that a turn may newly name: current instances, the areas of keys, and those of its own instances
+pub record TakesIn (s : ServerState) (Instance Area : ℕ → Type 0) : Type 0 where
+  pub current : (n : ℕ) → IsCurrent s n → Instance n
+  pub key : (n : ℕ) → IsKeyArea s n → Area n
+  pub constant : (n : ℕ) → Instance n → Area n
 
--- an instance is one of these, or current
-abbrev pub IsFrom : ServerState → List ℕ → ℕ → Type 0
-IsFrom s before serial = IsTrue (is_among before serial) ⊎ IsCurrent s serial
+module _ (s : ServerState) (Instance Area : ℕ → Type 0) where
+  StaysWithin : List PlainFrame → Holds → Type 0
+  StaysWithin frames held = AreWithin Instance Area frames
 
--- so is each that frames name
-abbrev pub AreFrom : ServerState → List ℕ → List PlainFrame → Type 0
-AreFrom s before [] = Unit {0}
-AreFrom s before (f ∷ below) = IsFrom s before f.serial × AreFrom s before below
+  LeavesWithin : Ran → Type 0
+  LeavesWithin ran = AreWithin Instance Area ran.frames
 
-module _ (s : ServerState) (before : List ℕ) where
-  -- what a step keeps of this
-  KeepsFrom : Step → Type 0
-  KeepsFrom (goes_on frames now line) = AreFrom s before frames
-  KeepsFrom (yields frames) = AreFrom s before frames
-  KeepsFrom (ends end) = Unit {0}
+  abbrev StepWithin : Holds → Step → Type 0
+  StepWithin held step = KeepsSo s StaysWithin (λ _. Unit {0}) LeavesWithin held step
 
-  stacked_from : (frames : List PlainFrame) (held : Holds) (e : Entry) (back : ℕ) (registers : List Value) (line : List Line) (b c : Bool) → IsFrom s before e.serial → AreFrom s before frames →
-      KeepsFrom (stacked frames held e.serial line (if b then None else if c then None else Some (frame_at s e back registers)))
-  unfolding KeepsFrom
-  stacked_from frames held e back registers line true c f h = tt
-  stacked_from frames held e back registers line false true f h = tt
-  stacked_from frames held e back registers line false false f h = (f, h)
+  called_within : (standing : List PlainFrame) (held : Holds) (e : Entry) (back : ℕ) (registers : List PlainValue) (step : Step) → Instance e.serial → All (HasArea Area) registers → AreWithin Instance Area standing →
+      IsCalled s standing held e back registers step → StepWithin held step
+  unfolding StaysWithin
+  called_within standing held e back registers step i r h (call_refused end own) = tt
+  called_within standing held e back registers step i r h (call_stacks line room) = (i, r, h)
 
-  called_from : (frames : List PlainFrame) (held : Holds) (e : Entry) (to : Mfa) (back : ℕ) (args : List Value) → IsFrom s before e.serial → AreFrom s before frames → KeepsFrom (called s frames held e to back args)
-  called_from frames held e to back args f h = stacked_from frames held e back (first_registers args) (trace_of s e to args) (nat_le MOST_FRAMES (length frames)) (is_full held e.serial) f h
+  called_out_within : (standing : List PlainFrame) (held : Holds) (back : ℕ) (registers : List PlainValue) (step : Step) → TakesIn s Instance Area → All (HasArea Area) registers → AreWithin Instance Area standing →
+      IsCalledOut s standing held back registers step → StepWithin held step
+  called_out_within standing held back registers step takes r h (out_refused end own) = tt
+  called_out_within standing held back registers step takes r h (out_reaches e same current known called) = called_within standing held e back registers step (takes.current e.serial current) r h called
 
-  -- what a name reaches is current
-  reached_current : (serial : ℕ) → MayHold s (record { frames = []; literals = [] }) serial Frame → IsFrom s before serial
-  reached_current serial (inl h) = absurd (cc)
-  reached_current serial (inr h) = inr h
+  module _ (takes : TakesIn s Instance Area) (f : PlainFrame) (i : Instance f.serial) (r : All (HasArea Area) f.registers) where
+    at_hand_within : (n : ℕ) → IsAtHand s f n → Area n
+    at_hand_within n (inl h) = register_area Area f.registers n r h
+    at_hand_within n (inr (inl e)) = takes.constant n (subst Instance (sym e) i)
+    at_hand_within n (inr (inr h)) = takes.key n h
 
-  by_name_from : (frames : List PlainFrame) (held : Holds) (to : Mfa) (back : ℕ) (args : List Value) (o : Option Entry) → dispatch_of s to ≡ o → AreFrom s before frames → KeepsFrom (called_by_name s frames held to back args o)
-  unfolding KeepsFrom
-  by_name_from frames held to back args None e h = tt
-  by_name_from frames held to back args (Some entry) e h =
-      called_from frames held entry to back args (reached_current entry.serial ((dispatch_reaches s to entry e).may_hold (record { frames = []; literals = [] }))) h
+    value_at_hand : (value : PlainValue) → HasArea (IsAtHand s f) value → HasArea Area value
+    value_at_hand (owned term) h = tt
+    value_at_hand (literal serial term) h = at_hand_within serial h
 
-  out_from : (frames : List PlainFrame) (held : Holds) (to : Mfa) (back : ℕ) (args : List Value) → AreFrom s before frames → KeepsFrom (called_out s frames held to back args)
-  out_from frames held to back args h = by_name_from frames held to back args (dispatch_of s to) refl h
+    value_of_registers : (value : PlainValue) → HasArea (IsRegisterArea f) value → HasArea Area value
+    value_of_registers (owned term) h = tt
+    value_of_registers (literal serial term) h = register_area Area f.registers serial r h
 
-  returned_from : (below : List PlainFrame) (held : Holds) (back : ℕ) (value : Value) → AreFrom s before below → KeepsFrom (returned below held back value)
-  unfolding KeepsFrom
-  returned_from [] held back value h = tt
-  returned_from (caller ∷ below) held back value h = h
+    came_within : (below : List PlainFrame) (held : Holds) (step : Step) → AreWithin Instance Area below → Came s f below held step → StepWithin held step
+    unfolding StaysWithin
+    came_within below held step h (it_ends end own) = tt
+    came_within below held step h (it_pauses place) = (i, r, h)
+    came_within below held step h (it_moves place line) = (i, r, h)
+    came_within below held step h (it_stores place to value now fetched) = (i, All-set (HasArea Area) f.registers to value (value_at_hand value fetched.at_hand) r, h)
+    came_within below held step h (it_returns caller rest back value now is fetched) =
+        let g : AreWithin Instance Area (caller ∷ rest) = subst (AreWithin Instance Area) is h in
+        (g.0, All-set (HasArea Area) caller.registers back value (value_at_hand value fetched.at_hand) g.1, g.2)
+    came_within below held step h (it_calls place e back registers same is from called) =
+        called_within (record f { place = place } ∷ below) held e back registers step (subst Instance (sym is) i) (λ k d l. value_of_registers _ (from k d l)) (i, r, h) called
+    came_within below held step h (it_calls_out place back registers same from called) =
+        called_out_within (record f { place = place } ∷ below) held back registers step takes (λ k d l. value_of_registers _ (from k d l)) (i, r, h) called
 
-  computed_from : (f : PlainFrame) (below : List PlainFrame) (held : Holds) (i : Instr) (to : ℕ) (r : Result Term End) → AreFrom s before (f ∷ below) → KeepsFrom (computed f below held i to r)
-  unfolding KeepsFrom
-  computed_from f below held i to (Ok term) h = h
-  computed_from f below held i to (Err end) h = tt
+  step_within : (frames : List PlainFrame) (held : Holds) → TakesIn s Instance Area → AreWithin Instance Area frames → StepWithin held (step_of s frames held)
+  step_within [] held takes h = tt
+  step_within (f ∷ below) held takes h = came_within takes f h.0 h.1 below held (executed s f below held (instr_at s f)) h.2 (came s f below held (instr_at s f))
 
-  branched_from : (f : PlainFrame) (below : List PlainFrame) (i : Instr) (target : ℕ) (b : Bool) → AreFrom s before (f ∷ below) → AreFrom s before (branched f i target b ∷ below)
-  branched_from f below i target true h = h
-  branched_from f below i target false h = h
+  begun_within : (p : PlainProcess) (held : Holds) (frames : List PlainFrame) → TakesIn s Instance Area → AreWithin Instance Area frames → StepWithin held (begun s p.target p.args held frames)
+  unfolding StaysWithin
+  begun_within p held [] takes h = called_out_within [] held 0 (first_registers (owned_values p.args)) _ takes (owned_area Area p.args) tt (called_out_is s [] held p.target 0 (owned_values p.args))
+  begun_within p held (f ∷ below) takes h = h
 
-  tested_from : (f : PlainFrame) (below : List PlainFrame) (held : Holds) (i : Instr) (target : ℕ) (r : Result Bool End) → AreFrom s before (f ∷ below) → KeepsFrom (tested f below held i target r)
-  unfolding KeepsFrom
-  tested_from f below held i target (Ok b) h = branched_from f below i target b h
-  tested_from f below held i target (Err end) h = tt
+  within_kept : TakesIn s Instance Area → IsKept s StaysWithin (λ _. Unit {0}) LeavesWithin
+  unfolding StaysWithin LeavesWithin
+  within_kept takes = record { step = λ frames held h. step_within frames held takes h; pause = λ frames held made h. h; end = λ held made end h. tt }
 
-  executed_from : (f : PlainFrame) (below : List PlainFrame) (held : Holds) (i : Instr) → AreFrom s before (f ∷ below) → KeepsFrom (executed s f below held i)
-  unfolding KeepsFrom
-  executed_from f below held (instrs.Move from to) h = h
-  executed_from f below held (instrs.Add a b to) h = computed_from f below held (instrs.Add a b to) to (sum_of (operand_term f a) (operand_term f b)) h
-  executed_from f below held (instrs.Sub a b to) h = computed_from f below held (instrs.Sub a b to) to (difference_of (operand_term f a) (operand_term f b)) h
-  executed_from f below held (instrs.Eq a b target) h = tested_from f below held (instrs.Eq a b target) target (Ok (is_same (operand_term f a) (operand_term f b))) h
-  executed_from f below held (instrs.Less a b target) h = tested_from f below held (instrs.Less a b target) target (less_of (operand_term f a) (operand_term f b)) h
-  executed_from f below held (instrs.Jump target) h = h
-  executed_from f below held (instrs.Call function at) h = called_from (moved_past f (instrs.Call function at) ∷ below) held (record { serial = f.serial; function = function }) _ at _ h.0 h
-  executed_from f below held (instrs.CallExt to at) h = out_from (moved_past f (instrs.CallExt to at) ∷ below) held to at _ h
-  executed_from f below held (instrs.Ret value) h = returned_from below held f.back (value_of f.registers value) h.1
-  executed_from f below held (instrs.Print value) h = h
-  executed_from f below held instrs.Yield h = h
+  -- what copied frames name and a turn may newly name takes in what the turn leaves named
+  pub turn_within : (p : PlainProcess) → TakesIn s Instance Area → AreWithin Instance Area (copied s p.frames) → AreWithin Instance Area (turn_of s p).process.frames
+  unfolding LeavesWithin
+  turn_within p takes h =
+      ran_kept s StaysWithin (λ _. Unit {0}) LeavesWithin p (within_kept takes) (begun_within p (frame_names (copied s p.frames)) (copied s p.frames) takes h) (λ serial t d. tt) tt
 
-  step_from : (frames : List PlainFrame) (held : Holds) → AreFrom s before frames → KeepsFrom (step_of s frames held)
-  unfolding KeepsFrom
-  step_from [] held h = tt
-  step_from (f ∷ below) held h = executed_from f below held (instr_at s f) h
+-- an instance that a process names, or a current one
+abbrev pub IsFrom : ServerState → PlainProcess → ℕ → Type 0
+IsFrom s p serial = IsTrue (is_held (names_of p) serial Frame) ⊎ IsCurrent s serial
 
-  after_from : (n : ℕ) (held : Holds) (made : List Line) (step : Step) → KeepsFrom step →
-      ((frames : List PlainFrame) (held : Holds) (made : List Line) → AreFrom s before frames → AreFrom s before (run_of s n frames held made).frames) → AreFrom s before (after_step (run_of s n) held made step).frames
-  unfolding KeepsFrom
-  after_from n held made (goes_on frames now line) k next = next frames now (made ++ line) k
-  after_from n held made (yields frames) k next = k
-  after_from n held made (ends end) k next = tt
+-- an area that a process names for literals and that is not retired
+abbrev pub IsStillNamed : ServerState → PlainProcess → ℕ → Type 0
+IsStillNamed s p serial = IsTrue (is_held (names_of p) serial Literal) × (is_retired s serial ≡ false)
 
-  run_from : (n : ℕ) (frames : List PlainFrame) (held : Holds) (made : List Line) → AreFrom s before frames → AreFrom s before (run_of s n frames held made).frames
-  unfolding run_of
-  run_from zero frames held made h = h
-  run_from (suc n) frames held made h = after_from n held made (step_of s frames held) (step_from frames held h) (λ frames held made h. run_from n frames held made h)
+-- one of these areas, a key's, or an instance that frames name or that is current
+abbrev pub IsLiteralFrom : ServerState → PlainProcess → ℕ → Type 0
+IsLiteralFrom s p serial = IsStillNamed s p serial ⊎ (IsKeyArea s serial ⊎ IsFrom s p serial)
 
-  begun_from : (target : Mfa) (args : List PlainTerm) (held : Holds) (frames : List PlainFrame) → AreFrom s before frames → KeepsFrom (begun s target args held frames)
-  unfolding KeepsFrom
-  begun_from target args held [] h = out_from [] held target 0 (owned_values args) tt
-  begun_from target args held (f ∷ below) h = h
+module _ (s : ServerState) (p : PlainProcess) where
+  takes_names : TakesIn s (IsFrom s p) (IsLiteralFrom s p)
+  takes_names = record { current = λ n h. inr h; key = λ n h. inr (inl h); constant = λ n h. inr (inr h) }
 
-  unless_from : (p : PlainProcess) (o : Option ℕ) → AreFrom s before p.frames → AreFrom s before (ran_unless_doomed s p o).frames
-  unless_from p None h = after_from TURN_INSTRUCTIONS (names_of p) [] (begun s p.target p.args (names_of p) p.frames) (begun_from p.target p.args (names_of p) p.frames h) (run_from TURN_INSTRUCTIONS)
-  unless_from p (Some serial) h = tt
+  abbrev IsNamed : ℕ → Type 0
+  IsNamed n = IsTrue (is_held (names_of p) n Literal)
 
-  ran_from : (p : PlainProcess) (b : Bool) → (p.turns == MOST_TURNS) ≡ b → AreFrom s before p.frames → AreFrom s before (ran_of s p).frames
-  ran_from p true e h = rw e tt
-  ran_from p false e h = rw e (unless_from p (doomed_serial s p.frames) h)
-
-  from_held : (held : Holds) (frames : List PlainFrame) → held.frames ≡ before → AreHeld held frames → AreFrom s before frames
-  from_held held [] e h = tt
-  from_held held (f ∷ below) e h = (inl (subst (λ ns. IsTrue (is_among ns f.serial)) e h.0), from_held held below e h.1)
-
-  from_among : (frames : List PlainFrame) (serial : ℕ) → AreFrom s before frames → is_among (frame_serials frames) serial ≡ true → IsFrom s before serial
-  from_among [] serial h e = absurd (cc)
-  from_among (f ∷ below) serial h e = from_or (f.serial == serial) refl (from_among below serial h.1) e
-    where
-      from_or : (b : Bool) → (f.serial == serial) ≡ b → (is_among (frame_serials below) serial ≡ true → IsFrom s before serial) → (b || is_among (frame_serials below) serial) ≡ true → IsFrom s before serial
-      from_or true same r a = let k : f.serial ≡ serial = grind (arith, nat_tests) in subst (IsFrom s before) k h.0
-      from_or false other r a = r a
+  names_from : AreWithin (IsFrom s p) (IsLiteralFrom s p) (turn_of s p).process.frames
+  names_from =
+      turn_within s (IsFrom s p) (IsLiteralFrom s p) p takes_names
+      (within_wider (IsFrom s p) (IsKeptArea s IsNamed) (IsLiteralFrom s p) (copied s p.frames) (λ n h. inl h)
+      (copied_within s (IsFrom s p) IsNamed p.frames
+      (frames_within (IsFrom s p) IsNamed p.frames (λ n e. inl (among-serials_of (instance_serials p.frames) n ∙ e)) (λ n e. among-serials_of (literal_serials p.frames) n ∙ e))))
 
 -- after a turn a process names, for frames, instances that it named before or that are current
 pub turn_names : (s : ServerState) (p : PlainProcess) (serial : ℕ) → IsTrue (is_held (names_of (turn_of s p).process) serial Frame) → IsTrue (is_held (names_of p) serial Frame) ⊎ IsCurrent s serial
 turn_names s p serial h =
-    let before = (names_of p).frames in
     let after = (turn_of s p).process.frames in
-    from_among s before after serial (ran_from s before p (p.turns == MOST_TURNS) refl (from_held s before (names_of p) p.frames refl (names_held p.frames)))
-    (sym (among-serials_of (frame_serials after) serial) ∙ h)
+    instance_within (IsFrom s p) (IsLiteralFrom s p) after serial (names_from s p) (sym (among-serials_of (instance_serials after) serial) ∙ h)
 
--- it names nothing for literals
-pub turn_names_literals : (s : ServerState) (p : PlainProcess) → (names_of (turn_of s p).process).literals ≡ []
-turn_names_literals s p = refl
+-- and for literals areas that it so named before and that are not retired, those of keys, and instances that its frames named before or that are current
+pub turn_names_literals : (s : ServerState) (p : PlainProcess) (serial : ℕ) → IsTrue (is_held (names_of (turn_of s p).process) serial Literal) → IsLiteralFrom s p serial
+turn_names_literals s p serial h =
+    let after = (turn_of s p).process.frames in
+    literal_within (IsFrom s p) (IsLiteralFrom s p) after serial (names_from s p) (sym (among-serials_of (literal_serials after) serial) ∙ h)
+
+-- an area is named in neither way
+pub record IsUnnamed (p : PlainProcess) (serial : ℕ) : Type 0 where
+  pub frames : is_held (names_of p) serial Frame ≡ false
+  pub literals : is_held (names_of p) serial Literal ≡ false
+
+is_false : (b : Bool) → (b ≡ true → ⊥) → b ≡ false
+is_false true h = absurd (h refl)
+is_false false h = refl
+
+module _ (s : ServerState) (p : PlainProcess) (serial : ℕ) (dropped : IsDropped s serial) (unframed : is_held (names_of p) serial Frame ≡ false) where
+  not_from : IsFrom s p serial → ⊥
+  not_from (inl h) = absurd (cc)
+  not_from (inr current) = dropped.not_current current.0 current.1
+
+  not_literal : (is_retired s serial ≡ true) ⊎ (is_held (names_of p) serial Literal ≡ false) → IsLiteralFrom s p serial → ⊥
+  not_literal (inl retired) (inl h) = let r = h.1 in absurd (cc)
+  not_literal (inr unnamed) (inl h) = let n = h.0 in absurd (cc)
+  not_literal either (inr (inl key)) = dropped.not_held key.0 key.1
+  not_literal either (inr (inr from)) = not_from from
+
+  -- a dropped area that no frame names, and which is retired or not named for literals, is named in neither way after a turn
+  pub turn_unnames : (is_retired s serial ≡ true) ⊎ (is_held (names_of p) serial Literal ≡ false) → IsUnnamed (turn_of s p).process serial
+  turn_unnames either = record {
+    frames = is_false (is_held (names_of (turn_of s p).process) serial Frame) (λ h. not_from (turn_names s p serial h));
+    literals = is_false (is_held (names_of (turn_of s p).process) serial Literal) (λ h. not_literal either (turn_names_literals s p serial h));
+  }

@@ -1,30 +1,41 @@
--- That the words which the plain server gives are the images of its instances.
-use Rattle.std.proofs.Common.{◌≡◌, ◌<◌, ◌≤◌, ◌+◌, ◌*◌, ◌∙◌, ℕ, zero, suc, false, refl, arith, ap, [], ◌++◌, length, length-append, slice_get, slice_index, unwrap_or, get_or, Option, Some, None, option_map, option_and_then, IfSome, IsSomeAnd}
+-- That the words which the plain server gives are the images of its instances and terms.
+use Rattle.std.proofs.Common.{◌≡◌, ◌<◌, ◌≤◌, ◌+◌, ◌*◌, ◌∙◌, ℕ, zero, suc, false, refl, arith, ap, List, [], ◌++◌, length, length-append, slice_get, slice_index, unwrap_or, get_or, Option, Some, None, option_map, option_and_then, IfSome, IsSomeAnd}
 use Rattle.std.proofs.lemmas.Option.{slice_get-get_or, unwrap_or-slice_get}
+use Rattle.term_core.specs.Image.{image_of}
+use Rattle.term_core.specs.PlainTerm.{PlainTerm}
 use Rattle.mod_core.specs.declared.code.Function.{Function}
 use Rattle.mod_core.specs.declared.code.Module.{Module}
 use Rattle.mod_core.specs.Module.{IsModule}
 use Rattle.mod_core.specs.ModuleImage.{module_image, function_place, function_words}
+use Rattle.mod_core.proofs.Constants.{constants_place}
 use Rattle.mod_core.proofs.Places.{function_stands, place_word}
-use Rattle.server_core.specs.ServerState.{ServerState, Entry, IsSound, code_of, instance_image, word_of}
+use Rattle.server_core.specs.ServerState.{ServerState, Entry, IsSound, IsTermArea, code_of, first_words, instance_image, term_of_area, word_of, words_of_area}
 use Rattle.machine_core.specs.View.{HasFunction, IsImageOf, IsLawful, place_of, shown_of}
 
-images_are : (serial : ℕ) (o : Option Module) → IfSome o (λ m. IsImageOf serial m (unwrap_or (option_map (instance_image serial) o) []))
-images_are serial None = tt
-images_are serial (Some m) = λ at place. refl
+images_are : (serial : ℕ) (o : Option Module) (t : Option PlainTerm) → IfSome o (λ m. IsImageOf serial m (unwrap_or (first_words (option_map (instance_image serial) o) (option_map image_of t)) []))
+images_are serial None t = tt
+images_are serial (Some m) t = λ at place. refl
+
+terms_are : (s : ServerState) (serial : ℕ) (t : Option PlainTerm) → IfSome t (IsTermArea s serial) →
+    IfSome t (λ u. unwrap_or (first_words (option_map (instance_image serial) (code_of s serial)) (option_map image_of t)) [] ≡ image_of u)
+terms_are s serial None h = tt
+terms_are s serial (Some t) h = ap (λ o. unwrap_or (first_words (option_map (instance_image serial) o) (Some (image_of t))) []) h.no_code
 
 -- the server's state and images are those of a lawful view
 pub is_lawful : (s : ServerState) → IsSound s → IsLawful (shown_of s)
-is_lawful s sound = record { sound = sound; images = λ serial. images_are serial (code_of s serial) }
+is_lawful s sound = record {
+  sound = sound;
+  images = λ serial. images_are serial (code_of s serial) (term_of_area s serial);
+  terms = λ serial. terms_are s serial (term_of_area s serial) (sound.terms serial);
+}
 
-word_among : (serial at : ℕ) (o : Option Module) →
-    unwrap_or (option_and_then (λ m. slice_get (instance_image serial m) at) o) 0 ≡ slice_index (unwrap_or (option_map (instance_image serial) o) []) at
-word_among serial at None = refl
-word_among serial at (Some m) = unwrap_or-slice_get (instance_image serial m) at 0
+word_among : (at : ℕ) (o : Option (List ℕ)) → unwrap_or (option_and_then (λ words. slice_get words at) o) 0 ≡ slice_index (unwrap_or o []) at
+word_among at None = refl
+word_among at (Some words) = unwrap_or-slice_get words at 0
 
 -- a word of the server is one that the view shows
 pub shown_word : (s : ServerState) (serial at : ℕ) → unwrap_or (word_of s serial at) 0 ≡ slice_index ((shown_of s).words serial) at
-shown_word s serial at = word_among serial at (code_of s serial)
+shown_word s serial at = word_among at (words_of_area s serial)
 
 -- where a function of an instance is entered
 pub record IsEntry (s : ServerState) (e : Entry) : Type 0 where
@@ -39,7 +50,7 @@ image_slice serial (suc at) m h = refl
 place_within : (m : Module) (i : ℕ) (f : Function) → slice_get m.functions i ≡ Some f → function_place m i ≤ length (module_image m)
 place_within m i f found =
     let at = function_stands m i f found in
-    omega (arith, ap length at.whole_is, at.place_is, length-append at.before (function_words (function_place m i) f ++ at.rest))
+    omega (arith, ap length at.whole_is, at.place_is, length-append at.before (function_words (function_place m i) (constants_place m i) f ++ at.rest))
 
 entry_at : (s : ServerState) (e : Entry) (m : Module) (f : Function) → IsModule m → code_of s e.serial ≡ Some m → e.function < length m.functions → slice_get m.functions e.function ≡ Some f → IsEntry s e
 entry_at s e m f sound c h found = record {

@@ -1,4 +1,5 @@
 pub mod Holds
+pub mod HoldKinds
 pub mod Process
 pub mod View
 pub mod Decode

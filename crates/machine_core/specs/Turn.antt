@@ -1,13 +1,14 @@
--- A turn of a process under one generation: it ends where it stands in doomed code; where it has no frames it enters its target; then instructions run, 200 at most.
--- Source: erts internal documentation, CodeLoading, for external and local calls and breakpoints; the manual page `code` for the end of what stands in purged code; the machine and its numbers are this project's own.
--- The definition steps over the modules of the state; the code reads words of their images. Places count words in both.
+-- A turn of a process under one generation: it ends where it stands in doomed code; its literals of retired areas become terms of its own; where it has no frames it enters its target; then instructions run, 200 at most.
+-- Source: erts internal documentation, CodeLoading, for external and local calls and breakpoints; the manual page `code` for the end of what stands in purged code; the manual page `persistent_term` for terms that are read without a copy until they are replaced; the machine and its numbers are this project's own.
+-- The definition steps over the modules and terms of the state; the code reads words of their images. Places count words in both.
 use Rattle.std.specs.Prelude.{◌≡◌, ◌<◌, ◌≤◌, ℕ, zero, suc, ◌+◌, ◌==◌, nat_le, Bool, ◌&&◌, ℤ, pos, negsuc, ◌+ℤ◌, ◌-ℤ◌, int_le, int_lt, List, [], ◌∷◌, ◌++◌, length, map, find, Option, Some, None, Result, Ok, Err, unwrap_or, option_map, option_and_then, slice_get, slice_set, if◌then◌else◌}
 use Rattle.term_core.specs.declared.atom.AtomId.{AtomId}
 use Rattle.term_core.specs.declared.atom.Mfa.{Mfa}
-use Rattle.term_core.specs.declared.hold.Kind.TheVariants.{Frame}
+use Rattle.term_core.specs.declared.hold.Kind.TheVariants.{Frame, Literal}
 use Rattle.term_core.specs.declared.term.Term.{Term}
 use Rattle.term_core.specs.declared.term.Term.TheVariants.{Int, Atom, Tuple, List as ListOf}
-use Rattle.term_core.specs.Plain.{plain}
+use Rattle.term_core.specs.Image.{is_immediate}
+use Rattle.term_core.specs.Plain.{plain, term_of as plain_to_term}
 use Rattle.term_core.specs.PlainTerm.{PlainTerm}
 use Rattle.term_core.specs.Same as plain_terms
 use Rattle.mod_core.specs.declared.code.TheConstants.{REGISTERS}
@@ -18,10 +19,9 @@ use Rattle.mod_core.specs.declared.code.Instr.{Instr}
 use Rattle.mod_core.specs.declared.code.Instr.TheVariants as instrs
 use Rattle.mod_core.specs.declared.code.Module.{Module}
 use Rattle.mod_core.specs.ModuleImage.{function_place, instr_len, place_in, placed, return_ok}
-use Rattle.server_core.specs.ServerState.{ServerState, Entry, code_of, dispatch_of, is_doomed, is_traced}
+use Rattle.server_core.specs.ServerState.{ServerState, Entry, code_of, dispatch_of, is_doomed, is_retired, is_traced, persistent_of}
 use Rattle.machine_core.specs.declared.process.TheConstants.{MOST_FRAMES, MOST_TURNS, TURN_INSTRUCTIONS}
-use Rattle.machine_core.specs.declared.process.Value.{Value}
-use Rattle.machine_core.specs.declared.process.Value.TheVariants.{Owned}
+use Rattle.machine_core.specs.declared.process.Process.{Process}
 use Rattle.machine_core.specs.declared.process.Line.{Line}
 use Rattle.machine_core.specs.declared.process.Line.TheVariants as lines
 use Rattle.machine_core.specs.declared.process.End.{End}
@@ -29,21 +29,26 @@ use Rattle.machine_core.specs.declared.process.End.TheVariants.{Normal, Undef, B
 use Rattle.machine_core.specs.declared.process.TurnEnd.{TurnEnd}
 use Rattle.machine_core.specs.declared.process.TurnEnd.TheVariants.{Again, Ended}
 use Rattle.machine_core.specs.Holds.{Holds, is_full, with_hold}
-use Rattle.machine_core.specs.Process.{HasNotEnded, PlainFrame, PlainProcess, arguments_at, first_registers, frame_names, names_of, owned_values, register_of}
-use Rattle.machine_core.specs.View.{place_of}
+use Rattle.machine_core.specs.Process.{HasNotEnded, PlainFrame, PlainProcess, PlainValue, arguments_at, first_registers, frame_names, frames_of, literal, names_of, owned, owned_values, process_of, register_of}
+use Rattle.machine_core.specs.View.{AreValues, Shown, place_of}
 
 -- the term that a value is
-abbrev pub term_of : Value → Term
-term_of (Owned term) = term
+abbrev pub term_of : PlainValue → Term
+term_of (owned term) = term
+term_of (literal serial term) = term
 
--- what an operand is in a frame
-abbrev pub value_of : List Value → Operand → Value
-value_of registers (Reg register) = register_of registers register
-value_of registers (Const term) = Owned term
+-- a term that stands in an area, as a value: an integer or an atom is copied
+abbrev pub value_in : ℕ → Term → PlainValue
+value_in serial term = if is_immediate (plain term) then owned term else literal serial term
+
+-- what an operand is in a frame: a constant stands in the frame's instance
+abbrev pub value_of : PlainFrame → Operand → PlainValue
+value_of f (Reg register) = register_of f.registers register
+value_of f (Const term) = value_in f.serial term
 
 -- the term of an operand in a frame
 abbrev pub operand_term : PlainFrame → Operand → Term
-operand_term f operand = term_of (value_of f.registers operand)
+operand_term f operand = term_of (value_of f operand)
 
 -- whether an integer is one of 60 bits
 abbrev pub fits : ℤ → Bool
@@ -77,6 +82,38 @@ difference_of a b = of_integers (λ x y. fitting (x -ℤ y)) Badarith (integer_o
 -- whether the first integer is less than the second, or the end of the process that asks for it
 abbrev pub less_of : Term → Term → Result Bool End
 less_of a b = of_integers (λ x y. Ok (int_lt x y)) Badarg (integer_of a) (integer_of b)
+
+-- the terms of a tuple or a list
+abbrev pub parts_of : Term → List PlainTerm
+parts_of (Int z) = []
+parts_of (Atom a) = []
+parts_of (Tuple ts) = ts
+parts_of (ListOf ts) = ts
+
+-- the element with a number, counted from 1
+abbrev pub element_at : List PlainTerm → Option ℤ → Option PlainTerm
+element_at ts (Some (pos (suc n))) = slice_get ts n
+element_at ts (Some (pos zero)) = None
+element_at ts (Some (negsuc n)) = None
+element_at ts None = None
+
+-- an element of a value: of a literal it is a literal of the same area, or an integer or an atom that is copied
+abbrev pub part_value : PlainValue → PlainTerm → PlainValue
+part_value (owned term) part = owned (plain_to_term part)
+part_value (literal serial term) part = value_in serial (plain_to_term part)
+
+-- the element of a value with the number that a term is, if there is one
+abbrev pub element_of : Term → PlainValue → Option PlainValue
+element_of index value = option_map (part_value value) (element_at (parts_of (term_of value)) (integer_of index))
+
+-- what a key holds, as a value: a complex term is a literal of its own area
+abbrev pub persistent_value : PlainTerm → Option ℕ → PlainValue
+persistent_value term None = owned (plain_to_term term)
+persistent_value term (Some serial) = literal serial (plain_to_term term)
+
+-- the value of a key, if it holds one
+abbrev pub key_value : ServerState → ℕ → Option PlainValue
+key_value s key = option_map (λ p. persistent_value p.term p.area) (persistent_of s key)
 
 -- whether two terms are equal
 abbrev pub is_same : Term → Term → Bool
@@ -134,7 +171,7 @@ abbrev pub moved_past : PlainFrame → Instr → PlainFrame
 moved_past f i = record f { place = f.place + instr_len i }
 
 -- a frame past its instruction, with a register set
-abbrev pub with_register : PlainFrame → Instr → ℕ → Value → PlainFrame
+abbrev pub with_register : PlainFrame → Instr → ℕ → PlainValue → PlainFrame
 with_register f i register value = record f { place = f.place + instr_len i; registers = slice_set f.registers register value }
 
 -- a frame at the place to which its instruction goes where a test holds, else past its instruction
@@ -143,7 +180,7 @@ branched f i target holds = if holds then record f { place = target } else moved
 
 -- a register gets what was computed, or the process ends
 abbrev pub computed : PlainFrame → List PlainFrame → Holds → Instr → ℕ → Result Term End → Step
-computed f below held i to (Ok term) = goes_on (with_register f i to (Owned term) ∷ below) held []
+computed f below held i to (Ok term) = goes_on (with_register f i to (owned term) ∷ below) held []
 computed f below held i to (Err end) = ends end
 
 -- a test decides the next place, or the process ends
@@ -151,28 +188,47 @@ abbrev pub tested : PlainFrame → List PlainFrame → Holds → Instr → ℕ �
 tested f below held i target (Ok holds) = goes_on (branched f i target holds ∷ below) held []
 tested f below held i target (Err end) = ends end
 
+-- what is held once a register holds a value: the area of a literal too; none where it is one too many
+abbrev pub held_with : Holds → PlainValue → Option Holds
+held_with held (owned term) = Some held
+held_with held (literal serial term) = if is_full held serial then None else Some (with_hold held serial Literal)
+
+-- a frame with a new value goes on, if the value's area can be held; else the process ends
+abbrev pub stored : PlainFrame → List PlainFrame → Option Holds → Step
+stored f below None = ends SystemLimit
+stored f below (Some held) = goes_on (f ∷ below) held []
+
+-- a register gets a value
+abbrev pub put_value : PlainFrame → List PlainFrame → Holds → Instr → ℕ → PlainValue → Step
+put_value f below held i to value = stored (with_register f i to value) below (held_with held value)
+
+-- a register gets the value that was found, or the process ends
+abbrev pub put_found : PlainFrame → List PlainFrame → Holds → Instr → ℕ → Option PlainValue → Step
+put_found f below held i to None = ends Badarg
+put_found f below held i to (Some value) = put_value f below held i to value
+
 -- the register of the caller gets the value; the last frame ends the process
-abbrev pub returned : List PlainFrame → Holds → ℕ → Value → Step
+abbrev pub returned : List PlainFrame → Holds → ℕ → PlainValue → Step
 returned [] held back value = ends Normal
-returned (caller ∷ below) held back value = goes_on (record caller { registers = slice_set caller.registers back value } ∷ below) held []
+returned (caller ∷ below) held back value = stored (record caller { registers = slice_set caller.registers back value }) below (held_with held value)
 
 -- the frame of a function with these registers, whose value comes into that register of the caller
-abbrev pub frame_at : ServerState → Entry → ℕ → List Value → PlainFrame
+abbrev pub frame_at : ServerState → Entry → ℕ → List PlainValue → PlainFrame
 frame_at s e back registers = record { serial = e.serial; function = e.function; place = place_of s e; back = back; registers = registers }
 
 -- the frame of a function that is entered where so many frames stand; none where no more may stand, or where its area cannot be held
-abbrev pub entered : ServerState → ℕ → Holds → Entry → ℕ → List Value → Option PlainFrame
+abbrev pub entered : ServerState → ℕ → Holds → Entry → ℕ → List PlainValue → Option PlainFrame
 entered s standing held e back registers =
     if nat_le MOST_FRAMES standing then None
     else if is_full held e.serial then None
     else Some (frame_at s e back registers)
 
 -- the terms of values
-abbrev pub terms_of : List Value → List PlainTerm
+abbrev pub terms_of : List PlainValue → List PlainTerm
 terms_of values = map (λ v. plain (term_of v)) values
 
 -- the line of a call with its name and its arguments, where the function that it enters has a breakpoint
-abbrev pub trace_of : ServerState → Entry → Mfa → List Value → List Line
+abbrev pub trace_of : ServerState → Entry → Mfa → List PlainValue → List Line
 trace_of s e to args = if is_traced s e then lines.Trace to (terms_of args) ∷ [] else []
 
 -- the frame of a function that is entered stands on the others, its area is held for it, and its call may make a line; or the process ends
@@ -181,16 +237,16 @@ stacked frames held serial line None = ends SystemLimit
 stacked frames held serial line (Some f) = goes_on (f ∷ frames) (with_hold held serial Frame) line
 
 -- a function is entered under this name with these arguments, on the frames that stand
-abbrev pub called : ServerState → List PlainFrame → Holds → Entry → Mfa → ℕ → List Value → Step
+abbrev pub called : ServerState → List PlainFrame → Holds → Entry → Mfa → ℕ → List PlainValue → Step
 called s frames held e to back args = stacked frames held e.serial (trace_of s e to args) (entered s (length frames) held e back (first_registers args))
 
 -- the same for the function that a name reaches, if it reaches one
-abbrev pub called_by_name : ServerState → List PlainFrame → Holds → Mfa → ℕ → List Value → Option Entry → Step
+abbrev pub called_by_name : ServerState → List PlainFrame → Holds → Mfa → ℕ → List PlainValue → Option Entry → Step
 called_by_name s frames held to back args None = ends (Undef to)
 called_by_name s frames held to back args (Some e) = called s frames held e to back args
 
 -- an external call: it reaches the function that the current instance exports
-abbrev pub called_out : ServerState → List PlainFrame → Holds → Mfa → ℕ → List Value → Step
+abbrev pub called_out : ServerState → List PlainFrame → Holds → Mfa → ℕ → List PlainValue → Step
 called_out s frames held to back args = called_by_name s frames held to back args (dispatch_of s to)
 
 -- a local call: it enters a function of the frame's own instance, be it current or not
@@ -199,7 +255,7 @@ called_within s f below held i e at = called s (moved_past f i ∷ below) held e
 
 -- what an instruction does to the topmost frame, those below it and what is held
 abbrev pub executed : ServerState → PlainFrame → List PlainFrame → Holds → Instr → Step
-executed s f below held (instrs.Move from to) = goes_on (with_register f (instrs.Move from to) to (value_of f.registers from) ∷ below) held []
+executed s f below held (instrs.Move from to) = put_value f below held (instrs.Move from to) to (value_of f from)
 executed s f below held (instrs.Add a b to) = computed f below held (instrs.Add a b to) to (sum_of (operand_term f a) (operand_term f b))
 executed s f below held (instrs.Sub a b to) = computed f below held (instrs.Sub a b to) to (difference_of (operand_term f a) (operand_term f b))
 executed s f below held (instrs.Eq a b target) = tested f below held (instrs.Eq a b target) target (Ok (is_same (operand_term f a) (operand_term f b)))
@@ -207,7 +263,10 @@ executed s f below held (instrs.Less a b target) = tested f below held (instrs.L
 executed s f below held (instrs.Jump target) = goes_on (record f { place = target } ∷ below) held []
 executed s f below held (instrs.Call function at) = called_within s f below held (instrs.Call function at) (record { serial = f.serial; function = function }) at
 executed s f below held (instrs.CallExt to at) = called_out s (moved_past f (instrs.CallExt to at) ∷ below) held to at (arguments_at f.registers at to.arity)
-executed s f below held (instrs.Ret value) = returned below held f.back (value_of f.registers value)
+executed s f below held (instrs.Ret value) = returned below held f.back (value_of f value)
+executed s f below held (instrs.Pget key to) = put_found f below held (instrs.Pget key to) to (key_value s key.0)
+executed s f below held (instrs.PgetOr key other to) = put_value f below held (instrs.PgetOr key other to) to (unwrap_or (key_value s key.0) (value_of f other))
+executed s f below held (instrs.Elem index from to) = put_found f below held (instrs.Elem index from to) to (element_of (operand_term f index) (value_of f from))
 executed s f below held (instrs.Print value) = goes_on (moved_past f (instrs.Print value) ∷ below) held (lines.Print (operand_term f value) ∷ [])
 executed s f below held instrs.Yield = yields (moved_past f instrs.Yield ∷ below)
 
@@ -251,9 +310,26 @@ begun s target args held (f ∷ below) = goes_on (f ∷ below) held []
 abbrev pub doomed_serial : ServerState → List PlainFrame → Option ℕ
 doomed_serial s frames = find (is_doomed s) (map (λ f. f.serial) frames)
 
+-- a literal of a retired area becomes a term of the process's own
+abbrev pub copied_value : ServerState → PlainValue → PlainValue
+copied_value s (owned term) = owned term
+copied_value s (literal serial term) = if is_retired s serial then owned term else literal serial term
+
+-- so does each of a frame
+abbrev pub copied_frame : ServerState → PlainFrame → PlainFrame
+copied_frame s f = record f { registers = map (copied_value s) f.registers }
+
+-- and each of frames, which then name no retired area as a literal's
+abbrev pub copied : ServerState → List PlainFrame → List PlainFrame
+copied s frames = map (copied_frame s) frames
+
+-- what a turn does once its literals are copied
+abbrev pub ran_copied : ServerState → PlainProcess → List PlainFrame → Ran
+ran_copied s p frames = after_step (run_of s TURN_INSTRUCTIONS) (frame_names frames) [] (begun s p.target p.args (frame_names frames) frames)
+
 -- what a turn that counts does, by that serial: where there is one, the process is killed before any instruction
 abbrev pub ran_unless_doomed : ServerState → PlainProcess → Option ℕ → Ran
-ran_unless_doomed s p None = after_step (run_of s TURN_INSTRUCTIONS) (names_of p) [] (begun s p.target p.args (names_of p) p.frames)
+ran_unless_doomed s p None = ran_copied s p (copied s p.frames)
 ran_unless_doomed s p (Some serial) = ended_with (names_of p) [] (Killed serial)
 
 -- what a turn does to the frames of a process: none runs where it has had as many turns as can be
@@ -303,8 +379,9 @@ abbrev pub ArePlaced : ServerState → List PlainFrame → Type 0
 ArePlaced s [] = Unit {0}
 ArePlaced s (f ∷ below) = IsPlaced s f × ArePlaced s below
 
--- a process may have a turn: it has not ended, just what it names is held, and each frame stands at an instruction
-pub record MayTurn (s : ServerState) (held : Holds) (p : PlainProcess) : Type 0 where
-  pub going : HasNotEnded p
-  pub names : held ≡ names_of p
-  pub placed : ArePlaced s p.frames
+-- a process may have a turn: it has not ended, just what it names is held, each frame stands at an instruction, and the place of each literal begins the image of a term
+pub record MayTurn (shown : Shown) (held : Holds) (p : Process) : Type 0 where
+  pub going : HasNotEnded (process_of shown.words p)
+  pub names : held ≡ names_of (process_of shown.words p)
+  pub placed : ArePlaced shown.state (frames_of shown.words p.frames)
+  pub values : AreValues shown p.frames

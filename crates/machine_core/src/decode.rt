@@ -1,7 +1,7 @@
 ghost use Rattle.std.specs.Prelude.{◌≡◌, ◌<◌};
-ghost use Rattle.machine_core.specs.Decode.{register_of_word, operand_of_word, name_of_word, number_of_word, len_of_number, instr_of_words};
+ghost use Rattle.machine_core.specs.Decode.{atom_of_word, len_of_number, name_of_word, number_of_word, op_of_words, register_of_word, source_of_word};
 
-use mod_core::{Instr, Operand};
+use crate::op::{Op, Source};
 use term_core::{AtomId, Mfa, Term};
 
 /// The numbers of the instructions. A word with another number is read as a return's.
@@ -21,12 +21,20 @@ const CALL: u64 = 7;
 
 const CALL_EXT: u64 = 8;
 
+const PGET: u64 = 10;
+
+const PGET_OR: u64 = 11;
+
+const ELEM: u64 = 12;
+
 const PRINT: u64 = 13;
 
 const YIELD: u64 = 14;
 
 /// The low four bits of an operand's word are its tag, and those of a name's word its arity.
 const TAG_COUNT: u64 = 16;
+
+const CONSTANT_TAG: u64 = 5;
 
 const REGISTER_TAG: u64 = 6;
 
@@ -47,70 +55,84 @@ pub fn len_of_number(number: u64) -> u32
     ensures few { result < 5 }
 {
     match number {
-        MOVE | CALL | CALL_EXT => 3,
-        ADD | SUB | EQ | LESS => 4,
+        MOVE | CALL | CALL_EXT | PGET => 3,
+        ADD | SUB | EQ | LESS | PGET_OR | ELEM => 4,
         YIELD => 1,
         _ => 2,
     }
 }
 
 /// The instruction that the words stand for. Words that it does not have are not looked at.
-pub fn decode(number: u64, first: u64, second: u64, third: u64) -> Instr
-    ensures { result ≡ instr_of_words number first second third }
+pub fn decode(number: u64, first: u64, second: u64, third: u64) -> Op
+    ensures { result ≡ op_of_words number first second third }
 {
     match number {
-        MOVE => Instr::Move {
-            from: operand_of_word(first),
+        MOVE => Op::Move {
+            from: source_of_word(first),
             to: register_of_word(second),
         },
-        ADD => Instr::Add {
-            a: operand_of_word(first),
-            b: operand_of_word(second),
+        ADD => Op::Add {
+            a: source_of_word(first),
+            b: source_of_word(second),
             to: register_of_word(third),
         },
-        SUB => Instr::Sub {
-            a: operand_of_word(first),
-            b: operand_of_word(second),
+        SUB => Op::Sub {
+            a: source_of_word(first),
+            b: source_of_word(second),
             to: register_of_word(third),
         },
-        EQ => Instr::Eq {
-            a: operand_of_word(first),
-            b: operand_of_word(second),
+        EQ => Op::Eq {
+            a: source_of_word(first),
+            b: source_of_word(second),
             target: number_of_word(third),
         },
-        LESS => Instr::Less {
-            a: operand_of_word(first),
-            b: operand_of_word(second),
+        LESS => Op::Less {
+            a: source_of_word(first),
+            b: source_of_word(second),
             target: number_of_word(third),
         },
-        JUMP => Instr::Jump {
+        JUMP => Op::Jump {
             target: number_of_word(first),
         },
-        CALL => Instr::Call {
+        CALL => Op::Call {
             function: number_of_word(first),
             at: register_of_word(second),
         },
-        CALL_EXT => Instr::CallExt {
+        CALL_EXT => Op::CallExt {
             to: name_of_word(first),
             at: register_of_word(second),
         },
-        PRINT => Instr::Print {
-            value: operand_of_word(first),
+        PGET => Op::Pget {
+            key: atom_of_word(first),
+            to: register_of_word(second),
         },
-        YIELD => Instr::Yield,
-        _ => Instr::Ret {
-            value: operand_of_word(first),
+        PGET_OR => Op::PgetOr {
+            key: atom_of_word(first),
+            other: source_of_word(second),
+            to: register_of_word(third),
+        },
+        ELEM => Op::Elem {
+            index: source_of_word(first),
+            from: source_of_word(second),
+            to: register_of_word(third),
+        },
+        PRINT => Op::Print {
+            value: source_of_word(first),
+        },
+        YIELD => Op::Yield,
+        _ => Op::Ret {
+            value: source_of_word(first),
         },
     }
 }
 
-fn operand_of_word(word: u64) -> Operand
-    ensures { result ≡ operand_of_word word }
+fn source_of_word(word: u64) -> Source
+    ensures { result ≡ source_of_word word }
 {
-    if word % TAG_COUNT == REGISTER_TAG {
-        Operand::Reg(register_of_word(word))
-    } else {
-        Operand::Const(Term::of_word(word))
+    match word % TAG_COUNT {
+        REGISTER_TAG => Source::Register(register_of_word(word)),
+        CONSTANT_TAG => Source::Constant(number_of_word(word / TAG_COUNT)),
+        _ => Source::Immediate(Term::of_word(word)),
     }
 }
 
@@ -124,6 +146,12 @@ fn number_of_word(word: u64) -> u32
     ensures { result ≡ number_of_word word }
 {
     (word % NUMBER_COUNT) as u32
+}
+
+fn atom_of_word(word: u64) -> AtomId
+    ensures { result ≡ atom_of_word word }
+{
+    AtomId(number_of_word(word / TAG_COUNT))
 }
 
 fn name_of_word(word: u64) -> Mfa

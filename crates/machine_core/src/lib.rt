@@ -4,28 +4,34 @@
 mod areas;
 mod called_name;
 mod calls;
+mod computing;
+mod copying;
 mod decode;
 mod doom;
+mod dropping;
+mod elements;
 mod fetch;
 mod integers;
 mod layout;
+mod literals;
 mod machine;
+mod op;
 mod outcome;
 mod pause;
 mod plain;
 mod process;
 mod registers;
 mod serials;
-#[cfg(test)]
-mod server_tests;
+mod sources;
 mod step;
+mod storing;
 #[cfg(test)]
 mod tests;
 mod view;
 
 pub use machine::turn;
 pub use plain::PlainView;
-pub use process::{End, Frame, FrameList, Line, LineList, Process, TurnEnd, Value};
+pub use process::{End, Frame, FrameList, Line, LineList, LitRef, Process, TurnEnd, Value};
 pub use registers::ValueList;
-pub use term_core::{Full, Kind};
+pub use term_core::{Found, Full, Kind};
 pub use view::CodeView;

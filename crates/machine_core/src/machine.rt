@@ -1,17 +1,17 @@
 ghost use Rattle.std.specs.Prelude.{◌≡◌, ◌∷◌, [], List, IfOk, OnOk};
-ghost use Rattle.machine_core.specs.View.{IsLawful};
-ghost use Rattle.machine_core.specs.Process.{frame_of, frames_of, names_of_areas, process_of};
+ghost use Rattle.machine_core.specs.View.{AreValues, HasValues, IsLawful};
+ghost use Rattle.machine_core.specs.Process.{area_holds, frame_of, frames_of, process_of};
 ghost use Rattle.machine_core.specs.Turn.{MayTurn, TurnGives, begun, held_after, run_of};
-ghost use Rattle.machine_core.specs.Stand.{AreStanding, stand_after, stand_entered};
+ghost use Rattle.machine_core.specs.Stand.{AreReady, stand_after, stand_entered};
 
-use crate::areas::areas_of;
+use crate::areas::{HeldAreas, areas_of};
 use crate::calls::enter_target;
+use crate::copying::copy_retired;
 use crate::doom::doomed_serial;
 use crate::outcome::Outcome;
 use crate::pause::pause;
 use crate::process::{
-    AreaList, End, Frame, FrameList, Line, LineList, MOST_TURNS, Process, TURN_INSTRUCTIONS,
-    TurnEnd,
+    End, Frame, FrameList, Line, LineList, MOST_TURNS, Process, TURN_INSTRUCTIONS, TurnEnd,
 };
 use crate::step::step;
 use crate::view::CodeView;
@@ -20,8 +20,8 @@ use term_core::{Mfa, NoMemory, TermList};
 
 /// One turn of the process under the generation that the view shows: at most 200 instructions.
 ///
-/// Where a frame stands in doomed code the process is killed, and no instruction runs. The call of a traced function
-/// makes a line.
+/// Where a frame stands in doomed code the process is killed, and no instruction runs. Else its literals of retired
+/// areas become terms of its own before the first instruction. The call of a traced function makes a line.
 /// The lines that it makes are appended. Where the process goes on, the view holds what it then names; where it
 /// ended, the view holds what it held then, which the caller drops. After `NoMemory` process and lines stand for
 /// nothing and are only dropped.
@@ -33,12 +33,12 @@ pub fn turn<V: CodeView>(
     lines: &mut LineList,
 ) -> Result<TurnEnd, NoMemory>
     requires lawful { IsLawful (V.shown view.old) }
-    requires ready { MayTurn (V.shown view.old).state (V.held view.old) (process_of process.old) }
+    requires ready { MayTurn (V.shown view.old) (V.held view.old) process.old }
     ensures ok { IfOk result (λ end.
-        TurnGives (V.shown view.old).state (process_of process.old) (process_of process.new) lines.old lines.new end) }
-    ensures held { IfOk result (λ _. V.held view.new ≡ held_after (V.shown view.old).state (process_of process.old)) }
+        TurnGives (V.shown view.old).state (process_of (V.shown view.old).words process.old) (process_of (V.shown view.old).words process.new) lines.old lines.new end) }
+    ensures held { IfOk result (λ _. V.held view.new ≡ held_after (V.shown view.old).state (process_of (V.shown view.old).words process.old)) }
     ensures again { IfOk result (λ end. end ≡ TurnEnd.Again →
-        MayTurn (V.shown view.old).state (V.held view.new) (process_of process.new)) }
+        MayTurn (V.shown view.old) (V.held view.new) process.new) }
     ensures same { V.shown view.new ≡ V.shown view.old }
 {
     if process.turns == MOST_TURNS {
@@ -51,6 +51,7 @@ pub fn turn<V: CodeView>(
         return Ok(TurnEnd::Ended(End::Killed(serial)));
     }
     let mut areas = areas_of(alloc, process.frames.as_slice())?;
+    copy_retired(alloc, &mut process.frames, view, &mut areas)?;
     let top = begin(
         alloc,
         process.target,
@@ -76,15 +77,18 @@ fn begin<V: CodeView>(
     args: &TermList,
     frames: &mut FrameList,
     view: &mut V,
-    areas: &mut AreaList,
+    areas: &mut HeldAreas,
     lines: &mut LineList,
 ) -> Result<Result<Frame, End>, NoMemory>
     requires lawful { IsLawful (V.shown view.old) }
-    requires tracked { V.held view.old ≡ names_of_areas areas.old }
+    requires tracked { V.held view.old ≡ area_holds areas.old }
+    requires values { AreValues (V.shown view.old) frames.old }
     ensures ok { IfOk result (λ top.
-        stand_after (V.held view.old) lines.old (begun (V.shown view.old).state target args.now (V.held view.old) (frames_of frames.old))
-        ≡ stand_entered top (frames_of frames.new) (V.held view.new) lines.new) }
-    ensures tracked { OnOk result (V.held view.new ≡ names_of_areas areas.new) }
+        stand_after (V.held view.old) lines.old (begun (V.shown view.old).state target args.now (V.held view.old) (frames_of (V.shown view.old).words frames.old))
+        ≡ stand_entered (V.shown view.old).words top (frames_of (V.shown view.old).words frames.new) (V.held view.new) lines.new) }
+    ensures top { IfOk result (λ top. IfOk top (HasValues (V.shown view.old))) }
+    ensures values { OnOk result (AreValues (V.shown view.old) frames.new) }
+    ensures tracked { OnOk result (V.held view.new ≡ area_holds areas.new) }
     ensures same { V.shown view.new ≡ V.shown view.old }
 {
     match frames.pop() {
@@ -99,15 +103,16 @@ fn run<V: CodeView>(
     mut top: Frame,
     frames: &mut FrameList,
     view: &mut V,
-    areas: &mut AreaList,
+    areas: &mut HeldAreas,
     lines: &mut LineList,
 ) -> Result<TurnEnd, NoMemory>
     requires lawful { IsLawful (V.shown view.old) }
-    requires standing { AreStanding (V.shown view.old).state (V.held view.old) (frame_of top ∷ frames_of frames.old) }
-    requires tracked { V.held view.old ≡ names_of_areas areas.old }
+    requires ready { AreReady (V.shown view.old) (V.held view.old) top frames.old }
+    requires tracked { V.held view.old ≡ area_holds areas.old }
     ensures ok { IfOk result (λ end.
-        run_of (V.shown view.old).state TURN_INSTRUCTIONS (frame_of top ∷ frames_of frames.old) (V.held view.old) lines.old
-        ≡ record { frames = frames_of frames.new; held = V.held view.new; made = lines.new; end = end }) }
+        run_of (V.shown view.old).state TURN_INSTRUCTIONS (frame_of (V.shown view.old).words top ∷ frames_of (V.shown view.old).words frames.old) (V.held view.old) lines.old
+        ≡ record { frames = frames_of (V.shown view.old).words frames.new; held = V.held view.new; made = lines.new; end = end }) }
+    ensures values { IfOk result (λ _. AreValues (V.shown view.old) frames.new) }
     ensures same { V.shown view.new ≡ V.shown view.old }
 {
     for _ in 0..TURN_INSTRUCTIONS {

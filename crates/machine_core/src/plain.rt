@@ -1,16 +1,17 @@
 ghost use Rattle.std.specs.Prelude.{◌≡◌, ◌≤◌, IfOk, not, ◌==◌, ◌&&◌, filter, length};
-ghost use Rattle.machine_core.specs.Holds.{IsIncreasing, area_count, is_among, other_areas, without_serial};
-ghost use Rattle.machine_core.specs.Process.{frames_of, frame_names, names_of, process_of};
-ghost use Rattle.machine_core.specs.View.{IsLawful, shown_of};
+ghost use Rattle.machine_core.specs.Holds.{IsIncreasing, area_count, is_among, other_areas, serials_of, without_serial};
+ghost use Rattle.machine_core.specs.Process.{area_serials, names_of, process_of};
+ghost use Rattle.machine_core.specs.View.{IsLawful, server_words, shown_of};
 
+use crate::areas::areas_of;
 use crate::layout::{HEAD_LEN, PLACE_WORD, TABLE_PLACE};
-use crate::process::{Frame, Process};
+use crate::process::Process;
 use crate::serials::SerialList;
 use crate::view::CodeView;
 use server_core::Server;
 use std::alloc::Global;
 use std::marker::Model;
-use term_core::{AreaRef, CodeRef, Full, Kind, MOST_AREAS, Mfa, NoMemory};
+use term_core::{AreaRef, AtomId, CodeRef, Found, Full, Kind, MOST_AREAS, Mfa, NoMemory};
 
 /// The view over the plain server, whose state nothing changes meanwhile. Contracts see that state and what is held.
 #[derive(Drop)]
@@ -23,11 +24,12 @@ pub struct PlainView<'a> {
 impl<'a> Model for PlainView<'a> {
     ghost use Rattle.std.specs.Coded.{codes};
     ghost use Rattle.mod_core.specs.contracts.code.Module as module_contracts;
+    ghost use Rattle.term_core.specs.TermCode.{plain_term_code};
     ghost use Rattle.machine_core.specs.View.{Viewed};
 
     ghost Value = { Viewed };
 
-    ghost coded = { Prim.hlevel (codes, module_contracts.the_row.coded) };
+    ghost coded = { Prim.hlevel (codes, plain_term_code, module_contracts.the_row.coded) };
 
     ghost view = { λ v. record { state = v.server.now; held = record { frames = v.frames; literals = v.literals } } };
 }
@@ -41,16 +43,19 @@ impl<'a> PlainView<'a> {
         server: &'a Server,
         process: &Process,
     ) -> Result<PlainView<'a>, NoMemory>
-        requires { area_count (names_of (process_of process.now)) ≤ MOST_AREAS }
+        requires { area_count (names_of (process_of (server_words server.now) process.now)) ≤ MOST_AREAS }
         ensures state { IfOk result (λ view. view.state ≡ server.now) }
-        ensures held { IfOk result (λ view. view.held ≡ names_of (process_of process.now)) }
+        ensures held { IfOk result (λ view. view.held ≡ names_of (process_of (server_words server.now) process.now)) }
         ensures lawful { IfOk result (λ view. IsLawful (shown_of view.state)) }
     {
         let _generation = server.generation();
+        let areas = areas_of(alloc, process.frames.as_slice())?;
+        let frames = serials_in(alloc, areas.frames.as_slice())?;
+        let literals = serials_in(alloc, areas.literals.as_slice())?;
         Ok(PlainView {
             server,
-            frames: frame_serials(alloc, process.frames.as_slice())?,
-            literals: SerialList::new(alloc)?,
+            frames,
+            literals,
         })
     }
 
@@ -71,14 +76,14 @@ impl<'a> PlainView<'a> {
     }
 }
 
-/// The instances of the frames.
-fn frame_serials(alloc: Global, frames: &[Frame]) -> Result<SerialList, NoMemory>
-    requires { area_count (frame_names (frames_of frames.now)) ≤ MOST_AREAS }
-    ensures { IfOk result (λ serials. serials ≡ (frame_names (frames_of frames.now)).frames) }
+/// The serials of the areas.
+fn serials_in(alloc: Global, areas: &[AreaRef]) -> Result<SerialList, NoMemory>
+    requires { length (serials_of (area_serials areas.now)) ≤ MOST_AREAS }
+    ensures { IfOk result (λ serials. serials ≡ serials_of (area_serials areas.now)) }
 {
     let mut serials = SerialList::new(alloc)?;
-    for frame in frames {
-        serials.insert(frame.code.area.serial);
+    for area in areas {
+        serials.insert(area.serial);
     }
     Ok(serials)
 }
@@ -126,6 +131,10 @@ impl<'a> CodeView for PlainView<'a> {
 
     fn retired(&mut self, area: AreaRef) -> bool {
         self.server.retired(area.serial)
+    }
+
+    fn term(&mut self, key: AtomId) -> Found {
+        self.server.term(key)
     }
 
     fn word(&mut self, area: AreaRef, at: u32) -> u64 {

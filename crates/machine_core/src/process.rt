@@ -1,5 +1,5 @@
 ghost use Rattle.std.specs.Prelude.{◌≡◌, length, IfOk};
-ghost use Rattle.machine_core.specs.Process.{process_of, new_process};
+ghost use Rattle.machine_core.specs.Process.{Words, process_of, new_process};
 
 use crate::registers::ValueList;
 use std::alloc::Global;
@@ -14,11 +14,20 @@ pub const MOST_FRAMES: usize = 64;
 /// The instructions that a turn runs at most.
 pub const TURN_INSTRUCTIONS: u32 = 200;
 
+/// Where a literal stands: an area, and the place in its words at which the image of the term begins.
+#[derive(Clone, Copy, Debug, PartialEq, Eq)]
+pub struct LitRef {
+    pub area: AreaRef,
+    pub at: u32,
+}
+
 /// What a register holds.
 #[derive(Clone, Debug, Drop, PartialEq, Eq)]
 pub enum Value {
     /// A term of the process's own.
     Owned(Term),
+    /// A tuple or a list that stands in an area and is read there, without a copy.
+    Literal(LitRef),
 }
 
 /// A call that has not returned.
@@ -68,7 +77,7 @@ pub enum End {
     Normal,
     /// No current code exports this function.
     Undef(Mfa),
-    /// An order asked of what is no integer.
+    /// An order asked of what is no integer, an element that there is not, or a key that holds nothing.
     Badarg,
     /// A sum or a difference of what is no integer.
     Badarith,
@@ -90,7 +99,7 @@ impl Process {
     /// A process that has had no turn.
     pub fn new(alloc: Global, number: u32, target: Mfa, args: TermList) -> Result<Process, NoMemory>
         requires { length args ≡ target.arity }
-        ensures { IfOk result (λ process. process_of process ≡ new_process number target args) }
+        ensures { (words : Words) → IfOk result (λ process. process_of words process ≡ new_process number target args) }
     {
         Ok(Process {
             number,

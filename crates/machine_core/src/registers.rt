@@ -1,7 +1,6 @@
-ghost use Rattle.std.specs.Prelude.{◌≡◌, ◌++◌, drop, map, replicate, slice_set, take, IfOk, OnOk};
+ghost use Rattle.std.specs.Prelude.{◌≡◌, ◌++◌, All, IfOk, OnOk, drop, map, replicate, slice_get, slice_set, take, unwrap_or};
 ghost use Rattle.term_core.specs.Plain.{plain};
-ghost use Rattle.machine_core.specs.Process.{arguments_at, first_registers, no_value, owned_values, register_of};
-ghost use Rattle.machine_core.specs.Turn.{terms_of};
+ghost use Rattle.machine_core.specs.Process.{arguments_of, entered_values, no_held, owned_terms};
 
 use crate::process::Value;
 use std::alloc::Global;
@@ -33,34 +32,41 @@ impl Model for ValueList {
 impl ValueList {
     /// The registers of a process's first function: its arguments, and 0 in the others.
     pub fn entered(alloc: Global, args: &TermList) -> Result<ValueList, NoMemory>
-        ensures { IfOk result (λ registers. registers ≡ first_registers (owned_values args.now)) }
+        ensures { IfOk result (λ registers. registers ≡ entered_values (owned_terms args.now)) }
     {
         filled(owned_values(alloc, args.as_slice())?)
     }
 
     /// The registers of a function that is called with so many arguments, which stand here from a register on.
     pub fn passed(&self, alloc: Global, at: u32, count: u32) -> Result<ValueList, NoMemory>
-        ensures { IfOk result (λ registers. registers ≡ first_registers (arguments_at self.now at count)) }
+        ensures { IfOk result (λ registers. registers ≡ entered_values (arguments_of self.now at count)) }
     {
-        filled(copies(
-            alloc,
-            arguments(self.values.as_slice(), at as usize, count as usize),
-        )?)
+        filled(copies(alloc, self.arguments(at, count))?)
     }
 
-    /// So many terms, which stand in the registers from this one on.
-    pub fn terms(&self, alloc: Global, at: u32, count: u32) -> Result<TermList, NoMemory>
-        ensures { IfOk result (λ terms. terms ≡ terms_of (arguments_at self.now at count)) }
+    /// So many values, which stand in the registers from this one on.
+    pub fn arguments(&self, at: u32, count: u32) -> &[Value]
+        ensures { result.now ≡ arguments_of self.now at count }
     {
-        terms_of(
-            alloc,
-            arguments(self.values.as_slice(), at as usize, count as usize),
-        )
+        arguments(self.values.as_slice(), at as usize, count as usize)
+    }
+
+    pub fn as_slice(&self) -> &[Value]
+        ensures { result.now ≡ self.now }
+    {
+        self.values.as_slice()
+    }
+
+    /// The registers with these values.
+    pub fn from_vec(values: Vec<Value>) -> ValueList
+        ensures { result ≡ values.items }
+    {
+        ValueList { values }
     }
 
     /// What a register holds. Past the last register it is 0.
     pub fn get(&self, register: u32) -> Result<Value, NoMemory>
-        ensures { IfOk result (λ value. value ≡ register_of self.now register) }
+        ensures { IfOk result (λ value. value ≡ unwrap_or (slice_get self.now register) no_held) }
     {
         match self.values.get(register as usize) {
             Some(value) => Ok(value.clone()?),
@@ -89,7 +95,7 @@ fn arguments(values: &[Value], first: usize, count: usize) -> &[Value]
 
 /// The values and then zeros, as many as a frame has registers.
 fn filled(mut values: Vec<Value>) -> Result<ValueList, NoMemory>
-    ensures { IfOk result (λ registers. registers ≡ first_registers values.items) }
+    ensures { IfOk result (λ registers. registers ≡ entered_values values.items) }
 {
     push_zeros(&mut values)?;
     values.truncate(REGISTERS);
@@ -98,7 +104,7 @@ fn filled(mut values: Vec<Value>) -> Result<ValueList, NoMemory>
 
 /// The terms as values of a process's own.
 fn owned_values(alloc: Global, terms: &[Term]) -> Result<Vec<Value>, NoMemory>
-    ensures { IfOk result (λ values. values.items ≡ owned_values (map plain terms.now)) }
+    ensures { IfOk result (λ values. values.items ≡ owned_terms (map plain terms.now)) }
 {
     let mut values = Vec::new(alloc);
     for term in terms {
@@ -118,22 +124,9 @@ fn copies(alloc: Global, values: &[Value]) -> Result<Vec<Value>, NoMemory>
     Ok(copies)
 }
 
-/// The terms of the values.
-fn terms_of(alloc: Global, values: &[Value]) -> Result<TermList, NoMemory>
-    ensures { IfOk result (λ terms. terms ≡ terms_of values.now) }
-{
-    let mut terms = TermList::new(alloc);
-    for value in values {
-        match value {
-            Value::Owned(term) => terms.push(term.clone()?)?,
-        }
-    }
-    Ok(terms)
-}
-
 /// Appends as many zeros as a frame has registers.
 fn push_zeros(values: &mut Vec<Value>) -> Result<(), NoMemory>
-    ensures { OnOk result (values.new.items ≡ values.old.items ++ replicate 16 no_value) }
+    ensures { OnOk result (values.new.items ≡ values.old.items ++ replicate 16 no_held) }
 {
     for _ in 0..REGISTERS {
         values.push(Value::Owned(Term::Int(0)))?;

@@ -1,14 +1,14 @@
 ghost use Rattle.std.specs.Prelude.{◌≡◌, ◌↔◌, ℕ, ◌<◌, length, option_map, slice_index, IsErr, IsTrue, OnErr, OnOk};
-ghost use Rattle.server_core.specs.ServerState.{dispatch_of, entry_of, is_doomed, is_retired, is_traced};
-ghost use Rattle.machine_core.specs.Holds.{Holds, MayHold, is_area_held, is_full, is_held, with_hold, without_hold};
+ghost use Rattle.server_core.specs.ServerState.{dispatch_of, entry_of, found_as, is_doomed, is_retired, is_traced, key_found};
+ghost use Rattle.machine_core.specs.Holds.{Holds, MayHold, MayRead, is_area_held, is_full, is_held, with_hold, without_hold};
 ghost use Rattle.machine_core.specs.View.{Shown, IsLawful, HasFunction, IsReadable, place_of};
 
-use term_core::{AreaRef, CodeRef, Full, Kind, Mfa};
+use term_core::{AreaRef, AtomId, CodeRef, Found, Full, Kind, Mfa};
 
 /// One generation of the code server, as a turn sees it.
 ///
-/// Contracts see the state of the generation and the words of each instance, and what is held. It is lawful where
-/// these words are, apart from entry words, the images of the instances.
+/// Contracts see the state of the generation and the words of each area, and what is held. It is lawful where
+/// these words are, apart from entry words, the images of the instances and of the persistent terms.
 pub trait CodeView {
     /// What the view shows. No call changes it.
     ghost shown: { Self → Shown };
@@ -57,11 +57,18 @@ pub trait CodeView {
         ensures same { shown self.new ≡ shown self.old }
         ensures holds { held self.new ≡ held self.old };
 
-    /// A word of an instance's image. An entry word is not asked for.
+    /// What a key holds: an integer or an atom by its word, a tuple or a list by its area.
+    fn term(&mut self, key: AtomId) -> Found
+        requires { IsLawful (shown self.old) }
+        ensures value { found_as result ≡ key_found (shown self.old).state key.0 }
+        ensures same { shown self.new ≡ shown self.old }
+        ensures holds { held self.new ≡ held self.old };
+
+    /// A word of an area. An entry word is not asked for.
     fn word(&mut self, area: AreaRef, at: u32) -> u64
         requires lawful { IsLawful (shown self.old) }
         requires readable { IsReadable (shown self.old).state area.serial at }
-        requires reached { MayHold (shown self.old).state (held self.old) area.serial Kind.Frame }
+        requires reached { MayRead (shown self.old).state (held self.old) area.serial }
         ensures value { result ≡ slice_index ((shown self.old).words area.serial) at }
         ensures same { shown self.new ≡ shown self.old }
         ensures holds { held self.new ≡ held self.old };

@@ -8,5 +8,5 @@ use Rattle.machine_core.proofs.doom.doomed_serial.Goals as goal
 
 pub doomed-requires-clause-named : goal.doomed-requires-clause-named
 doomed-requires-clause-named g c =
-    named_frame (g.V.CodeView.held c.loop-frame.view) c.args.frames.now c.loop-frame.frame-index c.frame-item.result c.loop-frame-test.true c.frame-item.is
-    (subst (λ (h : Holds). AreHeld h (frames_of c.args.frames.now)) (sym c.loop-frame.invariant.held) c.requires.named)
+    named_frame (g.V.CodeView.shown c.args.view.now).words (g.V.CodeView.held c.loop-frame.view) c.args.frames.now c.loop-frame.frame-index c.frame-item.result c.loop-frame-test.true c.frame-item.is
+    (subst (λ (h : Holds). AreHeld h (frames_of (g.V.CodeView.shown c.args.view.now).words c.args.frames.now)) (sym c.loop-frame.invariant.held) c.requires.named)

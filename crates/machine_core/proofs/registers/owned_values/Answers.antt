@@ -2,11 +2,11 @@
 use Rattle.std.proofs.Common.{◌∙◌, ap, sym, map}
 use Rattle.std.proofs.lemmas.List.{take_all}
 use Rattle.machine_core.specs.declared.process.Value.TheVariants.{Owned}
-use Rattle.machine_core.proofs.OwnedTerms.{owned_values-plain}
+use Rattle.machine_core.proofs.OwnedTerms.{owned_terms-plain}
 use Rattle.machine_core.proofs.registers.owned_values.Goals as goal
 
 pub returns : goal.returns
 returns c =
     c.loop-term.invariant
     ∙ ap (map Owned) (take_all c.loop-term.term-index c.args.terms.now c.loop-term-test.false)
-    ∙ sym (owned_values-plain c.args.terms.now)
+    ∙ sym (owned_terms-plain c.args.terms.now)

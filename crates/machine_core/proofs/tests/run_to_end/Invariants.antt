@@ -1,5 +1,4 @@
--- The process may have another turn.
-use Rattle.machine_core.specs.Process.{process_of}
+-- The process may have a turn, and the view holds what it names.
 use Rattle.machine_core.specs.Turn.{MayTurn}
 use Rattle.machine_core.specs.View.{IsLawful, shown_of}
 use Rattle.machine_core.proofs.tests.run_to_end.Given as goal
@@ -7,5 +6,5 @@ use Rattle.machine_core.proofs.tests.run_to_end.Given as goal
 abbrev pub invariant-loop : goal.invariant-loop
 invariant-loop l = record {
   lawful : IsLawful (shown_of l.view.state);
-  ready : MayTurn l.view.state l.view.held (process_of l.process);
+  ready : MayTurn (shown_of l.view.state) l.view.held l.process;
 }

@@ -1,0 +1,134 @@
+-- Going over images in an area word by word, and reading a literal.
+use Rattle.std.proofs.Common.{◌≡◌, ◌<◌, ◌≤◌, ◌+◌, ◌-◌, ◌*◌, ◌∙◌, ℕ, zero, suc, refl, sym, ap, subst, arith, List, [], ◌∷◌, length, drop, take, get_or, slice_index, Option, Some, None, option_map, unwrap_or, IfSome, IsSomeAnd, ⊎_elim, ◌⊎◌, Result, Ok, Err, IfOk}
+use Rattle.std.proofs.lemmas.List.{drop-drop, get_or-drop, length-drop}
+use Rattle.term_core.specs.declared.image_fault.ImageFault.{ImageFault}
+use Rattle.term_core.specs.declared.no_memory.NoMemory.{NoMemory}
+use Rattle.term_core.specs.declared.term.Term.{Term}
+use Rattle.term_core.specs.Image.{IsImageAt, image_of, images_len, parts_of_word, term_at}
+use Rattle.term_core.specs.Plain.{plain, term_of}
+use Rattle.term_core.specs.PlainTerm.{PlainTerm, term_words}
+use Rattle.term_core.proofs.ImagePlaces.{images_len-at, stands_same, term_at-is, within-at}
+use Rattle.term_core.proofs.ImageTerms.{length-image, some_words}
+use Rattle.mod_core.specs.declared.code.Module.{Module}
+use Rattle.mod_core.specs.Module.{IsModule}
+use Rattle.server_core.specs.ServerState.{ServerState, IsSound, IsTermArea, code_of, term_of_area}
+use Rattle.machine_core.specs.declared.process.LitRef.{LitRef}
+use Rattle.machine_core.specs.View.{IsImagePlace, IsLawful, IsLiteral, IsReadable, Shown}
+use Rattle.machine_core.specs.Stand.{AreImages, images_end}
+use Rattle.machine_core.proofs.OwnedTerms.{term_of-plain}
+
+-- ---- places that may be asked for
+
+low_code : (next at serial : ℕ) (o : Option Module) → IfSome o (λ m. IsModule m × (serial < next)) → IsSomeAnd o (λ m. IsImagePlace m at) → at < 1024
+low_code next at serial None sound h = absurd h
+low_code next at serial (Some m) sound h = let short = sound.0.short in let within = h.within in omega arith
+
+low_term : (s : ServerState) (at serial : ℕ) (o : Option PlainTerm) → IfSome o (IsTermArea s serial) → IsSomeAnd o (λ t. at < length (image_of t)) → at < 1024
+low_term s at serial None sound h = absurd h
+low_term s at serial (Some t) sound h = let short = sound.sound.short in omega (arith, length-image t, h)
+
+-- a place that may be asked for is one of an image, which is short
+pub readable_low : (s : ServerState) (serial at : ℕ) → IsSound s → IsReadable s serial at → at < 1024
+readable_low s serial at sound h = ⊎_elim (low_code s.next_serial at serial (code_of s serial) (sound.modules serial)) (low_term s at serial (term_of_area s serial) (sound.terms serial)) h
+
+-- ---- the next word of images
+
+-- the first word of images, and how many words the others have
+record IsFront (n len : ℕ) (words : List ℕ) : Type 0 where
+  word : ℕ
+  rest : List ℕ
+  later : ℕ
+  whole : words ≡ word ∷ rest
+  left : images_len (n + parts_of_word word) rest ≡ Some later
+  sum : len ≡ suc later
+
+front_of : (n len word : ℕ) (rest : List ℕ) (o : Option ℕ) → images_len (n + parts_of_word word) rest ≡ o → option_map suc o ≡ Some len → IsFront n len (word ∷ rest)
+front_of n len word rest None e h = absurd (cc)
+front_of n len word rest (Some later) e h = let k : suc later ≡ len = cc in record { word = word; rest = rest; later = later; whole = refl; left = e; sum = sym k }
+
+front : (n len : ℕ) (words : List ℕ) → images_len (suc n) words ≡ Some len → IsFront n len words
+front n len [] h = absurd (cc)
+front n len (word ∷ rest) h = front_of n len word rest (images_len (n + parts_of_word word) rest) refl h
+
+-- each image has a word
+least_by : (fuel : ℕ) (words : List ℕ) (n len : ℕ) → length words ≤ fuel → images_len n words ≡ Some len → n ≤ len
+least_by fuel words zero len few h = omega arith
+least_by zero words (suc n) len few h = let f = front n len words h in absurd (omega (arith, ap length f.whole))
+least_by (suc fuel) words (suc n) len few h =
+    let f = front n len words h in
+    let r = least_by fuel f.rest (n + parts_of_word f.word) f.later (omega (arith, ap length f.whole)) f.left in
+    omega (arith, f.sum)
+
+least : (words : List ℕ) (n len : ℕ) → images_len n words ≡ Some len → n ≤ len
+least words n len h = least_by (length words) words n len (omega arith) h
+
+-- what is known before the next word is read, and after it
+pub record IsStep (shown : Shown) (serial place needed word : ℕ) : Type 0 where
+  pub readable : IsReadable shown.state serial place
+  pub low : place < 1024
+  pub few : needed - 1 + parts_of_word word ≤ 1024
+  pub next : AreImages shown serial (place + 1) (needed - 1 + parts_of_word word)
+  pub end : images_end (shown.words serial) (place + 1) (needed - 1 + parts_of_word word) ≡ images_end (shown.words serial) place needed
+  pub less : suc (unwrap_or (images_len (needed - 1 + parts_of_word word) (drop (place + 1) (shown.words serial))) 0) ≡ unwrap_or (images_len needed (drop place (shown.words serial))) 0
+
+same_len : (words : List ℕ) (n len : ℕ) → images_len n words ≡ Some len → unwrap_or (images_len n words) 0 ≡ len
+same_len words n len h = ap (λ o. unwrap_or o 0) h
+
+step_of : (shown : Shown) (serial place n word : ℕ) → IsSound shown.state → (a : AreImages shown serial place (suc n)) → IsFront n a.len (drop place (shown.words serial)) → word ≡ slice_index (shown.words serial) place →
+    IsStep shown serial place (suc n) word
+step_of shown serial place n word sound a f e =
+    let words = shown.words serial in
+    let here : slice_index words place ≡ f.word = ap (λ k. slice_index words k) (omega arith) ∙ sym (get_or-drop place words 0 0) ∙ ap (λ ws. slice_index ws 0) f.whole in
+    let is : word ≡ f.word = e ∙ here in
+    let rest : drop (place + 1) words ≡ f.rest = sym (drop-drop 1 place words) ∙ ap (λ ws. drop 1 ws) f.whole in
+    let one : suc n - 1 + parts_of_word word ≡ n + parts_of_word f.word = ap (λ w. suc n - 1 + parts_of_word w) is ∙ omega arith in
+    let left : images_len (suc n - 1 + parts_of_word word) (drop (place + 1) words) ≡ Some f.later = ap (images_len (suc n - 1 + parts_of_word word)) rest ∙ ap (λ k. images_len k f.rest) one ∙ f.left in
+    let sum = f.sum in
+    let first : IsReadable shown.state serial place = subst (IsReadable shown.state serial) (omega arith) (a.readable 0 (omega arith)) in
+    let low = readable_low shown.state serial place sound first in
+    let last = readable_low shown.state serial (place + f.later) sound (a.readable f.later (omega arith)) in
+    let few = least (drop (place + 1) words) (suc n - 1 + parts_of_word word) f.later left in
+    record {
+      readable = first;
+      low = low;
+      few = omega (arith, few, last);
+      next = record { len = f.later; is = left; readable = λ i l. subst (IsReadable shown.state serial) (omega arith) (a.readable (suc i) (omega arith)) };
+      end = omega (arith, same_len (drop (place + 1) words) (suc n - 1 + parts_of_word word) f.later left, same_len (drop place words) (suc n) a.len a.is);
+      less = omega (arith, same_len (drop (place + 1) words) (suc n - 1 + parts_of_word word) f.later left, same_len (drop place words) (suc n) a.len a.is);
+    }
+
+-- the next word of images that are needed still
+pub image_step : (shown : Shown) (serial place needed word : ℕ) → IsSound shown.state → AreImages shown serial place needed → 0 < needed → word ≡ slice_index (shown.words serial) place →
+    IsStep shown serial place needed word
+image_step shown serial place zero word sound a some e = absurd (omega arith)
+image_step shown serial place (suc n) word sound a some e = step_of shown serial place n word sound a (front n a.len (drop place (shown.words serial)) a.is) e
+
+-- ---- a literal
+
+-- its words
+pub literal_images : (shown : Shown) (at : LitRef) → IsLiteral shown at → AreImages shown at.area.serial at.at 1
+literal_images shown at h = record { len = term_words h.term; is = images_len-at (shown.words at.area.serial) at.at h.term h.image; readable = h.readable }
+
+-- end there
+pub literal_end : (shown : Shown) (at : LitRef) (h : IsLiteral shown at) → images_end (shown.words at.area.serial) at.at 1 ≡ at.at + term_words h.term
+literal_end shown at h = ap (λ o. at.at + unwrap_or o 0) (images_len-at (shown.words at.area.serial) at.at h.term h.image)
+
+-- and may be asked for
+pub literal_readable : (shown : Shown) (at : LitRef) (h : IsLiteral shown at) (place : ℕ) → at.at ≤ place → place < at.at + term_words h.term → IsReadable shown.state at.area.serial place
+literal_readable shown at h place from to = subst (IsReadable shown.state at.area.serial) (omega arith) (h.readable (place - at.at) (omega arith))
+
+-- the term that was read from a literal's words is the literal's
+pub literal_read : (shown : Shown) (at : LitRef) (h : IsLiteral shown at) (words : List ℕ) (end : ℕ) (term : Term) → end ≡ at.at + term_words h.term →
+    words ≡ take (end - at.at) (drop at.at (shown.words at.area.serial)) → plain term ≡ term_at words 0 → term ≡ term_of (term_at (shown.words at.area.serial) at.at)
+literal_read shown at h words end term e w r =
+    let whole = shown.words at.area.serial in
+    let count : end - at.at ≡ term_words h.term = omega arith in
+    let is : words ≡ take (term_words h.term) (drop at.at whole) = w ∙ ap (λ n. take n (drop at.at whole)) count in
+    let same : take (term_words h.term) (drop at.at whole) ≡ take (term_words h.term) (drop 0 words) = sym (ap (take (term_words h.term)) is ∙ twice (term_words h.term) (drop at.at whole)) in
+    let stands : IsImageAt words 0 h.term = stands_same whole words at.at 0 h.term h.image same in
+    sym (term_of-plain term) ∙ ap term_of (r ∙ term_at-is words 0 h.term stands ∙ sym (term_at-is whole at.at h.term h.image))
+  where
+    twice : (n : ℕ) (xs : List ℕ) → take n (take n xs) ≡ take n xs
+    twice zero xs = refl
+    twice (suc n) [] = refl
+    twice (suc n) (x ∷ xs) = ap (λ ys. x ∷ ys) (twice n xs)

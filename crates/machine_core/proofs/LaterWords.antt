@@ -1,0 +1,136 @@
+-- That a process is the same under a later state of the server, where each area that was known has its words still.
+use Rattle.std.proofs.Common.{◌≡◌, ◌<◌, ◌+◌, ◌∙◌, ℕ, refl, sym, ap, arith, inl, inr, subst, All, List, [], ◌∷◌, length, map, reverse, Option, Some, None, IsSomeAnd, option_map}
+use Rattle.std.proofs.lemmas.List.Elements.{All-head, All-tail}
+use Rattle.term_core.specs.Image.{IsImageAt, image_of, term_at}
+use Rattle.term_core.specs.Plain.{term_of}
+use Rattle.term_core.specs.PlainTerm.{PlainTerm, atom_leaf, integer_leaf, list_of, term_words, tuple_of}
+use Rattle.mod_core.specs.declared.code.Module.{Module}
+use Rattle.server_core.specs.ServerState.{IsSound, ServerState, code_of, first_words, instance_image, term_of_area, words_of_area}
+use Rattle.machine_core.specs.declared.process.Frame.{Frame}
+use Rattle.machine_core.specs.declared.process.LitRef.{LitRef}
+use Rattle.machine_core.specs.declared.process.Process.{Process}
+use Rattle.machine_core.specs.declared.process.Value.{Value}
+use Rattle.machine_core.specs.declared.process.Value.TheVariants.{Literal, Owned}
+use Rattle.machine_core.specs.Process.{frame_of, frames_of, literal, process_of, value_shown, values_shown}
+use Rattle.machine_core.specs.View.{AreValues, HasValues, IsImagePlace, IsLiteral, IsReadable, IsValue, server_words, shown_of}
+
+-- the instances that one state has, another has too
+abbrev pub HasInstances : ServerState → ServerState → Type 0
+HasInstances before after = (serial : ℕ) (m : Module) → code_of before serial ≡ Some m → code_of after serial ≡ Some m
+
+-- so it has the areas of complex terms
+abbrev pub HasTerms : ServerState → ServerState → Type 0
+HasTerms before after = (serial : ℕ) (t : PlainTerm) → term_of_area before serial ≡ Some t → term_of_area after serial ≡ Some t
+
+-- and the words of each area
+abbrev pub HasWords : ServerState → ServerState → Type 0
+HasWords before after = (serial : ℕ) (words : List ℕ) → words_of_area before serial ≡ Some words → words_of_area after serial ≡ Some words
+
+-- each area that one state knows, another knows as what it was
+pub record HasAreas (before after : ServerState) : Type 0 where
+  pub instances : HasInstances before after
+  pub terms : HasTerms before after
+  pub words : HasWords before after
+
+-- an area of these words
+abbrev IsKnown : ServerState → ℕ → Type 0
+IsKnown s serial = (words : List ℕ) × (words_of_area s serial ≡ Some words)
+
+code_known : (s : ServerState) (serial at : ℕ) (o : Option Module) → code_of s serial ≡ o → IsSomeAnd o (λ m. IsImagePlace m at) → IsKnown s serial
+code_known s serial at None e h = absurd h
+code_known s serial at (Some m) e h = (instance_image serial m, rw e refl)
+
+term_known : (s : ServerState) (serial at : ℕ) (o : Option Module) (r : Option PlainTerm) → code_of s serial ≡ o → term_of_area s serial ≡ r → IsSomeAnd r (λ t. at < length (image_of t)) → IsKnown s serial
+term_known s serial at o None e f h = absurd h
+term_known s serial at None (Some t) e f h = (image_of t, rw (e, f) refl)
+term_known s serial at (Some m) (Some t) e f h = (instance_image serial m, rw e refl)
+
+-- what may be read is a word of an area
+readable_known : (s : ServerState) (serial at : ℕ) → IsReadable s serial at → IsKnown s serial
+readable_known s serial at (inl h) = code_known s serial at (code_of s serial) refl h
+readable_known s serial at (inr h) = term_known s serial at (code_of s serial) (term_of_area s serial) refl refl h
+
+some_word : (t : PlainTerm) → 0 < term_words t
+some_word (integer_leaf z) = omega arith
+some_word (atom_leaf a) = omega arith
+some_word (tuple_of row) = omega arith
+some_word (list_of row) = omega arith
+
+words_case : (before after : ServerState) (serial : ℕ) (known : IsKnown before serial) → HasWords before after → server_words after serial ≡ server_words before serial
+words_case before after serial known h = rw (h serial known.0 known.1, known.1) refl
+
+module _ (before after : ServerState) (has : HasWords before after) where
+  -- the words of a literal's area
+  words_same : (at : LitRef) → IsLiteral (shown_of before) at → server_words after at.area.serial ≡ server_words before at.area.serial
+  words_same at l = words_case before after at.area.serial (readable_known before at.area.serial (at.at + 0) (l.readable 0 (some_word l.term))) has
+
+  value_same : (value : Value) → IsValue (shown_of before) value → value_shown (server_words after) value ≡ value_shown (server_words before) value
+  value_same (Owned term) h = refl
+  value_same (Literal at) h = ap (λ words. literal at.area.serial (term_of (term_at words at.at))) (words_same at h)
+
+  values_same : (values : List Value) → All (IsValue (shown_of before)) values → values_shown (server_words after) values ≡ values_shown (server_words before) values
+  values_same [] h = refl
+  values_same (value ∷ values) h =
+      ap (λ v. v ∷ values_shown (server_words after) values) (value_same value (All-head (IsValue (shown_of before)) value values h))
+      ∙ ap (λ vs. value_shown (server_words before) value ∷ vs) (values_same values (All-tail (IsValue (shown_of before)) value values h))
+
+  frame_same : (f : Frame) → HasValues (shown_of before) f → frame_of (server_words after) f ≡ frame_of (server_words before) f
+  frame_same f h = ap (λ rs. record { serial = f.code.area.serial; function = f.code.function; place = f.place; back = f.back; registers = rs }) (values_same f.registers h)
+
+  frames_same : (fs : List Frame) → AreValues (shown_of before) fs → map (frame_of (server_words after)) fs ≡ map (frame_of (server_words before)) fs
+  frames_same [] h = refl
+  frames_same (f ∷ fs) h =
+      ap (λ g. g ∷ map (frame_of (server_words after)) fs) (frame_same f (All-head (HasValues (shown_of before)) f fs h))
+      ∙ ap (λ gs. frame_of (server_words before) f ∷ gs) (frames_same fs (All-tail (HasValues (shown_of before)) f fs h))
+
+  pub frames_later : (fs : List Frame) → AreValues (shown_of before) fs → frames_of (server_words after) fs ≡ frames_of (server_words before) fs
+  frames_later fs h = ap reverse (frames_same fs h)
+
+  -- a process stands for the same under the later state
+  pub process_later : (p : Process) → AreValues (shown_of before) p.frames → process_of (server_words after) p ≡ process_of (server_words before) p
+  process_later p h = ap (λ frames. record { number = p.number; target = p.target; args = p.args; turns = p.turns; frames = frames }) (frames_later p.frames h)
+
+module _ (before after : ServerState) (has : HasAreas before after) where
+  code_readable : (serial at : ℕ) (o : Option Module) → code_of before serial ≡ o → IsSomeAnd o (λ m. IsImagePlace m at) → IsSomeAnd (code_of after serial) (λ m. IsImagePlace m at)
+  code_readable serial at None e h = absurd h
+  code_readable serial at (Some m) e h = rw (has.instances serial m e) h
+
+  term_readable : (serial at : ℕ) (o : Option PlainTerm) → term_of_area before serial ≡ o → IsSomeAnd o (λ t. at < length (image_of t)) → IsSomeAnd (term_of_area after serial) (λ t. at < length (image_of t))
+  term_readable serial at None e h = absurd h
+  term_readable serial at (Some t) e h = rw (has.terms serial t e) h
+
+  readable_later : (serial at : ℕ) → IsReadable before serial at → IsReadable after serial at
+  readable_later serial at (inl h) = inl (code_readable serial at (code_of before serial) refl h)
+  readable_later serial at (inr h) = inr (term_readable serial at (term_of_area before serial) refl h)
+
+  literal_later : (at : LitRef) → IsLiteral (shown_of before) at → IsLiteral (shown_of after) at
+  literal_later at l = record {
+    term = l.term;
+    image = subst (λ words. IsImageAt words at.at l.term) (sym (words_same before after has.words at l)) l.image;
+    readable = λ i h. readable_later at.area.serial (at.at + i) (l.readable i h);
+  }
+
+  value_later : (value : Value) → IsValue (shown_of before) value → IsValue (shown_of after) value
+  value_later (Owned term) h = tt
+  value_later (Literal at) h = literal_later at h
+
+  -- and its literals begin images still
+  pub values_later : (fs : List Frame) → AreValues (shown_of before) fs → AreValues (shown_of after) fs
+  values_later fs h k d l j e m = value_later _ (h k d l j e m)
+
+no_instance : (s : ServerState) (serial : ℕ) (t : PlainTerm) → IsSound s → term_of_area s serial ≡ Some t → code_of s serial ≡ None
+no_instance s serial t sound e = (rw e at (sound.terms serial)).no_code
+
+words_later : (before after : ServerState) (serial : ℕ) (words : List ℕ) (o : Option Module) (r : Option PlainTerm) → code_of before serial ≡ o → term_of_area before serial ≡ r → HasInstances before after → HasTerms before after → IsSound after →
+    first_words (option_map (instance_image serial) o) (option_map image_of r) ≡ Some words → words_of_area after serial ≡ Some words
+words_later before after serial words (Some m) r e f i t sound h = rw (i serial m e) h
+words_later before after serial words None (Some term) e f i t sound h = rw (no_instance after serial term sound (t serial term f), t serial term f) h
+words_later before after serial words None None e f i t sound h = absurd (cc)
+
+-- a sound state that has the instances and the terms of another has its areas
+pub areas_later : (before after : ServerState) → HasInstances before after → HasTerms before after → IsSound after → HasAreas before after
+areas_later before after i t sound = record {
+  instances = i;
+  terms = t;
+  words = λ serial words h. words_later before after serial words (code_of before serial) (term_of_area before serial) refl refl i t sound h;
+}

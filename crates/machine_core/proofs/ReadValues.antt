@@ -1,0 +1,153 @@
+-- What a source and a key are read as: a value that may be used, and that stands for what the turn says.
+use Rattle.std.proofs.Common.{◌≡◌, ◌<◌, ◌+◌, ◌∙◌, ℕ, zero, suc, refl, sym, ap, subst, arith, Bool, true, false, List, [], ◌∷◌, length, All, get_or, slice_get, Option, Some, None, option_and_then, option_map, unwrap_or, IfSome, IsSomeAnd, IsTrue, Result, Ok, Err, IfOk, inl, inr, cond}
+use Rattle.std.proofs.lemmas.Option.{slice_get-map}
+use Rattle.std.proofs.lemmas.List.Elements.{All-head, All-tail}
+use Rattle.term_core.specs.declared.area.AreaRef.{AreaRef}
+use Rattle.term_core.specs.declared.area.Found.{Found}
+use Rattle.term_core.specs.declared.area.Found.TheVariants.{Absent, Word, Area}
+use Rattle.term_core.specs.declared.no_memory.NoMemory.{NoMemory}
+use Rattle.term_core.specs.declared.term.Term.{Term}
+use Rattle.term_core.specs.Image.{image_of, immediate_word, is_immediate, term_at, term_of_word, IsImageAt, IsPlainTerm}
+use Rattle.term_core.specs.Plain.{plain, term_of}
+use Rattle.term_core.specs.PlainTerm.{PlainTerm}
+use Rattle.term_core.proofs.ImagePlaces.{first_word-immediate, stands_alone, term_at-is, term_of_word-first_word}
+use Rattle.term_core.proofs.ImageTerms.{length-image}
+use Rattle.term_core.proofs.PlainTerms.{plain-term_of}
+use Rattle.server_core.specs.ServerState.{HasItsArea, IsPersistent, IsShortTerm, IsSound, KeyFound, Persistent, ServerState, absent, found_as, found_in, found_of, key_area, key_found, one_word, persistent_of, term_of_area, whole_area}
+use Rattle.machine_core.specs.declared.op.Source.{Source}
+use Rattle.machine_core.specs.declared.op.Source.TheVariants.{Register, Immediate, Constant}
+use Rattle.machine_core.specs.declared.process.Frame.{Frame}
+use Rattle.machine_core.specs.declared.process.Value.{Value}
+use Rattle.machine_core.specs.declared.process.Value.TheVariants.{Owned, Literal}
+use Rattle.machine_core.specs.Decode.{operand_shown}
+use Rattle.machine_core.specs.Holds.{Holds}
+use Rattle.machine_core.specs.Process.{Words, frame_of, literal, no_held, no_value, owned, register_of, value_shown, values_shown}
+use Rattle.machine_core.specs.Stand.{IsReadyFrame, IsSource, IsUsable, IsValueOf}
+use Rattle.machine_core.specs.Turn.{key_value, operand_term, persistent_value, term_of as value_term, value_of}
+use Rattle.machine_core.specs.View.{IsLawful, IsLiteral, Shown}
+
+-- ---- sources
+
+register_usable : (shown : Shown) (held : Holds) (values : List Value) (register : ℕ) → All (IsUsable shown held) values → IsUsable shown held (unwrap_or (slice_get values register) no_held)
+register_usable shown held [] register all = tt
+register_usable shown held (v ∷ vs) zero all = All-head (IsUsable shown held) v vs all
+register_usable shown held (v ∷ vs) (suc register) all = register_usable shown held vs register (All-tail (IsUsable shown held) v vs all)
+
+register_shown : (words : Words) (values : List Value) (register : ℕ) → value_shown words (unwrap_or (slice_get values register) no_held) ≡ register_of (values_shown words values) register
+register_shown words [] register = refl
+register_shown words (v ∷ vs) zero = refl
+register_shown words (v ∷ vs) (suc register) = register_shown words vs register
+
+module _ (shown : Shown) (held : Holds) (f : Frame) (ready : IsReadyFrame shown held f) where
+  -- a register's value
+  pub register_value : (source : Source) (register : ℕ) (value : Value) → source ≡ Register register → value ≡ unwrap_or (slice_get f.registers register) no_held → IsValueOf shown held f source value
+  register_value source register value s e =
+      subst (λ (k : Source). IsValueOf shown held f k value) (sym s)
+      (subst (IsValueOf shown held f (Register register)) (sym e)
+      (record { usable = register_usable shown held f.registers register ready.registers; shows = register_shown shown.words f.registers register }))
+
+  -- an integer or an atom
+  pub immediate_value : (source : Source) (term copy : Term) → source ≡ Immediate term → copy ≡ term → IsSource shown f.code.area source → IsValueOf shown held f source (Owned copy)
+  immediate_value source term copy s e is =
+      let immediate : is_immediate (plain term) ≡ true = subst (IsSource shown f.code.area) s is in
+      subst (λ (k : Source). IsValueOf shown held f k (Owned copy)) (sym s)
+      (record { usable = tt; shows = ap owned e ∙ ap (λ b. cond b (owned term) (literal f.code.area.serial term)) (sym immediate) })
+
+  -- a complex constant
+  pub constant_value : (source : Source) (place : ℕ) → source ≡ Constant place → IsSource shown f.code.area source → IsValueOf shown held f source (Literal (record { area = f.code.area; at = place }))
+  constant_value source place s is =
+      let constant = subst (IsSource shown f.code.area) s is in
+      let term = term_at (shown.words f.code.area.serial) place in
+      let complex : is_immediate (plain (term_of term)) ≡ false = ap is_immediate (plain-term_of term) ∙ constant.complex in
+      subst (λ (k : Source). IsValueOf shown held f k (Literal (record { area = f.code.area; at = place }))) (sym s)
+      (record {
+        usable = (constant.literal, inr (inr ready.standing));
+        shows = ap (λ b. cond b (owned (term_of term)) (literal f.code.area.serial (term_of term))) (sym complex);
+      })
+
+-- ---- keys
+
+-- what a key is read as
+pub record IsKeyRead (shown : Shown) (held : Holds) (key : ℕ) (value : Option Value) : Type 0 where
+  pub shows : option_map (value_shown shown.words) value ≡ key_value shown.state key
+  pub usable : IfSome value (IsUsable shown held)
+
+-- the value that was found
+abbrev pub found_value : Found → Option Value
+found_value Absent = None
+found_value (Word word) = Some (Owned (term_of_word word))
+found_value (Area area) = Some (Literal (record { area = area; at = 0 }))
+
+absent_read : (shown : Shown) (held : Holds) (key : ℕ) (o : Option Persistent) → persistent_of shown.state key ≡ o → found_of o ≡ absent → IsKeyRead shown held key None
+absent_read shown held key None p e = record { shows = ap (option_map (λ q. persistent_value q.term q.area)) (sym p); usable = tt }
+absent_read shown held key (Some q) p e = absurd (some_found q.term q.area e)
+  where
+    some_found : (t : PlainTerm) (area : Option ℕ) → found_in t area ≡ absent → ⊥
+    some_found t None e = cc
+    some_found t (Some serial) e = cc
+
+word_back : (t : PlainTerm) (word : ℕ) → is_immediate t ≡ true → word ≡ immediate_word (term_of t) → IsPlainTerm t → term_of_word word ≡ term_of t
+word_back t word is e fits = ap term_of_word (e ∙ sym (first_word-immediate t is)) ∙ term_of_word-first_word t is fits
+
+word_in : (s : ServerState) (t : PlainTerm) (area : Option ℕ) (word : ℕ) → HasItsArea s t area → IsPlainTerm t → found_in t area ≡ one_word word → owned (term_of_word word) ≡ persistent_value t area
+word_in s t None word has fits e = let k : immediate_word (term_of t) ≡ word = cc in ap owned (word_back t word has (sym k) fits)
+word_in s t (Some serial) word has fits e = absurd (cc)
+
+word_read : (shown : Shown) (held : Holds) (key word : ℕ) (o : Option Persistent) → persistent_of shown.state key ≡ o → IfSome o (IsPersistent shown.state) → found_of o ≡ one_word word → IsKeyRead shown held key (Some (Owned (term_of_word word)))
+word_read shown held key word None p sound e = absurd (cc)
+word_read shown held key word (Some q) p sound e = record {
+  shows = ap Some (word_in shown.state q.term q.area word sound.area sound.sound.fits e) ∙ ap (option_map (λ r. persistent_value r.term r.area)) (sym p);
+  usable = tt;
+}
+
+-- the area of a complex term has its image
+area_words : (shown : Shown) (serial : ℕ) (t : PlainTerm) → IsLawful shown → term_of_area shown.state serial ≡ Some t → shown.words serial ≡ image_of t
+area_words shown serial t lawful e = rw e at (lawful.terms serial)
+
+term_literal : (shown : Shown) (area : AreaRef) (t : PlainTerm) → IsLawful shown → IsShortTerm t → term_of_area shown.state area.serial ≡ Some t → IsLiteral shown (record { area = area; at = 0 })
+term_literal shown area t lawful short e = record {
+  term = t;
+  image = subst (λ words. IsImageAt words 0 t) (sym (area_words shown area.serial t lawful e)) (stands_alone t short.fits short.short);
+  readable = λ i l. inr (rw e (omega (arith, length-image t)));
+}
+
+-- a complex term that a key holds
+record IsAreaOf (s : ServerState) (t : PlainTerm) (area : Option ℕ) (serial : ℕ) : Type 0 where
+  is : area ≡ Some serial
+  has : term_of_area s serial ≡ Some t
+
+area_in : (s : ServerState) (t : PlainTerm) (area : Option ℕ) (serial : ℕ) → HasItsArea s t area → found_in t area ≡ whole_area serial → IsAreaOf s t area serial
+area_in s t None serial has e = absurd (cc)
+area_in s t (Some n) serial has e = let k : n ≡ serial = cc in record { is = ap Some k; has = subst (λ m. term_of_area s m ≡ Some t) k has }
+
+area_read : (shown : Shown) (held : Holds) (key : ℕ) (area : AreaRef) (o : Option Persistent) → IsLawful shown → persistent_of shown.state key ≡ o → IfSome o (IsPersistent shown.state) → found_of o ≡ whole_area area.serial →
+    IsKeyRead shown held key (Some (Literal (record { area = area; at = 0 })))
+unfolding term_literal
+area_read shown held key area None lawful p sound e = absurd (cc)
+area_read shown held key area (Some q) lawful p sound e =
+    let a = area_in shown.state q.term q.area area.serial sound.area e in
+    let l = term_literal shown area q.term lawful sound.sound a.has in
+    record {
+      shows =
+          ap (λ t. Some (literal area.serial (term_of t))) (term_at-is (shown.words area.serial) 0 q.term l.image)
+          ∙ ap (λ b. Some (persistent_value q.term b)) (sym a.is) ∙ ap (option_map (λ r. persistent_value r.term r.area)) (sym p);
+      usable = (l, inr (inl (key, ap (λ r. option_and_then (λ x. x.area) r) p ∙ a.is)));
+    }
+
+-- what the view finds under a key is read as the turn says
+pub key_read : (shown : Shown) (held : Holds) (key : ℕ) (found : Found) → IsLawful shown → found_as found ≡ key_found shown.state key → IsKeyRead shown held key (found_value found)
+key_read shown held key Absent lawful e = absent_read shown held key (persistent_of shown.state key) refl (sym e)
+key_read shown held key (Word word) lawful e = word_read shown held key word (persistent_of shown.state key) refl (lawful.sound.keys key) (sym e)
+key_read shown held key (Area area) lawful e = area_read shown held key area (persistent_of shown.state key) lawful refl (lawful.sound.keys key) (sym e)
+
+-- the answer of a look into a register
+pub register_read : (r : Result Value NoMemory) (f : Frame) (source : Source) (register : ℕ) → source ≡ Register register → IfOk r (λ value. value ≡ unwrap_or (slice_get f.registers register) no_held) →
+    IfOk r (λ value. (shown : Shown) (held : Holds) → IsReadyFrame shown held f → IsSource shown f.code.area source → IsValueOf shown held f source value)
+register_read (Ok value) f source register s h = λ shown held ready is. register_value shown held f ready source register value s h
+register_read (Err refused) f source register s h = tt
+
+-- the term of a source is that of its value
+pub term_read : (r : Result Term NoMemory) (shown : Shown) (held : Holds) (f : Frame) (source : Source) (value : Value) → IsValueOf shown held f source value → IfOk r (λ term. term ≡ value_term (value_shown shown.words value)) →
+    IfOk r (λ term. term ≡ operand_term (frame_of shown.words f) (operand_shown (shown.words f.code.area.serial) source))
+term_read (Ok term) shown held f source value v h = h ∙ ap value_term v.shows
+term_read (Err refused) shown held f source value v h = tt

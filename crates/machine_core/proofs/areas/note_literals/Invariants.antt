@@ -1,0 +1,8 @@
+-- The areas so far are those at first and those of the literals so far.
+use Rattle.std.proofs.Common.{◌≡◌, ◌++◌, take}
+use Rattle.machine_core.specs.Holds.{serials_of}
+use Rattle.machine_core.specs.Process.{area_serials, value_areas}
+use Rattle.machine_core.proofs.areas.note_literals.Given as goal
+
+abbrev pub invariant-loop-value : goal.invariant-loop-value
+invariant-loop-value l = serials_of (area_serials l.areas) ≡ serials_of (area_serials l.initial.areas ++ value_areas (take l.value-index l.values))
