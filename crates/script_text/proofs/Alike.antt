@@ -5,8 +5,8 @@ use Rattle.std.proofs.lemmas.Grind.{flat_map-append}
 use Rattle.std.proofs.lemmas.List.{map-append}
 use Rattle.term_core.specs.Names.{given_names}
 use Rattle.term_core.specs.TermText.{names_with_all}
-use Rattle.mod_core.specs.ModuleLine.{LineForm, label}
-use Rattle.mod_core.specs.LineFaults.{line_atoms}
+use Rattle.mod_text.specs.ModuleLine.{LineForm, label}
+use Rattle.mod_text.specs.LineFaults.{line_atoms}
 use Rattle.script_text.specs.ScriptLine.{RefForm, ScriptLine, code, go}
 use Rattle.script_text.specs.Counts.{script_line_atoms, names_of, FunctionForm, line_functions, functions_named, functions_with, functions_of, home_after_line, line_titles}
 use Rattle.script_text.specs.Canonical.{code_form}

@@ -5,12 +5,14 @@ use Rattle.std.proofs.lemmas.Bool.{and_parts}
 use Rattle.term_core.specs.Names.{Extends, is_atom_text}
 use Rattle.term_core.specs.TermText.{atom_text, number_in}
 use Rattle.mod_core.specs.declared.code.Instr.{Instr}
-use Rattle.mod_core.specs.Canonical.{label_text, written_instr, goes_to, labels_at, lines_from, function_lines, canonical}
-use Rattle.mod_core.specs.LineFaults.{is_open, may_follow, last_line, names_after, line_atoms}
-use Rattle.mod_core.specs.ModuleLine.{InstrForm, LineForm, title, header, label, instr, end, number_value, is_version_text, is_arity_text, is_line_form}
-use Rattle.mod_core.specs.ModuleText.{FollowOn, names_behind}
-use Rattle.mod_core.specs.ModuleValue.{FunctionForm, HeaderForm, body_of, functions_in, headers_in, instrs_in, instr_in, function_in, module_of, IsTitled, is_settled_line, unsettled_at, unsettled_below, earlier, first_unsettled, unsettled_line}
-use Rattle.mod_core.proofs.Keepings.{last_line-push}
+use Rattle.mod_text.specs.declared.fault.LineFault.{LineFault}
+use Rattle.mod_text.specs.declared.fault.LineFault.TheVariants as faults
+use Rattle.mod_text.specs.Canonical.{label_text, written_instr, goes_to, labels_at, lines_from, function_lines, canonical}
+use Rattle.mod_text.specs.LineFaults.{is_open, may_follow, last_line, has_high_register, has_wide_integer, names_after, line_atoms}
+use Rattle.mod_text.specs.ModuleLine.{InstrForm, LineForm, title, header, label, instr, end, number_value, is_version_text, is_arity_text, is_line_form}
+use Rattle.mod_text.specs.ModuleText.{FollowOn, names_behind}
+use Rattle.mod_text.specs.ModuleValue.{FunctionForm, HeaderForm, body_of, functions_in, headers_in, instrs_in, instr_in, function_in, module_of, IsTitled, is_settled_line, unsettled_at, unsettled_below, earlier, first_unsettled, unsettled_line}
+use Rattle.mod_text.proofs.Keepings.{last_line-push}
 use Rattle.script_text.proofs.HeldNames.{IsHeldText, all_held_in}
 use Rattle.script_text.proofs.ModuleNames.{HaveHeld, held_body}
 use Rattle.script_text.proofs.TextsBack.{atom_again, version_again, arity_again}
@@ -20,8 +22,13 @@ use Rattle.script_text.proofs.SoundnessTexts.{IsClosed, titled, held_behind, unm
 
 -- ---- what the lines behind a title have
 
+-- a line of its form, with no integer that is too wide
+record IsSoundLine (line : LineForm) : Type 0 where
+  form : is_line_form line ≡ true
+  narrow : has_wide_integer line ≡ false
+
 abbrev AreSound : List LineForm → Type 0
-AreSound lines = AllByRecursion (λ line. is_line_form line ≡ true) lines
+AreSound lines = AllByRecursion IsSoundLine lines
 
 -- the lines behind a title: the end is the last, and stands there alone
 abbrev IsRest : List LineForm → Type 0
@@ -78,9 +85,14 @@ no_instrs (label n ∷ lines) names name version follow = let place = follow.0.s
 no_instrs (instr i ∷ lines) names name version follow = let place = follow.0.stands.place in absurd cc
 no_instrs (end ∷ lines) names name version follow = refl
 
+narrow_by : (high wide : Bool) (rest : Option LineFault) → cond high (Some faults.Register) (cond wide (Some faults.Int) rest) ≡ None → wide ≡ false
+narrow_by true wide rest none = absurd cc
+narrow_by false true rest none = absurd cc
+narrow_by false false rest none = refl
+
 sound_of : (names : List (List ℕ)) (before lines : List LineForm) → FollowOn names before lines → AreSound lines
 sound_of names before [] follow = tt
-sound_of names before (line ∷ lines) follow = (follow.0.stands.is_text.sound, sound_of (names_after names line) (before ++ line ∷ []) lines follow.1)
+sound_of names before (line ∷ lines) follow = (record { form = follow.0.stands.is_text.sound; narrow = narrow_by (has_high_register line) (has_wide_integer line) _ follow.0.within }, sound_of (names_after names line) (before ++ line ∷ []) lines follow.1)
 
 sound_body : (lines : List LineForm) → AreSound lines → AreSound (body_of lines)
 sound_body [] h = tt
@@ -111,7 +123,7 @@ good_instrs names hs body (header exported name arity ∷ lines) sound held none
 good_instrs names hs body (label name ∷ lines) sound held none = good_instrs names hs body lines sound.1 held.1 (settled_first true (unsettled_at hs body lines) none).1
 good_instrs names hs body (instr i ∷ lines) sound held none =
     let p = settled_first (is_settled_line hs body (instr i)) (unsettled_at hs body lines) none in
-    (record { sound = sound.0; held = held.0; settled = p.0 }, good_instrs names hs body lines sound.1 held.1 p.1)
+    (record { sound = sound.0.form; narrow = sound.0.narrow; held = held.0; settled = p.0 }, good_instrs names hs body lines sound.1 held.1 p.1)
 good_instrs names hs body (end ∷ lines) sound held none = good_instrs names hs body lines sound.1 held.1 (settled_first true (unsettled_at hs body lines) none).1
 
 -- instructions as lines
@@ -163,7 +175,7 @@ module _ (names : List (List ℕ)) (hs : List HeaderForm) (forms : List Function
       (alike_append own (instr_lines (instrs_in body)) (to_end (functions_in lines)) (to_end (functions_in lines)) (code_alike body code 0 (instrs_in body) good) (alike_same (to_end (functions_in lines))))
       (rest_alike lines rest sound.1 held.1 p.1) in
       subst (λ (ls : List LineForm). Alike ls (header exported name arity ∷ lines)) (sym (append_assoc (first ∷ own) (flat_map (function_lines names fs) (map (function_in names hs) (functions_in lines))) (end ∷ [])))
-      (alike_append (first ∷ []) (header exported name arity ∷ []) (own ++ to_end (functions_in lines)) lines (header_alike exported name arity sound.0 held.0.0) later)
+      (alike_append (first ∷ []) (header exported name arity ∷ []) (own ++ to_end (functions_in lines)) lines (header_alike exported name arity sound.0.form held.0.0) later)
   rest_alike (label name ∷ lines) rest sound held none =
       alike_then (instr_lines (instrs_in (body_of lines)) ++ to_end (functions_in lines)) lines (label name ∷ lines)
       (rest_alike lines rest sound.1 held.1 (both_none None (first_unsettled hs lines) (unmapped suc _ none)).1) (alike_back (label name ∷ lines) lines (alike_label name lines))

@@ -3,9 +3,9 @@ use Rattle.std.proofs.Common.{◌≡◌, ℕ, ◌+◌, Bool, false, cond, List, 
 use Rattle.std.specs.Prelude.{count_by}
 use Rattle.std.specs.List.{AllByRecursion, flat_map}
 use Rattle.std.proofs.lemmas.List.Sums.{sum_by-cons}
-use Rattle.mod_core.specs.ModuleLine.{LineForm}
-use Rattle.mod_core.specs.LineFaults.{line_atoms}
-use Rattle.script_text.specs.ScriptLine.{ScriptLine, head, code, loader, load, on_module, trace, spawn, go}
+use Rattle.mod_text.specs.ModuleLine.{LineForm}
+use Rattle.mod_text.specs.LineFaults.{line_atoms}
+use Rattle.script_text.specs.ScriptLine.{ScriptLine, head, code, loader, load, on_atom, put, trace, spawn, go}
 use Rattle.script_text.specs.Counts.{script_line_atoms, FunctionForm, script_line_functions, home_after, functions_named, code_lines, block_lines}
 use Rattle.script_text.specs.Canonical.{code_form}
 use Rattle.script_text.specs.LineFaults.{last_of}
@@ -20,7 +20,8 @@ IsBlockLine head = ⊥
 IsBlockLine (code line) = ⊥
 IsBlockLine loader = Unit {0}
 IsBlockLine (load refs) = Unit {0}
-IsBlockLine (on_module command name) = Unit {0}
+IsBlockLine (on_atom command name) = Unit {0}
+IsBlockLine (put key term) = Unit {0}
 IsBlockLine (trace f g arity on) = Unit {0}
 IsBlockLine (spawn m f args) = Unit {0}
 IsBlockLine go = ⊥
@@ -30,7 +31,8 @@ its_block head = tt
 its_block (code line) = tt
 its_block loader = (tt, tt)
 its_block (load refs) = (tt, tt)
-its_block (on_module command name) = (tt, tt)
+its_block (on_atom command name) = (tt, tt)
+its_block (put key term) = (tt, tt)
 its_block (trace f g arity on) = (tt, tt)
 its_block (spawn m f args) = (tt, tt)
 its_block go = tt
@@ -47,7 +49,8 @@ no_code head h = absurd h
 no_code (code line) h = absurd h
 no_code loader h = refl
 no_code (load refs) h = refl
-no_code (on_module command name) h = refl
+no_code (on_atom command name) h = refl
+no_code (put key term) h = refl
 no_code (trace f g arity on) h = refl
 no_code (spawn m f args) h = refl
 no_code go h = absurd h
@@ -57,7 +60,8 @@ own_block head h = absurd h
 own_block (code line) h = absurd h
 own_block loader h = refl
 own_block (load refs) h = refl
-own_block (on_module command name) h = refl
+own_block (on_atom command name) h = refl
+own_block (put key term) h = refl
 own_block (trace f g arity on) h = refl
 own_block (spawn m f args) h = refl
 own_block go h = absurd h

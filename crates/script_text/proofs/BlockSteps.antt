@@ -4,15 +4,15 @@ use Rattle.std.proofs.lemmas.Bool.Decides.{nat_tests}
 use Rattle.std.proofs.lemmas.List.{length-map}
 use Rattle.term_core.specs.Names.{IsNames}
 use Rattle.term_core.specs.Written.{WrittenTerm}
-use Rattle.mod_core.specs.ModuleLine.{LineForm}
-use Rattle.mod_core.proofs.Options.{same_bytes}
+use Rattle.mod_text.specs.ModuleLine.{LineForm}
+use Rattle.mod_text.proofs.Options.{same_bytes}
 use Rattle.script_text.specs.declared.fault.Which.TheVariants as which
 use Rattle.script_text.specs.declared.fault.ScriptFault.TheVariants as faults
 use Rattle.script_text.specs.declared.reading.cause.LineCause.TheVariants as causes
 use Rattle.script_text.specs.declared.reading.reader.Place.TheVariants.{Loading}
 use Rattle.script_text.specs.declared.reading.reader.ScriptReader.{ScriptReader}
 use Rattle.script_text.specs.declared.script.ScriptCmd.{ScriptCmd}
-use Rattle.script_text.specs.ScriptLine.{RefForm, ModuleCommand, ScriptLine, head, code, loader, load, on_module, trace, spawn, go, IsLine}
+use Rattle.script_text.specs.ScriptLine.{RefForm, AtomCommand, ScriptLine, head, code, loader, load, on_atom, put, trace, spawn, go, IsLine}
 use Rattle.script_text.specs.ScriptValue.{commands_of}
 use Rattle.script_text.specs.LineFaults.{may_stand_loading, may_stand}
 use Rattle.script_text.specs.Reading.{block_step, end_step}
@@ -49,7 +49,7 @@ loader_fault m r closed k stands =
     let names = names_few m.names k.sound in
     let functions = few (length m.functions) 1024 k.few_functions in
     let spawns = few_more m.spawns 64 k.few_processes in
-    λ i. table (not (stands i) || false) false (names i) false false (functions i) (spawns i) (nat_lt 8 (m.loaders + 1)) false (m.count + 1)
+    λ i. table (not (stands i) || false) false false (names i) false false (functions i) (spawns i) (nat_lt 8 (m.loaders + 1)) false (m.count + 1)
 
 -- a line `loader`
 pub judges_block : (m : Summary) (r : ScriptReader) (closed : List (List LineForm)) (text : List ℕ) → Knows m r closed → may_stand m.last loader ≡ true → r.lines ≡ [] → text ≡ codes "loader" → Judges m text (block_step r)
@@ -77,25 +77,26 @@ judges_end m r closed text k stands none is =
     record {
       line = go;
       is_line = record { text_is = is; sound = refl };
-      no_fault = λ i. table (not (stands i) || false) false (names i) false false (functions i) (spawns i) (loaders i) false (m.count + 1);
+      no_fault = λ i. table (not (stands i) || false) false false (names i) false false (functions i) (spawns i) (loaders i) false (m.count + 1);
       holds = holds_go m r closed k none;
     }
 
 -- ---- lines of no form
 
 -- where loader blocks are open, a text that is none of their lines
-pub no_command : (m : Summary) (text : List ℕ) → ((line : ScriptLine) → may_stand m.last line ≡ may_stand_loading line) → bytes_eq text (codes "loader") ≡ false → bytes_eq text (codes "go") ≡ false → ((refs : List RefForm) → IsLine text (load refs) → ⊥) → ((n f : List ℕ) (args : List WrittenTerm) → IsLine text (spawn n f args) → ⊥) → ((command : ModuleCommand) (name : List ℕ) → IsLine text (on_module command name) → ⊥) → ((n f arity : List ℕ) (on : Bool) → IsLine text (trace n f arity on) → ⊥) → Judges m text (Err causes.Syntax)
-no_command m text follows no_loader no_go no_load no_spawn no_module no_trace head l = misplaced m head (follows head)
-no_command m text follows no_loader no_go no_load no_spawn no_module no_trace (code line) l = misplaced m (code line) (follows (code line))
-no_command m text follows no_loader no_go no_load no_spawn no_module no_trace loader l = absurd (is_other (codes "loader") l.text_is no_loader)
+pub no_command : (m : Summary) (text : List ℕ) → ((line : ScriptLine) → may_stand m.last line ≡ may_stand_loading line) → bytes_eq text (codes "loader") ≡ false → bytes_eq text (codes "go") ≡ false → ((refs : List RefForm) → IsLine text (load refs) → ⊥) → ((n f : List ℕ) (args : List WrittenTerm) → IsLine text (spawn n f args) → ⊥) → ((command : AtomCommand) (name : List ℕ) → IsLine text (on_atom command name) → ⊥) → ((n f arity : List ℕ) (on : Bool) → IsLine text (trace n f arity on) → ⊥) → ((key : List ℕ) (t : WrittenTerm) → IsLine text (put key t) → ⊥) → Judges m text (Err causes.Syntax)
+no_command m text follows no_loader no_go no_load no_spawn no_module no_trace no_put head l = misplaced m head (follows head)
+no_command m text follows no_loader no_go no_load no_spawn no_module no_trace no_put (code line) l = misplaced m (code line) (follows (code line))
+no_command m text follows no_loader no_go no_load no_spawn no_module no_trace no_put loader l = absurd (is_other (codes "loader") l.text_is no_loader)
   where
     is_other : (bytes : List ℕ) → text ≡ bytes → bytes_eq text bytes ≡ false → ⊥
     is_other bytes e f = let same : bytes_eq text bytes ≡ true = ap (λ (t : List ℕ). bytes_eq t bytes) e ∙ same_bytes bytes in absurd cc
-no_command m text follows no_loader no_go no_load no_spawn no_module no_trace (load refs) l = absurd (no_load refs l)
-no_command m text follows no_loader no_go no_load no_spawn no_module no_trace (on_module command name) l = absurd (no_module command name l)
-no_command m text follows no_loader no_go no_load no_spawn no_module no_trace (trace n f arity on) l = absurd (no_trace n f arity on l)
-no_command m text follows no_loader no_go no_load no_spawn no_module no_trace (spawn n f args) l = absurd (no_spawn n f args l)
-no_command m text follows no_loader no_go no_load no_spawn no_module no_trace go l = absurd (is_other (codes "go") l.text_is no_go)
+no_command m text follows no_loader no_go no_load no_spawn no_module no_trace no_put (load refs) l = absurd (no_load refs l)
+no_command m text follows no_loader no_go no_load no_spawn no_module no_trace no_put (on_atom command name) l = absurd (no_module command name l)
+no_command m text follows no_loader no_go no_load no_spawn no_module no_trace no_put (put key term) l = absurd (no_put key term l)
+no_command m text follows no_loader no_go no_load no_spawn no_module no_trace no_put (trace n f arity on) l = absurd (no_trace n f arity on l)
+no_command m text follows no_loader no_go no_load no_spawn no_module no_trace no_put (spawn n f args) l = absurd (no_spawn n f args l)
+no_command m text follows no_loader no_go no_load no_spawn no_module no_trace no_put go l = absurd (is_other (codes "go") l.text_is no_go)
   where
     is_other : (bytes : List ℕ) → text ≡ bytes → bytes_eq text bytes ≡ false → ⊥
     is_other bytes e f = let same : bytes_eq text bytes ≡ true = ap (λ (t : List ℕ). bytes_eq t bytes) e ∙ same_bytes bytes in absurd cc

@@ -8,21 +8,21 @@ use Rattle.std.proofs.lemmas.Grind.{flat_map-append}
 use Rattle.std.proofs.lemmas.List.Elements.{All-nil, All-cons}
 use Rattle.term_core.specs.Names.{IsNames}
 use Rattle.mod_core.specs.declared.code.Module.{Module}
-use Rattle.mod_core.specs.Canonical.{canonical as module_lines, IsModuleHeld}
+use Rattle.mod_text.specs.Canonical.{canonical as module_lines, IsModuleHeld}
 use Rattle.mod_core.specs.Module.{IsModule}
-use Rattle.mod_core.specs.ModuleLine.{LineForm, lines_written, line_bytes, is_line_form, line_written}
-use Rattle.mod_core.specs.ModuleText.{FollowOn}
-use Rattle.mod_core.specs.LineFaults.{names_after}
-use Rattle.mod_core.specs.ModuleValue.{module_of}
-use Rattle.mod_core.specs.Reading.{Lines, lines as parts_of, lines_of}
-use Rattle.mod_core.proofs.Cuts.{lacks}
-use Rattle.mod_core.proofs.LineAgain.{line_lacks}
-use Rattle.mod_core.proofs.ModuleHeld.{module_held, some_names}
+use Rattle.mod_text.specs.ModuleLine.{LineForm, lines_written, line_bytes, is_line_form, line_written}
+use Rattle.mod_text.specs.ModuleText.{FollowOn}
+use Rattle.mod_text.specs.LineFaults.{names_after}
+use Rattle.mod_text.specs.ModuleValue.{module_of}
+use Rattle.mod_text.specs.Reading.{Lines, lines as parts_of, lines_of}
+use Rattle.mod_text.proofs.Cuts.{lacks}
+use Rattle.mod_text.proofs.LineAgain.{line_lacks}
+use Rattle.mod_text.proofs.ModuleHeld.{module_held, some_names, sound_lines}
 use Rattle.script_text.specs.declared.script.Script.{Script}
 use Rattle.script_text.specs.ScriptLine.{RefForm, ScriptLine, head, code, go, script_line_written, is_script_line}
 use Rattle.script_text.specs.Groups.{groups_of}
 use Rattle.script_text.specs.Counts.{names_of, functions_of, code_lines, is_title, module_texts, line_titles, titles_of, is_loader, is_spawn, block_lines, loader_blocks}
-use Rattle.script_text.specs.LineFaults.{is_wide, last_of, or_else, lack_in_texts, is_lacking, lack_in_loads, first_lack}
+use Rattle.script_text.specs.LineFaults.{last_of, or_else, lack_in_texts, is_lacking, lack_in_loads, first_lack}
 use Rattle.script_text.specs.ScriptText.{IsShort, HaveNoFault, ScriptText}
 use Rattle.script_text.specs.ScriptValue.{commands_of, script_of}
 use Rattle.script_text.specs.Canonical.{IsOfSomeText, code_form, block_form, canonical_text, script_line_bytes, is_long_line, IsTooLong, IsTooLongToPrint}
@@ -36,7 +36,7 @@ use Rattle.script_text.proofs.Rooms.{AreWithin, all_within, StandWell, well_appe
 use Rattle.script_text.proofs.StandingTexts.{texts_stand, texts_are, blocks_stand}
 use Rattle.script_text.proofs.Soundness.{sound_of}
 use Rattle.script_text.proofs.SoundnessGroups.{gathered, each_weaker}
-use Rattle.script_text.proofs.SoundnessRows.{all_narrow}
+use Rattle.script_text.proofs.SoundnessRows.{all_narrow, IsNarrow}
 use Rattle.script_text.proofs.SoundnessNames.{names_sound, lines_held}
 use Rattle.script_text.proofs.SoundnessTexts.{AreClosed, texts_closed, none_first}
 use Rattle.script_text.proofs.SoundnessTitles.{title_ref, each_title, AreApart, titles_apart}
@@ -101,9 +101,10 @@ each_true : {X : Type 0} (P : X → Type 0) → ((x : X) → P x) → (xs : List
 each_true P h [] = tt
 each_true P h (x ∷ xs) = (h x, each_true P h xs)
 
-held_modules : (names : List (List ℕ)) (texts : List (List LineForm)) → IsNames names → All (IsModuleHeld names) (map (module_of names) texts)
-held_modules names [] sound = All-nil (IsModuleHeld names)
-held_modules names (text ∷ texts) sound = All-cons (IsModuleHeld names) (module_of names text) (map (module_of names) texts) (module_held names (some_names names sound) text) (held_modules names texts sound)
+held_modules : (names : List (List ℕ)) (texts : List (List LineForm)) → IsNames names → AreClosed names texts → All (IsModuleHeld names) (map (module_of names) texts)
+held_modules names [] sound closed = All-nil (IsModuleHeld names)
+held_modules names (text ∷ texts) sound closed =
+    All-cons (IsModuleHeld names) (module_of names text) (map (module_of names) texts) (module_held names (some_names names sound) text (sound_lines closed.0.before [] text closed.0.follow)) (held_modules names texts sound closed.1)
 
 -- ---- the lines of the canonical text
 
@@ -182,8 +183,8 @@ module _ (lines : List ScriptLine) (k : AreKnown lines) (r : Readings (names_of 
   well : StandWell [] forms
   well =
       let s = texts_stand (names_of lines) r.texts r.closed apart in
-      let narrow = of_blocks (λ line. is_wide line ≡ false) (all_narrow lines k.faultless) in (
-        record { place = refl; low = refl; narrow = refl; few = refl; short = refl; new_title = refl; new_name = refl },
+      let narrow = of_blocks IsNarrow (all_narrow lines k.faultless) in (
+        record { place = refl; low = refl; narrow = refl; brief = refl; few = refl; short = refl; new_title = refl; new_name = refl },
         well_append (head ∷ []) (code_form own) (blocks ++ go ∷ []) s.well (blocks_stand (head ∷ code_form own) blocks s.may order.opened (block_lines_are lines) narrow),
       )
 
@@ -283,7 +284,7 @@ pub modules_held : (s : Script) → IsOfSomeText s → All (IsModuleHeld s.names
 modules_held s o =
     let t = o.is_text in
     subst (λ (x : Script). All (IsModuleHeld x.names) x.modules) (sym t.value)
-    (held_modules (names_of t.lines) (module_texts t.lines) (names_sound t.lines t.whole.lines_are.sound t.whole.lines_are.faultless))
+    (held_modules (names_of t.lines) (module_texts t.lines) (names_sound t.lines t.whole.lines_are.sound t.whole.lines_are.faultless) (texts_closed t.lines t.whole.lines_are.sound t.whole.lines_are.faultless t.whole.finished))
 
 -- its canonical text is a text of it, unless it is too long
 pub canonical_reads : (s : Script) → IsOfSomeText s → (IsTooLongToPrint s → ⊥) → ScriptText (canonical_text s) s
@@ -291,5 +292,5 @@ canonical_reads s o =
     let t = o.is_text in
     let k = known o.text s t in
     let names = names_sound t.lines k.sound k.faultless in
-    let r = readings (names_of t.lines) (modules_of t.lines) names (subst (λ (x : Script). All IsModule x.modules) t.value (modules_sound s o)) (held_modules (names_of t.lines) (module_texts t.lines) names) in
+    let r = readings (names_of t.lines) (modules_of t.lines) names (subst (λ (x : Script). All IsModule x.modules) t.value (modules_sound s o)) (held_modules (names_of t.lines) (module_texts t.lines) names (texts_closed t.lines k.sound k.faultless k.finished)) in
     subst (λ (x : Script). (IsTooLongToPrint x → ⊥) → ScriptText (canonical_text x) x) (sym t.value) (text_is t.lines k r)

@@ -8,18 +8,18 @@ use Rattle.term_core.specs.declared.atom.Mfa.{Mfa}
 use Rattle.term_core.specs.Names.{IsNames, Extends, is_atom_text, names_with}
 use Rattle.term_core.specs.TermText.{names_with_all}
 use Rattle.term_core.proofs.NameTables.{names_with-IsNames}
-use Rattle.mod_core.specs.declared.fault.LineFault.{LineFault}
-use Rattle.mod_core.specs.declared.fault.LineFault.TheVariants as line_faults
-use Rattle.mod_core.specs.ModuleLine.{LineForm, title, header, label, instr, end, number_value, is_line_form, LineText}
-use Rattle.mod_core.specs.LineReading.{line_reading}
-use Rattle.mod_core.specs.LineFaults.{last_line, may_follow, has_high_register, has_wide_integer, line_atoms, names_after, overfills_names, is_seventeenth, ends_too_long, is_repeated, fault_of_line, counted_name, counted_by, counted_of}
-use Rattle.mod_core.specs.ModuleValue.{HeaderForm, headers_in, is_header, IsTitled, title_of, module_of}
-use Rattle.mod_core.specs.Reading.{Step, kept, judged, line_step}
-use Rattle.mod_core.proofs.Options.{some_is, passed, failed, bytes_are}
-use Rattle.mod_core.proofs.LineLaws.{line_is}
-use Rattle.mod_core.proofs.LineAgain.{text_again}
-use Rattle.mod_core.proofs.LineNames.{are_atoms, line_atoms_are, more_names_all}
-use Rattle.mod_core.proofs.Keepings.{last_line-push}
+use Rattle.mod_text.specs.declared.fault.LineFault.{LineFault}
+use Rattle.mod_text.specs.declared.fault.LineFault.TheVariants as line_faults
+use Rattle.mod_text.specs.ModuleLine.{LineForm, title, header, label, instr, end, number_value, is_line_form, LineText}
+use Rattle.mod_text.specs.LineReading.{line_reading}
+use Rattle.mod_text.specs.LineFaults.{last_line, may_follow, has_high_register, has_wide_integer, has_long_term, line_atoms, names_after, overfills_names, is_seventeenth, ends_too_long, is_repeated, fault_of_line, counted_name, counted_by, counted_of}
+use Rattle.mod_text.specs.ModuleValue.{HeaderForm, headers_in, is_header, IsTitled, title_of, module_of}
+use Rattle.mod_text.specs.Reading.{Step, kept, judged, line_step}
+use Rattle.mod_text.proofs.Options.{some_is, passed, failed, bytes_are}
+use Rattle.mod_text.proofs.LineLaws.{line_is}
+use Rattle.mod_text.proofs.LineAgain.{text_again}
+use Rattle.mod_text.proofs.LineNames.{are_atoms, line_atoms_are, more_names_all}
+use Rattle.mod_text.proofs.Keepings.{last_line-push}
 use Rattle.server_core.specs.declared.command.ModRef.{ModRef}
 use Rattle.script_text.specs.declared.fault.Which.TheVariants as which
 use Rattle.script_text.specs.declared.fault.ScriptFault.{ScriptFault}
@@ -69,7 +69,7 @@ Judges m text (Err causes.NoMemory) = ⊥
 
 -- a line that may not stand there
 pub misplaced : (m : Summary) (line : ScriptLine) → may_stand m.last line ≡ false → fault_by m line ≡ Some (faults.Syntax (m.count + 1))
-misplaced m line e = misplaced_table (may_stand m.last line) _ _ _ _ _ _ _ _ _ (m.count + 1) e
+misplaced m line e = misplaced_table (may_stand m.last line) _ _ _ _ _ _ _ _ _ _ (m.count + 1) e
 
 no_count : (n bound : ℕ) → n ≤ bound → nat_lt bound (n + 0) ≡ false
 no_count n bound h = grind (arith, nat_tests)
@@ -83,8 +83,8 @@ pub code_fault : (m : Summary) (r : ScriptReader) (closed : List (List LineForm)
 code_fault m r closed line k e =
     let spawns = no_count m.spawns 64 k.few_processes in
     let loaders = no_count m.loaders 8 k.few_loaders in
-    (λ i. table (not (e i) || has_high_register line) (has_wide_integer line) (overfills_names m.names line) (is_seventeenth (last_group m.texts) line) (ends_too_long m.names (last_group m.texts) line) (exports_by m (code line)) (spawns i) (loaders i) (is_given_again m.titles line || is_repeated (last_group m.texts) line) (m.count + 1))
-    ∙ code_table (has_high_register line) (has_wide_integer line) (overfills_names m.names line) (is_seventeenth (last_group m.texts) line) (ends_too_long m.names (last_group m.texts) line) (is_repeated (last_group m.texts) line) (exports_by m (code line)) (is_given_again m.titles line) (m.count + 1)
+    (λ i. table (not (e i) || has_high_register line) (has_wide_integer line) (has_long_term line) (overfills_names m.names line) (is_seventeenth (last_group m.texts) line) (ends_too_long m.names (last_group m.texts) line) (exports_by m (code line)) (spawns i) (loaders i) (is_given_again m.titles line || is_repeated (last_group m.texts) line) (m.count + 1))
+    ∙ code_table (has_high_register line) (has_wide_integer line) (has_long_term line) (overfills_names m.names line) (is_seventeenth (last_group m.texts) line) (ends_too_long m.names (last_group m.texts) line) (is_repeated (last_group m.texts) line) (exports_by m (code line)) (is_given_again m.titles line) (m.count + 1)
 
 -- ---- names
 

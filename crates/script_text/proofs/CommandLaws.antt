@@ -4,17 +4,22 @@ use Rattle.std.specs.Prelude.{map}
 use Rattle.std.specs.List.{list_all, flat_map, join_with_byte}
 use Rattle.std.proofs.lemmas.Bool.{and_parts, and_from}
 use Rattle.std.proofs.lemmas.Bool.Decides.{nat_tests, Decides-eqb}
-use Rattle.term_core.specs.Names.{is_atom_text, is_name_byte}
-use Rattle.term_core.specs.PlainTerm.{integer_leaf, atom_leaf, tuple_of, list_of, no_terms, term_then, row_of}
-use Rattle.term_core.specs.Written.{WrittenTerm, written, parted, behind, is_integer_text}
-use Rattle.term_core.proofs.Shapes.{no_atom_text}
-use Rattle.mod_core.specs.ModuleLine.{is_version_text, is_number_text}
-use Rattle.mod_core.specs.LineReading.{◌>>=◌, cut_at, tested}
-use Rattle.mod_core.proofs.Options.{some, some_is, bind_some, bind_at, map_some, guard_some, guarded, passed, failed, same_bytes, bytes_are, tested_is, tested_at}
-use Rattle.mod_core.proofs.Cuts.{lacks, lacks-all, lacks-append, lacks-cons, cut_here, IsCut, cut_is, uncut_is, uncut}
-use Rattle.mod_core.proofs.LineAgain.{IsApart, name_bytes, atom_lacks, number_lacks, integer_lacks}
-use Rattle.script_text.specs.ScriptLine.{RefForm, ScriptLine, load, spawn, ref_written, call_written, is_ref_form, is_argument_form, is_script_line, IsLine}
+use Rattle.term_core.specs.Names.{is_atom_text}
+use Rattle.term_core.specs.PlainTerm.{row_of}
+use Rattle.term_core.specs.TermParts.{parts_of_terms, joined}
+use Rattle.term_core.specs.Written.{WrittenTerm, written, parted, behind}
+use Rattle.term_core.proofs.PartedTerms.{joined_parts_of_terms, joined_written}
+use Rattle.term_core.proofs.TermBytes.{is_term_byte}
+use Rattle.term_core.proofs.TermForms.{is_term_text-form, nonempty-is_term_text}
+use Rattle.mod_text.specs.ModuleLine.{is_version_text, is_number_text}
+use Rattle.mod_text.specs.LineReading.{◌>>=◌, cut_at, tested}
+use Rattle.mod_text.proofs.Options.{some, some_is, bind_some, bind_at, map_some, guard_some, guarded, passed, failed, same_bytes, bytes_are, tested_is, tested_at}
+use Rattle.mod_text.proofs.Cuts.{lacks, lacks-all, lacks-append, lacks-cons, cut_here, IsCut, cut_is, uncut_is, uncut}
+use Rattle.mod_text.proofs.LineAgain.{IsApart, atom_lacks, number_lacks}
+use Rattle.script_text.specs.ScriptLine.{RefForm, ScriptLine, load, spawn, ref_written, call_written, is_ref_form, is_term_form, is_script_line, IsLine}
 use Rattle.script_text.specs.LineReading.{parts_of, ref_reading, each_reading, refs_reading, argument_reading, arguments_reading, CallForm, closed_arguments, call_reading}
+use Rattle.script_text.proofs.TermLines.{text_of_form, term_lacks, argument_again, argument_is}
+use Rattle.script_text.proofs.TermParts.{parts_of_written}
 use Rattle.script_text.proofs.Parts.{parts_at, parts_whole, parts_are_some, join-parts}
 
 -- ---- a version of a module
@@ -62,27 +67,27 @@ pub record IsReader {X : Type 0} (write : X → List ℕ) (read : List ℕ → O
   pub sound : (text : List ℕ) (x : X) → read text ≡ Some x → ok x ≡ true
   pub apart : (x : X) → ok x ≡ true → lacks byte (write x) ≡ true
 
-each_again : {X : Type 0} (write : X → List ℕ) (read : List ℕ → Option X) (ok : X → Bool) (byte : ℕ) → IsReader write read ok byte → (xs : List X) → list_all ok xs ≡ true → each_reading read (map write xs) ≡ Some xs
-each_again write read ok byte r [] h = refl
-each_again write read ok byte r (x ∷ xs) h =
+each_again : {X : Type 0} (write : X → List ℕ) (read : List ℕ → Option X) (ok : X → Bool) → ((x : X) → ok x ≡ true → read (write x) ≡ Some x) → (xs : List X) → list_all ok xs ≡ true → each_reading read (map write xs) ≡ Some xs
+each_again write read ok again [] h = refl
+each_again write read ok again (x ∷ xs) h =
     let p = and_parts (ok x) (list_all ok xs) h in
-    bind_at (read (write x)) (λ y. each_reading read (map write xs) >>= λ ys. Some (y ∷ ys)) x (some (x ∷ xs)) (r.again x p.0)
-    (bind_at (each_reading read (map write xs)) (λ ys. Some (x ∷ ys)) xs (some (x ∷ xs)) (each_again write read ok byte r xs p.1) refl)
+    bind_at (read (write x)) (λ y. each_reading read (map write xs) >>= λ ys. Some (y ∷ ys)) x (some (x ∷ xs)) (again x p.0)
+    (bind_at (each_reading read (map write xs)) (λ ys. Some (x ∷ ys)) xs (some (x ∷ xs)) (each_again write read ok again xs p.1) refl)
 
 -- the parts are the texts of these items
 pub record AreItems {X : Type 0} (write : X → List ℕ) (ok : X → Bool) (parts : List (List ℕ)) (xs : List X) : Type 0 where
   pub texts : parts ≡ map write xs
   pub sound : list_all ok xs ≡ true
 
-each_is : {X : Type 0} (write : X → List ℕ) (read : List ℕ → Option X) (ok : X → Bool) (byte : ℕ) → IsReader write read ok byte → (parts : List (List ℕ)) (xs : List X) → each_reading read parts ≡ Some xs → AreItems write ok parts xs
-each_is write read ok byte r [] xs e = subst (AreItems write ok []) (some_is [] xs e) (record { texts = refl; sound = refl })
-each_is write read ok byte r (part ∷ parts) xs e =
+each_is : {X : Type 0} (write : X → List ℕ) (read : List ℕ → Option X) (ok : X → Bool) → ((text : List ℕ) (x : X) → read text ≡ Some x → text ≡ write x) → ((text : List ℕ) (x : X) → read text ≡ Some x → ok x ≡ true) → (parts : List (List ℕ)) (xs : List X) → each_reading read parts ≡ Some xs → AreItems write ok parts xs
+each_is write read ok text_is sound [] xs e = subst (AreItems write ok []) (some_is [] xs e) (record { texts = refl; sound = refl })
+each_is write read ok text_is sound (part ∷ parts) xs e =
     let a = bind_some (read part) (λ y. each_reading read parts >>= λ ys. Some (y ∷ ys)) xs e in
     let b = bind_some (each_reading read parts) (λ ys. Some (a.0 ∷ ys)) xs a.2 in
-    let more = each_is write read ok byte r parts b.0 b.1 in
+    let more = each_is write read ok text_is sound parts b.0 b.1 in
     subst (AreItems write ok (part ∷ parts)) (some_is (a.0 ∷ b.0) xs b.2) (record {
-      texts = ap (λ (t : List ℕ). t ∷ parts) (r.text_is part a.0 a.1) ∙ ap (λ (ps : List (List ℕ)). write a.0 ∷ ps) more.texts;
-      sound = and_from (ok a.0) (list_all ok b.0) (r.sound part a.0 a.1) more.sound;
+      texts = ap (λ (t : List ℕ). t ∷ parts) (text_is part a.0 a.1) ∙ ap (λ (ps : List (List ℕ)). write a.0 ∷ ps) more.texts;
+      sound = and_from (ok a.0) (list_all ok b.0) (sound part a.0 a.1) more.sound;
     })
 
 joined_parts : {X : Type 0} (write : X → List ℕ) (read : List ℕ → Option X) (ok : X → Bool) (byte : ℕ) → IsReader write read ok byte → (x : X) (xs : List X) → list_all ok (x ∷ xs) ≡ true → parts_of byte (join_with_byte byte (map write (x ∷ xs))) ≡ map write (x ∷ xs)
@@ -123,10 +128,10 @@ parts_some byte text = parts_are_some byte text
 
 pub refs_is : (rest : List ℕ) (refs : List RefForm) → refs_reading rest ≡ Some refs → IsLoadRest rest refs
 refs_is rest [] e =
-    let is = each_is ref_written ref_reading is_ref_form 32 ref_reader (parts_of 32 rest) [] e in
+    let is = each_is ref_written ref_reading is_ref_form ref_reader.text_is ref_reader.sound (parts_of 32 rest) [] e in
     absurd (omega (arith, parts_some 32 rest, ap length is.texts))
 refs_is rest (r ∷ rs) e =
-    let is = each_is ref_written ref_reading is_ref_form 32 ref_reader (parts_of 32 rest) (r ∷ rs) e in
+    let is = each_is ref_written ref_reading is_ref_form ref_reader.text_is ref_reader.sound (parts_of 32 rest) (r ∷ rs) e in
     record {
       text_is = ap (λ (t : List ℕ). 32 ∷ t) (sym (join-parts 32 rest) ∙ ap (join_with_byte 32) is.texts) ∙ join-flat ref_written 32 r rs;
       sound = is.sound;
@@ -134,7 +139,7 @@ refs_is rest (r ∷ rs) e =
 
 pub refs_again : (r : RefForm) (rs : List RefForm) → list_all is_ref_form (r ∷ rs) ≡ true → refs_reading (join_with_byte 32 (map ref_written (r ∷ rs))) ≡ Some (r ∷ rs)
 refs_again r rs h =
-    ap (each_reading ref_reading) (joined_parts ref_written ref_reading is_ref_form 32 ref_reader r rs h) ∙ each_again ref_written ref_reading is_ref_form 32 ref_reader (r ∷ rs) h
+    ap (each_reading ref_reading) (joined_parts ref_written ref_reading is_ref_form 32 ref_reader r rs h) ∙ each_again ref_written ref_reading is_ref_form ref_reader.again (r ∷ rs) h
 
 -- the text of a load, cut at its first space
 pub load_cut : (text : List ℕ) (refs : List RefForm) → IsLine text (load refs) → (rest : List ℕ) × (cut_at 32 text ≡ Some (codes "load", rest)) × (refs_reading rest ≡ Some refs)
@@ -145,99 +150,43 @@ load_cut text (r ∷ rs) is =
 
 -- ---- calls
 
-comma_apart : IsApart 44
-comma_apart = record { name = refl; digit = refl; zero_digit = refl; minus = refl; dollar = refl }
+some_text : (t : WrittenTerm) (ts : List WrittenTerm) → is_term_form t ≡ true → 0 < length (parted (row_of (t ∷ ts)))
+some_text t ts h = omega (arith, length-append (written t) (behind (row_of ts)), nonempty-is_term_text (written t) (is_term_text-form (written t) t (text_of_form t h)))
 
-bracket_apart : IsApart 41
-bracket_apart = record { name = refl; digit = refl; zero_digit = refl; minus = refl; dollar = refl }
-
-argument_again : (t : WrittenTerm) → is_argument_form t ≡ true → argument_reading (written t) ≡ Some t
-argument_again (integer_leaf text) h =
-    failed (is_atom_text text) (some (atom_leaf text)) _ (no_atom_text text h) ∙ ap (option_map (λ t. integer_leaf t)) (tested_at is_integer_text text h)
-argument_again (atom_leaf text) h = passed (is_atom_text text) (some (atom_leaf text)) _ h
-argument_again (tuple_of row) h = absurd cc
-argument_again (list_of row) h = absurd cc
-
-argument_cases : (text : List ℕ) (t : WrittenTerm) (b : Bool) → is_atom_text text ≡ b → cond b (Some (atom_leaf text)) (option_map (λ u. integer_leaf u) (tested is_integer_text text)) ≡ Some t → (text ≡ written t) × (is_argument_form t ≡ true)
-argument_cases text t true h e = let is : atom_leaf text ≡ t = some_is (atom_leaf text) t e in subst (λ u. (text ≡ written u) × (is_argument_form u ≡ true)) is (refl, h)
-argument_cases text t false h e =
-    let m = map_some (λ u. integer_leaf u) (tested is_integer_text text) t e in
-    let is = tested_is is_integer_text text m.0 m.1 in
-    subst (λ u. (text ≡ written u) × (is_argument_form u ≡ true)) m.2 (is.0, is.1)
-
-argument_is : (text : List ℕ) (t : WrittenTerm) → argument_reading text ≡ Some t → (text ≡ written t) × (is_argument_form t ≡ true)
-argument_is text t e = argument_cases text t (is_atom_text text) refl e
-
-argument_lacks : (byte : ℕ) (t : WrittenTerm) → IsApart byte → is_argument_form t ≡ true → lacks byte (written t) ≡ true
-argument_lacks byte (integer_leaf text) apart h = integer_lacks byte text apart h
-argument_lacks byte (atom_leaf text) apart h = atom_lacks byte text apart.name h
-argument_lacks byte (tuple_of row) apart h = absurd cc
-argument_lacks byte (list_of row) apart h = absurd cc
-
-pub argument_reader : IsReader written argument_reading is_argument_form 44
-argument_reader = record {
-  again = argument_again;
-  text_is = λ text t e. (argument_is text t e).0;
-  sound = λ text t e. (argument_is text t e).1;
-  apart = λ t h. argument_lacks 44 t comma_apart h;
-}
-
--- terms parted by commas
-behind-join : (t : WrittenTerm) (ts : List WrittenTerm) → behind (row_of (t ∷ ts)) ≡ 44 ∷ join_with_byte 44 (map written (t ∷ ts))
-behind-join t [] = ap (λ (l : List ℕ). 44 ∷ l) (append-nil (written t))
-behind-join t (u ∷ us) = ap (λ (l : List ℕ). 44 ∷ (written t ++ l)) (behind-join u us)
-
-pub parted-join : (ts : List WrittenTerm) → parted (row_of ts) ≡ join_with_byte 44 (map written ts)
-parted-join [] = refl
-parted-join (t ∷ []) = append-nil (written t)
-parted-join (t ∷ u ∷ us) = ap (λ (l : List ℕ). written t ++ l) (behind-join u us)
-
-some_text : (t : WrittenTerm) (ts : List WrittenTerm) → is_argument_form t ≡ true → 0 < length (parted (row_of (t ∷ ts)))
-some_text t ts h = omega (arith, length-append (written t) (behind (row_of ts)), some_leaf t h)
-  where
-    some_leaf : (u : WrittenTerm) → is_argument_form u ≡ true → 0 < length (written u)
-    some_leaf (integer_leaf []) h = absurd cc
-    some_leaf (integer_leaf (c ∷ cs)) h = omega arith
-    some_leaf (atom_leaf []) h = absurd cc
-    some_leaf (atom_leaf (c ∷ cs)) h = omega arith
-    some_leaf (tuple_of row) h = absurd cc
-    some_leaf (list_of row) h = absurd cc
-
-arguments_again : (ts : List WrittenTerm) → list_all is_argument_form ts ≡ true → arguments_reading (parted (row_of ts)) ≡ Some ts
+arguments_again : (ts : List WrittenTerm) → list_all is_term_form ts ≡ true → arguments_reading (parted (row_of ts)) ≡ Some ts
 arguments_again [] h = refl
 arguments_again (t ∷ ts) h =
-    let some_bytes = some_text t ts (and_parts (is_argument_form t) (list_all is_argument_form ts) h).0 in
+    let some_bytes = some_text t ts (and_parts (is_term_form t) (list_all is_term_form ts) h).0 in
     let long : (length (parted (row_of (t ∷ ts))) == 0) ≡ false = grind (arith, nat_tests) in
     failed (length (parted (row_of (t ∷ ts))) == 0) (some []) _ long
-    ∙ ap (λ (l : List ℕ). each_reading argument_reading (parts_of 44 l)) (parted-join (t ∷ ts))
-    ∙ ap (each_reading argument_reading) (joined_parts written argument_reading is_argument_form 44 argument_reader t ts h)
-    ∙ each_again written argument_reading is_argument_form 44 argument_reader (t ∷ ts) h
+    ∙ ap (each_reading argument_reading) (parts_of_written t ts h)
+    ∙ each_again written argument_reading is_term_form argument_again (t ∷ ts) h
 
 nothing : (text : List ℕ) → (length text == 0) ≡ true → text ≡ []
 nothing [] h = refl
 nothing (c ∷ rest) h = absurd (omega (arith, (Decides-eqb (length (c ∷ rest)) 0).0 h))
 
-arguments_cases : (text : List ℕ) (ts : List WrittenTerm) (b : Bool) → (length text == 0) ≡ b → cond b (Some []) (each_reading argument_reading (parts_of 44 text)) ≡ Some ts → (text ≡ parted (row_of ts)) × (list_all is_argument_form ts ≡ true)
-arguments_cases text ts true is e = let none : [] ≡ ts = some_is [] ts e in subst (λ us. (text ≡ parted (row_of us)) × (list_all is_argument_form us ≡ true)) none (nothing text is, refl)
+arguments_cases : (text : List ℕ) (ts : List WrittenTerm) (b : Bool) → (length text == 0) ≡ b → cond b (Some []) (each_reading argument_reading (parts_of_terms text)) ≡ Some ts → (text ≡ parted (row_of ts)) × (list_all is_term_form ts ≡ true)
+arguments_cases text ts true is e = let none : [] ≡ ts = some_is [] ts e in subst (λ us. (text ≡ parted (row_of us)) × (list_all is_term_form us ≡ true)) none (nothing text is, refl)
 arguments_cases text ts false is e =
-    let a = each_is written argument_reading is_argument_form 44 argument_reader (parts_of 44 text) ts e in
-    (sym (join-parts 44 text) ∙ ap (join_with_byte 44) a.texts ∙ sym (parted-join ts), a.sound)
+    let a = each_is written argument_reading is_term_form (λ part t read. (argument_is part t read).text_is) (λ part t read. (argument_is part t read).sound) (parts_of_terms text) ts e in
+    (sym (joined_parts_of_terms text) ∙ ap joined a.texts ∙ joined_written ts, a.sound)
 
-arguments_is : (text : List ℕ) (ts : List WrittenTerm) → arguments_reading text ≡ Some ts → (text ≡ parted (row_of ts)) × (list_all is_argument_form ts ≡ true)
+arguments_is : (text : List ℕ) (ts : List WrittenTerm) → arguments_reading text ≡ Some ts → (text ≡ parted (row_of ts)) × (list_all is_term_form ts ≡ true)
 arguments_is text ts e = arguments_cases text ts (length text == 0) refl e
 
 -- what stands in brackets lacks the closing one
-behind_lacks : (byte : ℕ) (ts : List WrittenTerm) → IsApart byte → (44 == byte) ≡ false → list_all is_argument_form ts ≡ true → lacks byte (behind (row_of ts)) ≡ true
+behind_lacks : (byte : ℕ) (ts : List WrittenTerm) → is_term_byte byte ≡ false → (44 == byte) ≡ false → list_all is_term_form ts ≡ true → lacks byte (behind (row_of ts)) ≡ true
 behind_lacks byte [] apart comma h = refl
 behind_lacks byte (t ∷ ts) apart comma h =
-    let p = and_parts (is_argument_form t) (list_all is_argument_form ts) h in
-    lacks-cons byte 44 (written t ++ behind (row_of ts)) comma (lacks-append byte (written t) (behind (row_of ts)) (argument_lacks byte t apart p.0) (behind_lacks byte ts apart comma p.1))
+    let p = and_parts (is_term_form t) (list_all is_term_form ts) h in
+    lacks-cons byte 44 (written t ++ behind (row_of ts)) comma (lacks-append byte (written t) (behind (row_of ts)) (term_lacks byte t apart p.0) (behind_lacks byte ts apart comma p.1))
 
-parted_lacks : (byte : ℕ) (ts : List WrittenTerm) → IsApart byte → (44 == byte) ≡ false → list_all is_argument_form ts ≡ true → lacks byte (parted (row_of ts)) ≡ true
+parted_lacks : (byte : ℕ) (ts : List WrittenTerm) → is_term_byte byte ≡ false → (44 == byte) ≡ false → list_all is_term_form ts ≡ true → lacks byte (parted (row_of ts)) ≡ true
 parted_lacks byte [] apart comma h = refl
 parted_lacks byte (t ∷ ts) apart comma h =
-    let p = and_parts (is_argument_form t) (list_all is_argument_form ts) h in
-    lacks-append byte (written t) (behind (row_of ts)) (argument_lacks byte t apart p.0) (behind_lacks byte ts apart comma p.1)
+    let p = and_parts (is_term_form t) (list_all is_term_form ts) h in
+    lacks-append byte (written t) (behind (row_of ts)) (term_lacks byte t apart p.0) (behind_lacks byte ts apart comma p.1)
 
 -- the call of a spawn is of its form
 abbrev pub is_call : CallForm → Bool
@@ -251,13 +200,13 @@ pub record IsCall (text : List ℕ) (c : CallForm) : Type 0 where
   pub text_is : text ≡ call_text c
   pub sound : is_call c ≡ true
 
-closed_is : (x : List ℕ × List ℕ) (ts : List WrittenTerm) → closed_arguments x ≡ Some ts → (x.0 ++ 41 ∷ x.1 ≡ parted (row_of ts) ++ 41 ∷ []) × (nat_le (length ts) 15 ≡ true) × (list_all is_argument_form ts ≡ true)
+closed_is : (x : List ℕ × List ℕ) (ts : List WrittenTerm) → closed_arguments x ≡ Some ts → (x.0 ++ 41 ∷ x.1 ≡ parted (row_of ts) ++ 41 ∷ []) × (nat_le (length ts) 15 ≡ true) × (list_all is_term_form ts ≡ true)
 closed_is x ts e =
     let a = bind_some (arguments_reading x.0) (λ args. cond (length x.1 == 0 && nat_le (length args) 15) (Some args) None) ts e in
     let g = guard_some (length x.1 == 0 && nat_le (length a.0) 15) a.0 ts a.2 in
     let tests = and_parts (length x.1 == 0) (nat_le (length a.0) 15) g.0 in
     let is = arguments_is x.0 a.0 a.1 in
-    subst (λ us. (x.0 ++ 41 ∷ x.1 ≡ parted (row_of us) ++ 41 ∷ []) × (nat_le (length us) 15 ≡ true) × (list_all is_argument_form us ≡ true)) g.1
+    subst (λ us. (x.0 ++ 41 ∷ x.1 ≡ parted (row_of us) ++ 41 ∷ []) × (nat_le (length us) 15 ≡ true) × (list_all is_term_form us ≡ true)) g.1
     (ap (λ (l : List ℕ). x.0 ++ 41 ∷ l) (nothing x.1 tests.0) ∙ ap (λ (l : List ℕ). l ++ 41 ∷ []) is.0, tests.1, is.1)
 
 call_of : List ℕ → List ℕ → List WrittenTerm → CallForm
@@ -279,7 +228,7 @@ call_is text c e =
     let middle : a.0.1 ≡ f.0 ++ 40 ∷ (parted (row_of g.0) ++ 41 ∷ []) = (cut_is 40 a.0.1 b.0 b.1).whole ∙ ap (λ (n : List ℕ). n ++ 40 ∷ b.0.1) f_is.0 ∙ ap (λ (l : List ℕ). f.0 ++ 40 ∷ l) last in
     subst (IsCall text) (some_is (call_of m.0 f.0 g.0) c g.2) (record {
       text_is = (cut_is 58 text a.0 a.1).whole ∙ ap (λ (n : List ℕ). n ++ 58 ∷ a.0.1) m_is.0 ∙ ap (λ (l : List ℕ). m.0 ++ 58 ∷ l) middle;
-      sound = and_from (is_atom_text m.0) _ m_is.1 (and_from (is_atom_text f.0) _ f_is.1 (and_from (nat_le (length g.0) 15) (list_all is_argument_form g.0) args.1 args.2));
+      sound = and_from (is_atom_text m.0) _ m_is.1 (and_from (is_atom_text f.0) _ f_is.1 (and_from (nat_le (length g.0) 15) (list_all is_term_form g.0) args.1 args.2));
     })
 
 pub call_again : (c : CallForm) → is_call c ≡ true → call_reading (call_text c) ≡ Some c
@@ -287,7 +236,7 @@ unfolding call_of
 call_again c h =
     let p = and_parts (is_atom_text c.«module») _ h in
     let q = and_parts (is_atom_text c.name) _ p.1 in
-    let r = and_parts (nat_le (length c.args) 15) (list_all is_argument_form c.args) q.1 in
+    let r = and_parts (nat_le (length c.args) 15) (list_all is_term_form c.args) q.1 in
     let inside = parted (row_of c.args) in
     let third = inside ++ 41 ∷ [] in
     let second = c.name ++ 40 ∷ third in
@@ -296,7 +245,7 @@ call_again c h =
     (bind_at (cut_at 40 second) (λ function. cut_at 41 function.1 >>= λ x. tested is_atom_text c.«module» >>= λ m. tested is_atom_text function.0 >>= λ f. closed_arguments x >>= λ args. Some (call_of m f args)) (c.name, third) (some c)
     (cut_here 40 c.name third (atom_lacks 40 c.name refl q.0))
     (bind_at (cut_at 41 third) (λ x. tested is_atom_text c.«module» >>= λ m. tested is_atom_text c.name >>= λ f. closed_arguments x >>= λ args. Some (call_of m f args)) (inside, []) (some c)
-    (cut_here 41 inside [] (parted_lacks 41 c.args bracket_apart refl r.1))
+    (cut_here 41 inside [] (parted_lacks 41 c.args refl refl r.1))
     (bind_at (tested is_atom_text c.«module») (λ m. tested is_atom_text c.name >>= λ f. closed_arguments (inside, []) >>= λ args. Some (call_of m f args)) c.«module» (some c) (tested_at is_atom_text c.«module» p.0)
     (bind_at (tested is_atom_text c.name) (λ f. closed_arguments (inside, []) >>= λ args. Some (call_of c.«module» f args)) c.name (some c) (tested_at is_atom_text c.name q.0)
     (bind_at (closed_arguments (inside, [])) (λ args. Some (call_of c.«module» c.name args)) c.args (some c)

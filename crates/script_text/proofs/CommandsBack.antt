@@ -5,27 +5,28 @@ use Rattle.std.specs.List.{AllByRecursion, flat_map, list_all, list_any}
 use Rattle.std.proofs.lemmas.Bool.{and_parts, or_parts}
 use Rattle.std.proofs.lemmas.List.{map-append}
 use Rattle.std.proofs.lemmas.List.Folds.{flat_map-map}
-use Rattle.term_core.specs.PlainTerm.{integer_leaf, atom_leaf, tuple_of, list_of, atoms_of}
-use Rattle.term_core.specs.Written.{WrittenTerm, integer_of}
-use Rattle.term_core.proofs.IntegerTexts.{signed_decimal-integer_of}
-use Rattle.mod_core.specs.ModuleLine.{is_version_text, is_arity_text, is_function_form}
-use Rattle.mod_core.specs.ModuleValue.{atom_in}
+use Rattle.term_core.specs.PlainTerm.{atoms_of}
+use Rattle.term_core.specs.Written.{WrittenTerm}
+use Rattle.term_core.proofs.PlainTerms.{plain-term_of}
+use Rattle.mod_text.specs.ModuleLine.{is_version_text, is_arity_text, is_function_form}
+use Rattle.mod_text.specs.ModuleValue.{atom_in}
 use Rattle.term_core.specs.Names.{is_atom_text}
 use Rattle.script_text.specs.declared.script.ScriptCmd.{ScriptCmd}
-use Rattle.script_text.specs.ScriptLine.{RefForm, ModuleCommand, delete, soft_purge, purge, check_old, ScriptLine, head, code, loader, load, on_module, trace, spawn, go, is_ref_form, is_argument_form, is_script_line}
+use Rattle.script_text.specs.ScriptLine.{RefForm, AtomCommand, delete, soft_purge, purge, check_old, erase, ScriptLine, head, code, loader, load, on_atom, put, trace, spawn, go, is_ref_form, is_term_form, is_script_line}
 use Rattle.script_text.specs.Groups.{onto_last, groups_with, groups_of}
 use Rattle.script_text.specs.Counts.{is_loader}
-use Rattle.script_text.specs.LineFaults.{is_wide_argument}
+use Rattle.script_text.specs.LineFaults.{is_wide_term}
 use Rattle.script_text.specs.ScriptValue.{ref_in, argument_in, command_of, commands_on, commands_of}
 use Rattle.script_text.specs.Canonical.{ref_form, argument_form, command_line, block_form}
 use Rattle.script_text.proofs.GrownLines.{flat_map-snoc}
 use Rattle.script_text.proofs.HeldNames.{IsHeldText}
 use Rattle.script_text.proofs.ModuleNames.{AreHeld}
+use Rattle.script_text.proofs.TermNames.{narrow_fits, term_again}
 use Rattle.script_text.proofs.TextsBack.{atom_again, version_again, arity_again}
 use Rattle.script_text.proofs.InOrder.{AreBlocks}
 use Rattle.script_text.proofs.Assembled.{IsBlockLine}
 use Rattle.script_text.proofs.SoundnessNames.{spawn_line, arguments_held}
-use Rattle.script_text.proofs.SoundnessCommands.{IsLineOf, fits}
+use Rattle.script_text.proofs.SoundnessCommands.{IsLineOf}
 
 -- ---- one line
 
@@ -38,18 +39,12 @@ refs_again names (r ∷ refs) form held =
     let more = refs_again names refs p.1 held.1 in
     λ k. record { name = n k; version = v k } ∷ more k
 
-argument_again : (names : List (List ℕ)) (arg : WrittenTerm) → is_argument_form arg ≡ true → is_wide_argument arg ≡ false → AreHeld names (atoms_of arg) → argument_form names (argument_in names arg) ≡ arg
-argument_again names (integer_leaf text) form narrow held = ap (λ (t : List ℕ). integer_leaf t) (sym (signed_decimal-integer_of text form (fits (integer_of text) narrow)))
-argument_again names (atom_leaf text) form narrow held = ap (λ (t : List ℕ). atom_leaf t) (atom_again names text held.0)
-argument_again names (tuple_of row) form narrow held = absurd cc
-argument_again names (list_of row) form narrow held = absurd cc
-
-arguments_again : (names : List (List ℕ)) (args : List WrittenTerm) → list_all is_argument_form args ≡ true → list_any is_wide_argument args ≡ false → AllByRecursion (λ arg. AreHeld names (atoms_of arg)) args → map (argument_form names) (map (argument_in names) args) ≡ args
+arguments_again : (names : List (List ℕ)) (args : List WrittenTerm) → list_all is_term_form args ≡ true → list_any is_wide_term args ≡ false → AllByRecursion (λ arg. AreHeld names (atoms_of arg)) args → map (argument_form names) (map (argument_in names) args) ≡ args
 arguments_again names [] form narrow held = refl
 arguments_again names (arg ∷ args) form narrow held =
-    let f = and_parts (is_argument_form arg) (list_all is_argument_form args) form in
-    let n = or_parts (is_wide_argument arg) (list_any is_wide_argument args) narrow in
-    let first = argument_again names arg f.0 n.0 held.0 in
+    let f = and_parts (is_term_form arg) (list_all is_term_form args) form in
+    let n = or_parts (is_wide_term arg) (list_any is_wide_term args) narrow in
+    let first = term_again names arg f.0 (narrow_fits arg n.0) held.0 in
     let more = arguments_again names args f.1 n.1 held.1 in
     λ k. first k ∷ more k
 
@@ -62,11 +57,12 @@ some_refs : (refs : List RefForm) → is_script_line (load refs) ≡ true → li
 some_refs [] h = absurd cc
 some_refs (r ∷ refs) h = h
 
-command_again : (names : List (List ℕ)) (command : ModuleCommand) (name : List ℕ) → IsHeldText names name → command_line names (command_of command (atom_in names name)) ≡ on_module command name
-command_again names delete name held = ap (on_module delete) (atom_again names name held)
-command_again names soft_purge name held = ap (on_module soft_purge) (atom_again names name held)
-command_again names purge name held = ap (on_module purge) (atom_again names name held)
-command_again names check_old name held = ap (on_module check_old) (atom_again names name held)
+command_again : (names : List (List ℕ)) (command : AtomCommand) (name : List ℕ) → IsHeldText names name → command_line names (command_of command (atom_in names name)) ≡ on_atom command name
+command_again names delete name held = ap (on_atom delete) (atom_again names name held)
+command_again names soft_purge name held = ap (on_atom soft_purge) (atom_again names name held)
+command_again names purge name held = ap (on_atom purge) (atom_again names name held)
+command_again names check_old name held = ap (on_atom check_old) (atom_again names name held)
+command_again names erase name held = ap (on_atom erase) (atom_again names name held)
 
 trace_arity : (f g arity : List ℕ) (on : Bool) → is_script_line (trace f g arity on) ≡ true → is_arity_text arity ≡ true
 trace_arity f g arity on h = (and_parts (is_atom_text g) (is_arity_text arity) (and_parts (is_atom_text f) (is_function_form g arity) h).1).1
@@ -77,8 +73,13 @@ line_back names titles (code line) is l = absurd is
 line_back names titles loader is l = record { start = λ _. refl; command = λ e. absurd cc }
 line_back names titles (load refs) is l =
     record { start = λ e. absurd cc; command = λ _. ap (λ (rs : List RefForm). load rs ∷ []) (refs_again names refs (some_refs refs l.sound) l.held) }
-line_back names titles (on_module command name) is l =
+line_back names titles (on_atom command name) is l =
     record { start = λ e. absurd cc; command = λ _. ap (λ (line : ScriptLine). line ∷ []) (command_again names command name l.held.0) }
+line_back names titles (put key term) is l =
+    let p = atom_again names key l.held.0 in
+    let form = (and_parts (is_atom_text key) (is_term_form term) l.sound).1 in
+    let t = ap (argument_form names) (plain-term_of (argument_in names term)) ∙ term_again names term form (narrow_fits term l.narrow.narrow) l.held.1 in
+    record { start = λ e. absurd cc; command = λ _. λ k. put (p k) (t k) ∷ [] }
 line_back names titles (trace f g arity on) is l =
     let p = atom_again names f l.held.0 in
     let q = atom_again names g l.held.1.0 in
@@ -88,7 +89,7 @@ line_back names titles (spawn m f args) is l =
     let s = spawn_line m f args l.sound in
     let p = atom_again names m l.held.0 in
     let q = atom_again names f l.held.1.0 in
-    let r = arguments_again names args s.args_are l.narrow (arguments_held names args l.held.1.1) in
+    let r = arguments_again names args s.args_are l.narrow.narrow (arguments_held names args l.held.1.1) in
     record { start = λ e. absurd cc; command = λ _. λ k. spawn (p k) (q k) (r k) ∷ [] }
 line_back names titles go is l = absurd is
 
@@ -148,7 +149,8 @@ module _ (names : List (List ℕ)) where
   all_back (code line ∷ lines) opened back = absurd opened
   all_back (loader ∷ lines) opened back = groups_back ((loader ∷ []) ∷ []) lines tt back.1
   all_back (load refs ∷ lines) opened back = absurd opened
-  all_back (on_module command name ∷ lines) opened back = absurd opened
+  all_back (on_atom command name ∷ lines) opened back = absurd opened
+  all_back (put key term ∷ lines) opened back = absurd opened
   all_back (trace f g arity on ∷ lines) opened back = absurd opened
   all_back (spawn m f args ∷ lines) opened back = absurd opened
   all_back (go ∷ lines) opened back = absurd opened

@@ -6,10 +6,10 @@ use Rattle.std.proofs.lemmas.Bool.Decides.{nat_tests}
 use Rattle.std.proofs.lemmas.List.{map-append, length-map}
 use Rattle.term_core.specs.declared.atom.Mfa.{Mfa}
 use Rattle.term_core.specs.Names.{Extends}
-use Rattle.mod_core.specs.ModuleLine.{InstrForm, move, add, sub, eq, less, jump, call, call_ext, ret, print, yield, LineForm, title, header, label, instr, end, number_value}
-use Rattle.mod_core.specs.LineFaults.{line_atoms, called_name, counted_name}
-use Rattle.mod_core.specs.ModuleValue.{title_of}
-use Rattle.mod_core.proofs.Options.{passed, failed}
+use Rattle.mod_text.specs.ModuleLine.{InstrForm, move, add, sub, eq, less, jump, call, call_ext, ret, pget, pget_or, elem, print, yield, LineForm, title, header, label, instr, end, number_value}
+use Rattle.mod_text.specs.LineFaults.{line_atoms, called_name, counted_name}
+use Rattle.mod_text.specs.ModuleValue.{title_of}
+use Rattle.mod_text.proofs.Options.{passed, failed}
 use Rattle.script_text.specs.declared.fault.Which.TheVariants as which
 use Rattle.script_text.specs.declared.reading.cause.LineCause.{LineCause}
 use Rattle.script_text.specs.declared.reading.cause.LineCause.TheVariants as causes
@@ -148,6 +148,9 @@ instr_one (jump target) = none
 instr_one (call name arity at) = none
 instr_one (call_ext m name arity at) = one (record { «module» = m; name = name; arity = number_value arity })
 instr_one (ret value) = none
+instr_one (pget key to) = none
+instr_one (pget_or key other to) = none
+instr_one (elem index from to) = none
 instr_one (print value) = none
 instr_one yield = none
 
@@ -172,6 +175,9 @@ instr_counted names (jump target) = refl
 instr_counted names (call name arity at) = refl
 instr_counted names (call_ext m name arity at) = refl
 instr_counted names (ret value) = refl
+instr_counted names (pget key to) = refl
+instr_counted names (pget_or key other to) = refl
+instr_counted names (elem index from to) = refl
 instr_counted names (print value) = refl
 instr_counted names yield = refl
 
@@ -197,6 +203,9 @@ instr_held names (jump target) h = tt
 instr_held names (call name arity at) h = tt
 instr_held names (call_ext m name arity at) h = (record { module_held = h.0; name_held = h.1.0 }, tt)
 instr_held names (ret value) h = tt
+instr_held names (pget key to) h = tt
+instr_held names (pget_or key other to) h = tt
+instr_held names (elem index from to) h = tt
 instr_held names (print value) h = tt
 instr_held names yield h = tt
 

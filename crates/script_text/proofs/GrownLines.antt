@@ -6,8 +6,8 @@ use Rattle.std.proofs.lemmas.Grind.{flat_map-append}
 use Rattle.std.proofs.lemmas.List.Sums.{fold-append}
 use Rattle.term_core.specs.Names.{given_names}
 use Rattle.term_core.specs.TermText.{names_with_all}
-use Rattle.mod_core.specs.ModuleLine.{LineForm}
-use Rattle.mod_core.proofs.LineNames.{names_with_all-append}
+use Rattle.mod_text.specs.ModuleLine.{LineForm}
+use Rattle.mod_text.proofs.LineNames.{names_with_all-append}
 use Rattle.script_text.specs.ScriptLine.{ScriptLine, code}
 use Rattle.script_text.specs.Groups.{groups_with, groups_of}
 use Rattle.script_text.specs.Counts.{script_line_atoms, names_of, FunctionForm, script_line_functions, home_after, functions_named, functions_with, functions_of, code_lines, is_title, module_texts, line_titles, titles_of, is_loader, block_lines, loader_blocks}

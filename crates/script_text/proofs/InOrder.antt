@@ -3,8 +3,8 @@ use Rattle.std.proofs.Common.{◌≡◌, true, List, [], ◌∷◌, ◌++◌, Op
 use Rattle.std.specs.Prelude.{IsTrue}
 use Rattle.std.specs.List.{AllByRecursion, flat_map}
 use Rattle.std.proofs.lemmas.List.{map-append}
-use Rattle.mod_core.specs.ModuleLine.{LineForm, title, header, label, instr, end}
-use Rattle.script_text.specs.ScriptLine.{ScriptLine, head, code, loader, load, on_module, trace, spawn, go, is_script_line}
+use Rattle.mod_text.specs.ModuleLine.{LineForm, title, header, label, instr, end}
+use Rattle.script_text.specs.ScriptLine.{ScriptLine, head, code, loader, load, on_atom, put, trace, spawn, go, is_script_line}
 use Rattle.script_text.specs.Counts.{code_lines, block_lines}
 use Rattle.script_text.specs.Canonical.{code_form}
 use Rattle.script_text.specs.LineFaults.{may_stand_between, may_stand_within, may_stand_behind, may_stand_loading, may_stand, last_of}
@@ -23,7 +23,8 @@ IsOpened (head ∷ lines) = ⊥
 IsOpened (code line ∷ lines) = ⊥
 IsOpened (loader ∷ lines) = Unit {0}
 IsOpened (load refs ∷ lines) = ⊥
-IsOpened (on_module command name ∷ lines) = ⊥
+IsOpened (on_atom command name ∷ lines) = ⊥
+IsOpened (put key term ∷ lines) = ⊥
 IsOpened (trace f g arity on ∷ lines) = ⊥
 IsOpened (spawn m f args ∷ lines) = ⊥
 IsOpened (go ∷ lines) = ⊥
@@ -60,7 +61,8 @@ Stand (Some head) lines = BeforeBlocks lines
 Stand (Some (code line)) lines = BeforeBlocks lines
 Stand (Some loader) lines = InBlocks lines
 Stand (Some (load refs)) lines = InBlocks lines
-Stand (Some (on_module command name)) lines = InBlocks lines
+Stand (Some (on_atom command name)) lines = InBlocks lines
+Stand (Some (put key term)) lines = InBlocks lines
 Stand (Some (trace f g arity on)) lines = InBlocks lines
 Stand (Some (spawn m f args)) lines = InBlocks lines
 Stand (Some go) lines = AreInOrder lines
@@ -73,7 +75,8 @@ opened_more (head ∷ lines) more h = absurd h
 opened_more (code line ∷ lines) more h = absurd h
 opened_more (loader ∷ lines) more h = tt
 opened_more (load refs ∷ lines) more h = absurd h
-opened_more (on_module command name ∷ lines) more h = absurd h
+opened_more (on_atom command name ∷ lines) more h = absurd h
+opened_more (put key term ∷ lines) more h = absurd h
 opened_more (trace f g arity on ∷ lines) more h = absurd h
 opened_more (spawn m f args ∷ lines) more h = absurd h
 opened_more (go ∷ lines) more h = absurd h
@@ -146,7 +149,8 @@ first_line lines head none place = subst (λ (ls : List ScriptLine). BeforeBlock
 first_line lines (code line) none place = absurd cc
 first_line lines loader none place = absurd cc
 first_line lines (load refs) none place = absurd cc
-first_line lines (on_module command name) none place = absurd cc
+first_line lines (on_atom command name) none place = absurd cc
+first_line lines (put key term) none place = absurd cc
 first_line lines (trace f g arity on) none place = absurd cc
 first_line lines (spawn m f args) none place = absurd cc
 first_line lines go none place = absurd cc
@@ -156,7 +160,8 @@ line_between lines head b place = absurd cc
 line_between lines (code line) b place = code_more lines line b
 line_between lines loader b place = loader_more lines b
 line_between lines (load refs) b place = absurd cc
-line_between lines (on_module command name) b place = absurd cc
+line_between lines (on_atom command name) b place = absurd cc
+line_between lines (put key term) b place = absurd cc
 line_between lines (trace f g arity on) b place = absurd cc
 line_between lines (spawn m f args) b place = absurd cc
 line_between lines go b place = go_more lines b.whole (subst AreBlocks (sym b.none) tt)
@@ -166,7 +171,8 @@ line_within lines last head b place = absurd cc
 line_within lines last (code line) b place = code_more lines line b
 line_within lines last loader b place = absurd cc
 line_within lines last (load refs) b place = absurd cc
-line_within lines last (on_module command name) b place = absurd cc
+line_within lines last (on_atom command name) b place = absurd cc
+line_within lines last (put key term) b place = absurd cc
 line_within lines last (trace f g arity on) b place = absurd cc
 line_within lines last (spawn m f args) b place = absurd cc
 line_within lines last go b place = absurd cc
@@ -183,7 +189,8 @@ line_loading lines head b place = absurd cc
 line_loading lines (code line) b place = absurd cc
 line_loading lines loader b place = in_block lines loader b refl refl
 line_loading lines (load refs) b place = in_block lines (load refs) b refl refl
-line_loading lines (on_module command name) b place = in_block lines (on_module command name) b refl refl
+line_loading lines (on_atom command name) b place = in_block lines (on_atom command name) b refl refl
+line_loading lines (put key term) b place = in_block lines (put key term) b refl refl
 line_loading lines (trace f g arity on) b place = in_block lines (trace f g arity on) b refl refl
 line_loading lines (spawn m f args) b place = in_block lines (spawn m f args) b refl refl
 line_loading lines go b place = go_more lines b.whole (are_blocks (flat_map block_lines lines) b.opened)
@@ -194,7 +201,8 @@ line_more lines (Some head) line s place = line_between lines line s place
 line_more lines (Some (code last)) line s place = line_behind lines last line s place
 line_more lines (Some loader) line s place = line_loading lines line s place
 line_more lines (Some (load refs)) line s place = line_loading lines line s place
-line_more lines (Some (on_module command name)) line s place = line_loading lines line s place
+line_more lines (Some (on_atom command name)) line s place = line_loading lines line s place
+line_more lines (Some (put key term)) line s place = line_loading lines line s place
 line_more lines (Some (trace f g arity on)) line s place = line_loading lines line s place
 line_more lines (Some (spawn m f args)) line s place = line_loading lines line s place
 line_more lines (Some go) line s place = absurd cc

@@ -32,6 +32,8 @@ pub mod OpenText
 pub mod Outcomes
 pub mod Parts
 pub mod Prefixes
+pub mod PutLaws
+pub mod PutSteps
 pub mod ReadBack
 pub mod ReadingLoops
 pub mod Rooms
@@ -47,6 +49,9 @@ pub mod SpawnSteps
 pub mod StandingTexts
 pub mod Steps
 pub mod Summaries
+pub mod TermLines
+pub mod TermNames
+pub mod TermParts
 pub mod TextSteps
 pub mod TextsBack
 pub mod TitleSteps

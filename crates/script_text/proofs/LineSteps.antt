@@ -1,17 +1,17 @@
 -- A line of a script: what it leaves is what the lines with it say, and a refusal is its fault.
 use Rattle.std.proofs.Common.{◌≡◌, ℕ, ◌+◌, Bool, true, false, cond, not, ◌||◌, List, [], length, Option, Some, None, Ok, Err, bytes_eq, codes, refl, sym, ap, ◌∙◌, subst, arith}
 use Rattle.term_core.specs.Written.{WrittenTerm}
-use Rattle.mod_core.specs.ModuleLine.{LineForm}
-use Rattle.mod_core.specs.LineReading.{cut_at}
-use Rattle.mod_core.proofs.Options.{bytes_are}
+use Rattle.mod_text.specs.ModuleLine.{LineForm}
+use Rattle.mod_text.specs.LineReading.{cut_at}
+use Rattle.mod_text.proofs.Options.{bytes_are}
 use Rattle.script_text.specs.declared.fault.ScriptFault.TheVariants as faults
 use Rattle.script_text.specs.declared.reading.cause.LineCause.TheVariants as causes
 use Rattle.script_text.specs.declared.reading.reader.Place.{Place}
 use Rattle.script_text.specs.declared.reading.reader.Place.TheVariants.{Unread, Between, Within, Loading, Finished}
 use Rattle.script_text.specs.declared.reading.reader.ScriptReader.{ScriptReader}
-use Rattle.script_text.specs.ScriptLine.{RefForm, ModuleCommand, ScriptLine, head, code, loader, load, on_module, trace, spawn, go, IsLine}
+use Rattle.script_text.specs.ScriptLine.{RefForm, AtomCommand, ScriptLine, head, code, loader, load, on_atom, put, trace, spawn, go, IsLine}
 use Rattle.script_text.specs.LineFaults.{is_head, may_stand}
-use Rattle.script_text.specs.Reading.{head_step, block_step, end_step, keyed_step, command_by, command_step, other_step, load_step, module_step, trace_step, spawn_step, line_at, IsCounted}
+use Rattle.script_text.specs.Reading.{head_step, block_step, end_step, keyed_step, command_by, command_step, other_step, load_step, atom_step, put_step, trace_step, spawn_step, line_at, IsCounted}
 use Rattle.script_text.proofs.CommandLaws.{load_cut, spawn_cut}
 use Rattle.script_text.proofs.Summaries.{Summary, table, fault_by}
 use Rattle.script_text.proofs.Holding.{IsUnread, IsLoading, IsFinished, Stands, Knows, Holds}
@@ -20,8 +20,10 @@ use Rattle.script_text.proofs.CodeSteps.{Judges, misplaced}
 use Rattle.script_text.proofs.WithinSteps.{judges_within}
 use Rattle.script_text.proofs.BlockSteps.{names_few, few, few_more, judges_block, judges_end, no_command}
 use Rattle.script_text.proofs.LoadSteps.{judges_load}
-use Rattle.script_text.proofs.NamedLaws.{module_cut, trace_cut}
-use Rattle.script_text.proofs.NamedSteps.{judges_module, judges_trace}
+use Rattle.script_text.proofs.NamedLaws.{atom_cut, trace_cut}
+use Rattle.script_text.proofs.PutLaws.{put_cut}
+use Rattle.script_text.proofs.PutSteps.{judges_put}
+use Rattle.script_text.proofs.NamedSteps.{judges_atom, judges_trace}
 use Rattle.script_text.proofs.SpawnSteps.{judges_spawn}
 use Rattle.script_text.proofs.TitleSteps.{judges_title}
 
@@ -38,7 +40,8 @@ judges_head m r closed text k u = by_text (bytes_eq text (codes "beam script 1")
     no_head e (code line) l = misplaced m (code line) (head_follows m r closed u (code line))
     no_head e loader l = misplaced m loader (head_follows m r closed u loader)
     no_head e (load refs) l = misplaced m (load refs) (head_follows m r closed u (load refs))
-    no_head e (on_module command name) l = misplaced m (on_module command name) (head_follows m r closed u (on_module command name))
+    no_head e (on_atom command name) l = misplaced m (on_atom command name) (head_follows m r closed u (on_atom command name))
+    no_head e (put key term) l = misplaced m (put key term) (head_follows m r closed u (put key term))
     no_head e (trace f g arity on) l = misplaced m (trace f g arity on) (head_follows m r closed u (trace f g arity on))
     no_head e (spawn n f args) l = misplaced m (spawn n f args) (head_follows m r closed u (spawn n f args))
     no_head e go l = misplaced m go (head_follows m r closed u go)
@@ -53,7 +56,7 @@ judges_head m r closed text k u = by_text (bytes_eq text (codes "beam script 1")
         record {
           line = head;
           is_line = record { text_is = bytes_are text (codes "beam script 1") e; sound = refl };
-          no_fault = λ i. table (not (stands i) || false) false (names i) false false (functions i) (spawns i) (loaders i) false (m.count + 1);
+          no_fault = λ i. table (not (stands i) || false) false false (names i) false false (functions i) (spawns i) (loaders i) false (m.count + 1);
           holds = holds_head m r closed k u;
         }
     by_text false e = no_head e
@@ -69,29 +72,36 @@ judges_command m r closed text number k l place n no_loader no_go = by_cut (cut_
     uncut_spawn : cut_at 32 text ≡ None → (n f : List ℕ) (args : List WrittenTerm) → IsLine text (spawn n f args) → ⊥
     uncut_spawn none n f args is = let c = spawn_cut text n f args is in let yes = c.1 in absurd cc
 
-    uncut_module : cut_at 32 text ≡ None → (command : ModuleCommand) (name : List ℕ) → IsLine text (on_module command name) → ⊥
-    uncut_module none command name is = let both = sym none ∙ module_cut text command name is in absurd cc
+    uncut_atom : cut_at 32 text ≡ None → (command : AtomCommand) (name : List ℕ) → IsLine text (on_atom command name) → ⊥
+    uncut_atom none command name is = let both = sym none ∙ atom_cut text command name is in absurd cc
 
     uncut_trace : cut_at 32 text ≡ None → (n f arity : List ℕ) (on : Bool) → IsLine text (trace n f arity on) → ⊥
     uncut_trace none n f arity on is = let c = trace_cut text n f arity on is in let yes = c.1 in absurd cc
 
+    uncut_put : cut_at 32 text ≡ None → (key : List ℕ) (t : WrittenTerm) → IsLine text (put key t) → ⊥
+    uncut_put none key t is = let c = put_cut text key t is in let yes = c.1 in absurd cc
+
     at_word : (word rest : List ℕ) → cut_at 32 text ≡ Some (word, rest) → (key : List ℕ) → bytes_eq word key ≡ true → cut_at 32 text ≡ Some (key, rest)
     at_word word rest cut key e = cut ∙ ap (λ (w : List ℕ). let so : Option (List ℕ × List ℕ) = Some (w, rest) in so) (bytes_are word key e)
 
-    by_trace : (word rest : List ℕ) (t : Bool) → cut_at 32 text ≡ Some (word, rest) → bytes_eq word (codes "load") ≡ false → bytes_eq word (codes "spawn") ≡ false → bytes_eq word (codes "trace") ≡ t → Judges m text (cond t (trace_step r rest) (module_step r word rest))
-    by_trace word rest true cut no_load no_spawn e = judges_trace m r closed text rest k l place no_loader no_go (at_word word rest cut (codes "trace") e)
-    by_trace word rest false cut no_load no_spawn e = judges_module m r closed text word rest k l place no_loader no_go cut no_load no_spawn e
+    by_put : (word rest : List ℕ) (t : Bool) → cut_at 32 text ≡ Some (word, rest) → bytes_eq word (codes "load") ≡ false → bytes_eq word (codes "spawn") ≡ false → bytes_eq word (codes "trace") ≡ false → bytes_eq word (codes "put") ≡ t → Judges m text (cond t (put_step r rest) (atom_step r word rest))
+    by_put word rest true cut no_load no_spawn no_trace e = judges_put m r closed text rest k l place no_loader no_go (at_word word rest cut (codes "put") e)
+    by_put word rest false cut no_load no_spawn no_trace e = judges_atom m r closed text word rest k l place no_loader no_go cut no_load no_spawn no_trace e
 
-    by_spawn : (word rest : List ℕ) (t : Bool) → cut_at 32 text ≡ Some (word, rest) → bytes_eq word (codes "load") ≡ false → bytes_eq word (codes "spawn") ≡ t → Judges m text (cond t (spawn_step r rest) (cond (bytes_eq word (codes "trace")) (trace_step r rest) (module_step r word rest)))
+    by_trace : (word rest : List ℕ) (t : Bool) → cut_at 32 text ≡ Some (word, rest) → bytes_eq word (codes "load") ≡ false → bytes_eq word (codes "spawn") ≡ false → bytes_eq word (codes "trace") ≡ t → Judges m text (cond t (trace_step r rest) (cond (bytes_eq word (codes "put")) (put_step r rest) (atom_step r word rest)))
+    by_trace word rest true cut no_load no_spawn e = judges_trace m r closed text rest k l place no_loader no_go (at_word word rest cut (codes "trace") e)
+    by_trace word rest false cut no_load no_spawn e = by_put word rest (bytes_eq word (codes "put")) cut no_load no_spawn e refl
+
+    by_spawn : (word rest : List ℕ) (t : Bool) → cut_at 32 text ≡ Some (word, rest) → bytes_eq word (codes "load") ≡ false → bytes_eq word (codes "spawn") ≡ t → Judges m text (cond t (spawn_step r rest) (cond (bytes_eq word (codes "trace")) (trace_step r rest) (cond (bytes_eq word (codes "put")) (put_step r rest) (atom_step r word rest))))
     by_spawn word rest true cut other e = judges_spawn m r closed text rest k l place no_loader no_go (at_word word rest cut (codes "spawn") e)
     by_spawn word rest false cut other e = by_trace word rest (bytes_eq word (codes "trace")) cut other e refl
 
-    by_load : (word rest : List ℕ) (t : Bool) → cut_at 32 text ≡ Some (word, rest) → bytes_eq word (codes "load") ≡ t → Judges m text (cond t (load_step r number rest) (cond (bytes_eq word (codes "spawn")) (spawn_step r rest) (cond (bytes_eq word (codes "trace")) (trace_step r rest) (module_step r word rest))))
+    by_load : (word rest : List ℕ) (t : Bool) → cut_at 32 text ≡ Some (word, rest) → bytes_eq word (codes "load") ≡ t → Judges m text (cond t (load_step r number rest) (cond (bytes_eq word (codes "spawn")) (spawn_step r rest) (cond (bytes_eq word (codes "trace")) (trace_step r rest) (cond (bytes_eq word (codes "put")) (put_step r rest) (atom_step r word rest)))))
     by_load word rest true cut e = judges_load m r closed text number rest k l place n no_loader no_go (at_word word rest cut (codes "load") e)
     by_load word rest false cut e = by_spawn word rest (bytes_eq word (codes "spawn")) cut e refl
 
     by_cut : (o : Option (List ℕ × List ℕ)) → cut_at 32 text ≡ o → Judges m text (command_by r number o)
-    by_cut None e = no_command m text l.follows no_loader no_go (uncut_load e) (uncut_spawn e) (uncut_module e) (uncut_trace e)
+    by_cut None e = no_command m text l.follows no_loader no_go (uncut_load e) (uncut_spawn e) (uncut_atom e) (uncut_trace e) (uncut_put e)
     by_cut (Some parts) e = by_load parts.0 parts.1 (bytes_eq parts.0 (codes "load")) e refl
 
 -- ---- a line

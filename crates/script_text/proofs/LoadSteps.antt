@@ -7,12 +7,12 @@ use Rattle.std.proofs.lemmas.Bool.Decides.{nat_tests}
 use Rattle.term_core.specs.Names.{IsNames, is_atom_text}
 use Rattle.term_core.specs.TermText.{names_with_all}
 use Rattle.term_core.specs.Written.{WrittenTerm}
-use Rattle.mod_core.specs.ModuleLine.{LineForm, number_value}
-use Rattle.mod_core.specs.LineReading.{cut_at}
-use Rattle.mod_core.specs.ModuleValue.{module_of}
-use Rattle.mod_core.proofs.Cuts.{cut_is}
-use Rattle.mod_core.proofs.LineNames.{are_atoms}
-use Rattle.mod_core.proofs.Options.{some_is, same_bytes}
+use Rattle.mod_text.specs.ModuleLine.{LineForm, number_value}
+use Rattle.mod_text.specs.LineReading.{cut_at}
+use Rattle.mod_text.specs.ModuleValue.{module_of}
+use Rattle.mod_text.proofs.Cuts.{cut_is}
+use Rattle.mod_text.proofs.LineNames.{are_atoms}
+use Rattle.mod_text.proofs.Options.{some_is, same_bytes}
 use Rattle.server_core.specs.declared.command.ModRef.{ModRef}
 use Rattle.script_text.specs.declared.fault.Which.TheVariants as which
 use Rattle.script_text.specs.declared.fault.ScriptFault.TheVariants as faults
@@ -33,7 +33,8 @@ use Rattle.script_text.specs.Causes.{◌>>=◌}
 use Rattle.script_text.specs.Sets.{is_same_mod_ref, is_among}
 use Rattle.script_text.specs.Reading.{with_command, noted, load_step}
 use Rattle.script_text.proofs.CommandLaws.{refs_is, load_cut, spawn_cut}
-use Rattle.script_text.proofs.NamedLaws.{no_module_text, no_trace_text}
+use Rattle.script_text.proofs.PutLaws.{no_put_text}
+use Rattle.script_text.proofs.NamedLaws.{no_atom_command, no_trace_text}
 use Rattle.script_text.proofs.HeldNames.{IsHeldText, held_all, Extends-all, number_in-more, same_number}
 use Rattle.script_text.proofs.ModuleNames.{AreHeld}
 use Rattle.script_text.proofs.Namings.{or_full, refs_named-is}
@@ -143,7 +144,7 @@ load_fault m r closed refs k stands =
     let functions = few (length m.functions) 1024 k.few_functions in
     let spawns = few_more m.spawns 64 k.few_processes in
     let loaders = few_more m.loaders 8 k.few_loaders in
-    λ i. table (not (stands i) || false) false (nat_lt 4096 (length (names_loaded m refs))) false false (functions i) (spawns i) (loaders i) false (m.count + 1)
+    λ i. table (not (stands i) || false) false false (nat_lt 4096 (length (names_loaded m refs))) false false (functions i) (spawns i) (loaders i) false (m.count + 1)
 
 -- the load is done
 abbrev loaded : ScriptReader → ℕ → List ModRef × List (List ℕ) → Result ScriptReader LineCause
@@ -212,7 +213,7 @@ judges_load m r closed text number rest k l place n no_loader no_go cut = by_ref
         absurd cc
 
     by_refs : (o : Option (List RefForm)) → refs_reading rest ≡ o → Judges m text (or_syntax (option_map (map ref_words) o) >>= λ forms. refs_named r.names forms >>= loaded r number)
-    by_refs None e = no_command m text l.follows no_loader no_go (no_refs e) (no_spawn_text text (codes "load") rest cut refl) (no_module_text text (codes "load") rest cut refl) (no_trace_text text (codes "load") rest cut refl)
+    by_refs None e = no_command m text l.follows no_loader no_go (no_refs e) (no_spawn_text text (codes "load") rest cut refl) (no_atom_command text (codes "load") rest cut refl) (no_trace_text text (codes "load") rest cut refl) (no_put_text text (codes "load") rest cut refl)
     by_refs (Some refs) e =
         let is = refs_is rest refs e in
         judges_refs m r closed text number refs k l place n (record { text_is = (cut_is 32 text (codes "load", rest) cut).whole ∙ ap (λ (t : List ℕ). codes "load" ++ t) is.text_is; sound = is.sound })

@@ -4,12 +4,14 @@ use Rattle.std.specs.Prelude.{map}
 use Rattle.std.specs.List.{AllByRecursion}
 use Rattle.term_core.specs.declared.atom.AtomId.{AtomId}
 use Rattle.term_core.specs.declared.term.Term.TheVariants.{Atom}
+use Rattle.term_core.specs.Plain.{term_of}
 use Rattle.mod_core.specs.declared.code.Operand.TheVariants.{Const}
-use Rattle.mod_core.specs.declared.code.Instr.TheVariants.{Move, Add, Sub, Eq, Less, CallExt, Ret, Print}
-use Rattle.mod_core.specs.ModuleLine.{OperandForm, register, integer, atom, InstrForm, move, add, sub, eq, less, jump, call, call_ext, ret, print, yield, LineForm, title, header, label, instr, end, number_value}
-use Rattle.mod_core.specs.LineFaults.{operand_atoms, instr_atoms, line_atoms}
-use Rattle.mod_core.specs.ModuleValue.{body_of, functions_in, HeaderForm, headers_in, instrs_in, atom_in, operand_in, target_in, instr_in, function_in, title_of, IsTitled, module_of}
+use Rattle.mod_core.specs.declared.code.Instr.TheVariants.{Move, Add, Sub, Eq, Less, CallExt, Ret, Pget, PgetOr, Elem, Print}
+use Rattle.mod_text.specs.ModuleLine.{OperandForm, register, integer, atom, complex, InstrForm, move, add, sub, eq, less, jump, call, call_ext, ret, pget, pget_or, elem, print, yield, LineForm, title, header, label, instr, end, number_value}
+use Rattle.mod_text.specs.LineFaults.{operand_atoms, instr_atoms, line_atoms}
+use Rattle.mod_text.specs.ModuleValue.{body_of, functions_in, HeaderForm, headers_in, instrs_in, atom_in, operand_in, target_in, instr_in, function_in, title_of, IsTitled, module_of}
 use Rattle.script_text.proofs.HeldNames.{IsHeldText, number_in-more}
+use Rattle.script_text.proofs.TermNames.{term_in-more}
 
 -- each text is held
 abbrev pub AreHeld : List (List ℕ) → List (List ℕ) → Type 0
@@ -34,6 +36,7 @@ same_operand : (names more : List (List ℕ)) (o : OperandForm) → AreHeld name
 same_operand names more (register digits) h = refl
 same_operand names more (integer text) h = refl
 same_operand names more (atom text) h = λ i. Const (Atom (same_atom names more text h.0 i))
+same_operand names more (complex text) h = λ i. Const (term_of (term_in-more names more text h i))
 
 same_instr : (names more : List (List ℕ)) (headers : List HeaderForm) (body : List LineForm) (i : InstrForm) → AreHeld names (instr_atoms i) → instr_in (names ++ more) headers body i ≡ instr_in names headers body i
 same_instr names more headers body (move from to) h = λ k. Move (same_operand names more from h k) (number_value to)
@@ -60,6 +63,15 @@ same_instr names more headers body (call_ext m name arity at) h =
     let q = same_atom names more name h.1.0 in
     λ k. CallExt (record { «module» = p k; name = q k; arity = number_value arity }) (number_value at)
 same_instr names more headers body (ret value) h = λ k. Ret (same_operand names more value h k)
+same_instr names more headers body (pget key to) h = λ k. Pget (same_atom names more key h.0 k) (number_value to)
+same_instr names more headers body (pget_or key other to) h =
+    let p = same_atom names more key h.0 in
+    let q = same_operand names more other h.1 in
+    λ k. PgetOr (p k) (q k) (number_value to)
+same_instr names more headers body (elem index from to) h =
+    let p = same_operand names more index (held_first names (operand_atoms index) (operand_atoms from) h) in
+    let q = same_operand names more from (held_second names (operand_atoms index) (operand_atoms from) h) in
+    λ k. Elem (p k) (q k) (number_value to)
 same_instr names more headers body (print value) h = λ k. Print (same_operand names more value h k)
 same_instr names more headers body yield h = refl
 

@@ -1,47 +1,51 @@
--- The commands of one module, and breakpoints: what is read has this text, and what has this text is read.
+-- The commands of one atom, and breakpoints: what is read has this text, and what has this text is read.
 use Rattle.std.proofs.Common.{◌≡◌, ℕ, Bool, true, false, cond, List, ◌∷◌, ◌++◌, Option, Some, None, bytes_eq, codes, refl, sym, ap, ◌∙◌, subst}
 use Rattle.std.proofs.lemmas.Bool.{and_parts, and_from}
 use Rattle.term_core.specs.Names.{is_atom_text}
-use Rattle.mod_core.specs.ModuleLine.{parted_by, spaced, function_written, is_number_text, is_arity_text, is_function_form}
-use Rattle.mod_core.specs.LineReading.{◌>>=◌, cut_at, tested, numbered_reading}
-use Rattle.mod_core.proofs.Options.{some, some_is, bind_some, bind_at, bytes_are, same_bytes, tested_is, tested_at}
-use Rattle.mod_core.proofs.Cuts.{lacks, lacks-append, lacks-cons, cut_here, cut_is}
-use Rattle.mod_core.proofs.LineAgain.{atom_lacks, number_lacks}
-use Rattle.script_text.specs.ScriptLine.{ModuleCommand, delete, soft_purge, purge, check_old, on_module, trace, command_word, switch_word, trace_written, is_script_line, IsLine}
+use Rattle.mod_text.specs.ModuleLine.{parted_by, spaced, function_written, is_number_text, is_arity_text, is_function_form}
+use Rattle.mod_text.specs.LineReading.{◌>>=◌, cut_at, tested, numbered_reading}
+use Rattle.mod_text.proofs.Options.{some, some_is, bind_some, bind_at, bytes_are, same_bytes, tested_is, tested_at}
+use Rattle.mod_text.proofs.Cuts.{lacks, lacks-append, lacks-cons, cut_here, cut_is}
+use Rattle.mod_text.proofs.LineAgain.{atom_lacks, number_lacks}
+use Rattle.script_text.specs.ScriptLine.{AtomCommand, delete, soft_purge, purge, check_old, erase, on_atom, trace, command_word, switch_word, trace_written, is_script_line, IsLine}
 use Rattle.script_text.specs.LineReading.{command_reading, TraceForm, switch_reading, trace_reading}
 
--- ---- commands of one module
+-- ---- commands of one atom
 
-word_or : (word key : List ℕ) (k c : ModuleCommand) (rest : Option ModuleCommand) → key ≡ command_word k → (rest ≡ Some c → word ≡ command_word c) → (t : Bool) → bytes_eq word key ≡ t → cond t (Some k) rest ≡ Some c → word ≡ command_word c
+word_or : (word key : List ℕ) (k c : AtomCommand) (rest : Option AtomCommand) → key ≡ command_word k → (rest ≡ Some c → word ≡ command_word c) → (t : Bool) → bytes_eq word key ≡ t → cond t (Some k) rest ≡ Some c → word ≡ command_word c
 word_or word key k c rest is more true b e = bytes_are word key b ∙ is ∙ ap command_word (some_is k c e)
 word_or word key k c rest is more false b e = more e
 
 -- a word that names a command is its word
-pub word_is : (word : List ℕ) (c : ModuleCommand) → command_reading word ≡ Some c → word ≡ command_word c
+pub word_is : (word : List ℕ) (c : AtomCommand) → command_reading word ≡ Some c → word ≡ command_word c
 word_is word c e =
     word_or word (codes "delete") delete c _ refl
     (word_or word (codes "soft_purge") soft_purge c _ refl
     (word_or word (codes "purge") purge c _ refl
-    (word_or word (codes "check_old") check_old c None refl (λ none. absurd cc) (bytes_eq word (codes "check_old")) refl)
+    (word_or word (codes "check_old") check_old c _ refl
+    (word_or word (codes "erase") erase c None refl (λ none. absurd cc) (bytes_eq word (codes "erase")) refl)
+    (bytes_eq word (codes "check_old")) refl)
     (bytes_eq word (codes "purge")) refl)
     (bytes_eq word (codes "soft_purge")) refl)
     (bytes_eq word (codes "delete")) refl e
 
-pub word_again : (c : ModuleCommand) → command_reading (command_word c) ≡ Some c
+pub word_again : (c : AtomCommand) → command_reading (command_word c) ≡ Some c
 word_again delete = refl
 word_again soft_purge = refl
 word_again purge = refl
 word_again check_old = refl
+word_again erase = refl
 
-word_lacks : (c : ModuleCommand) → lacks 32 (command_word c) ≡ true
+word_lacks : (c : AtomCommand) → lacks 32 (command_word c) ≡ true
 word_lacks delete = refl
 word_lacks soft_purge = refl
 word_lacks purge = refl
 word_lacks check_old = refl
+word_lacks erase = refl
 
--- the text of a command of one module, cut at its first space
-pub module_cut : (text : List ℕ) (c : ModuleCommand) (n : List ℕ) → IsLine text (on_module c n) → cut_at 32 text ≡ Some (command_word c, n)
-module_cut text c n is = ap (cut_at 32) is.text_is ∙ cut_here 32 (command_word c) n (word_lacks c)
+-- the text of a command of one atom, cut at its first space
+pub atom_cut : (text : List ℕ) (c : AtomCommand) (n : List ℕ) → IsLine text (on_atom c n) → cut_at 32 text ≡ Some (command_word c, n)
+atom_cut text c n is = ap (cut_at 32) is.text_is ∙ cut_here 32 (command_word c) n (word_lacks c)
 
 -- ---- breakpoints
 
@@ -143,9 +147,9 @@ trace_cut text m f arity on is =
 
 -- ---- texts of other words
 
-pub no_module_text : (text word rest : List ℕ) → cut_at 32 text ≡ Some (word, rest) → command_reading word ≡ None → (c : ModuleCommand) (n : List ℕ) → IsLine text (on_module c n) → ⊥
-no_module_text text word rest e other c n is =
-    let same : (command_word c, n) ≡ (word, rest) = some_is _ _ (sym (module_cut text c n is) ∙ e) in
+pub no_atom_command : (text word rest : List ℕ) → cut_at 32 text ≡ Some (word, rest) → command_reading word ≡ None → (c : AtomCommand) (n : List ℕ) → IsLine text (on_atom c n) → ⊥
+no_atom_command text word rest e other c n is =
+    let same : (command_word c, n) ≡ (word, rest) = some_is _ _ (sym (atom_cut text c n is) ∙ e) in
     let yes : command_reading word ≡ Some c = ap (λ (p : List ℕ × List ℕ). command_reading p.0) (sym same) ∙ word_again c in
     let both : None ≡ Some c = sym other ∙ yes in
     absurd cc

@@ -1,4 +1,4 @@
--- A command that has atoms and no more, behind the start of a loader block: a command of one module, or a breakpoint.
+-- A command that has atoms and no more, behind the start of a loader block: a command of one atom, or a breakpoint.
 use Rattle.std.proofs.Common.{◌≡◌, ℕ, ◌+◌, ◌≤◌, Bool, true, false, cond, not, ◌||◌, ◌&&◌, nat_lt, List, [], ◌∷◌, ◌++◌, length, Option, Some, None, option_map, Result, Ok, Err, bytes_eq, codes, refl, sym, ap, ◌∙◌, subst, arith}
 use Rattle.std.specs.Prelude.{map}
 use Rattle.std.proofs.lemmas.Bool.{and_parts}
@@ -7,12 +7,12 @@ use Rattle.term_core.specs.declared.atom.AtomId.{AtomId}
 use Rattle.term_core.specs.declared.atom.Mfa.{Mfa}
 use Rattle.term_core.specs.Names.{IsNames, is_atom_text}
 use Rattle.term_core.specs.TermText.{number_in, names_with_all}
-use Rattle.mod_core.specs.ModuleLine.{LineForm, number_value, is_arity_text, is_function_form}
-use Rattle.mod_core.specs.LineReading.{cut_at}
-use Rattle.mod_core.specs.ModuleValue.{module_of}
-use Rattle.mod_core.proofs.Cuts.{cut_is}
-use Rattle.mod_core.proofs.LineNames.{are_atoms}
-use Rattle.mod_core.proofs.Options.{some_is}
+use Rattle.mod_text.specs.ModuleLine.{LineForm, number_value, is_arity_text, is_function_form}
+use Rattle.mod_text.specs.LineReading.{cut_at}
+use Rattle.mod_text.specs.ModuleValue.{module_of}
+use Rattle.mod_text.proofs.Cuts.{cut_is}
+use Rattle.mod_text.proofs.LineNames.{are_atoms}
+use Rattle.mod_text.proofs.Options.{some_is}
 use Rattle.script_text.specs.declared.fault.Which.TheVariants as which
 use Rattle.script_text.specs.declared.fault.ScriptFault.{ScriptFault}
 use Rattle.script_text.specs.declared.fault.ScriptFault.TheVariants as faults
@@ -22,7 +22,7 @@ use Rattle.script_text.specs.declared.reading.reader.Place.TheVariants.{Loading}
 use Rattle.script_text.specs.declared.reading.reader.ScriptReader.{ScriptReader}
 use Rattle.script_text.specs.declared.script.ScriptCmd.{ScriptCmd}
 use Rattle.script_text.specs.declared.script.ScriptCmd.TheVariants.{Trace}
-use Rattle.script_text.specs.ScriptLine.{RefForm, ModuleCommand, ScriptLine, on_module, trace, command_word, IsLine}
+use Rattle.script_text.specs.ScriptLine.{RefForm, AtomCommand, ScriptLine, on_atom, trace, command_word, IsLine}
 use Rattle.script_text.specs.Groups.{onto_last}
 use Rattle.script_text.specs.ScriptValue.{ref_in, command_of, commands_on, commands_of}
 use Rattle.script_text.specs.LineFaults.{may_stand_loading, may_stand, or_else, lack_in_texts, is_lacking}
@@ -30,8 +30,9 @@ use Rattle.script_text.specs.LineReading.{command_reading, TraceForm, trace_read
 use Rattle.script_text.specs.Naming.{or_syntax, atom_named, trace_named}
 use Rattle.script_text.specs.WrittenLine.{trace_words}
 use Rattle.script_text.specs.Causes.{◌>>=◌}
-use Rattle.script_text.specs.Reading.{with_command, module_step, trace_step}
-use Rattle.script_text.proofs.NamedLaws.{word_is, module_cut, trace_is, trace_cut, no_module_text, no_trace_text}
+use Rattle.script_text.specs.Reading.{with_command, atom_step, trace_step}
+use Rattle.script_text.proofs.PutLaws.{no_put_text}
+use Rattle.script_text.proofs.NamedLaws.{word_is, atom_cut, trace_is, trace_cut, no_atom_command, no_trace_text}
 use Rattle.script_text.proofs.HeldNames.{held_all, Extends-all, number_in-more}
 use Rattle.script_text.proofs.ModuleNames.{AreHeld}
 use Rattle.script_text.proofs.Namings.{or_full, atom_named-is, traced_in, trace_named-is}
@@ -46,7 +47,7 @@ use Rattle.script_text.proofs.LoadSteps.{no_load_text, no_spawn_text}
 -- ---- a command with atoms and no more
 
 -- the summary after it
-abbrev plain_with : Summary → ScriptLine → List (List ℕ) → Summary
+abbrev pub plain_with : Summary → ScriptLine → List (List ℕ) → Summary
 plain_with m line atoms = record {
   lines = m.lines ++ line ∷ [];
   names = names_with_all m.names atoms;
@@ -62,20 +63,20 @@ plain_with m line atoms = record {
 }
 
 -- its fault
-abbrev plain_fault : Summary → ScriptLine → List (List ℕ) → Option ScriptFault
+abbrev pub plain_fault : Summary → ScriptLine → List (List ℕ) → Option ScriptFault
 plain_fault m line atoms =
-    table (not (may_stand m.last line) || false) false (nat_lt 4096 (length (names_with_all m.names atoms))) false false (nat_lt 1024 (length m.functions)) (nat_lt 64 (m.spawns + 0)) (nat_lt 8 (m.loaders + 0)) false (m.count + 1)
+    table (not (may_stand m.last line) || false) false false (nat_lt 4096 (length (names_with_all m.names atoms))) false false (nat_lt 1024 (length m.functions)) (nat_lt 64 (m.spawns + 0)) (nat_lt 8 (m.loaders + 0)) false (m.count + 1)
 
 -- the line is one of these atoms, and its command is this by the names
-record IsPlain (line : ScriptLine) (atoms : List (List ℕ)) (value : List (List ℕ) → ScriptCmd) : Type 0 where
-  summed : (m : Summary) → summary_with m line ≡ plain_with m line atoms
-  faulted : (m : Summary) → fault_by m line ≡ plain_fault m line atoms
-  atoms_are : are_atoms atoms ≡ true
-  says : (names : List (List ℕ)) → commands_on names line ≡ value names ∷ []
-  stays : (names more : List (List ℕ)) → AreHeld names atoms → value names ≡ value (names ++ more)
-  quiet : (titles : List RefForm) → is_lacking titles line ≡ false
-  may_load : may_stand_loading line ≡ true
-  behind : (next : ScriptLine) → may_stand (Some line) next ≡ may_stand_loading next
+pub record IsPlain (line : ScriptLine) (atoms : List (List ℕ)) (value : List (List ℕ) → ScriptCmd) : Type 0 where
+  pub summed : (m : Summary) → summary_with m line ≡ plain_with m line atoms
+  pub faulted : (m : Summary) → fault_by m line ≡ plain_fault m line atoms
+  pub atoms_are : are_atoms atoms ≡ true
+  pub says : (names : List (List ℕ)) → commands_on names line ≡ value names ∷ []
+  pub stays : (names more : List (List ℕ)) → AreHeld names atoms → value names ≡ value (names ++ more)
+  pub quiet : (titles : List RefForm) → is_lacking titles line ≡ false
+  pub may_load : may_stand_loading line ≡ true
+  pub behind : (next : ScriptLine) → may_stand (Some line) next ≡ may_stand_loading next
 
 -- what is known after it
 abbrev after_plain : ScriptReader → List (List ℕ) → ScriptCmd → ScriptReader
@@ -112,13 +113,13 @@ fault_is m r closed line atoms value p k stands =
     let functions = few (length m.functions) 1024 k.few_functions in
     let spawns = few_more m.spawns 64 k.few_processes in
     let loaders = few_more m.loaders 8 k.few_loaders in
-    p.faulted m ∙ (λ i. table (not (stands i) || false) false (nat_lt 4096 (length (names_with_all m.names atoms))) false false (functions i) (spawns i) (loaders i) false (m.count + 1))
+    p.faulted m ∙ (λ i. table (not (stands i) || false) false false (nat_lt 4096 (length (names_with_all m.names atoms))) false false (functions i) (spawns i) (loaders i) false (m.count + 1))
 
 -- the command is done, by what its atoms name
-abbrev done : {Y : Type 0} → ScriptReader → (Y → ScriptCmd) → Y × List (List ℕ) → Result ScriptReader LineCause
+abbrev pub done : {Y : Type 0} → ScriptReader → (Y → ScriptCmd) → Y × List (List ℕ) → Result ScriptReader LineCause
 done r command y = Ok (with_command (record r { names = y.1 }) (command y.0))
 
-judges_plain : {Y : Type 0} (m : Summary) (r : ScriptReader) (closed : List (List LineForm)) (text : List ℕ) (line : ScriptLine) (atoms : List (List ℕ)) (named : List (List ℕ) → Y) (command : Y → ScriptCmd) → IsPlain line atoms (λ names. command (named names)) → Knows m r closed → IsLoading m r → r.place ≡ Loading → IsLine text line → Judges m text (or_full named (names_with_all m.names atoms) >>= done r command)
+pub judges_plain : {Y : Type 0} (m : Summary) (r : ScriptReader) (closed : List (List LineForm)) (text : List ℕ) (line : ScriptLine) (atoms : List (List ℕ)) (named : List (List ℕ) → Y) (command : Y → ScriptCmd) → IsPlain line atoms (λ names. command (named names)) → Knows m r closed → IsLoading m r → r.place ≡ Loading → IsLine text line → Judges m text (or_full named (names_with_all m.names atoms) >>= done r command)
 judges_plain m r closed text line atoms named command p k l place is = by_room (nat_lt 4096 (length (names_with_all m.names atoms))) refl (fault_is m r closed line atoms (λ names. command (named names)) p k (l.follows line ∙ p.may_load))
   where
     by_room : (t : Bool) → nat_lt 4096 (length (names_with_all m.names atoms)) ≡ t → fault_by m line ≡ cond t (Some (faults.Limit (m.count + 1) which.Names)) None → Judges m text (cond t (Err (causes.Limit which.Names)) (Ok (named (names_with_all m.names atoms), names_with_all m.names atoms)) >>= done r command)
@@ -140,14 +141,14 @@ judges_plain m r closed text line atoms named command p k l place is = by_room (
           });
         }
 
--- ---- commands of one module
+-- ---- commands of one atom
 
--- the command of a module's number
-abbrev numbered : ModuleCommand → ℕ → ScriptCmd
-numbered c n = let «module» : AtomId = record { 0 = n } in command_of c «module»
+-- the command of an atom's number
+abbrev numbered : AtomCommand → ℕ → ScriptCmd
+numbered c n = let atom : AtomId = record { 0 = n } in command_of c atom
 
-module_plain : (c : ModuleCommand) (n : List ℕ) → is_atom_text n ≡ true → IsPlain (on_module c n) (n ∷ []) (λ names. numbered c (number_in names n))
-module_plain c n h = record {
+atom_plain : (c : AtomCommand) (n : List ℕ) → is_atom_text n ≡ true → IsPlain (on_atom c n) (n ∷ []) (λ names. numbered c (number_in names n))
+atom_plain c n h = record {
   summed = λ m. refl;
   faulted = λ m. refl;
   atoms_are = λ i. h i && true;
@@ -162,29 +163,29 @@ unnamed : (names : List (List ℕ)) (text : List ℕ) → is_atom_text text ≡ 
 unnamed names text h = ap (λ t. cond (not t) (Err causes.Syntax) (or_full (λ after. number_in after text) (names_with_all names (text ∷ [])))) h
 
 -- a text whose first word is none of the others
-pub judges_module : (m : Summary) (r : ScriptReader) (closed : List (List LineForm)) (text word rest : List ℕ) → Knows m r closed → IsLoading m r → r.place ≡ Loading → bytes_eq text (codes "loader") ≡ false → bytes_eq text (codes "go") ≡ false → cut_at 32 text ≡ Some (word, rest) → bytes_eq word (codes "load") ≡ false → bytes_eq word (codes "spawn") ≡ false → bytes_eq word (codes "trace") ≡ false → Judges m text (module_step r word rest)
-unfolding module_step
-judges_module m r closed text word rest k l place no_loader no_go cut no_load no_spawn no_trace = by_word (command_reading word) refl
+pub judges_atom : (m : Summary) (r : ScriptReader) (closed : List (List LineForm)) (text word rest : List ℕ) → Knows m r closed → IsLoading m r → r.place ≡ Loading → bytes_eq text (codes "loader") ≡ false → bytes_eq text (codes "go") ≡ false → cut_at 32 text ≡ Some (word, rest) → bytes_eq word (codes "load") ≡ false → bytes_eq word (codes "spawn") ≡ false → bytes_eq word (codes "trace") ≡ false → bytes_eq word (codes "put") ≡ false → Judges m text (atom_step r word rest)
+unfolding atom_step
+judges_atom m r closed text word rest k l place no_loader no_go cut no_load no_spawn no_trace no_put = by_word (command_reading word) refl
   where
-    none_of_them : ((c : ModuleCommand) (n : List ℕ) → IsLine text (on_module c n) → ⊥) → Judges m text (Err causes.Syntax)
-    none_of_them no_module = no_command m text l.follows no_loader no_go (no_load_text text word rest cut no_load) (no_spawn_text text word rest cut no_spawn) no_module (no_trace_text text word rest cut no_trace)
+    none_of_them : ((c : AtomCommand) (n : List ℕ) → IsLine text (on_atom c n) → ⊥) → Judges m text (Err causes.Syntax)
+    none_of_them no_other = no_command m text l.follows no_loader no_go (no_load_text text word rest cut no_load) (no_spawn_text text word rest cut no_spawn) no_other (no_trace_text text word rest cut no_trace) (no_put_text text word rest cut no_put)
 
-    no_atom : is_atom_text rest ≡ false → (d : ModuleCommand) (n : List ℕ) → IsLine text (on_module d n) → ⊥
+    no_atom : is_atom_text rest ≡ false → (d : AtomCommand) (n : List ℕ) → IsLine text (on_atom d n) → ⊥
     no_atom h d n is =
-        let same : (command_word d, n) ≡ (word, rest) = some_is _ _ (sym (module_cut text d n is) ∙ cut) in
+        let same : (command_word d, n) ≡ (word, rest) = some_is _ _ (sym (atom_cut text d n is) ∙ cut) in
         let yes : is_atom_text rest ≡ true = ap (λ (p : List ℕ × List ℕ). is_atom_text p.1) (sym same) ∙ is.sound in
         absurd cc
 
-    by_atom : (c : ModuleCommand) (t : Bool) → command_reading word ≡ Some c → is_atom_text rest ≡ t → Judges m text (atom_named r.names rest >>= done r (numbered c))
+    by_atom : (c : AtomCommand) (t : Bool) → command_reading word ≡ Some c → is_atom_text rest ≡ t → Judges m text (atom_named r.names rest >>= done r (numbered c))
     by_atom c true e h =
         let named : atom_named r.names rest ≡ or_full (λ after. number_in after rest) (names_with_all m.names (rest ∷ [])) = ap (λ (ns : List (List ℕ)). atom_named ns rest) k.names ∙ atom_named-is m.names rest h in
-        let is : IsLine text (on_module c rest) = record { text_is = (cut_is 32 text (word, rest) cut).whole ∙ ap (λ (w : List ℕ). w ++ 32 ∷ rest) (word_is word c e); sound = h } in
+        let is : IsLine text (on_atom c rest) = record { text_is = (cut_is 32 text (word, rest) cut).whole ∙ ap (λ (w : List ℕ). w ++ 32 ∷ rest) (word_is word c e); sound = h } in
         subst (λ (s : Result (ℕ × List (List ℕ)) LineCause). Judges m text (s >>= done r (numbered c))) (sym named)
-        (judges_plain m r closed text (on_module c rest) (rest ∷ []) (λ names. number_in names rest) (numbered c) (module_plain c rest h) k l place is)
+        (judges_plain m r closed text (on_atom c rest) (rest ∷ []) (λ names. number_in names rest) (numbered c) (atom_plain c rest h) k l place is)
     by_atom c false e h = subst (λ (s : Result (ℕ × List (List ℕ)) LineCause). Judges m text (s >>= done r (numbered c))) (sym (unnamed r.names rest h)) (none_of_them (no_atom h))
 
-    by_word : (o : Option ModuleCommand) → command_reading word ≡ o → Judges m text (or_syntax o >>= λ c. atom_named r.names rest >>= done r (numbered c))
-    by_word None e = none_of_them (no_module_text text word rest cut e)
+    by_word : (o : Option AtomCommand) → command_reading word ≡ o → Judges m text (or_syntax o >>= λ c. atom_named r.names rest >>= done r (numbered c))
+    by_word None e = none_of_them (no_atom_command text word rest cut e)
     by_word (Some c) e = by_atom c (is_atom_text rest) e refl
 
 -- ---- breakpoints
@@ -220,7 +221,7 @@ judges_trace m r closed text rest k l place no_loader no_go cut = by_form (trace
         absurd cc
 
     by_form : (o : Option TraceForm) → trace_reading rest ≡ o → Judges m text (or_syntax (option_map trace_words o) >>= λ form. trace_named r.names form >>= done r (λ target. Trace target form.on))
-    by_form None e = no_command m text l.follows no_loader no_go (no_load_text text (codes "trace") rest cut refl) (no_spawn_text text (codes "trace") rest cut refl) (no_module_text text (codes "trace") rest cut refl) (no_trace e)
+    by_form None e = no_command m text l.follows no_loader no_go (no_load_text text (codes "trace") rest cut refl) (no_spawn_text text (codes "trace") rest cut refl) (no_atom_command text (codes "trace") rest cut refl) (no_trace e) (no_put_text text (codes "trace") rest cut refl)
     by_form (Some t) e =
         let is = trace_is rest t e in
         let first = and_parts (is_atom_text t.«module») (is_function_form t.name t.arity) is.sound in

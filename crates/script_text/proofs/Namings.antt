@@ -1,32 +1,35 @@
 -- The names of a line, one after another: all get their numbers where the table has room for all of them.
-use Rattle.std.proofs.Common.{◌≡◌, ℕ, ◌≤◌, Bool, true, false, cond, not, ◌&&◌, ◌||◌, nat_lt, List, [], ◌∷◌, length, Some, None, Result, Ok, Err, refl, sym, ap, ◌∙◌, arith}
+use Rattle.std.proofs.Common.{◌≡◌, ℕ, ◌≤◌, Bool, true, false, cond, not, ◌&&◌, ◌||◌, nat_lt, List, [], ◌∷◌, length, Some, None, is_some, Result, Ok, Err, refl, sym, ap, ◌∙◌, arith}
 use Rattle.std.specs.Prelude.{map}
 use Rattle.std.specs.List.{list_all, list_any, flat_map}
-use Rattle.std.proofs.lemmas.Bool.{and_parts, and_from}
+use Rattle.std.proofs.lemmas.Bool.{and_parts, and_from, or_parts}
 use Rattle.std.proofs.lemmas.Bool.Decides.{nat_tests}
 use Rattle.std.proofs.lemmas.List.Concat.{flat_map_single}
 use Rattle.std.proofs.lemmas.List.{length-map}
 use Rattle.term_core.specs.declared.atom.Mfa.{Mfa}
 use Rattle.term_core.specs.Names.{Extends, is_atom_text, names_with}
 use Rattle.term_core.specs.PlainTerm.{PlainTerm, integer_leaf, atom_leaf, tuple_of, list_of, atoms_of}
+use Rattle.term_core.specs.TermForms.{term_in}
 use Rattle.term_core.specs.TermText.{number_in, names_with_all}
-use Rattle.term_core.specs.Written.{WrittenTerm, integer_of, is_term_integer, is_integer_text}
-use Rattle.mod_core.specs.ModuleLine.{number_value}
-use Rattle.mod_core.specs.ModuleValue.{atom_in, mfa_in}
-use Rattle.mod_core.proofs.LineNames.{names_with_all-append, more_names_all}
+use Rattle.term_core.specs.Written.{WrittenTerm, written, integer_of, is_term_integer, is_integer_text}
+use Rattle.term_core.proofs.TermForms.{form_is}
+use Rattle.mod_text.specs.ModuleLine.{number_value}
+use Rattle.mod_text.specs.ModuleValue.{atom_in, mfa_in}
+use Rattle.mod_text.proofs.LineNames.{names_with_all-append, more_names_all}
 use Rattle.server_core.specs.declared.command.ModRef.{ModRef}
 use Rattle.script_text.specs.declared.fault.Which.TheVariants as which
 use Rattle.script_text.specs.declared.reading.cause.LineCause.{LineCause}
 use Rattle.script_text.specs.declared.reading.cause.LineCause.TheVariants as causes
-use Rattle.script_text.specs.ScriptLine.{RefForm, is_ref_form, is_argument_form}
-use Rattle.script_text.specs.LineReading.{TraceForm, CallForm}
+use Rattle.script_text.specs.ScriptLine.{RefForm, is_ref_form, is_term_form}
+use Rattle.script_text.specs.LineReading.{PutForm, TraceForm, CallForm}
 use Rattle.script_text.specs.ScriptValue.{ref_in, argument_in}
-use Rattle.script_text.specs.LineFaults.{is_wide_argument}
-use Rattle.script_text.specs.WrittenLine.{ref_words, trace_words, ArgumentWords, integer, argument_words, call_words}
+use Rattle.script_text.specs.LineFaults.{is_wide_term, is_long_term}
+use Rattle.script_text.specs.WrittenLine.{ref_words, trace_words, ArgumentWords, integer, complex, argument_words, put_words, call_words}
 use Rattle.script_text.specs.Causes.{◌>>=◌}
-use Rattle.script_text.specs.Naming.{atom_named, each_named, ref_named, refs_named, trace_named, argument_named, arguments_named, is_wide_word, target_named, call_named}
-use Rattle.script_text.proofs.KeySets.{any-map}
-use Rattle.script_text.proofs.HeldNames.{held_with, Extends-all, number_in-after}
+use Rattle.script_text.specs.Naming.{atom_named, each_named, ref_named, refs_named, trace_named, argument_named, arguments_named, is_wide_word, is_long_word, key_named, put_named, target_named, call_named}
+use Rattle.script_text.proofs.HeldNames.{held_with, held_all, Extends-all, number_in-after}
+use Rattle.script_text.proofs.TermLines.{text_of_form}
+use Rattle.script_text.proofs.TermNames.{term_after}
 
 -- the names after these, if they are not too many
 abbrev pub or_full : {Y : Type 0} → (List (List ℕ) → Y) → List (List ℕ) → Result (Y × List (List ℕ)) LineCause
@@ -161,14 +164,21 @@ trace_named-is names t m_is f_is =
 
 -- ---- arguments
 
--- an argument whose integer fits
+-- an argument with no integer that is too wide
 abbrev pub is_narrow : WrittenTerm → Bool
-is_narrow t = is_argument_form t && not (is_wide_argument t)
+is_narrow t = is_term_form t && not (is_wide_term t)
 
-argument_one : (names : List (List ℕ)) (t : WrittenTerm) → is_narrow t ≡ true → length names ≤ 4096 → argument_named names (argument_words t) ≡ or_full (λ after. argument_in after t) (names_with_all names (atoms_of t))
+complex_one : (names : List (List ℕ)) (t : WrittenTerm) → is_term_form t ≡ true → argument_named names (complex (written t)) ≡ or_full (λ after. argument_in after t) (names_with_all names (atoms_of t))
+complex_one names t h =
+    let is = form_is (written t) t (text_of_form t h) in
+    let after = names_with_all names (atoms_of t) in
+    ap (λ (atoms : List (List ℕ)). or_full (λ ns. term_in ns (written t)) (names_with_all names atoms)) is.atoms
+    ∙ ap (λ (u : PlainTerm). cond {A = Result (PlainTerm × List (List ℕ)) LineCause} (nat_lt 4096 (length after)) (Err (causes.Limit which.Names)) (Ok (u, after))) (is.value after)
+
+pub argument_one : (names : List (List ℕ)) (t : WrittenTerm) → is_narrow t ≡ true → length names ≤ 4096 → argument_named names (argument_words t) ≡ or_full (λ after. argument_in after t) (names_with_all names (atoms_of t))
 argument_one names (integer_leaf text) h room = by_fit (is_term_integer (integer_of text)) (and_parts (is_integer_text text) _ h).1
   where
-    by_fit : (b : Bool) → not (not b) ≡ true → argument_named names (integer (cond b (Some (integer_of text)) None)) ≡ or_full (λ after. integer_leaf (integer_of text)) names
+    by_fit : (b : Bool) → not (is_some {T = ℕ} (cond b None (Some 0))) ≡ true → argument_named names (integer (cond b (Some (integer_of text)) None)) ≡ or_full (λ after. integer_leaf (integer_of text)) names
     by_fit true e =
         let not_over : nat_lt 4096 (length names) ≡ false = grind (arith, nat_tests) in
         sym (ap (λ t. cond {A = Result _ LineCause} t (Err (causes.Limit which.Names)) (Ok (integer_leaf (integer_of text), names))) not_over)
@@ -180,14 +190,11 @@ argument_one names (atom_leaf text) h room =
     by_test : (t : Bool) → (numbered t names text >>= leaf_of) ≡ cond t (Err (causes.Limit which.Names)) (Ok (atom_leaf (number_in (names_with names text) text), names_with names text))
     by_test true = refl
     by_test false = refl
-argument_one names (tuple_of row) h room = absurd cc
-argument_one names (list_of row) h room = absurd cc
+argument_one names (tuple_of row) h room = complex_one names (tuple_of row) (and_parts (is_term_form (tuple_of row)) _ h).0
+argument_one names (list_of row) h room = complex_one names (list_of row) (and_parts (is_term_form (list_of row)) _ h).0
 
 argument_stays : (names after : List (List ℕ)) (t : WrittenTerm) → is_narrow t ≡ true → Extends (names_with_all names (atoms_of t)) after → argument_in after t ≡ argument_in (names_with_all names (atoms_of t)) t
-argument_stays names after (integer_leaf text) h e = refl
-argument_stays names after (atom_leaf text) h e = ap (λ (n : ℕ). let u : PlainTerm = atom_leaf n in u) (number_in-after (names_with names text) after text e (held_with names text))
-argument_stays names after (tuple_of row) h e = absurd cc
-argument_stays names after (list_of row) h e = absurd cc
+argument_stays names after t h e = term_after (names_with_all names (atoms_of t)) after t e (held_all names (atoms_of t))
 
 argument_namer : IsNamer argument_named argument_words atoms_of argument_in is_narrow
 argument_namer = record { one = argument_one; stays = argument_stays }
@@ -261,33 +268,113 @@ target_named-is names c m_is f_is args_are room =
         ap (λ (r : Result Numbered LineCause). r >>= with_module (map argument_words c.args) (number_in (names_with names c.«module») c.«module»)) (atom_named-is (names_with names c.«module») c.name f_is)
         ∙ by_name (nat_lt 4096 (length (names_with (names_with names c.«module») c.name))) refl
 
-wide_word : (t : WrittenTerm) → is_wide_argument t ≡ is_wide_word (argument_words t)
-wide_word (integer_leaf text) = by_fit (is_term_integer (integer_of text))
+-- ---- limits of terms
+
+wide_word : (t : WrittenTerm) → is_term_form t ≡ true → is_wide_term t ≡ is_wide_word (argument_words t)
+wide_word (integer_leaf text) h = by_fit (is_term_integer (integer_of text))
   where
-    by_fit : (b : Bool) → not b ≡ is_wide_word (integer (cond b (Some (integer_of text)) None))
+    by_fit : (b : Bool) → is_some {T = ℕ} (cond b None (Some 0)) ≡ is_wide_word (integer (cond b (Some (integer_of text)) None))
     by_fit true = refl
     by_fit false = refl
-wide_word (atom_leaf text) = refl
-wide_word (tuple_of row) = refl
-wide_word (list_of row) = refl
+wide_word (atom_leaf text) h = refl
+wide_word (tuple_of row) h = sym (form_is (written (tuple_of row)) (tuple_of row) (text_of_form (tuple_of row) h)).wide
+wide_word (list_of row) h = sym (form_is (written (list_of row)) (list_of row) (text_of_form (list_of row) h)).wide
 
-all_narrow : (args : List WrittenTerm) → list_all is_argument_form args ≡ true → list_any is_wide_argument args ≡ false → list_all is_narrow args ≡ true
+long_word : (t : WrittenTerm) → is_term_form t ≡ true → is_long_term t ≡ is_long_word (argument_words t)
+long_word (integer_leaf text) h = refl
+long_word (atom_leaf text) h = refl
+long_word (tuple_of row) h = ap (nat_lt 64) (sym (form_is (written (tuple_of row)) (tuple_of row) (text_of_form (tuple_of row) h)).words)
+long_word (list_of row) h = ap (nat_lt 64) (sym (form_is (written (list_of row)) (list_of row) (text_of_form (list_of row) h)).words)
+
+-- a test of forms is that of their words
+any_word : (test : WrittenTerm → Bool) (word_test : ArgumentWords → Bool) → ((t : WrittenTerm) → is_term_form t ≡ true → test t ≡ word_test (argument_words t)) → (ts : List WrittenTerm) → list_all is_term_form ts ≡ true → list_any test ts ≡ list_any word_test (map argument_words ts)
+any_word test word_test same [] h = refl
+any_word test word_test same (t ∷ ts) h =
+    let p = and_parts (is_term_form t) (list_all is_term_form ts) h in
+    let first = same t p.0 in
+    let more = any_word test word_test same ts p.1 in
+    λ i. first i || more i
+
+all_narrow : (args : List WrittenTerm) → list_all is_term_form args ≡ true → list_any is_wide_term args ≡ false → list_all is_narrow args ≡ true
 all_narrow [] h k = refl
 all_narrow (t ∷ ts) h k =
-    let p = and_parts (is_argument_form t) (list_all is_argument_form ts) h in
-    let q = or_parts (is_wide_argument t) (list_any is_wide_argument ts) k in
-    and_from (is_narrow t) (list_all is_narrow ts) (and_from (is_argument_form t) (not (is_wide_argument t)) p.0 (ap not q.0)) (all_narrow ts p.1 q.1)
-  where
-    or_parts : (a b : Bool) → (a || b) ≡ false → (a ≡ false) × (b ≡ false)
-    or_parts true b e = absurd cc
-    or_parts false b e = (refl, e)
+    let p = and_parts (is_term_form t) (list_all is_term_form ts) h in
+    let q = or_parts (is_wide_term t) (list_any is_wide_term ts) k in
+    and_from (is_narrow t) (list_all is_narrow ts) (and_from (is_term_form t) (not (is_wide_term t)) p.0 (ap not q.0)) (all_narrow ts p.1 q.1)
 
--- a call is named, or has an integer that is too wide, or finds the table full
-pub call_named-is : (names : List (List ℕ)) (c : CallForm) → is_atom_text c.«module» ≡ true → is_atom_text c.name ≡ true → list_all is_argument_form c.args ≡ true → length names ≤ 4096 → call_named names (call_words c) ≡ cond (list_any is_wide_argument c.args) (Err (causes.Limit which.Integer)) (call_or_full (names_after_call names c) c)
+-- ---- calls and their limits
+
+-- a call is named, or has an integer that is too wide, or a term that is too long, or finds the table full
+pub call_named-is : (names : List (List ℕ)) (c : CallForm) → is_atom_text c.«module» ≡ true → is_atom_text c.name ≡ true → list_all is_term_form c.args ≡ true → length names ≤ 4096 →
+    call_named names (call_words c) ≡ cond (list_any is_wide_term c.args) (Err (causes.Limit which.Integer)) (cond (list_any is_long_term c.args) (Err (causes.Limit which.Term)) (call_or_full (names_after_call names c) c))
 call_named-is names c m_is f_is args_are room =
-    ap (λ t. cond t (Err (causes.Limit which.Integer)) (target_named names (call_words c))) (sym (any-map is_wide_argument is_wide_word argument_words wide_word c.args))
-    ∙ by_wide (list_any is_wide_argument c.args) refl
+    let wide = sym (any_word is_wide_term is_wide_word wide_word c.args args_are) in
+    let long = sym (any_word is_long_term is_long_word long_word c.args args_are) in
+    (λ i. cond (wide i) (Err (causes.Limit which.Integer)) (cond (long i) (Err (causes.Limit which.Term)) (target_named names (call_words c))))
+    ∙ by_wide (list_any is_wide_term c.args) refl
   where
-    by_wide : (t : Bool) → list_any is_wide_argument c.args ≡ t → cond t (Err (causes.Limit which.Integer)) (target_named names (call_words c)) ≡ cond t (Err (causes.Limit which.Integer)) (call_or_full (names_after_call names c) c)
+    by_wide : (t : Bool) → list_any is_wide_term c.args ≡ t →
+        cond t (Err (causes.Limit which.Integer)) (cond (list_any is_long_term c.args) (Err (causes.Limit which.Term)) (target_named names (call_words c)))
+        ≡ cond t (Err (causes.Limit which.Integer)) (cond (list_any is_long_term c.args) (Err (causes.Limit which.Term)) (call_or_full (names_after_call names c) c))
     by_wide true e = refl
-    by_wide false e = target_named-is names c m_is f_is (all_narrow c.args args_are e) room
+    by_wide false e = ap (cond (list_any is_long_term c.args) (Err (causes.Limit which.Term))) (target_named-is names c m_is f_is (all_narrow c.args args_are e) room)
+
+-- ---- puts
+
+abbrev pub Keyed : Type 0
+Keyed = ℕ × PlainTerm × List (List ℕ)
+
+-- the names after those of a put
+abbrev pub names_after_put : List (List ℕ) → PutForm → List (List ℕ)
+names_after_put names p = names_with_all names (p.key ∷ atoms_of p.term)
+
+abbrev keyed : Bool → ℕ → PlainTerm → List (List ℕ) → Result Keyed LineCause
+keyed t key term after = cond t (Err (causes.Limit which.Names)) (Ok (key, term, after))
+
+abbrev pub put_or_full : List (List ℕ) → PutForm → Result Keyed LineCause
+put_or_full after p = cond (nat_lt 4096 (length after)) (Err (causes.Limit which.Names)) (Ok (number_in after p.key, argument_in after p.term, after))
+
+abbrev with_value : ℕ → PlainTerm × List (List ℕ) → Result Keyed LineCause
+with_value key term = Ok (key, term.0, term.1)
+
+abbrev with_key : ArgumentWords → Numbered → Result Keyed LineCause
+with_key term key = argument_named key.1 term >>= with_value key.0
+
+key_named-is : (names : List (List ℕ)) (p : PutForm) → is_atom_text p.key ≡ true → is_narrow p.term ≡ true → key_named names (put_words p) ≡ put_or_full (names_after_put names p) p
+unfolding key_named
+key_named-is names p key_is narrow =
+    ap (λ (r : Result Numbered LineCause). r >>= with_key (argument_words p.term)) (atom_named-is names p.key key_is) ∙ by_key (nat_lt 4096 (length (names_with names p.key))) refl
+  where
+    by_over : (t : Bool) → t ≡ true → keyed t (number_in (names_after_put names p) p.key) (argument_in (names_after_put names p) p.term) (names_after_put names p) ≡ Err (causes.Limit which.Names)
+    by_over true e = refl
+    by_over false e = absurd cc
+
+    by_term : (t : Bool) → (cond t (Err (causes.Limit which.Names)) (Ok (argument_in (names_after_put names p) p.term, names_after_put names p)) >>= with_value (number_in (names_with names p.key) p.key))
+        ≡ keyed t (number_in (names_after_put names p) p.key) (argument_in (names_after_put names p) p.term) (names_after_put names p)
+    by_term true = refl
+    by_term false =
+        let one = names_with names p.key in
+        let after = names_after_put names p in
+        let kept : number_in after p.key ≡ number_in one p.key = number_in-after one after p.key (Extends-all one (atoms_of p.term)) (held_with names p.key) in
+        ap (λ (n : ℕ). keyed false n (argument_in after p.term) after) (sym kept)
+
+    by_key : (t : Bool) → nat_lt 4096 (length (names_with names p.key)) ≡ t → (numbered t names p.key >>= with_key (argument_words p.term)) ≡ put_or_full (names_after_put names p) p
+    by_key true e = sym (by_over (nat_lt 4096 (length (names_after_put names p))) (over_stays (length (names_with names p.key)) _ (more_names_all (names_with names p.key) (atoms_of p.term)) e))
+    by_key false e =
+        ap (λ (r : Result _ LineCause). r >>= with_value (number_in (names_with names p.key) p.key)) (argument_one (names_with names p.key) p.term narrow (within (length (names_with names p.key)) e))
+        ∙ by_term (nat_lt 4096 (length (names_after_put names p)))
+
+-- a put is named, or has an integer that is too wide, or a term that is too long, or finds the table full
+pub put_named-is : (names : List (List ℕ)) (p : PutForm) → is_atom_text p.key ≡ true → is_term_form p.term ≡ true →
+    put_named names (put_words p) ≡ cond (is_wide_term p.term) (Err (causes.Limit which.Integer)) (cond (is_long_term p.term) (Err (causes.Limit which.Term)) (put_or_full (names_after_put names p) p))
+put_named-is names p key_is form =
+    let wide = sym (wide_word p.term form) in
+    let long = sym (long_word p.term form) in
+    (λ i. cond (wide i) (Err (causes.Limit which.Integer)) (cond (long i) (Err (causes.Limit which.Term)) (key_named names (put_words p))))
+    ∙ by_wide (is_wide_term p.term) refl
+  where
+    by_wide : (t : Bool) → is_wide_term p.term ≡ t →
+        cond t (Err (causes.Limit which.Integer)) (cond (is_long_term p.term) (Err (causes.Limit which.Term)) (key_named names (put_words p)))
+        ≡ cond t (Err (causes.Limit which.Integer)) (cond (is_long_term p.term) (Err (causes.Limit which.Term)) (put_or_full (names_after_put names p) p))
+    by_wide true e = refl
+    by_wide false e = ap (cond (is_long_term p.term) (Err (causes.Limit which.Term))) (key_named-is names p key_is (and_from (is_term_form p.term) (not (is_wide_term p.term)) form (ap not e)))

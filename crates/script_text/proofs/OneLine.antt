@@ -1,32 +1,37 @@
 -- A text is that of one line of a script at most.
 use Rattle.std.proofs.Common.{◌≡◌, ℕ, Bool, true, false, cond, List, Option, Some, None, option_map, bytes_eq, codes, refl, sym, ap, ◌∙◌}
 use Rattle.term_core.specs.Names.{is_atom_text}
-use Rattle.mod_core.specs.ModuleLine.{LineForm}
-use Rattle.mod_core.specs.LineReading.{cut_at, tested, parts_reading, line_reading}
-use Rattle.mod_core.proofs.LineAgain.{text_again}
-use Rattle.mod_core.proofs.Options.{some_is, failed, bytes_are, tested_at}
-use Rattle.script_text.specs.ScriptLine.{ModuleCommand, delete, soft_purge, purge, check_old, ScriptLine, head, code, loader, load, on_module, trace, spawn, go, command_word, IsLine}
-use Rattle.script_text.specs.LineReading.{CallForm, refs_reading, command_reading, TraceForm, trace_reading, call_reading}
+use Rattle.mod_text.specs.ModuleLine.{LineForm}
+use Rattle.mod_text.specs.LineReading.{cut_at, tested, parts_reading, line_split, has_sound_terms, sound_reading, line_reading}
+use Rattle.mod_text.proofs.LineAgain.{text_again}
+use Rattle.mod_text.proofs.Options.{some_is, failed, bytes_are, tested_at}
+use Rattle.script_text.specs.ScriptLine.{AtomCommand, delete, soft_purge, purge, check_old, erase, ScriptLine, head, code, loader, load, on_atom, put, trace, spawn, go, command_word, IsLine}
+use Rattle.script_text.specs.LineReading.{CallForm, refs_reading, command_reading, PutForm, put_reading, TraceForm, trace_reading, call_reading}
 use Rattle.script_text.proofs.CommandLaws.{load_cut, spawn_cut}
-use Rattle.script_text.proofs.NamedLaws.{word_is, module_cut, trace_cut}
+use Rattle.script_text.proofs.PutLaws.{put_cut}
+use Rattle.script_text.proofs.NamedLaws.{word_is, atom_cut, trace_cut}
 
 -- ---- a line by its text
 
 abbrev spawn_of : CallForm → ScriptLine
 spawn_of c = spawn c.«module» c.name c.args
 
+abbrev put_of : PutForm → ScriptLine
+put_of p = put p.key p.term
+
 abbrev trace_of : TraceForm → ScriptLine
 trace_of t = trace t.«module» t.name t.arity t.on
 
--- the line of a command of one module, or another
-abbrev by_word : Option ModuleCommand → List ℕ → Option ScriptLine → Option ScriptLine
+-- the line of a command of one atom, or another
+abbrev by_word : Option AtomCommand → List ℕ → Option ScriptLine → Option ScriptLine
 by_word None rest other = other
-by_word (Some c) rest other = option_map (λ n. on_module c n) (tested is_atom_text rest)
+by_word (Some c) rest other = option_map (λ n. on_atom c n) (tested is_atom_text rest)
 
 -- the line of none of the words that have a step of their own
 abbrev by_other : List ℕ → List ℕ × List ℕ → Option ScriptLine
 by_other text parts =
-    cond (bytes_eq parts.0 (codes "trace")) (option_map trace_of (trace_reading parts.1)) (by_word (command_reading parts.0) parts.1 (option_map (λ l. code l) (line_reading text)))
+    cond (bytes_eq parts.0 (codes "trace")) (option_map trace_of (trace_reading parts.1))
+    (cond (bytes_eq parts.0 (codes "put")) (option_map put_of (put_reading parts.1)) (by_word (command_reading parts.0) parts.1 (option_map (λ l. code l) (line_reading text))))
 
 abbrev by_parts : List ℕ → Option (List ℕ × List ℕ) → Option ScriptLine
 by_parts text None = option_map (λ l. code l) (line_reading text)
@@ -77,26 +82,42 @@ code_other text line e = record {
   no_go = λ is. let none = sym (ap line_reading is) ∙ e in absurd cc;
 }
 
+-- a line that is read is one by its words
+split_by : (t : Bool) (found line : LineForm) → cond t (Some found) None ≡ Some line → Some found ≡ Some line
+split_by true found line e = e
+split_by false found line e = absurd cc
+
+split_is : (o : Option LineForm) (line : LineForm) → sound_reading o ≡ Some line → o ≡ Some line
+split_is None line e = absurd cc
+split_is (Some found) line e = split_by (has_sound_terms found) found line e
+
 -- a line of a module's text has neither word
 code_parts : (text : List ℕ) (line : LineForm) → line_reading text ≡ Some line → by_parts text (cut_at 32 text) ≡ Some (code line)
 code_parts text line e = by_cut (cut_at 32 text) refl
   where
     -- which is none of the words of a module's text
-    no_code : (word rest : List ℕ) (c : ModuleCommand) → word ≡ command_word c → parts_reading text (Some (word, rest)) ≡ Some line → ⊥
+    no_code : (word rest : List ℕ) (c : AtomCommand) → word ≡ command_word c → parts_reading text (Some (word, rest)) ≡ Some line → ⊥
     no_code word rest delete is read = let none = sym (ap (λ (w : List ℕ). parts_reading text (Some (w, rest))) is) ∙ read in absurd cc
     no_code word rest soft_purge is read = let none = sym (ap (λ (w : List ℕ). parts_reading text (Some (w, rest))) is) ∙ read in absurd cc
     no_code word rest purge is read = let none = sym (ap (λ (w : List ℕ). parts_reading text (Some (w, rest))) is) ∙ read in absurd cc
+    no_code word rest erase is read = let none = sym (ap (λ (w : List ℕ). parts_reading text (Some (w, rest))) is) ∙ read in absurd cc
     no_code word rest check_old is read = let none = sym (ap (λ (w : List ℕ). parts_reading text (Some (w, rest))) is) ∙ read in absurd cc
 
-    by_command : (parts : List ℕ × List ℕ) (o : Option ModuleCommand) → parts_reading text (Some parts) ≡ Some line → command_reading parts.0 ≡ o → by_word o parts.1 (option_map (λ l. code l) (line_reading text)) ≡ Some (code line)
+    by_command : (parts : List ℕ × List ℕ) (o : Option AtomCommand) → parts_reading text (Some parts) ≡ Some line → command_reading parts.0 ≡ o → by_word o parts.1 (option_map (λ l. code l) (line_reading text)) ≡ Some (code line)
     by_command parts None read f = ap (option_map (λ l. code l)) e
     by_command parts (Some c) read f = absurd (no_code parts.0 parts.1 c (word_is parts.0 c f) read)
 
-    by_trace : (parts : List ℕ × List ℕ) (t : Bool) → parts_reading text (Some parts) ≡ Some line → bytes_eq parts.0 (codes "trace") ≡ t → cond t (option_map trace_of (trace_reading parts.1)) (by_word (command_reading parts.0) parts.1 (option_map (λ l. code l) (line_reading text))) ≡ Some (code line)
+    by_put : (parts : List ℕ × List ℕ) (t : Bool) → parts_reading text (Some parts) ≡ Some line → bytes_eq parts.0 (codes "put") ≡ t → cond t (option_map put_of (put_reading parts.1)) (by_word (command_reading parts.0) parts.1 (option_map (λ l. code l) (line_reading text))) ≡ Some (code line)
+    by_put parts true read f =
+        let none : parts_reading text (Some (codes "put", parts.1)) ≡ Some line = ap (λ (w : List ℕ). parts_reading text (Some (w, parts.1))) (sym (bytes_are parts.0 (codes "put") f)) ∙ read in
+        absurd cc
+    by_put parts false read f = by_command parts (command_reading parts.0) read refl
+
+    by_trace : (parts : List ℕ × List ℕ) (t : Bool) → parts_reading text (Some parts) ≡ Some line → bytes_eq parts.0 (codes "trace") ≡ t → cond t (option_map trace_of (trace_reading parts.1)) (cond (bytes_eq parts.0 (codes "put")) (option_map put_of (put_reading parts.1)) (by_word (command_reading parts.0) parts.1 (option_map (λ l. code l) (line_reading text)))) ≡ Some (code line)
     by_trace parts true read f =
         let none : parts_reading text (Some (codes "trace", parts.1)) ≡ Some line = ap (λ (w : List ℕ). parts_reading text (Some (w, parts.1))) (sym (bytes_are parts.0 (codes "trace") f)) ∙ read in
         absurd cc
-    by_trace parts false read f = by_command parts (command_reading parts.0) read refl
+    by_trace parts false read f = by_put parts (bytes_eq parts.0 (codes "put")) read refl
 
     by_spawn : (parts : List ℕ × List ℕ) (t : Bool) → parts_reading text (Some parts) ≡ Some line → bytes_eq parts.0 (codes "spawn") ≡ t → cond t (option_map spawn_of (call_reading parts.1)) (by_other text parts) ≡ Some (code line)
     by_spawn parts true read f =
@@ -112,7 +133,7 @@ code_parts text line e = by_cut (cut_at 32 text) refl
 
     by_cut : (o : Option (List ℕ × List ℕ)) → cut_at 32 text ≡ o → by_parts text o ≡ Some (code line)
     by_cut None cut = ap (option_map (λ l. code l)) e
-    by_cut (Some parts) cut = by_load parts (bytes_eq parts.0 (codes "load")) (sym (ap (parts_reading text) cut) ∙ e) refl
+    by_cut (Some parts) cut = by_load parts (bytes_eq parts.0 (codes "load")) (sym (ap (parts_reading text) cut) ∙ split_is (line_split text) line e) refl
 
 -- ---- the one line
 
@@ -126,21 +147,26 @@ reads text (code line) is =
 reads text (load refs) is =
     let c = load_cut text refs is in
     by_others text (worded text (codes "load") c.0 c.1 refl) ∙ ap (by_parts text) c.1 ∙ ap (option_map (λ rs. load rs)) c.2
-reads text (on_module command name) is =
-    let cut = module_cut text command name is in
-    by_others text (worded text (command_word command) name cut (no_beam command)) ∙ ap (by_parts text) cut ∙ by_command command ∙ ap (option_map (λ n. on_module command n)) (tested_at is_atom_text name is.sound)
+reads text (on_atom command name) is =
+    let cut = atom_cut text command name is in
+    by_others text (worded text (command_word command) name cut (no_beam command)) ∙ ap (by_parts text) cut ∙ by_command command ∙ ap (option_map (λ n. on_atom command n)) (tested_at is_atom_text name is.sound)
   where
-    no_beam : (c : ModuleCommand) → bytes_eq (codes "beam") (command_word c) ≡ false
+    no_beam : (c : AtomCommand) → bytes_eq (codes "beam") (command_word c) ≡ false
     no_beam delete = refl
     no_beam soft_purge = refl
     no_beam purge = refl
     no_beam check_old = refl
+    no_beam erase = refl
 
-    by_command : (c : ModuleCommand) → by_parts text (Some (command_word c, name)) ≡ option_map (λ n. on_module c n) (tested is_atom_text name)
+    by_command : (c : AtomCommand) → by_parts text (Some (command_word c, name)) ≡ option_map (λ n. on_atom c n) (tested is_atom_text name)
     by_command delete = refl
     by_command soft_purge = refl
     by_command purge = refl
     by_command check_old = refl
+    by_command erase = refl
+reads text (put key term) is =
+    let c = put_cut text key term is in
+    by_others text (worded text (codes "put") c.0 c.1 refl) ∙ ap (by_parts text) c.1 ∙ ap (option_map put_of) c.2
 reads text (trace n f arity on) is =
     let c = trace_cut text n f arity on is in
     by_others text (worded text (codes "trace") c.0 c.1 refl) ∙ ap (by_parts text) c.1 ∙ ap (option_map trace_of) c.2

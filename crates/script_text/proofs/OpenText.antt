@@ -1,12 +1,12 @@
 -- A module's text that is open: what a line leaves of it, and what it comes to when it is closed.
 use Rattle.std.proofs.Common.{◌≡◌, ℕ, suc, ◌+◌, ◌<◌, ◌≤◌, Bool, true, false, cond, not, List, [], ◌∷◌, ◌++◌, length, Option, Some, None, option_map, Result, Ok, Err, ◌↔◌, IsTrue, refl, sym, ap, ◌∙◌, subst, arith, length-append}
-use Rattle.mod_core.specs.declared.fault.LineFault.{LineFault}
-use Rattle.mod_core.specs.declared.fault.LineFault.TheVariants as line_faults
-use Rattle.mod_core.specs.ModuleLine.{LineForm, title, header, label, instr, end}
-use Rattle.mod_core.specs.LineFaults.{last_line, may_follow, fault_of_line}
-use Rattle.mod_core.specs.LineReading.{line_reading}
-use Rattle.mod_core.specs.ModuleValue.{HeaderForm, IsTitled, headers_in, body_of, earlier, is_settled_line, unsettled_at, unsettled_in, unsettled_below, first_unsettled, unsettled_line}
-use Rattle.mod_core.specs.Reading.{Step, kept, judged, line_step}
+use Rattle.mod_text.specs.declared.fault.LineFault.{LineFault}
+use Rattle.mod_text.specs.declared.fault.LineFault.TheVariants as line_faults
+use Rattle.mod_text.specs.ModuleLine.{LineForm, title, header, label, instr, end}
+use Rattle.mod_text.specs.LineFaults.{last_line, may_follow, fault_of_line}
+use Rattle.mod_text.specs.LineReading.{line_reading}
+use Rattle.mod_text.specs.ModuleValue.{HeaderForm, IsTitled, headers_in, body_of, earlier, is_settled_line, unsettled_at, unsettled_in, unsettled_below, first_unsettled, unsettled_line}
+use Rattle.mod_text.specs.Reading.{Step, kept, judged, line_step}
 use Rattle.term_core.specs.declared.atom.Mfa.{Mfa}
 use Rattle.script_text.specs.declared.reading.cause.LineCause.{LineCause}
 use Rattle.script_text.specs.declared.reading.cause.LineCause.TheVariants as causes

@@ -3,10 +3,10 @@ use Rattle.std.proofs.Common.{◌≡◌, ℕ, ◌+◌, ◌<◌, ◌≤◌, ◌==
 use Rattle.std.specs.Prelude.{map}
 use Rattle.std.proofs.lemmas.Bool.Decides.{nat_tests}
 use Rattle.mod_core.specs.declared.code.Module.{Module}
-use Rattle.mod_core.specs.ModuleLine.{LineForm, title, header, label, instr, end}
-use Rattle.mod_core.specs.ModuleValue.{module_of}
-use Rattle.mod_core.specs.Reading.{lines_of, is_end}
-use Rattle.mod_core.proofs.Options.{some_is, bytes_are, same_bytes}
+use Rattle.mod_text.specs.ModuleLine.{LineForm, title, header, label, instr, end}
+use Rattle.mod_text.specs.ModuleValue.{module_of}
+use Rattle.mod_text.specs.Reading.{lines_of, is_end}
+use Rattle.mod_text.proofs.Options.{some_is, bytes_are, same_bytes}
 use Rattle.script_text.specs.declared.script.Script.{Script}
 use Rattle.script_text.specs.declared.script.ScriptCmd.{ScriptCmd}
 use Rattle.script_text.specs.declared.fault.ScriptFault.{ScriptFault}
@@ -149,7 +149,7 @@ go_fault m r closed k =
     let functions = few (length m.functions) 1024 k.few_functions in
     let spawns = few_more m.spawns 64 k.few_processes in
     let loaders = few_more m.loaders 8 k.few_loaders in
-    λ i. table (not (may_stand m.last go) || false) false (names i) false false (functions i) (spawns i) (loaders i) false (m.count + 1)
+    λ i. table (not (may_stand m.last go) || false) false false (names i) false false (functions i) (spawns i) (loaders i) false (m.count + 1)
 
 -- not a limit, and nothing given again
 abbrev pub IsLate : ScriptFault → Type 0

@@ -6,11 +6,11 @@ use Rattle.std.proofs.lemmas.List.Elements.{All-head, All-tail}
 use Rattle.term_core.specs.Names.{IsNames, Extends}
 use Rattle.term_core.proofs.GrownNames.{Extends-refl}
 use Rattle.mod_core.specs.declared.code.Module.{Module}
-use Rattle.mod_core.specs.Canonical.{canonical, IsModuleHeld}
+use Rattle.mod_text.specs.Canonical.{canonical, IsModuleHeld}
 use Rattle.mod_core.specs.Module.{IsModule}
-use Rattle.mod_core.specs.ModuleLine.{LineForm, lines_written}
-use Rattle.mod_core.specs.ModuleValue.{module_of, unsettled_line}
-use Rattle.mod_core.proofs.CanonicalLaw.{canonical_is_text}
+use Rattle.mod_text.specs.ModuleLine.{LineForm, lines_written}
+use Rattle.mod_text.specs.ModuleValue.{module_of, unsettled_line}
+use Rattle.mod_text.proofs.CanonicalLaw.{canonical_is_text}
 use Rattle.script_text.specs.LineFaults.{or_else, lack_in_texts}
 use Rattle.script_text.proofs.SoundnessTexts.{IsClosed, AreClosed, none_first, unmapped}
 use Rattle.script_text.proofs.Alike.{Alike, alike_same, alike_back, alike_then, alike_append}

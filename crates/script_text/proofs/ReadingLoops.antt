@@ -1,8 +1,8 @@
 -- The loops that read the parts of a line: what was read, in front of what is still to be read, is the whole.
-use Rattle.std.proofs.Common.{◌≡◌, ℕ, List, [], ◌∷◌, ◌++◌, Option, Some, None, option_map, Result, Ok, Err, refl, sym, ap, ◌∙◌, append_assoc, append-nil}
+use Rattle.std.proofs.Common.{◌≡◌, ℕ, List, [], ◌∷◌, ◌++◌, Option, Some, None, option_map, Result, Ok, Err, refl, sym, ap, ◌∙◌, subst, append_assoc, append-nil}
 use Rattle.std.specs.Prelude.{map}
 use Rattle.std.specs.Option.{ok_or}
-use Rattle.mod_core.specs.LineReading.{◌>>=◌, cut_at}
+use Rattle.mod_text.specs.LineReading.{◌>>=◌, cut_at}
 use Rattle.script_text.specs.declared.reading.cause.LineCause.{LineCause}
 use Rattle.script_text.specs.declared.reading.cause.LineCause.TheVariants as causes
 use Rattle.script_text.specs.Causes.{Fails}
@@ -68,3 +68,37 @@ syntax_exit whole None (causes.Limit which) e none = absurd cc
 syntax_exit whole None causes.Duplicate e none = absurd cc
 syntax_exit whole None causes.NoMemory e none = tt
 syntax_exit whole (Some x) cause e none = absurd cc
+
+-- ---- parts of any kind
+
+-- each part read, and seen by words
+abbrev pub all_read : {X W : Type 0} → (X → W) → (List ℕ → Option X) → List (List ℕ) → Option (List W)
+all_read words read parts = option_map (map words) (each_reading read parts)
+
+or_ok : {W : Type 0} (o : Option W) (w : W) → or_syntax o ≡ Ok w → o ≡ Some w
+or_ok None w e = absurd cc
+or_ok (Some v) w e = cc
+
+-- the first part is read
+pub part_goes_on : {X W : Type 0} (words : X → W) (read : List ℕ → Option X) (front : List W) (part : List ℕ) (parts : List (List ℕ)) (w : W) (whole : Option (List W)) → or_syntax (option_map words (read part)) ≡ Ok w → with_read front (all_read words read (part ∷ parts)) ≡ whole → with_read (front ++ w ∷ []) (all_read words read parts) ≡ whole
+part_goes_on words read front part parts w whole is so_far =
+    ap (λ (o : Option _). o >>= λ x. with_read (front ++ x ∷ []) (all_read words read parts)) (sym (or_ok (option_map words (read part)) w is)) ∙ sym (first_read words front (read part) (each_reading read parts)) ∙ so_far
+
+fails_front : {W V : Type 0} (o : Option W) (f : W → Option V) (cause : LineCause) → Fails (or_syntax o) cause → Fails (or_syntax (o >>= f)) cause
+fails_front None f causes.Syntax h = refl
+fails_front None f (causes.Limit which) h = absurd cc
+fails_front None f causes.Duplicate h = absurd cc
+fails_front None f causes.NoMemory h = tt
+fails_front (Some w) f causes.Syntax h = absurd cc
+fails_front (Some w) f (causes.Limit which) h = absurd cc
+fails_front (Some w) f causes.Duplicate h = absurd cc
+fails_front (Some w) f causes.NoMemory h = tt
+
+-- the first part is of no form, or memory is refused
+pub part_stops : {X W : Type 0} (words : X → W) (read : List ℕ → Option X) (front : List W) (part : List ℕ) (parts : List (List ℕ)) (whole : Option (List W)) (cause : LineCause) → Fails (or_syntax (option_map words (read part))) cause → with_read front (all_read words read (part ∷ parts)) ≡ whole → Fails (or_syntax whole) cause
+part_stops words read front part parts whole cause h so_far =
+    subst (λ o. Fails (or_syntax o) cause) (sym (first_read words front (read part) (each_reading read parts)) ∙ so_far) (fails_front (option_map words (read part)) (λ x. with_read (front ++ x ∷ []) (all_read words read parts)) cause h)
+
+-- all parts are
+pub parts_end : {X W : Type 0} (words : X → W) (read : List ℕ → Option X) (front : List W) (whole : Option (List W)) → with_read front (all_read words read []) ≡ whole → whole ≡ Some front
+parts_end words read front whole so_far = sym so_far ∙ ap (λ (l : List _). some l) (append-nil front)

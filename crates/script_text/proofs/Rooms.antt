@@ -8,11 +8,11 @@ use Rattle.std.proofs.lemmas.Grind.{flat_map-append}
 use Rattle.std.proofs.lemmas.List.Sums.{fold-append, sum_by-append}
 use Rattle.term_core.specs.Names.{given_names}
 use Rattle.term_core.specs.TermText.{names_with_all}
-use Rattle.mod_core.specs.LineFaults.{is_seventeenth, ends_too_long, is_repeated}
-use Rattle.mod_core.proofs.LineNames.{names_with_all-append, more_names_all}
+use Rattle.mod_text.specs.LineFaults.{is_seventeenth, ends_too_long, is_repeated}
+use Rattle.mod_text.proofs.LineNames.{names_with_all-append, more_names_all}
 use Rattle.script_text.specs.ScriptLine.{ScriptLine, is_script_line}
 use Rattle.script_text.specs.Counts.{script_line_atoms, names_of, FunctionForm, is_same_function, functions_named, functions_with, functions_of, titles_of, is_loader, is_spawn}
-use Rattle.script_text.specs.LineFaults.{may_stand, is_high, is_wide, of_code, is_given_again, last_of, last_text, line_fault}
+use Rattle.script_text.specs.LineFaults.{may_stand, is_high, is_wide, is_long, of_code, is_given_again, last_of, last_text, line_fault}
 use Rattle.script_text.specs.ScriptText.{HaveNoFault}
 use Rattle.script_text.proofs.GrownLines.{home_of}
 use Rattle.script_text.proofs.Summaries.{Summary, summary_with, table}
@@ -100,6 +100,7 @@ pub record StandsWell (before : List ScriptLine) (line : ScriptLine) : Type 0 wh
   pub place : may_stand (last_of before) line ≡ true
   pub low : is_high line ≡ false
   pub narrow : is_wide line ≡ false
+  pub brief : is_long line ≡ false
   pub few : of_code (is_seventeenth (last_text before)) line ≡ false
   pub short : of_code (ends_too_long (names_of before) (last_text before)) line ≡ false
   pub new_title : of_code (is_given_again (titles_of before)) line ≡ false
@@ -114,8 +115,8 @@ pub well_append : (before xs ys : List ScriptLine) → StandWell before xs → S
 well_append before [] ys h k = subst (λ (b : List ScriptLine). StandWell b ys) (append-nil before) k
 well_append before (x ∷ xs) ys h k = (h.0, well_append (before ++ x ∷ []) xs ys h.1 (subst (λ (b : List ScriptLine). StandWell b ys) (sym (append_assoc before (x ∷ []) xs)) k))
 
-all_pass : (a b c d e f g h i : Bool) (number : ℕ) → a ≡ false → b ≡ false → c ≡ false → d ≡ false → e ≡ false → f ≡ false → g ≡ false → h ≡ false → i ≡ false → table a b c d e f g h i number ≡ None
-all_pass a b c d e f g h i number ea eb ec ed ee ef eg eh ei = λ k. table (ea k) (eb k) (ec k) (ed k) (ee k) (ef k) (eg k) (eh k) (ei k) number
+all_pass : (a b c d e f g h i j : Bool) (number : ℕ) → a ≡ false → b ≡ false → c ≡ false → d ≡ false → e ≡ false → f ≡ false → g ≡ false → h ≡ false → i ≡ false → j ≡ false → table a b c d e f g h i j number ≡ None
+all_pass a b c d e f g h i j number ea eb ec ed ee ef eg eh ei ej = λ k. table (ea k) (eb k) (ec k) (ed k) (ee k) (ef k) (eg k) (eh k) (ei k) (ej k) number
 
 placed : (t : Bool) → t ≡ true → not t ≡ false
 placed true e = refl
@@ -124,10 +125,11 @@ placed false e = absurd cc
 line_passes : (before : List ScriptLine) (line : ScriptLine) → AreWithin (before ++ line ∷ []) → StandsWell before line → line_fault before line ≡ None
 line_passes before line w s =
     let next = before ++ line ∷ [] in
-    all_pass (not (may_stand (last_of before) line) || is_high line) (is_wide line) (nat_lt 4096 (length (names_of next))) (of_code (is_seventeenth (last_text before)) line) (of_code (ends_too_long (names_of before) (last_text before)) line)
+    all_pass (not (may_stand (last_of before) line) || is_high line) (is_wide line) (is_long line) (nat_lt 4096 (length (names_of next))) (of_code (is_seventeenth (last_text before)) line) (of_code (ends_too_long (names_of before) (last_text before)) line)
     (nat_lt 1024 (length (functions_of next))) (nat_lt 64 (count_by is_spawn next)) (nat_lt 8 (count_by is_loader next)) (of_code (is_given_again (titles_of before)) line || of_code (is_repeated (last_text before)) line) (length before + 1)
     (or_from (not (may_stand (last_of before) line)) (is_high line) (placed (may_stand (last_of before) line) s.place) s.low)
     s.narrow
+    s.brief
     (le-ltb 4096 (length (names_of next)) w.names)
     s.few
     s.short

@@ -1,6 +1,6 @@
 -- The script that a text says is one: its modules can be loaded, each load and each spawn can be made, and it is within the limits.
 use Rattle.std.proofs.Common.{ℕ, List, map, sym, ap, ◌∙◌, subst}
-use Rattle.mod_core.specs.ModuleValue.{module_of}
+use Rattle.mod_text.specs.ModuleValue.{module_of}
 use Rattle.server_core.specs.CommandTable.{AreTexts}
 use Rattle.script_text.specs.declared.script.Script.{Script}
 use Rattle.script_text.specs.ScriptLine.{RefForm}

@@ -1,35 +1,38 @@
 -- The commands among lines without a fault can be made, and their loaders and processes are few enough.
-use Rattle.std.proofs.Common.{◌≡◌, ℕ, ℤ, pos, negsuc, ◌+◌, ◌<◌, ◌≤◌, Bool, true, false, cond, not, nat_lt, nat_le, List, [], ◌∷◌, length, map, Option, Some, None, is_some, refl, sym, ap, ◌∙◌, arith, length-append}
+use Rattle.std.proofs.Common.{◌≡◌, ℕ, ◌+◌, ◌<◌, ◌≤◌, Bool, true, false, cond, not, nat_lt, nat_le, List, [], ◌∷◌, length, map, Option, Some, None, is_some, refl, sym, ap, ◌∙◌, subst, arith, length-append}
 use Rattle.std.specs.Prelude.{IsTrue, count_by, sum_by}
 use Rattle.std.specs.List.{AllByRecursion, flat_map, list_any, list_all}
 use Rattle.std.proofs.lemmas.Bool.{and_parts, or_parts}
 use Rattle.std.proofs.lemmas.Bool.Decides.{nat_tests}
-use Rattle.std.proofs.lemmas.Int.{ints}
 use Rattle.std.proofs.lemmas.List.{length-map}
 use Rattle.std.proofs.lemmas.List.Sums.{sum_by-cons}
 use Rattle.std.proofs.lemmas.Option.{slice_get_within}
 use Rattle.term_core.specs.declared.atom.AtomId.{AtomId}
-use Rattle.term_core.specs.PlainTerm.{integer_leaf, atom_leaf, tuple_of, list_of, atoms_of}
+use Rattle.term_core.specs.Plain.{term_of}
+use Rattle.term_core.specs.PlainTerm.{TermOf, RowOf, integer_leaf, atom_leaf, tuple_of, list_of, no_terms, term_then, EachLeaf, EachInRow, map_row, atoms_of, row_atoms, term_words}
 use Rattle.term_core.specs.TermText.{number_in}
-use Rattle.term_core.specs.Written.{WrittenTerm, IsTermInteger, integer_of, is_term_integer}
+use Rattle.term_core.specs.Written.{WrittenTerm, IsTermInteger, IntegersFit, integer_of}
+use Rattle.term_core.proofs.LeafFacts.{term_words-map}
 use Rattle.term_core.proofs.NameTables.{slice_get-number_of}
+use Rattle.term_core.proofs.PlainTerms.{plain-term_of}
 use Rattle.mod_core.specs.declared.code.Module.{Module}
-use Rattle.mod_core.specs.ModuleLine.{LineForm, title, header, label, instr, end, number_value}
-use Rattle.mod_core.specs.ModuleValue.{atom_in, mfa_in, module_of}
+use Rattle.mod_text.specs.ModuleLine.{LineForm, title, header, label, instr, end, number_value}
+use Rattle.mod_text.specs.ModuleValue.{atom_in, mfa_in, module_of}
 use Rattle.server_core.specs.CommandTable.{text_of}
-use Rattle.script_text.specs.declared.script.ScriptCmd.TheVariants.{Load, Trace, Spawn}
-use Rattle.script_text.specs.ScriptLine.{RefForm, ModuleCommand, delete, soft_purge, purge, check_old, ScriptLine, head, code, loader, load, on_module, trace, spawn, go, is_argument_form, is_script_line}
+use Rattle.script_text.specs.declared.script.ScriptCmd.TheVariants.{Load, Put, Trace, Spawn}
+use Rattle.script_text.specs.ScriptLine.{RefForm, AtomCommand, delete, soft_purge, purge, check_old, erase, ScriptLine, head, code, loader, load, on_atom, put, trace, spawn, go, is_script_line}
 use Rattle.script_text.specs.Groups.{onto_last}
 use Rattle.script_text.specs.Counts.{script_line_atoms, is_given, is_loader, is_spawn, block_lines, loader_blocks}
-use Rattle.script_text.specs.LineFaults.{may_stand_between, may_stand_within, may_stand, is_head, is_wide_argument, is_wide, is_lacking, lack_in_loads}
+use Rattle.script_text.specs.LineFaults.{may_stand_between, may_stand_within, may_stand, is_head, is_wide_term, is_long_term, is_lacking, lack_in_loads}
 use Rattle.script_text.specs.ScriptText.{HaveNoFault}
 use Rattle.script_text.specs.ScriptValue.{ref_in, argument_in, command_of, commands_on, commands_of}
-use Rattle.script_text.specs.Sound.{IsImmediateOf, IsCmdOf, spawns_in}
+use Rattle.script_text.specs.Sound.{IsTermOf, IsCmdOf, spawns_in}
 use Rattle.script_text.proofs.HeldNames.{IsHeldText, number_is}
-use Rattle.script_text.proofs.ModuleNames.{AreHeld}
+use Rattle.script_text.proofs.ModuleNames.{AreHeld, held_first, held_second}
+use Rattle.script_text.proofs.TermNames.{narrow_fits}
 use Rattle.script_text.proofs.Summaries.{Summary, summary_of, summary_with, blocks_with}
 use Rattle.script_text.proofs.SoundnessGroups.{each_weaker, each_map, each_flat, each_grouped, gathered, sum_joined}
-use Rattle.script_text.proofs.SoundnessRows.{not_false, Passes, IsKept, kept}
+use Rattle.script_text.proofs.SoundnessRows.{not_false, Passes, IsKept, kept, IsNarrow}
 use Rattle.script_text.proofs.SoundnessNames.{trace_line, spawn_line, arguments_held}
 use Rattle.script_text.proofs.SoundnessTitles.{title_ref, given_found}
 
@@ -38,29 +41,40 @@ use Rattle.script_text.proofs.SoundnessTitles.{title_ref, given_found}
 -- what a line has that is one of a script
 pub record IsLineOf (names : List (List ℕ)) (titles : List RefForm) (line : ScriptLine) : Type 0 where
   pub sound : is_script_line line ≡ true
-  pub narrow : is_wide line ≡ false
+  pub narrow : IsNarrow line
   pub held : AreHeld names (script_line_atoms line)
   pub given : is_lacking titles line ≡ false
 
 held_below : (names : List (List ℕ)) (text : List ℕ) → IsHeldText names text → number_in names text < length names
 held_below names text h = let within = slice_get_within names h.number text (slice_get-number_of names text h.number h.is) in omega (arith, within, number_is names text h)
 
-pub fits : (z : ℤ) → not (is_term_integer z) ≡ false → IsTermInteger z
-fits (pos n) h = let below : n < 576460752303423488 = grind (arith, nat_tests) in record { low = omega (arith, ints); high = omega (arith, ints) }
-fits (negsuc n) h = let below : n < 576460752303423488 = grind (arith, nat_tests) in record { low = omega (arith, ints); high = omega (arith, ints) }
+mutual
+  -- its atoms have names
+  held_leaves : (names : List (List ℕ)) (t : TermOf (List ℕ) (List ℕ)) → IntegersFit t → AreHeld names (atoms_of t) → EachLeaf IsTermInteger (λ atom. atom < length names) (argument_in names t)
+  held_leaves names (integer_leaf text) fits held = fits
+  held_leaves names (atom_leaf text) fits held = held_below names text held.0
+  held_leaves names (tuple_of row) fits held = held_row names row fits held
+  held_leaves names (list_of row) fits held = held_row names row fits held
 
-argument_is : (names : List (List ℕ)) (arg : WrittenTerm) → is_argument_form arg ≡ true → is_wide_argument arg ≡ false → AreHeld names (atoms_of arg) → IsImmediateOf names (argument_in names arg)
-argument_is names (integer_leaf text) form narrow held = fits (integer_of text) narrow
-argument_is names (atom_leaf text) form narrow held = held_below names text held.0
-argument_is names (tuple_of row) form narrow held = absurd cc
-argument_is names (list_of row) form narrow held = absurd cc
+  held_row : (names : List (List ℕ)) (row : RowOf (List ℕ) (List ℕ)) → EachInRow (λ text. IsTermInteger (integer_of text)) (λ _. Unit {0}) row → AreHeld names (row_atoms row) → EachInRow IsTermInteger (λ atom. atom < length names) (map_row integer_of (number_in names) row)
+  held_row names no_terms fits held = tt
+  held_row names (term_then t row) fits held = (held_leaves names t fits.0 (held_first names (atoms_of t) (row_atoms row) held), held_row names row fits.1 (held_second names (atoms_of t) (row_atoms row) held))
 
-arguments_are : (names : List (List ℕ)) (args : List WrittenTerm) → list_all is_argument_form args ≡ true → list_any is_wide_argument args ≡ false → AllByRecursion (λ arg. AreHeld names (atoms_of arg)) args → AllByRecursion (λ arg. IsImmediateOf names (argument_in names arg)) args
-arguments_are names [] forms narrow held = tt
-arguments_are names (arg ∷ args) forms narrow held =
-    let f = and_parts (is_argument_form arg) (list_all is_argument_form args) forms in
-    let n = or_parts (is_wide_argument arg) (list_any is_wide_argument args) narrow in
-    (argument_is names arg f.0 n.0 held.0, arguments_are names args f.1 n.1 held.1)
+at_most_words : (n : ℕ) → nat_lt 64 n ≡ false → n ≤ 64
+at_most_words n h = grind (arith, nat_tests)
+
+argument_is : (names : List (List ℕ)) (arg : WrittenTerm) → is_wide_term arg ≡ false → is_long_term arg ≡ false → AreHeld names (atoms_of arg) → IsTermOf names (argument_in names arg)
+argument_is names arg narrow brief held = record {
+  leaves = held_leaves names arg (narrow_fits arg narrow) held;
+  short = let same = term_words-map integer_of (number_in names) arg in let few = at_most_words (term_words arg) brief in omega (arith, same, few);
+}
+
+arguments_are : (names : List (List ℕ)) (args : List WrittenTerm) → list_any is_wide_term args ≡ false → list_any is_long_term args ≡ false → AllByRecursion (λ arg. AreHeld names (atoms_of arg)) args → AllByRecursion (λ arg. IsTermOf names (argument_in names arg)) args
+arguments_are names [] narrow brief held = tt
+arguments_are names (arg ∷ args) narrow brief held =
+    let n = or_parts (is_wide_term arg) (list_any is_wide_term args) narrow in
+    let b = or_parts (is_long_term arg) (list_any is_long_term args) brief in
+    (argument_is names arg n.0 b.0 held.0, arguments_are names args n.1 b.1 held.1)
 
 refs_given : (names : List (List ℕ)) (texts : List (List LineForm)) (refs : List RefForm) → list_all (is_given (map title_ref texts)) refs ≡ true → AllByRecursion (λ r. IsTrue (is_some (text_of (map (module_of names) texts) (ref_in names r)))) refs
 refs_given names texts [] h = tt
@@ -75,11 +89,12 @@ some_refs names (r ∷ refs) h = omega arith
 at_most : (n : ℕ) → nat_le n 15 ≡ true → n ≤ 15
 at_most n h = grind (arith, nat_tests)
 
-named_is : (names : List (List ℕ)) (texts : List Module) (command : ModuleCommand) (name : List ℕ) → IsHeldText names name → IsCmdOf names texts (command_of command (atom_in names name))
+named_is : (names : List (List ℕ)) (texts : List Module) (command : AtomCommand) (name : List ℕ) → IsHeldText names name → IsCmdOf names texts (command_of command (atom_in names name))
 named_is names texts delete name held = held_below names name held
 named_is names texts soft_purge name held = held_below names name held
 named_is names texts purge name held = held_below names name held
 named_is names texts check_old name held = held_below names name held
+named_is names texts erase name held = held_below names name held
 
 command_is : (names : List (List ℕ)) (texts : List (List LineForm)) (line : ScriptLine) → IsLineOf names (map title_ref texts) line → AllByRecursion (IsCmdOf names (map (module_of names) texts)) (commands_on names line)
 command_is names texts head l = tt
@@ -92,7 +107,14 @@ command_is names texts (load refs) l = (
   },
   tt,
 )
-command_is names texts (on_module command name) l = (named_is names (map (module_of names) texts) command name l.held.0, tt)
+command_is names texts (on_atom command name) l = (named_is names (map (module_of names) texts) command name l.held.0, tt)
+command_is names texts (put key term) l = (
+  record {
+    key_named = held_below names key l.held.0;
+    is_term = subst (IsTermOf names) (sym (plain-term_of (argument_in names term))) (argument_is names term l.narrow.narrow l.narrow.brief l.held.1);
+  },
+  tt,
+)
 command_is names texts (trace f g arity on) l = (
   record {
     module_named = held_below names f l.held.0;
@@ -108,7 +130,7 @@ command_is names texts (spawn m f args) l =
         name_named = held_below names f l.held.1.0;
         arity_is = sym (length-map args (argument_in names));
         few = at_most (length args) s.few;
-        each = each_map (IsImmediateOf names) (argument_in names) args (arguments_are names args s.args_are l.narrow (arguments_held names args l.held.1.1));
+        each = each_map (IsTermOf names) (argument_in names) args (arguments_are names args l.narrow.narrow l.narrow.brief (arguments_held names args l.held.1.1));
       },
       tt,
     )
@@ -121,7 +143,8 @@ block_line P head h = tt
 block_line P (code line) h = tt
 block_line P loader h = (h, tt)
 block_line P (load refs) h = (h, tt)
-block_line P (on_module command name) h = (h, tt)
+block_line P (on_atom command name) h = (h, tt)
+block_line P (put key term) h = (h, tt)
 block_line P (trace f g arity on) h = (h, tt)
 block_line P (spawn m f args) h = (h, tt)
 block_line P go h = tt
@@ -150,7 +173,7 @@ none_lacking titles number (line ∷ lines) none =
     let p = none_now (is_lacking titles line) number (lack_in_loads titles (number + 1) lines) none in
     (p.0, none_lacking titles (number + 1) lines p.1)
 
-pub lines_are : (names : List (List ℕ)) (titles : List RefForm) (lines : List ScriptLine) → AllByRecursion (λ line. IsTrue (is_script_line line)) lines → AllByRecursion (λ line. is_wide line ≡ false) lines → AllByRecursion (λ line. AreHeld names (script_line_atoms line)) lines → AllByRecursion (λ line. is_lacking titles line ≡ false) lines → AllByRecursion (IsLineOf names titles) lines
+pub lines_are : (names : List (List ℕ)) (titles : List RefForm) (lines : List ScriptLine) → AllByRecursion (λ line. IsTrue (is_script_line line)) lines → AllByRecursion IsNarrow lines → AllByRecursion (λ line. AreHeld names (script_line_atoms line)) lines → AllByRecursion (λ line. is_lacking titles line ≡ false) lines → AllByRecursion (IsLineOf names titles) lines
 lines_are names titles [] sound narrow held given = tt
 lines_are names titles (line ∷ lines) sound narrow held given = (record { sound = sound.0; narrow = narrow.0; held = held.0; given = given.0 }, lines_are names titles lines sound.1 narrow.1 held.1 given.1)
 
@@ -163,7 +186,8 @@ SomeBehind (Some head) n = Unit {0}
 SomeBehind (Some (code line)) n = Unit {0}
 SomeBehind (Some loader) n = 1 ≤ n
 SomeBehind (Some (load refs)) n = 1 ≤ n
-SomeBehind (Some (on_module command name)) n = 1 ≤ n
+SomeBehind (Some (on_atom command name)) n = 1 ≤ n
+SomeBehind (Some (put key term)) n = 1 ≤ n
 SomeBehind (Some (trace f g arity on)) n = 1 ≤ n
 SomeBehind (Some (spawn m f args)) n = 1 ≤ n
 SomeBehind (Some go) n = Unit {0}
@@ -179,7 +203,8 @@ some_block (Some (code (instr i))) line n h place first between within = let no 
 some_block (Some (code end)) line n h place first between within = absurd cc
 some_block (Some loader) line n h place first between within = h
 some_block (Some (load refs)) line n h place first between within = h
-some_block (Some (on_module command name)) line n h place first between within = h
+some_block (Some (on_atom command name)) line n h place first between within = h
+some_block (Some (put key term)) line n h place first between within = h
 some_block (Some (trace f g arity on)) line n h place first between within = h
 some_block (Some (spawn m f args)) line n h place first between within = h
 some_block (Some go) line n h place first between within = absurd cc
@@ -210,9 +235,13 @@ counted_more m (load refs) c p =
     let some = some_block m.last (load refs) (length m.blocks) c.some p.place refl refl (λ before. refl) in
     let same = same_length m.blocks (load refs) some in
     (omega (arith, same, c.blocks), omega (arith, same, some))
-counted_more m (on_module command name) c p =
-    let some = some_block m.last (on_module command name) (length m.blocks) c.some p.place refl refl (λ before. refl) in
-    let same = same_length m.blocks (on_module command name) some in
+counted_more m (on_atom command name) c p =
+    let some = some_block m.last (on_atom command name) (length m.blocks) c.some p.place refl refl (λ before. refl) in
+    let same = same_length m.blocks (on_atom command name) some in
+    (omega (arith, same, c.blocks), omega (arith, same, some))
+counted_more m (put key term) c p =
+    let some = some_block m.last (put key term) (length m.blocks) c.some p.place refl refl (λ before. refl) in
+    let same = same_length m.blocks (put key term) some in
     (omega (arith, same, c.blocks), omega (arith, same, some))
 counted_more m (trace f g arity on) c p =
     let some = some_block m.last (trace f g arity on) (length m.blocks) c.some p.place refl refl (λ before. refl) in
@@ -250,12 +279,13 @@ plus_none n = omega arith
 count_cons : (line : ScriptLine) (lines : List ScriptLine) → count_by is_spawn (line ∷ lines) ≡ cond (is_spawn line) 1 0 + count_by is_spawn lines
 count_cons line lines = sum_by-cons (λ l. cond (is_spawn l) 1 0) line lines
 
--- a command of one module spawns nothing
-no_spawn : (command : ModuleCommand) («module» : AtomId) → spawns_in (command_of command «module») ≡ 0
-no_spawn delete «module» = refl
-no_spawn soft_purge «module» = refl
-no_spawn purge «module» = refl
-no_spawn check_old «module» = refl
+-- a command of one atom spawns nothing
+no_spawn : (command : AtomCommand) (atom : AtomId) → spawns_in (command_of command atom) ≡ 0
+no_spawn delete atom = refl
+no_spawn soft_purge atom = refl
+no_spawn purge atom = refl
+no_spawn check_old atom = refl
+no_spawn erase atom = refl
 
 spawns_counted : (names : List (List ℕ)) (lines : List ScriptLine) → sum_by spawns_in (flat_map (commands_on names) (flat_map block_lines lines)) ≡ count_by is_spawn lines
 spawns_counted names [] = refl
@@ -264,11 +294,13 @@ spawns_counted names (code line ∷ lines) = spawns_counted names lines ∙ sym 
 spawns_counted names (loader ∷ lines) = spawns_counted names lines ∙ sym (count_cons loader lines ∙ plus_none (count_by is_spawn lines))
 spawns_counted names (load refs ∷ lines) =
     sum_by-cons spawns_in (Load (map (ref_in names) refs)) (flat_map (commands_on names) (flat_map block_lines lines)) ∙ ap (λ n. 0 + n) (spawns_counted names lines) ∙ sym (count_cons (load refs) lines)
-spawns_counted names (on_module command name ∷ lines) =
+spawns_counted names (on_atom command name ∷ lines) =
     sum_by-cons spawns_in (command_of command (atom_in names name)) (flat_map (commands_on names) (flat_map block_lines lines))
     ∙ ap (λ n. n + sum_by spawns_in (flat_map (commands_on names) (flat_map block_lines lines))) (no_spawn command (atom_in names name))
     ∙ ap (λ n. 0 + n) (spawns_counted names lines)
-    ∙ sym (count_cons (on_module command name) lines)
+    ∙ sym (count_cons (on_atom command name) lines)
+spawns_counted names (put key term ∷ lines) =
+    sum_by-cons spawns_in (Put (atom_in names key) (term_of (argument_in names term))) (flat_map (commands_on names) (flat_map block_lines lines)) ∙ ap (λ n. 0 + n) (spawns_counted names lines) ∙ sym (count_cons (put key term) lines)
 spawns_counted names (trace f g arity on ∷ lines) =
     sum_by-cons spawns_in (Trace (mfa_in names f g arity) on) (flat_map (commands_on names) (flat_map block_lines lines)) ∙ ap (λ n. 0 + n) (spawns_counted names lines) ∙ sym (count_cons (trace f g arity on) lines)
 spawns_counted names (spawn m f args ∷ lines) =

@@ -5,17 +5,18 @@ use Rattle.std.specs.List.{AllByRecursion, flat_map, list_all}
 use Rattle.std.proofs.lemmas.Bool.{and_parts, and_from}
 use Rattle.std.proofs.lemmas.Bool.Decides.{nat_tests}
 use Rattle.term_core.specs.Names.{IsNames, given_names, is_atom_text, names_with}
-use Rattle.term_core.specs.PlainTerm.{integer_leaf, atom_leaf, tuple_of, list_of, atoms_of}
+use Rattle.term_core.specs.PlainTerm.{atoms_of}
 use Rattle.term_core.specs.TermText.{names_with_all}
 use Rattle.term_core.specs.Written.{WrittenTerm}
 use Rattle.term_core.proofs.NameTables.{given_names-IsNames, names_with-IsNames}
-use Rattle.mod_core.specs.ModuleLine.{is_number_text, number_value, is_arity_text, is_function_form}
-use Rattle.mod_core.proofs.LineNames.{are_atoms, line_atoms_are, more_names_all}
-use Rattle.script_text.specs.ScriptLine.{RefForm, ScriptLine, head, code, loader, load, on_module, trace, spawn, go, is_ref_form, is_argument_form, is_script_line}
+use Rattle.mod_text.specs.ModuleLine.{is_number_text, number_value, is_arity_text, is_function_form}
+use Rattle.mod_text.proofs.LineNames.{are_atoms, line_atoms_are, more_names_all}
+use Rattle.script_text.specs.ScriptLine.{RefForm, ScriptLine, head, code, loader, load, on_atom, put, trace, spawn, go, is_ref_form, is_term_form, is_script_line}
 use Rattle.script_text.specs.Counts.{script_line_atoms, names_of}
 use Rattle.script_text.specs.ScriptText.{HaveNoFault}
 use Rattle.script_text.proofs.HeldNames.{IsHeldText, held_all}
 use Rattle.script_text.proofs.ModuleNames.{AreHeld}
+use Rattle.script_text.proofs.TermNames.{term_atoms_are, terms_atoms_are}
 use Rattle.script_text.proofs.Summaries.{summary_with}
 use Rattle.script_text.proofs.SoundnessRows.{IsKept, kept}
 
@@ -27,27 +28,18 @@ refs_atoms (r ∷ refs) h =
     let p = and_parts (is_ref_form r) (list_all is_ref_form refs) h in
     and_from (is_atom_text r.name) (are_atoms (map (λ r. r.name) refs)) (and_parts (is_atom_text r.name) _ p.0).0 (refs_atoms refs p.1)
 
-arguments_atoms : (args : List WrittenTerm) → list_all is_argument_form args ≡ true → are_atoms (flat_map atoms_of args) ≡ true
-arguments_atoms [] h = refl
-arguments_atoms (integer_leaf text ∷ args) h = arguments_atoms args (and_parts (is_argument_form (integer_leaf text)) (list_all is_argument_form args) h).1
-arguments_atoms (atom_leaf text ∷ args) h =
-    let p = and_parts (is_atom_text text) (list_all is_argument_form args) h in
-    and_from (is_atom_text text) (are_atoms (flat_map atoms_of args)) p.0 (arguments_atoms args p.1)
-arguments_atoms (tuple_of row ∷ args) h = absurd cc
-arguments_atoms (list_of row ∷ args) h = absurd cc
-
 -- what a spawn has that is the line of a text
 pub record IsSpawnLine (m f : List ℕ) (args : List WrittenTerm) : Type 0 where
   pub module_is : is_atom_text m ≡ true
   pub name_is : is_atom_text f ≡ true
   pub few : nat_le (length args) 15 ≡ true
-  pub args_are : list_all is_argument_form args ≡ true
+  pub args_are : list_all is_term_form args ≡ true
 
 pub spawn_line : (m f : List ℕ) (args : List WrittenTerm) → is_script_line (spawn m f args) ≡ true → IsSpawnLine m f args
 spawn_line m f args h =
-    let first = and_parts (is_atom_text m) (is_atom_text f && (nat_le (length args) 15 && list_all is_argument_form args)) h in
-    let second = and_parts (is_atom_text f) (nat_le (length args) 15 && list_all is_argument_form args) first.1 in
-    let third = and_parts (nat_le (length args) 15) (list_all is_argument_form args) second.1 in
+    let first = and_parts (is_atom_text m) (is_atom_text f && (nat_le (length args) 15 && list_all is_term_form args)) h in
+    let second = and_parts (is_atom_text f) (nat_le (length args) 15 && list_all is_term_form args) first.1 in
+    let third = and_parts (nat_le (length args) 15) (list_all is_term_form args) second.1 in
     record { module_is = first.0; name_is = second.0; few = third.0; args_are = third.1 }
 
 -- what a breakpoint has that is the line of a text
@@ -68,14 +60,17 @@ atoms_are (code line) h = line_atoms_are line h
 atoms_are loader h = refl
 atoms_are (load []) h = absurd cc
 atoms_are (load (r ∷ refs)) h = refs_atoms (r ∷ refs) h
-atoms_are (on_module command name) h = and_from (is_atom_text name) true h refl
+atoms_are (on_atom command name) h = and_from (is_atom_text name) true h refl
+atoms_are (put key term) h =
+    let p = and_parts (is_atom_text key) (is_term_form term) h in
+    and_from (is_atom_text key) (are_atoms (atoms_of term)) p.0 (term_atoms_are term p.1)
 atoms_are (trace f g arity on) h =
     let t = trace_line f g arity on h in
     and_from (is_atom_text f) (is_atom_text g && true) t.module_is (and_from (is_atom_text g) true t.name_is refl)
 atoms_are (spawn m f args) h =
     let s = spawn_line m f args h in
     and_from (is_atom_text m) (is_atom_text f && are_atoms (flat_map atoms_of args)) s.module_is
-    (and_from (is_atom_text f) (are_atoms (flat_map atoms_of args)) s.name_is (arguments_atoms args s.args_are))
+    (and_from (is_atom_text f) (are_atoms (flat_map atoms_of args)) s.name_is (terms_atoms_are args s.args_are))
 atoms_are go h = refl
 
 -- ---- the table

@@ -3,16 +3,16 @@ use Rattle.std.proofs.Common.{◌≡◌, ℕ, ◌+◌, Bool, true, false, not, �
 use Rattle.std.specs.Prelude.{IsTrue}
 use Rattle.std.specs.List.{AllByRecursion}
 use Rattle.std.proofs.lemmas.Bool.{or_parts}
-use Rattle.mod_core.specs.LineFaults.{is_seventeenth, ends_too_long, is_repeated}
+use Rattle.mod_text.specs.LineFaults.{is_seventeenth, ends_too_long, is_repeated}
 use Rattle.script_text.specs.ScriptLine.{ScriptLine, is_script_line}
 use Rattle.script_text.specs.Groups.{last_group}
-use Rattle.script_text.specs.LineFaults.{may_stand, is_high, is_wide, of_code, is_given_again}
+use Rattle.script_text.specs.LineFaults.{may_stand, is_high, is_wide, is_long, of_code, is_given_again}
 use Rattle.script_text.specs.ScriptText.{HaveNoFault}
 use Rattle.script_text.proofs.Summaries.{Summary, summary_of, summary_with, summary_of-snoc, table, fault_by, line_fault-by}
 
 -- ---- the rows of a table
 
-record AllFail (a b c d e f g h i : Bool) : Type 0 where
+record AllFail (a b c d e f g h i j : Bool) : Type 0 where
   pub a_fails : a ≡ false
   pub b_fails : b ≡ false
   pub c_fails : c ≡ false
@@ -22,18 +22,20 @@ record AllFail (a b c d e f g h i : Bool) : Type 0 where
   pub g_fails : g ≡ false
   pub h_fails : h ≡ false
   pub i_fails : i ≡ false
+  pub j_fails : j ≡ false
 
-all_fail : (a b c d e f g h i : Bool) (number : ℕ) → table a b c d e f g h i number ≡ None → AllFail a b c d e f g h i
-all_fail true b c d e f g h i number none = absurd cc
-all_fail false true c d e f g h i number none = absurd cc
-all_fail false false true d e f g h i number none = absurd cc
-all_fail false false false true e f g h i number none = absurd cc
-all_fail false false false false true f g h i number none = absurd cc
-all_fail false false false false false true g h i number none = absurd cc
-all_fail false false false false false false true h i number none = absurd cc
-all_fail false false false false false false false true i number none = absurd cc
-all_fail false false false false false false false false true number none = absurd cc
-all_fail false false false false false false false false false number none = record { a_fails = refl; b_fails = refl; c_fails = refl; d_fails = refl; e_fails = refl; f_fails = refl; g_fails = refl; h_fails = refl; i_fails = refl }
+all_fail : (a b c d e f g h i j : Bool) (number : ℕ) → table a b c d e f g h i j number ≡ None → AllFail a b c d e f g h i j
+all_fail true b c d e f g h i j number none = absurd cc
+all_fail false true c d e f g h i j number none = absurd cc
+all_fail false false true d e f g h i j number none = absurd cc
+all_fail false false false true e f g h i j number none = absurd cc
+all_fail false false false false true f g h i j number none = absurd cc
+all_fail false false false false false true g h i j number none = absurd cc
+all_fail false false false false false false true h i j number none = absurd cc
+all_fail false false false false false false false true i j number none = absurd cc
+all_fail false false false false false false false false true j number none = absurd cc
+all_fail false false false false false false false false false true number none = absurd cc
+all_fail false false false false false false false false false false number none = record { a_fails = refl; b_fails = refl; c_fails = refl; d_fails = refl; e_fails = refl; f_fails = refl; g_fails = refl; h_fails = refl; i_fails = refl; j_fails = refl }
 
 pub not_false : (b : Bool) → not b ≡ false → b ≡ true
 not_false true e = refl
@@ -46,6 +48,7 @@ pub record Passes (m : Summary) (line : ScriptLine) : Type 0 where
   pub place : may_stand m.last line ≡ true
   pub low : is_high line ≡ false
   pub narrow : is_wide line ≡ false
+  pub brief : is_long line ≡ false
   pub room : nat_lt 4096 (length (summary_with m line).names) ≡ false
   pub few : of_code (is_seventeenth (last_group m.texts)) line ≡ false
   pub short : of_code (ends_too_long m.names (last_group m.texts)) line ≡ false
@@ -58,20 +61,21 @@ pub record Passes (m : Summary) (line : ScriptLine) : Type 0 where
 passes : (m : Summary) (line : ScriptLine) → fault_by m line ≡ None → Passes m line
 passes m line none =
     let next = summary_with m line in
-    let rows = all_fail (not (may_stand m.last line) || is_high line) (is_wide line) (nat_lt 4096 (length next.names)) (of_code (is_seventeenth (last_group m.texts)) line) (of_code (ends_too_long m.names (last_group m.texts)) line)
+    let rows = all_fail (not (may_stand m.last line) || is_high line) (is_wide line) (is_long line) (nat_lt 4096 (length next.names)) (of_code (is_seventeenth (last_group m.texts)) line) (of_code (ends_too_long m.names (last_group m.texts)) line)
     (nat_lt 1024 (length next.functions)) (nat_lt 64 next.spawns) (nat_lt 8 next.loaders) (of_code (is_given_again m.titles) line || of_code (is_repeated (last_group m.texts)) line) (m.count + 1) none in
     let first = or_parts (not (may_stand m.last line)) (is_high line) rows.a_fails in
-    let last = or_parts (of_code (is_given_again m.titles) line) (of_code (is_repeated (last_group m.texts)) line) rows.i_fails in
+    let last = or_parts (of_code (is_given_again m.titles) line) (of_code (is_repeated (last_group m.texts)) line) rows.j_fails in
     record {
       place = not_false (may_stand m.last line) first.0;
       low = first.1;
       narrow = rows.b_fails;
-      room = rows.c_fails;
-      few = rows.d_fails;
-      short = rows.e_fails;
-      exports = rows.f_fails;
-      processes = rows.g_fails;
-      loaders = rows.h_fails;
+      brief = rows.c_fails;
+      room = rows.d_fails;
+      few = rows.e_fails;
+      short = rows.f_fails;
+      exports = rows.g_fails;
+      processes = rows.h_fails;
+      loaders = rows.i_fails;
       new_title = last.0;
       new_name = last.1;
     }
@@ -93,10 +97,17 @@ kept_behind Q k before (line ∷ lines) now sound none =
 pub kept : (Q : Summary → Type 0) → IsKept Q → (lines : List ScriptLine) → AllByRecursion (λ line. IsTrue (is_script_line line)) lines → HaveNoFault [] lines → Q (summary_of lines)
 kept Q k lines sound none = kept_behind Q k [] lines k.first sound none
 
-narrow_behind : (before lines : List ScriptLine) → HaveNoFault before lines → AllByRecursion (λ line. is_wide line ≡ false) lines
-narrow_behind before [] none = tt
-narrow_behind before (line ∷ lines) none = ((passes (summary_of before) line (sym (line_fault-by before line) ∙ none.0)).narrow, narrow_behind (before ++ line ∷ []) lines none.1)
+-- a line whose terms are within their limits
+pub record IsNarrow (line : ScriptLine) : Type 0 where
+  pub narrow : is_wide line ≡ false
+  pub brief : is_long line ≡ false
 
--- none of them has an integer that is too wide
-pub all_narrow : (lines : List ScriptLine) → HaveNoFault [] lines → AllByRecursion (λ line. is_wide line ≡ false) lines
+narrow_behind : (before lines : List ScriptLine) → HaveNoFault before lines → AllByRecursion IsNarrow lines
+narrow_behind before [] none = tt
+narrow_behind before (line ∷ lines) none =
+    let p = passes (summary_of before) line (sym (line_fault-by before line) ∙ none.0) in
+    (record { narrow = p.narrow; brief = p.brief }, narrow_behind (before ++ line ∷ []) lines none.1)
+
+-- so is each of them
+pub all_narrow : (lines : List ScriptLine) → HaveNoFault [] lines → AllByRecursion IsNarrow lines
 all_narrow lines none = narrow_behind [] lines none

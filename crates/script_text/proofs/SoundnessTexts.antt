@@ -6,15 +6,15 @@ use Rattle.std.proofs.lemmas.List.Elements.{All-nil, All-cons}
 use Rattle.term_core.specs.Names.{IsNames, Extends}
 use Rattle.term_core.specs.TermText.{names_with_all}
 use Rattle.term_core.proofs.GrownNames.{Extends-refl, Extends-trans}
-use Rattle.mod_core.specs.declared.fault.LineFault.TheVariants as line_faults
+use Rattle.mod_text.specs.declared.fault.LineFault.TheVariants as line_faults
 use Rattle.mod_core.specs.Module.{IsModule}
-use Rattle.mod_core.specs.ModuleLine.{LineForm, title, header, label, instr, end, line_written, lines_written, is_line_form}
-use Rattle.mod_core.specs.LineFaults.{may_follow, last_line, line_atoms, names_after, has_high_register, has_wide_integer, overfills_names, is_seventeenth, ends_too_long, is_repeated, IsNext}
-use Rattle.mod_core.specs.ModuleValue.{IsTitled, module_of, unsettled_line}
-use Rattle.mod_core.specs.ModuleText.{FollowOn, names_behind}
-use Rattle.mod_core.proofs.Keepings.{last_line-push}
-use Rattle.mod_core.proofs.ModuleSound.{module_is_sound}
-use Rattle.script_text.specs.ScriptLine.{ScriptLine, head, code, loader, load, on_module, trace, spawn, go, is_script_line}
+use Rattle.mod_text.specs.ModuleLine.{LineForm, title, header, label, instr, end, line_written, lines_written, is_line_form}
+use Rattle.mod_text.specs.LineFaults.{may_follow, last_line, line_atoms, names_after, has_high_register, has_wide_integer, has_long_term, overfills_names, is_seventeenth, ends_too_long, is_repeated, IsNext}
+use Rattle.mod_text.specs.ModuleValue.{IsTitled, module_of, unsettled_line}
+use Rattle.mod_text.specs.ModuleText.{FollowOn, names_behind}
+use Rattle.mod_text.proofs.Keepings.{last_line-push}
+use Rattle.mod_text.proofs.ModuleSound.{module_is_sound}
+use Rattle.script_text.specs.ScriptLine.{ScriptLine, head, code, loader, load, on_atom, put, trace, spawn, go, is_script_line}
 use Rattle.script_text.specs.Groups.{onto_last, last_group}
 use Rattle.script_text.specs.Counts.{script_line_atoms, is_title, names_of, module_texts}
 use Rattle.script_text.specs.LineFaults.{may_stand_between, may_stand_within, may_stand_behind, may_stand_loading, may_stand, of_code, last_of, or_else, lack_in_texts}
@@ -63,7 +63,8 @@ TextsBehind (Some head) names texts = AreClosed names texts
 TextsBehind (Some (code line)) names texts = HaveOpen names texts line
 TextsBehind (Some loader) names texts = AreClosed names texts
 TextsBehind (Some (load refs)) names texts = AreClosed names texts
-TextsBehind (Some (on_module command name)) names texts = AreClosed names texts
+TextsBehind (Some (on_atom command name)) names texts = AreClosed names texts
+TextsBehind (Some (put key term)) names texts = AreClosed names texts
 TextsBehind (Some (trace f g arity on)) names texts = AreClosed names texts
 TextsBehind (Some (spawn m f args)) names texts = AreClosed names texts
 TextsBehind (Some go) names texts = AreClosed names texts
@@ -96,24 +97,26 @@ record PassesCode (names : List (List ℕ)) (text : List LineForm) (line : LineF
   sound : is_line_form line ≡ true
   low : has_high_register line ≡ false
   narrow : has_wide_integer line ≡ false
+  brief : has_long_term line ≡ false
   room : nat_lt 4096 (length (names_with_all names (line_atoms line))) ≡ false
   few : is_seventeenth text line ≡ false
   short : ends_too_long names text line ≡ false
   new : is_repeated text line ≡ false
 
-no_fault_by : (a b c d e f : Bool) → a ≡ false → b ≡ false → c ≡ false → d ≡ false → e ≡ false → f ≡ false → cond a (Some line_faults.Register) (cond b (Some line_faults.Int) (cond c (Some line_faults.Names) (cond d (Some line_faults.TooManyFunctions) (cond e (Some line_faults.TooLong) (cond f (Some line_faults.Duplicate) None))))) ≡ None
-no_fault_by false false false false false false ha hb hc hd he hf = refl
-no_fault_by true b c d e f ha hb hc hd he hf = absurd cc
-no_fault_by false true c d e f ha hb hc hd he hf = absurd cc
-no_fault_by false false true d e f ha hb hc hd he hf = absurd cc
-no_fault_by false false false true e f ha hb hc hd he hf = absurd cc
-no_fault_by false false false false true f ha hb hc hd he hf = absurd cc
-no_fault_by false false false false false true ha hb hc hd he hf = absurd cc
+no_fault_by : (a b c d e f g : Bool) → a ≡ false → b ≡ false → c ≡ false → d ≡ false → e ≡ false → f ≡ false → g ≡ false → cond a (Some line_faults.Register) (cond b (Some line_faults.Int) (cond c (Some line_faults.Term) (cond d (Some line_faults.Names) (cond e (Some line_faults.TooManyFunctions) (cond f (Some line_faults.TooLong) (cond g (Some line_faults.Duplicate) None)))))) ≡ None
+no_fault_by false false false false false false false ha hb hc hd he hf hg = refl
+no_fault_by true b c d e f g ha hb hc hd he hf hg = absurd cc
+no_fault_by false true c d e f g ha hb hc hd he hf hg = absurd cc
+no_fault_by false false true d e f g ha hb hc hd he hf hg = absurd cc
+no_fault_by false false false true e f g ha hb hc hd he hf hg = absurd cc
+no_fault_by false false false false true f g ha hb hc hd he hf hg = absurd cc
+no_fault_by false false false false false true g ha hb hc hd he hf hg = absurd cc
+no_fault_by false false false false false false true ha hb hc hd he hf hg = absurd cc
 
 next_is : (names : List (List ℕ)) (text : List LineForm) (line : LineForm) → PassesCode names text line → may_follow (last_line text) line ≡ true → IsNext names text (line_written line) line
 next_is names text line p place = record {
   stands = record { is_text = record { text_is = refl; sound = p.sound }; place = place };
-  within = no_fault_by (has_high_register line) (has_wide_integer line) (overfills_names names line) (is_seventeenth text line) (ends_too_long names text line) (is_repeated text line) p.low p.narrow p.room p.few p.short p.new;
+  within = no_fault_by (has_high_register line) (has_wide_integer line) (has_long_term line) (overfills_names names line) (is_seventeenth text line) (ends_too_long names text line) (is_repeated text line) p.low p.narrow p.brief p.room p.few p.short p.new;
 }
 
 pub no_title : (last line : LineForm) → may_follow (Some last) line ≡ true → is_title line ≡ false
@@ -151,7 +154,7 @@ open_more names texts last line h p place =
 -- a text that begins
 starts_text : (names : List (List ℕ)) (texts : List (List LineForm)) (line : LineForm) → length names ≤ 4096 → AreClosed names texts → PassesCode names (last_group texts) line → may_follow None line ≡ true → HaveOpen (names_with_all names (line_atoms line)) (texts_with texts (code line)) line
 starts_text names texts (title name version) room h p place =
-    let passed : PassesCode names [] (title name version) = record { sound = p.sound; low = refl; narrow = refl; room = p.room; few = refl; short = refl; new = refl } in
+    let passed : PassesCode names [] (title name version) = record { sound = p.sound; low = refl; narrow = refl; brief = refl; room = p.room; few = refl; short = refl; new = refl } in
     record {
       front = texts;
       text = title name version ∷ [];
@@ -171,14 +174,15 @@ abbrev Opens : ScriptLine → Type 0
 Opens line = of_code (λ l. not (may_follow None l)) line ≡ false
 
 code_passed : (m : Summary) (line : LineForm) → is_line_form line ≡ true → Passes m (code line) → PassesCode m.names (last_group m.texts) line
-code_passed m line sound p = record { sound = sound; low = p.low; narrow = p.narrow; room = p.room; few = p.few; short = p.short; new = p.new_name }
+code_passed m line sound p = record { sound = sound; low = p.low; narrow = p.narrow; brief = p.brief; room = p.room; few = p.few; short = p.short; new = p.new_name }
 
 begins : (m : Summary) (line : ScriptLine) → length m.names ≤ 4096 → AreClosed m.names m.texts → IsTrue (is_script_line line) → Passes m line → Opens line → TextsBehind (Some line) (summary_with m line).names (summary_with m line).texts
 begins m head room h sound p place = h
 begins m (code line) room h sound p place = starts_text m.names m.texts line room h (code_passed m line sound p) (not_false (may_follow None line) place)
 begins m loader room h sound p place = h
 begins m (load refs) room h sound p place = all_closed_in m.names _ m.texts (Extends-all m.names (script_line_atoms (load refs))) h
-begins m (on_module command name) room h sound p place = all_closed_in m.names _ m.texts (Extends-all m.names (script_line_atoms (on_module command name))) h
+begins m (on_atom command name) room h sound p place = all_closed_in m.names _ m.texts (Extends-all m.names (script_line_atoms (on_atom command name))) h
+begins m (put key term) room h sound p place = all_closed_in m.names _ m.texts (Extends-all m.names (script_line_atoms (put key term))) h
 begins m (trace f g arity on) room h sound p place = all_closed_in m.names _ m.texts (Extends-all m.names (script_line_atoms (trace f g arity on))) h
 begins m (spawn f g args) room h sound p place = all_closed_in m.names _ m.texts (Extends-all m.names (script_line_atoms (spawn f g args))) h
 begins m go room h sound p place = h
@@ -188,7 +192,8 @@ opens_first head e = refl
 opens_first (code line) e = absurd cc
 opens_first loader e = refl
 opens_first (load refs) e = refl
-opens_first (on_module command name) e = refl
+opens_first (on_atom command name) e = refl
+opens_first (put key term) e = refl
 opens_first (trace f g arity on) e = refl
 opens_first (spawn f g args) e = refl
 opens_first go e = refl
@@ -198,7 +203,8 @@ opens_between head e = refl
 opens_between (code line) e = ap not e
 opens_between loader e = refl
 opens_between (load refs) e = refl
-opens_between (on_module command name) e = refl
+opens_between (on_atom command name) e = refl
+opens_between (put key term) e = refl
 opens_between (trace f g arity on) e = refl
 opens_between (spawn f g args) e = refl
 opens_between go e = refl
@@ -208,7 +214,8 @@ opens_loading head e = refl
 opens_loading (code line) e = absurd cc
 opens_loading loader e = refl
 opens_loading (load refs) e = refl
-opens_loading (on_module command name) e = refl
+opens_loading (on_atom command name) e = refl
+opens_loading (put key term) e = refl
 opens_loading (trace f g arity on) e = refl
 opens_loading (spawn f g args) e = refl
 opens_loading go e = refl
@@ -218,7 +225,8 @@ goes_on m last head h sound p place = absurd cc
 goes_on m last (code line) h sound p place = open_more m.names m.texts last line h (code_passed m line sound p) place
 goes_on m last loader h sound p place = absurd cc
 goes_on m last (load refs) h sound p place = absurd cc
-goes_on m last (on_module command name) h sound p place = absurd cc
+goes_on m last (on_atom command name) h sound p place = absurd cc
+goes_on m last (put key term) h sound p place = absurd cc
 goes_on m last (trace f g arity on) h sound p place = absurd cc
 goes_on m last (spawn f g args) h sound p place = absurd cc
 goes_on m last go h sound p place = absurd cc
@@ -236,7 +244,8 @@ texts_more m (Some head) line room h sound p place = begins m line room h sound 
 texts_more m (Some (code last)) line room h sound p place = behind_code m last line room h sound p place
 texts_more m (Some loader) line room h sound p place = begins m line room h sound p (opens_loading line place)
 texts_more m (Some (load refs)) line room h sound p place = begins m line room h sound p (opens_loading line place)
-texts_more m (Some (on_module command name)) line room h sound p place = begins m line room h sound p (opens_loading line place)
+texts_more m (Some (on_atom command name)) line room h sound p place = begins m line room h sound p (opens_loading line place)
+texts_more m (Some (put key term)) line room h sound p place = begins m line room h sound p (opens_loading line place)
 texts_more m (Some (trace f g arity on)) line room h sound p place = begins m line room h sound p (opens_loading line place)
 texts_more m (Some (spawn f g args)) line room h sound p place = begins m line room h sound p (opens_loading line place)
 texts_more m (Some go) line room h sound p place = absurd cc

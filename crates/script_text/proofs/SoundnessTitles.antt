@@ -8,14 +8,14 @@ use Rattle.term_core.specs.declared.atom.AtomId.{AtomId}
 use Rattle.term_core.specs.Names.{Extends}
 use Rattle.term_core.specs.TermText.{number_in}
 use Rattle.mod_core.specs.declared.code.Module.{Module}
-use Rattle.mod_core.specs.ModuleLine.{LineForm, title, header, label, instr, end, number_value}
-use Rattle.mod_core.specs.LineFaults.{may_follow, last_line, names_after}
-use Rattle.mod_core.specs.ModuleValue.{title_of, IsTitled, module_of}
-use Rattle.mod_core.specs.ModuleText.{FollowOn, names_behind}
-use Rattle.mod_core.proofs.Keepings.{last_line-push}
-use Rattle.mod_core.proofs.Options.{some_is, bytes_are}
+use Rattle.mod_text.specs.ModuleLine.{LineForm, title, header, label, instr, end, number_value}
+use Rattle.mod_text.specs.LineFaults.{may_follow, last_line, names_after}
+use Rattle.mod_text.specs.ModuleValue.{title_of, IsTitled, module_of}
+use Rattle.mod_text.specs.ModuleText.{FollowOn, names_behind}
+use Rattle.mod_text.proofs.Keepings.{last_line-push}
+use Rattle.mod_text.proofs.Options.{some_is, bytes_are}
 use Rattle.server_core.specs.CommandTable.{text_of}
-use Rattle.script_text.specs.ScriptLine.{RefForm, ScriptLine, head, code, loader, load, on_module, trace, spawn, go, is_script_line}
+use Rattle.script_text.specs.ScriptLine.{RefForm, ScriptLine, head, code, loader, load, on_atom, put, trace, spawn, go, is_script_line}
 use Rattle.script_text.specs.Counts.{code_lines, is_title, module_texts, line_titles, titles_of, is_same_ref, is_given}
 use Rattle.script_text.specs.LineFaults.{of_code, is_given_again}
 use Rattle.script_text.specs.ScriptText.{HaveNoFault}
@@ -94,7 +94,8 @@ apart_with titles head h new = h
 apart_with titles (code line) h new = apart_line titles line h new
 apart_with titles loader h new = h
 apart_with titles (load refs) h new = h
-apart_with titles (on_module command name) h new = h
+apart_with titles (on_atom command name) h new = h
+apart_with titles (put key term) h new = h
 apart_with titles (trace f g arity on) h new = h
 apart_with titles (spawn m f args) h new = h
 apart_with titles go h new = h

@@ -8,12 +8,12 @@ use Rattle.term_core.specs.declared.atom.Mfa.{Mfa}
 use Rattle.term_core.specs.Names.{IsNames, Extends, is_atom_text}
 use Rattle.term_core.specs.PlainTerm.{PlainTerm, integer_leaf, atom_leaf, tuple_of, list_of, atoms_of}
 use Rattle.term_core.specs.Written.{WrittenTerm}
-use Rattle.mod_core.specs.ModuleLine.{LineForm}
-use Rattle.mod_core.specs.LineReading.{cut_at}
-use Rattle.mod_core.specs.ModuleValue.{module_of}
-use Rattle.mod_core.proofs.Cuts.{cut_is}
-use Rattle.mod_core.proofs.LineNames.{are_atoms}
-use Rattle.mod_core.proofs.Options.{some_is}
+use Rattle.mod_text.specs.ModuleLine.{LineForm}
+use Rattle.mod_text.specs.LineReading.{cut_at}
+use Rattle.mod_text.specs.ModuleValue.{module_of}
+use Rattle.mod_text.proofs.Cuts.{cut_is}
+use Rattle.mod_text.proofs.LineNames.{are_atoms}
+use Rattle.mod_text.proofs.Options.{some_is}
 use Rattle.script_text.specs.declared.fault.Which.TheVariants as which
 use Rattle.script_text.specs.declared.fault.ScriptFault.{ScriptFault}
 use Rattle.script_text.specs.declared.fault.ScriptFault.TheVariants as faults
@@ -22,11 +22,11 @@ use Rattle.script_text.specs.declared.reading.cause.LineCause.TheVariants as cau
 use Rattle.script_text.specs.declared.reading.reader.Place.TheVariants.{Loading}
 use Rattle.script_text.specs.declared.reading.reader.ScriptReader.{ScriptReader}
 use Rattle.script_text.specs.declared.script.ScriptCmd.TheVariants.{Spawn}
-use Rattle.script_text.specs.ScriptLine.{ScriptLine, spawn, is_argument_form, IsLine}
+use Rattle.script_text.specs.ScriptLine.{ScriptLine, spawn, is_term_form, IsLine}
 use Rattle.script_text.specs.Counts.{FunctionForm}
 use Rattle.script_text.specs.Groups.{onto_last}
 use Rattle.script_text.specs.ScriptValue.{ref_in, argument_in, commands_of}
-use Rattle.script_text.specs.LineFaults.{may_stand, is_wide_argument, or_else, lack_in_texts}
+use Rattle.script_text.specs.LineFaults.{may_stand, is_wide_term, is_long_term, or_else, lack_in_texts}
 use Rattle.script_text.specs.LineReading.{CallForm, call_reading}
 use Rattle.script_text.specs.Naming.{or_syntax, call_named}
 use Rattle.script_text.specs.WrittenLine.{call_words}
@@ -34,7 +34,9 @@ use Rattle.script_text.specs.Causes.{◌>>=◌}
 use Rattle.script_text.specs.Sets.{mfa_added}
 use Rattle.script_text.specs.Reading.{with_command, process_added, spawn_step}
 use Rattle.script_text.proofs.CommandLaws.{is_call, call_is, spawn_cut}
-use Rattle.script_text.proofs.NamedLaws.{no_module_text, no_trace_text}
+use Rattle.script_text.proofs.TermNames.{terms_after, terms_atoms_are}
+use Rattle.script_text.proofs.PutLaws.{no_put_text}
+use Rattle.script_text.proofs.NamedLaws.{no_atom_command, no_trace_text}
 use Rattle.script_text.proofs.HeldNames.{held_all, Extends-all, number_in-more}
 use Rattle.script_text.proofs.ModuleNames.{AreHeld}
 use Rattle.script_text.proofs.Namings.{target_in, call_or_full, names_after_call, call_named-is}
@@ -57,47 +59,24 @@ function_of c = record { «module» = c.«module»; name = c.name; arity = lengt
 abbrev call_atoms : CallForm → List (List ℕ)
 call_atoms c = c.«module» ∷ c.name ∷ flat_map atoms_of c.args
 
-argument_atoms : (args : List WrittenTerm) → list_all is_argument_form args ≡ true → are_atoms (flat_map atoms_of args) ≡ true
-argument_atoms [] e = refl
-argument_atoms (integer_leaf text ∷ args) e = argument_atoms args (and_parts (is_argument_form (integer_leaf text)) (list_all is_argument_form args) e).1
-argument_atoms (atom_leaf text ∷ args) e =
-    let p = and_parts (is_argument_form (atom_leaf text)) (list_all is_argument_form args) e in
-    let here = p.0 in
-    let rest = argument_atoms args p.1 in
-    λ i. here i && rest i
-argument_atoms (tuple_of row ∷ args) e = absurd cc
-argument_atoms (list_of row ∷ args) e = absurd cc
-
 pub record IsCallForm (c : CallForm) : Type 0 where
   pub module_is : is_atom_text c.«module» ≡ true
   pub name_is : is_atom_text c.name ≡ true
-  pub args_are : list_all is_argument_form c.args ≡ true
+  pub args_are : list_all is_term_form c.args ≡ true
 
 call_form : (c : CallForm) → is_call c ≡ true → IsCallForm c
 call_form c h =
     let p = and_parts (is_atom_text c.«module») _ h in
     let q = and_parts (is_atom_text c.name) _ p.1 in
-    let r = and_parts (nat_le (length c.args) 15) (list_all is_argument_form c.args) q.1 in
+    let r = and_parts (nat_le (length c.args) 15) (list_all is_term_form c.args) q.1 in
     record { module_is = p.0; name_is = q.0; args_are = r.1 }
 
 all_atoms : (c : CallForm) → IsCallForm c → are_atoms (call_atoms c) ≡ true
 all_atoms c h =
     let m = h.module_is in
     let f = h.name_is in
-    let rest = argument_atoms c.args h.args_are in
+    let rest = terms_atoms_are c.args h.args_are in
     λ i. m i && (f i && rest i)
-
-arguments_more : (names more : List (List ℕ)) (args : List WrittenTerm) → list_all is_argument_form args ≡ true → AreHeld names (flat_map atoms_of args) → map (argument_in names) args ≡ map (argument_in (names ++ more)) args
-arguments_more names more [] e h = refl
-arguments_more names more (integer_leaf text ∷ args) e h =
-    let rest = arguments_more names more args (and_parts (is_argument_form (integer_leaf text)) (list_all is_argument_form args) e).1 h in
-    λ i. argument_in names (integer_leaf text) ∷ rest i
-arguments_more names more (atom_leaf text ∷ args) e h =
-    let here = sym (number_in-more names more text h.0) in
-    let rest = arguments_more names more args (and_parts (is_argument_form (atom_leaf text)) (list_all is_argument_form args) e).1 h.1 in
-    λ i. atom_leaf (here i) ∷ rest i
-arguments_more names more (tuple_of row ∷ args) e h = absurd cc
-arguments_more names more (list_of row ∷ args) e h = absurd cc
 
 -- ---- what is known after it
 
@@ -127,7 +106,7 @@ knows_spawn m r closed c k form some sound few_fs room =
           let before = grown (λ (ns : List (List ℕ)). r.loaders ≡ map (commands_of ns) m.blocks) m.names after ext k.loaders more in
           let n_is = sym (number_in-more after more c.«module» held.0) in
           let f_is = sym (number_in-more after more c.name held.1.0) in
-          let args = arguments_more after more c.args form.args_are held.1.1 in
+          let args = sym (terms_after after (after ++ more) c.args (record { more = more; whole = refl }) held.1.1) in
           (λ i. onto_last (before i) (Spawn (record { «module» = record { 0 = n_is i }; name = record { 0 = f_is i }; arity = length c.args }) (args i)))
           ∙ sym (commands-onto_last (after ++ more) m.blocks (spawned c) (Spawn (target_in (after ++ more) c) (map (argument_in (after ++ more)) c.args)) refl);
       blocks = let len = length-onto_last m.blocks (spawned c) (omega (arith, k.blocks, some)) in omega (arith, k.blocks, len);
@@ -141,17 +120,17 @@ knows_spawn m r closed c k form some sound few_fs room =
 -- ---- what it comes to
 
 -- the limits of a spawn, in the order of judging
-abbrev spawn_table : Bool → Bool → Bool → Bool → ℕ → Option ScriptFault
-spawn_table wide names exports processes number =
-    cond wide (Some (faults.Limit number which.Integer)) (cond names (Some (faults.Limit number which.Names)) (cond exports (Some (faults.Limit number which.Exports)) (cond processes (Some (faults.Limit number which.Processes)) None)))
+abbrev spawn_table : Bool → Bool → Bool → Bool → Bool → ℕ → Option ScriptFault
+spawn_table wide big names exports processes number =
+    cond wide (Some (faults.Limit number which.Integer)) (cond big (Some (faults.Limit number which.Term)) (cond names (Some (faults.Limit number which.Names)) (cond exports (Some (faults.Limit number which.Exports)) (cond processes (Some (faults.Limit number which.Processes)) None))))
 
 abbrev exports_after : Summary → CallForm → Bool
 exports_after m c = nat_lt 1024 (length (summary_with m (spawned c)).functions)
 
-spawn_fault : (m : Summary) (r : ScriptReader) (closed : List (List LineForm)) (c : CallForm) → Knows m r closed → may_stand m.last (spawned c) ≡ true → fault_by m (spawned c) ≡ spawn_table (list_any is_wide_argument c.args) (nat_lt 4096 (length (names_after_call m.names c))) (exports_after m c) (nat_lt 64 (m.spawns + 1)) (m.count + 1)
+spawn_fault : (m : Summary) (r : ScriptReader) (closed : List (List LineForm)) (c : CallForm) → Knows m r closed → may_stand m.last (spawned c) ≡ true → fault_by m (spawned c) ≡ spawn_table (list_any is_wide_term c.args) (list_any is_long_term c.args) (nat_lt 4096 (length (names_after_call m.names c))) (exports_after m c) (nat_lt 64 (m.spawns + 1)) (m.count + 1)
 spawn_fault m r closed c k stands =
     let loaders = few_more m.loaders 8 k.few_loaders in
-    λ i. table (not (stands i) || false) (list_any is_wide_argument c.args) (nat_lt 4096 (length (names_after_call m.names c))) false false (exports_after m c) (nat_lt 64 (m.spawns + 1)) (loaders i) false (m.count + 1)
+    λ i. table (not (stands i) || false) (list_any is_wide_term c.args) (list_any is_long_term c.args) (nat_lt 4096 (length (names_after_call m.names c))) false false (exports_after m c) (nat_lt 64 (m.spawns + 1)) (loaders i) false (m.count + 1)
 
 abbrev Call : Type 0
 Call = Mfa × List PlainTerm × List (List ℕ)
@@ -166,10 +145,10 @@ with_call r x = mfa_added r.functions x.0 >>= with_functions r x
 
 judges_call : (m : Summary) (r : ScriptReader) (closed : List (List LineForm)) (text : List ℕ) (c : CallForm) → Knows m r closed → IsLoading m r → r.place ≡ Loading → IsCallForm c → IsLine text (spawned c) → Judges m text (call_named r.names (call_words c) >>= with_call r)
 judges_call m r closed text c k l place form is =
-    let named : call_named r.names (call_words c) ≡ cond (list_any is_wide_argument c.args) (Err (causes.Limit which.Integer)) (call_or_full (names_after_call m.names c) c) =
+    let named : call_named r.names (call_words c) ≡ cond (list_any is_wide_term c.args) (Err (causes.Limit which.Integer)) (cond (list_any is_long_term c.args) (Err (causes.Limit which.Term)) (call_or_full (names_after_call m.names c) c)) =
     ap (λ (ns : List (List ℕ)). call_named ns (call_words c)) k.names ∙ call_named-is m.names c form.module_is form.name_is form.args_are k.sound.room in
     subst (λ (s : Result Call LineCause). Judges m text (s >>= with_call r)) (sym named)
-    (by_wide (list_any is_wide_argument c.args) (spawn_fault m r closed c k (l.follows (spawned c))))
+    (by_wide (list_any is_wide_term c.args) (spawn_fault m r closed c k (l.follows (spawned c))))
   where
     after : List (List ℕ)
     after = names_after_call m.names c
@@ -192,7 +171,7 @@ judges_call m r closed text c k l place form is =
     call_of : Call
     call_of = (target_in after c, map (argument_in after) c.args, after)
 
-    by_processes : (t : Bool) → nat_lt 64 (m.spawns + 1) ≡ t → length after ≤ 4096 → length next.functions ≤ 1024 → fault_by m (spawned c) ≡ spawn_table false false false t (m.count + 1) → Judges m text (cond t (Err (causes.Limit which.Processes)) (Ok (r.processes + 1)) >>= λ n. Ok (with_command (record r { names = after; functions = map (function_in after) next.functions; processes = n }) (Spawn (target_in after c) (map (argument_in after) c.args))))
+    by_processes : (t : Bool) → nat_lt 64 (m.spawns + 1) ≡ t → length after ≤ 4096 → length next.functions ≤ 1024 → fault_by m (spawned c) ≡ spawn_table false false false false t (m.count + 1) → Judges m text (cond t (Err (causes.Limit which.Processes)) (Ok (r.processes + 1)) >>= λ n. Ok (with_command (record r { names = after; functions = map (function_in after) next.functions; processes = n }) (Spawn (target_in after c) (map (argument_in after) c.args))))
     by_processes true full small few_fs e = record { line = spawned c; is_line = is; fault_is = e }
     by_processes false full small few_fs e =
         let sound = names_all-IsNames m.names (call_atoms c) k.sound (all_atoms c form) small in
@@ -208,19 +187,23 @@ judges_call m r closed text c k l place form is =
           };
         }
 
-    by_exports : (t : Bool) → exports_after m c ≡ t → length after ≤ 4096 → fault_by m (spawned c) ≡ spawn_table false false t (nat_lt 64 (m.spawns + 1)) (m.count + 1) → Judges m text (cond t (Err (causes.Limit which.Exports)) (Ok (map (function_in after) next.functions)) >>= with_functions r call_of)
+    by_exports : (t : Bool) → exports_after m c ≡ t → length after ≤ 4096 → fault_by m (spawned c) ≡ spawn_table false false false t (nat_lt 64 (m.spawns + 1)) (m.count + 1) → Judges m text (cond t (Err (causes.Limit which.Exports)) (Ok (map (function_in after) next.functions)) >>= with_functions r call_of)
     by_exports true full small e = record { line = spawned c; is_line = is; fault_is = e }
     by_exports false full small e =
         subst (λ (t : Bool). Judges m text (cond t (Err (causes.Limit which.Processes)) (Ok (r.processes + 1)) >>= λ n. Ok (with_command (record r { names = after; functions = map (function_in after) next.functions; processes = n }) (Spawn (target_in after c) (map (argument_in after) c.args))))) (sym room_is)
         (by_processes (nat_lt 64 (m.spawns + 1)) refl small (grind (arith, nat_tests)) e)
 
-    by_names : (t : Bool) → nat_lt 4096 (length after) ≡ t → fault_by m (spawned c) ≡ spawn_table false t (exports_after m c) (nat_lt 64 (m.spawns + 1)) (m.count + 1) → Judges m text (cond t (Err (causes.Limit which.Names)) (Ok call_of) >>= with_call r)
+    by_names : (t : Bool) → nat_lt 4096 (length after) ≡ t → fault_by m (spawned c) ≡ spawn_table false false t (exports_after m c) (nat_lt 64 (m.spawns + 1)) (m.count + 1) → Judges m text (cond t (Err (causes.Limit which.Names)) (Ok call_of) >>= with_call r)
     by_names true full e = record { line = spawned c; is_line = is; fault_is = e }
     by_names false full e = subst (λ (s : Result (List Mfa) LineCause). Judges m text (s >>= with_functions r call_of)) (sym added) (by_exports (exports_after m c) refl (grind (arith, nat_tests)) e)
 
-    by_wide : (t : Bool) → fault_by m (spawned c) ≡ spawn_table t (nat_lt 4096 (length after)) (exports_after m c) (nat_lt 64 (m.spawns + 1)) (m.count + 1) → Judges m text (cond t (Err (causes.Limit which.Integer)) (call_or_full after c) >>= with_call r)
+    by_long : (t : Bool) → fault_by m (spawned c) ≡ spawn_table false t (nat_lt 4096 (length after)) (exports_after m c) (nat_lt 64 (m.spawns + 1)) (m.count + 1) → Judges m text (cond t (Err (causes.Limit which.Term)) (call_or_full after c) >>= with_call r)
+    by_long true e = record { line = spawned c; is_line = is; fault_is = e }
+    by_long false e = by_names (nat_lt 4096 (length after)) refl e
+
+    by_wide : (t : Bool) → fault_by m (spawned c) ≡ spawn_table t (list_any is_long_term c.args) (nat_lt 4096 (length after)) (exports_after m c) (nat_lt 64 (m.spawns + 1)) (m.count + 1) → Judges m text (cond t (Err (causes.Limit which.Integer)) (cond (list_any is_long_term c.args) (Err (causes.Limit which.Term)) (call_or_full after c)) >>= with_call r)
     by_wide true e = record { line = spawned c; is_line = is; fault_is = e }
-    by_wide false e = by_names (nat_lt 4096 (length after)) refl e
+    by_wide false e = by_long (list_any is_long_term c.args) e
 
 -- a text whose first word is that of a spawn
 pub judges_spawn : (m : Summary) (r : ScriptReader) (closed : List (List LineForm)) (text : List ℕ) (rest : List ℕ) → Knows m r closed → IsLoading m r → r.place ≡ Loading → bytes_eq text (codes "loader") ≡ false → bytes_eq text (codes "go") ≡ false → cut_at 32 text ≡ Some (codes "spawn", rest) → Judges m text (spawn_step r rest)
@@ -235,7 +218,7 @@ judges_spawn m r closed text rest k l place no_loader no_go cut = by_call (call_
         absurd cc
 
     by_call : (o : Option CallForm) → call_reading rest ≡ o → Judges m text (or_syntax (option_map call_words o) >>= λ form. call_named r.names form >>= with_call r)
-    by_call None e = no_command m text l.follows no_loader no_go (no_load_text text (codes "spawn") rest cut refl) (no_call e) (no_module_text text (codes "spawn") rest cut refl) (no_trace_text text (codes "spawn") rest cut refl)
+    by_call None e = no_command m text l.follows no_loader no_go (no_load_text text (codes "spawn") rest cut refl) (no_call e) (no_atom_command text (codes "spawn") rest cut refl) (no_trace_text text (codes "spawn") rest cut refl) (no_put_text text (codes "spawn") rest cut refl)
     by_call (Some c) e =
         let is = call_is rest c e in
         judges_call m r closed text c k l place (call_form c is.sound) (record { text_is = (cut_is 32 text (codes "spawn", rest) cut).whole ∙ ap (λ (t : List ℕ). codes "spawn " ++ t) is.text_is; sound = is.sound })

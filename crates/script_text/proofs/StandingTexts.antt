@@ -1,22 +1,25 @@
 -- Module texts, each in a row under some names and closed, stand well in a script where no two have one title.
 use Rattle.std.proofs.Common.{◌≡◌, ℕ, Bool, true, false, cond, List, [], ◌∷◌, ◌++◌, map, Option, Some, None, refl, sym, ap, ◌∙◌, subst, append_assoc, append-nil}
+use Rattle.std.specs.Prelude.{All}
 use Rattle.std.specs.List.{AllByRecursion, flat_map, list_any}
 use Rattle.std.proofs.lemmas.Bool.{or_from}
 use Rattle.std.proofs.lemmas.Grind.{flat_map-append}
 use Rattle.std.proofs.lemmas.List.{map-append}
-use Rattle.mod_core.specs.declared.fault.LineFault.TheVariants as line_faults
-use Rattle.mod_core.specs.Keeping.{RowFrom}
-use Rattle.mod_core.specs.LineFaults.{may_follow, last_line, names_after, has_high_register, has_wide_integer, overfills_names, is_seventeenth, ends_too_long, is_repeated, fault_of_line}
-use Rattle.mod_core.specs.ModuleLine.{LineForm, title, header, label, instr, end}
-use Rattle.mod_core.specs.ModuleText.{FollowOn}
-use Rattle.mod_core.specs.ModuleValue.{IsTitled}
-use Rattle.mod_core.proofs.ImageWords.{too_long_is}
-use Rattle.mod_core.proofs.Keepings.{last_line-push}
-use Rattle.mod_core.proofs.Options.{some_is}
-use Rattle.script_text.specs.ScriptLine.{RefForm, ScriptLine, head, code, loader, load, on_module, trace, spawn, go}
+use Rattle.std.proofs.lemmas.List.Elements.{All-nil, All-push}
+use Rattle.mod_text.specs.declared.fault.LineFault.TheVariants as line_faults
+use Rattle.mod_text.specs.Keeping.{RowFrom}
+use Rattle.mod_text.specs.LineFaults.{may_follow, last_line, names_after, has_high_register, has_wide_integer, has_long_term, overfills_names, is_seventeenth, ends_too_long, is_repeated, fault_of_line}
+use Rattle.mod_text.specs.ModuleLine.{LineForm, title, header, label, instr, end}
+use Rattle.mod_text.specs.ModuleText.{FollowOn}
+use Rattle.mod_text.specs.ModuleValue.{IsTitled}
+use Rattle.mod_text.proofs.Constants.{IsSound}
+use Rattle.mod_text.proofs.LineWords.{too_long_is}
+use Rattle.mod_text.proofs.Keepings.{last_line-push}
+use Rattle.mod_text.proofs.Options.{some_is}
+use Rattle.script_text.specs.ScriptLine.{RefForm, ScriptLine, head, code, loader, load, on_atom, put, trace, spawn, go}
 use Rattle.script_text.specs.Groups.{onto_last, last_group}
 use Rattle.script_text.specs.Counts.{names_of, code_lines, module_texts, line_titles, titles_of, is_same_ref, is_given}
-use Rattle.script_text.specs.LineFaults.{may_stand_between, may_stand_loading, may_stand, is_wide, last_of}
+use Rattle.script_text.specs.LineFaults.{may_stand_between, may_stand_loading, may_stand, last_of}
 use Rattle.script_text.specs.Canonical.{code_form}
 use Rattle.script_text.proofs.GrownLines.{module_texts-code, last_of-snoc}
 use Rattle.script_text.proofs.GroupLaws.{onto_last-snoc}
@@ -24,6 +27,7 @@ use Rattle.script_text.proofs.SoundnessTexts.{IsClosed, AreClosed, titled, no_ti
 use Rattle.script_text.proofs.SoundnessTitles.{title_ref, one_title, AreApart}
 use Rattle.script_text.proofs.InOrder.{AreBlocks}
 use Rattle.script_text.proofs.Assembled.{IsBlockLine, code_lines-front}
+use Rattle.script_text.proofs.SoundnessRows.{IsNarrow}
 use Rattle.script_text.proofs.Rooms.{StandsWell, StandWell, well_append}
 
 -- ---- one line
@@ -31,31 +35,33 @@ use Rattle.script_text.proofs.Rooms.{StandsWell, StandWell, well_append}
 record PassesAll (names : List (List ℕ)) (text : List LineForm) (line : LineForm) : Type 0 where
   low : has_high_register line ≡ false
   narrow : has_wide_integer line ≡ false
+  brief : has_long_term line ≡ false
   few : is_seventeenth text line ≡ false
   short : ends_too_long names text line ≡ false
   new : is_repeated text line ≡ false
 
-passes_by : (names : List (List ℕ)) (text : List LineForm) (line : LineForm) (a b c d e f : Bool) → has_high_register line ≡ a → has_wide_integer line ≡ b → overfills_names names line ≡ c → is_seventeenth text line ≡ d → ends_too_long names text line ≡ e → is_repeated text line ≡ f →
-    cond a (Some line_faults.Register) (cond b (Some line_faults.Int) (cond c (Some line_faults.Names) (cond d (Some line_faults.TooManyFunctions) (cond e (Some line_faults.TooLong) (cond f (Some line_faults.Duplicate) None))))) ≡ None → PassesAll names text line
-passes_by names text line true b c d e f ea eb ec ed ee ef none = absurd cc
-passes_by names text line false true c d e f ea eb ec ed ee ef none = absurd cc
-passes_by names text line false false true d e f ea eb ec ed ee ef none = absurd cc
-passes_by names text line false false false true e f ea eb ec ed ee ef none = absurd cc
-passes_by names text line false false false false true f ea eb ec ed ee ef none = absurd cc
-passes_by names text line false false false false false true ea eb ec ed ee ef none = absurd cc
-passes_by names text line false false false false false false ea eb ec ed ee ef none = record { low = ea; narrow = eb; few = ed; short = ee; new = ef }
+passes_by : (names : List (List ℕ)) (text : List LineForm) (line : LineForm) (a b c d e f g : Bool) → has_high_register line ≡ a → has_wide_integer line ≡ b → has_long_term line ≡ c → overfills_names names line ≡ d → is_seventeenth text line ≡ e → ends_too_long names text line ≡ f → is_repeated text line ≡ g →
+    cond a (Some line_faults.Register) (cond b (Some line_faults.Int) (cond c (Some line_faults.Term) (cond d (Some line_faults.Names) (cond e (Some line_faults.TooManyFunctions) (cond f (Some line_faults.TooLong) (cond g (Some line_faults.Duplicate) None)))))) ≡ None → PassesAll names text line
+passes_by names text line true b c d e f g ea eb ec ed ee ef eg none = absurd cc
+passes_by names text line false true c d e f g ea eb ec ed ee ef eg none = absurd cc
+passes_by names text line false false true d e f g ea eb ec ed ee ef eg none = absurd cc
+passes_by names text line false false false true e f g ea eb ec ed ee ef eg none = absurd cc
+passes_by names text line false false false false true f g ea eb ec ed ee ef eg none = absurd cc
+passes_by names text line false false false false false true g ea eb ec ed ee ef eg none = absurd cc
+passes_by names text line false false false false false false true ea eb ec ed ee ef eg none = absurd cc
+passes_by names text line false false false false false false false ea eb ec ed ee ef eg none = record { low = ea; narrow = eb; brief = ec; few = ee; short = ef; new = eg }
 
 passes_all : (names : List (List ℕ)) (text : List LineForm) (line : LineForm) → fault_of_line names text line ≡ None → PassesAll names text line
 passes_all names text line none =
-    passes_by names text line (has_high_register line) (has_wide_integer line) (overfills_names names line) (is_seventeenth text line) (ends_too_long names text line) (is_repeated text line) refl refl refl refl refl refl none
+    passes_by names text line (has_high_register line) (has_wide_integer line) (has_long_term line) (overfills_names names line) (is_seventeenth text line) (ends_too_long names text line) (is_repeated text line) refl refl refl refl refl refl refl none
 
 -- how long an image is does not depend on the names
-short_under : (names others : List (List ℕ)) (text : List LineForm) (line : LineForm) → RowFrom None text → ends_too_long names text line ≡ false → ends_too_long others text line ≡ false
-short_under names others text (title name version) row h = refl
-short_under names others text (header exported name arity) row h = refl
-short_under names others text (label name) row h = refl
-short_under names others text (instr i) row h = refl
-short_under names others text end row h = too_long_is others text row ∙ sym (too_long_is names text row) ∙ h
+short_under : (names others : List (List ℕ)) (text : List LineForm) (line : LineForm) → RowFrom None text → All IsSound text → ends_too_long names text line ≡ false → ends_too_long others text line ≡ false
+short_under names others text (title name version) row sound h = refl
+short_under names others text (header exported name arity) row sound h = refl
+short_under names others text (label name) row sound h = refl
+short_under names others text (instr i) row sound h = refl
+short_under names others text end row sound h = too_long_is others text row sound ∙ sym (too_long_is names text row sound) ∙ h
 
 row_more : (before : Option LineForm) (lines : List LineForm) (last line : LineForm) → RowFrom before lines → last_line lines ≡ Some last → may_follow (Some last) line ≡ true → RowFrom before (lines ++ line ∷ [])
 row_more before [] last line row is place = absurd cc
@@ -87,6 +93,7 @@ record IsLastText (before : List ScriptLine) (texts : List (List LineForm)) (tex
   last_is : last_of before ≡ Some (code last)
   last_line_is : last_line text ≡ Some last
   row : RowFrom None text
+  sound : All IsSound text
 
 line_stands : (before : List ScriptLine) (texts : List (List LineForm)) (text : List LineForm) (last line : LineForm) (names : List (List ℕ)) → IsLastText before texts text last → may_follow (Some last) line ≡ true → PassesAll names text line → StandsWell before (code line)
 line_stands before texts text last line names l place p =
@@ -95,14 +102,15 @@ line_stands before texts text last line names l place p =
       place = ap (λ (o : Option ScriptLine). may_stand o (code line)) l.last_is ∙ stands_within last line place;
       low = p.low;
       narrow = p.narrow;
+      brief = p.brief;
       few = ap (λ (t : List LineForm). is_seventeenth t line) text_is ∙ p.few;
-      short = ap (λ (t : List LineForm). ends_too_long (names_of before) t line) text_is ∙ short_under names (names_of before) text line l.row p.short;
+      short = ap (λ (t : List LineForm). ends_too_long (names_of before) t line) text_is ∙ short_under names (names_of before) text line l.row l.sound p.short;
       new_title = ap (λ (ts : List RefForm). list_any (is_given (titles_of before)) ts) (untitled last line place);
       new_name = ap (λ (t : List LineForm). is_repeated t line) text_is ∙ p.new;
     }
 
-last_text_more : (before : List ScriptLine) (texts : List (List LineForm)) (text : List LineForm) (last line : LineForm) → IsLastText before texts text last → may_follow (Some last) line ≡ true → IsLastText (before ++ code line ∷ []) texts (text ++ line ∷ []) line
-last_text_more before texts text last line l place = record {
+last_text_more : (before : List ScriptLine) (texts : List (List LineForm)) (text : List LineForm) (last line : LineForm) → IsLastText before texts text last → may_follow (Some last) line ≡ true → IsSound line → IsLastText (before ++ code line ∷ []) texts (text ++ line ∷ []) line
+last_text_more before texts text last line l place sound = record {
   texts_are =
       module_texts-code before line
       ∙ ap (λ t. cond t (module_texts before ++ (line ∷ []) ∷ []) (onto_last (module_texts before) line)) (no_title last line place)
@@ -111,6 +119,7 @@ last_text_more before texts text last line l place = record {
   last_is = last_of-snoc before (code line);
   last_line_is = last_line-push text line;
   row = row_more None text last line l.row l.last_line_is place;
+  sound = All-push IsSound text line l.sound sound;
 }
 
 lines_stand : (before : List ScriptLine) (texts : List (List LineForm)) (text : List LineForm) (last : LineForm) (names : List (List ℕ)) (lines : List LineForm) → IsLastText before texts text last → FollowOn names text lines → StandWell before (code_form lines)
@@ -118,7 +127,7 @@ lines_stand before texts text last names [] l follow = tt
 lines_stand before texts text last names (line ∷ lines) l follow =
     let place : may_follow (Some last) line ≡ true = sym (ap (λ (o : Option LineForm). may_follow o line) l.last_line_is) ∙ follow.0.stands.place in (
       line_stands before texts text last line names l place (passes_all names text line follow.0.within),
-      lines_stand (before ++ code line ∷ []) texts (text ++ line ∷ []) line (names_after names line) lines (last_text_more before texts text last line l place) follow.1,
+      lines_stand (before ++ code line ∷ []) texts (text ++ line ∷ []) line (names_after names line) lines (last_text_more before texts text last line l place follow.0.stands.is_text.sound) follow.1,
     )
 
 -- ---- one text
@@ -137,6 +146,7 @@ text_stands names before texts (title name version ∷ lines) t b new follow =
       place = b.may (code line);
       low = refl;
       narrow = refl;
+      brief = refl;
       few = refl;
       short = refl;
       new_title = or_from (list_any (is_same_ref (record { name = name; version = version })) (titles_of before)) false (ap (λ (ts : List RefForm). list_any (is_same_ref (record { name = name; version = version })) ts) b.titles_are ∙ new) refl;
@@ -147,6 +157,7 @@ text_stands names before texts (title name version ∷ lines) t b new follow =
       last_is = last_of-snoc before (code line);
       last_line_is = refl;
       row = (refl, tt);
+      sound = All-push IsSound [] line (All-nil IsSound) follow.0.stands.is_text.sound;
     } in
     (first, lines_stand (before ++ code line ∷ []) texts (line ∷ []) line (names_after names line) lines opened follow.1)
 text_stands names before texts (header exported name arity ∷ lines) t b new follow = absurd t
@@ -160,7 +171,7 @@ texts_behind before texts text last names [] l follow =
 texts_behind before texts text last names (line ∷ lines) l follow =
     let place : may_follow (Some last) line ≡ true = sym (ap (λ (o : Option LineForm). may_follow o line) l.last_line_is) ∙ follow.0.stands.place in
     ap (λ (ls : List ScriptLine). module_texts ls) (sym (append_assoc before (code line ∷ []) (code_form lines)))
-    ∙ texts_behind (before ++ code line ∷ []) texts (text ++ line ∷ []) line (names_after names line) lines (last_text_more before texts text last line l place) follow.1
+    ∙ texts_behind (before ++ code line ∷ []) texts (text ++ line ∷ []) line (names_after names line) lines (last_text_more before texts text last line l place follow.0.stands.is_text.sound) follow.1
     ∙ ap (λ (t : List LineForm). texts ++ t ∷ []) (append_assoc text (line ∷ []) lines)
 
 text_behind : (names : List (List ℕ)) (before : List ScriptLine) (texts : List (List LineForm)) (text : List LineForm) → IsTitled text → module_texts before ≡ texts → FollowOn names [] text → module_texts (before ++ code_form text) ≡ texts ++ text ∷ []
@@ -172,6 +183,7 @@ text_behind names before texts (title name version ∷ lines) t are follow =
       last_is = last_of-snoc before (code line);
       last_line_is = refl;
       row = (refl, tt);
+      sound = All-push IsSound [] line (All-nil IsSound) follow.0.stands.is_text.sound;
     } in
     ap (λ (ls : List ScriptLine). module_texts ls) (sym (append_assoc before (code line ∷ []) (code_form lines)))
     ∙ texts_behind (before ++ code line ∷ []) texts (line ∷ []) line (names_after names line) lines opened follow.1
@@ -254,25 +266,27 @@ texts_are names texts closed apart = (all_stand names (head ∷ []) [] texts at_
 
 -- ---- loader blocks
 
-block_stands : (before : List ScriptLine) (line : ScriptLine) → IsBlockLine line → may_stand (last_of before) line ≡ true → is_wide line ≡ false → StandsWell before line
+block_stands : (before : List ScriptLine) (line : ScriptLine) → IsBlockLine line → may_stand (last_of before) line ≡ true → IsNarrow line → StandsWell before line
 block_stands before head is place narrow = absurd is
 block_stands before (code line) is place narrow = absurd is
-block_stands before loader is place narrow = record { place = place; low = refl; narrow = narrow; few = refl; short = refl; new_title = refl; new_name = refl }
-block_stands before (load refs) is place narrow = record { place = place; low = refl; narrow = narrow; few = refl; short = refl; new_title = refl; new_name = refl }
-block_stands before (on_module command name) is place narrow = record { place = place; low = refl; narrow = narrow; few = refl; short = refl; new_title = refl; new_name = refl }
-block_stands before (trace f g arity on) is place narrow = record { place = place; low = refl; narrow = narrow; few = refl; short = refl; new_title = refl; new_name = refl }
-block_stands before (spawn m f args) is place narrow = record { place = place; low = refl; narrow = narrow; few = refl; short = refl; new_title = refl; new_name = refl }
+block_stands before loader is place narrow = record { place = place; low = refl; narrow = narrow.narrow; brief = narrow.brief; few = refl; short = refl; new_title = refl; new_name = refl }
+block_stands before (load refs) is place narrow = record { place = place; low = refl; narrow = narrow.narrow; brief = narrow.brief; few = refl; short = refl; new_title = refl; new_name = refl }
+block_stands before (on_atom command name) is place narrow = record { place = place; low = refl; narrow = narrow.narrow; brief = narrow.brief; few = refl; short = refl; new_title = refl; new_name = refl }
+block_stands before (put key term) is place narrow = record { place = place; low = refl; narrow = narrow.narrow; brief = narrow.brief; few = refl; short = refl; new_title = refl; new_name = refl }
+block_stands before (trace f g arity on) is place narrow = record { place = place; low = refl; narrow = narrow.narrow; brief = narrow.brief; few = refl; short = refl; new_title = refl; new_name = refl }
+block_stands before (spawn m f args) is place narrow = record { place = place; low = refl; narrow = narrow.narrow; brief = narrow.brief; few = refl; short = refl; new_title = refl; new_name = refl }
 block_stands before go is place narrow = absurd is
 
 go_stands : (before : List ScriptLine) → may_stand (last_of before) go ≡ true → StandsWell before go
-go_stands before place = record { place = place; low = refl; narrow = refl; few = refl; short = refl; new_title = refl; new_name = refl }
+go_stands before place = record { place = place; low = refl; narrow = refl; brief = refl; few = refl; short = refl; new_title = refl; new_name = refl }
 
 behind_block : (last line : ScriptLine) → IsBlockLine last → may_stand (Some last) line ≡ may_stand_loading line
 behind_block head line is = absurd is
 behind_block (code l) line is = absurd is
 behind_block loader line is = refl
 behind_block (load refs) line is = refl
-behind_block (on_module command name) line is = refl
+behind_block (on_atom command name) line is = refl
+behind_block (put key term) line is = refl
 behind_block (trace f g arity on) line is = refl
 behind_block (spawn m f args) line is = refl
 behind_block go line is = absurd is
@@ -282,12 +296,13 @@ may_load head is = absurd is
 may_load (code l) is = absurd is
 may_load loader is = refl
 may_load (load refs) is = refl
-may_load (on_module command name) is = refl
+may_load (on_atom command name) is = refl
+may_load (put key term) is = refl
 may_load (trace f g arity on) is = refl
 may_load (spawn m f args) is = refl
 may_load go is = absurd is
 
-loading_stand : (before : List ScriptLine) (last : ScriptLine) (blocks : List ScriptLine) → last_of before ≡ Some last → IsBlockLine last → AllByRecursion IsBlockLine blocks → AllByRecursion (λ line. is_wide line ≡ false) blocks → StandWell before (blocks ++ go ∷ [])
+loading_stand : (before : List ScriptLine) (last : ScriptLine) (blocks : List ScriptLine) → last_of before ≡ Some last → IsBlockLine last → AllByRecursion IsBlockLine blocks → AllByRecursion IsNarrow blocks → StandWell before (blocks ++ go ∷ [])
 loading_stand before last [] is own are narrow = (go_stands before (ap (λ (o : Option ScriptLine). may_stand o go) is ∙ behind_block last go own), tt)
 loading_stand before last (line ∷ blocks) is own are narrow = (
   block_stands before line are.0 (ap (λ (o : Option ScriptLine). may_stand o line) is ∙ behind_block last line own ∙ may_load line are.0) narrow.0,
@@ -299,13 +314,14 @@ opens_between head lines opened = absurd opened
 opens_between (code line) lines opened = absurd opened
 opens_between loader lines opened = refl
 opens_between (load refs) lines opened = absurd opened
-opens_between (on_module command name) lines opened = absurd opened
+opens_between (on_atom command name) lines opened = absurd opened
+opens_between (put key term) lines opened = absurd opened
 opens_between (trace f g arity on) lines opened = absurd opened
 opens_between (spawn m f args) lines opened = absurd opened
 opens_between go lines opened = absurd opened
 
 -- loader blocks and `go` stand well behind module texts
-pub blocks_stand : (before : List ScriptLine) (blocks : List ScriptLine) → ((line : ScriptLine) → may_stand (last_of before) line ≡ may_stand_between line) → AreBlocks blocks → AllByRecursion IsBlockLine blocks → AllByRecursion (λ line. is_wide line ≡ false) blocks → StandWell before (blocks ++ go ∷ [])
+pub blocks_stand : (before : List ScriptLine) (blocks : List ScriptLine) → ((line : ScriptLine) → may_stand (last_of before) line ≡ may_stand_between line) → AreBlocks blocks → AllByRecursion IsBlockLine blocks → AllByRecursion IsNarrow blocks → StandWell before (blocks ++ go ∷ [])
 blocks_stand before [] may opened are narrow = (go_stands before (may go), tt)
 blocks_stand before (line ∷ blocks) may opened are narrow =
     (block_stands before line are.0 (may line ∙ opens_between line blocks opened) narrow.0, loading_stand (before ++ line ∷ []) line blocks (last_of-snoc before line) are.0 are.1 narrow.1)

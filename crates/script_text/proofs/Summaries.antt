@@ -2,15 +2,15 @@
 use Rattle.std.proofs.Common.{◌≡◌, ℕ, ◌+◌, Bool, cond, not, ◌||◌, nat_lt, List, [], ◌∷◌, ◌++◌, length, Option, Some, refl}
 use Rattle.std.specs.Prelude.{fold, count_by}
 use Rattle.term_core.specs.TermText.{names_with_all}
-use Rattle.mod_core.specs.ModuleLine.{LineForm}
-use Rattle.mod_core.specs.LineFaults.{is_seventeenth, ends_too_long, is_repeated}
+use Rattle.mod_text.specs.ModuleLine.{LineForm}
+use Rattle.mod_text.specs.LineFaults.{is_seventeenth, ends_too_long, is_repeated}
 use Rattle.script_text.specs.declared.fault.Which.TheVariants as which
 use Rattle.script_text.specs.declared.fault.ScriptFault.{ScriptFault}
 use Rattle.script_text.specs.declared.fault.ScriptFault.TheVariants as faults
-use Rattle.script_text.specs.ScriptLine.{RefForm, ScriptLine, head, code, loader, load, on_module, trace, spawn, go}
+use Rattle.script_text.specs.ScriptLine.{RefForm, ScriptLine, head, code, loader, load, on_atom, put, trace, spawn, go}
 use Rattle.script_text.specs.Groups.{groups_with, last_group}
 use Rattle.script_text.specs.Counts.{script_line_atoms, names_of, FunctionForm, script_line_functions, home_after, functions_with, functions_of, is_title, module_texts, line_titles, titles_of, is_loader, is_spawn, loader_blocks}
-use Rattle.script_text.specs.LineFaults.{last_of, may_stand, is_high, is_wide, of_code, is_given_again, first_fault, line_fault}
+use Rattle.script_text.specs.LineFaults.{last_of, may_stand, is_high, is_wide, is_long, of_code, is_given_again, first_fault, line_fault}
 use Rattle.script_text.proofs.GrownLines.{names_of-snoc, home_of, home_of-snoc, functions_of-snoc, module_texts-code, module_texts-other, titles_of-code, titles_of-other, blocks-line, blocks-other, last_of-snoc, count-snoc, length-snoc}
 
 pub record Summary : Type 0 where
@@ -46,7 +46,8 @@ texts_with texts head = texts
 texts_with texts (code line) = groups_with is_title texts line
 texts_with texts loader = texts
 texts_with texts (load refs) = texts
-texts_with texts (on_module command name) = texts
+texts_with texts (on_atom command name) = texts
+texts_with texts (put key term) = texts
 texts_with texts (trace f g arity on) = texts
 texts_with texts (spawn m f args) = texts
 texts_with texts go = texts
@@ -56,7 +57,8 @@ titles_with titles head = titles
 titles_with titles (code line) = titles ++ line_titles line
 titles_with titles loader = titles
 titles_with titles (load refs) = titles
-titles_with titles (on_module command name) = titles
+titles_with titles (on_atom command name) = titles
+titles_with titles (put key term) = titles
 titles_with titles (trace f g arity on) = titles
 titles_with titles (spawn m f args) = titles
 titles_with titles go = titles
@@ -66,7 +68,8 @@ blocks_with blocks head = blocks
 blocks_with blocks (code line) = blocks
 blocks_with blocks loader = groups_with is_loader blocks loader
 blocks_with blocks (load refs) = groups_with is_loader blocks (load refs)
-blocks_with blocks (on_module command name) = groups_with is_loader blocks (on_module command name)
+blocks_with blocks (on_atom command name) = groups_with is_loader blocks (on_atom command name)
+blocks_with blocks (put key term) = groups_with is_loader blocks (put key term)
 blocks_with blocks (trace f g arity on) = groups_with is_loader blocks (trace f g arity on)
 blocks_with blocks (spawn m f args) = groups_with is_loader blocks (spawn m f args)
 blocks_with blocks go = blocks
@@ -92,7 +95,8 @@ texts-snoc lines head = module_texts-other lines head refl
 texts-snoc lines (code line) = module_texts-code lines line
 texts-snoc lines loader = module_texts-other lines loader refl
 texts-snoc lines (load refs) = module_texts-other lines (load refs) refl
-texts-snoc lines (on_module command name) = module_texts-other lines (on_module command name) refl
+texts-snoc lines (on_atom command name) = module_texts-other lines (on_atom command name) refl
+texts-snoc lines (put key term) = module_texts-other lines (put key term) refl
 texts-snoc lines (trace f g arity on) = module_texts-other lines (trace f g arity on) refl
 texts-snoc lines (spawn m f args) = module_texts-other lines (spawn m f args) refl
 texts-snoc lines go = module_texts-other lines go refl
@@ -102,7 +106,8 @@ titles-snoc lines head = titles_of-other lines head refl
 titles-snoc lines (code line) = titles_of-code lines line
 titles-snoc lines loader = titles_of-other lines loader refl
 titles-snoc lines (load refs) = titles_of-other lines (load refs) refl
-titles-snoc lines (on_module command name) = titles_of-other lines (on_module command name) refl
+titles-snoc lines (on_atom command name) = titles_of-other lines (on_atom command name) refl
+titles-snoc lines (put key term) = titles_of-other lines (put key term) refl
 titles-snoc lines (trace f g arity on) = titles_of-other lines (trace f g arity on) refl
 titles-snoc lines (spawn m f args) = titles_of-other lines (spawn m f args) refl
 titles-snoc lines go = titles_of-other lines go refl
@@ -112,7 +117,8 @@ blocks-snoc lines head = blocks-other lines head refl
 blocks-snoc lines (code line) = blocks-other lines (code line) refl
 blocks-snoc lines loader = blocks-line lines loader refl
 blocks-snoc lines (load refs) = blocks-line lines (load refs) refl
-blocks-snoc lines (on_module command name) = blocks-line lines (on_module command name) refl
+blocks-snoc lines (on_atom command name) = blocks-line lines (on_atom command name) refl
+blocks-snoc lines (put key term) = blocks-line lines (put key term) refl
 blocks-snoc lines (trace f g arity on) = blocks-line lines (trace f g arity on) refl
 blocks-snoc lines (spawn m f args) = blocks-line lines (spawn m f args) refl
 blocks-snoc lines go = blocks-other lines go refl
@@ -135,18 +141,18 @@ summary_of-snoc lines line = λ i. record {
 
 -- ---- the fault of a line
 
-abbrev pub table : Bool → Bool → Bool → Bool → Bool → Bool → Bool → Bool → Bool → ℕ → Option ScriptFault
-table misplaced wide names functions long exports processes loaders again number =
-    first_fault ((misplaced, faults.Syntax number) ∷ (wide, faults.Limit number which.Integer) ∷ (names, faults.Limit number which.Names) ∷ (functions, faults.Limit number which.Functions) ∷ (long, faults.Limit number which.Module) ∷ (exports, faults.Limit number which.Exports) ∷ (processes, faults.Limit number which.Processes) ∷ (loaders, faults.Limit number which.Loaders) ∷ (again, faults.Duplicate number) ∷ [])
+abbrev pub table : Bool → Bool → Bool → Bool → Bool → Bool → Bool → Bool → Bool → Bool → ℕ → Option ScriptFault
+table misplaced wide big names functions long exports processes loaders again number =
+    first_fault ((misplaced, faults.Syntax number) ∷ (wide, faults.Limit number which.Integer) ∷ (big, faults.Limit number which.Term) ∷ (names, faults.Limit number which.Names) ∷ (functions, faults.Limit number which.Functions) ∷ (long, faults.Limit number which.Module) ∷ (exports, faults.Limit number which.Exports) ∷ (processes, faults.Limit number which.Processes) ∷ (loaders, faults.Limit number which.Loaders) ∷ (again, faults.Duplicate number) ∷ [])
 
 -- the fault of a line by a summary of the lines before
 abbrev pub fault_by : Summary → ScriptLine → Option ScriptFault
 fault_by m line =
     let next = summary_with m line in
-    table (not (may_stand m.last line) || is_high line) (is_wide line) (nat_lt 4096 (length next.names)) (of_code (is_seventeenth (last_group m.texts)) line) (of_code (ends_too_long m.names (last_group m.texts)) line)
+    table (not (may_stand m.last line) || is_high line) (is_wide line) (is_long line) (nat_lt 4096 (length next.names)) (of_code (is_seventeenth (last_group m.texts)) line) (of_code (ends_too_long m.names (last_group m.texts)) line)
     (nat_lt 1024 (length next.functions)) (nat_lt 64 next.spawns) (nat_lt 8 next.loaders) (of_code (is_given_again m.titles) line || of_code (is_repeated (last_group m.texts)) line) (m.count + 1)
 
 pub line_fault-by : (lines : List ScriptLine) (line : ScriptLine) → line_fault lines line ≡ fault_by (summary_of lines) line
 line_fault-by lines line = λ i. let next = summary_of-snoc lines line i in
-    table (not (may_stand (last_of lines) line) || is_high line) (is_wide line) (nat_lt 4096 (length next.names)) (of_code (is_seventeenth (last_group (module_texts lines))) line) (of_code (ends_too_long (names_of lines) (last_group (module_texts lines))) line)
+    table (not (may_stand (last_of lines) line) || is_high line) (is_wide line) (is_long line) (nat_lt 4096 (length next.names)) (of_code (is_seventeenth (last_group (module_texts lines))) line) (of_code (ends_too_long (names_of lines) (last_group (module_texts lines))) line)
     (nat_lt 1024 (length next.functions)) (nat_lt 64 next.spawns) (nat_lt 8 next.loaders) (of_code (is_given_again (titles_of lines)) line || of_code (is_repeated (last_group (module_texts lines))) line) (length lines + 1)

@@ -4,17 +4,17 @@ use Rattle.std.specs.Prelude.{fold, IfSome}
 use Rattle.std.specs.List.{flat_map}
 use Rattle.std.proofs.lemmas.Bool.Decides.{nat_tests}
 use Rattle.term_core.proofs.NameTables.{given_names-IsNames}
-use Rattle.mod_core.specs.ModuleLine.{LineForm}
-use Rattle.mod_core.specs.LineReading.{cut_at}
-use Rattle.mod_core.specs.ModuleValue.{unsettled_line}
-use Rattle.mod_core.specs.Reading.{lines, before_lines, lines_of, is_end}
-use Rattle.mod_core.proofs.Cuts.{cut_is, uncut_is, lines_of_cut, lines_of_tail}
+use Rattle.mod_text.specs.ModuleLine.{LineForm}
+use Rattle.mod_text.specs.LineReading.{cut_at}
+use Rattle.mod_text.specs.ModuleValue.{unsettled_line}
+use Rattle.mod_text.specs.Reading.{lines, before_lines, lines_of, is_end}
+use Rattle.mod_text.proofs.Cuts.{cut_is, uncut_is, lines_of_cut, lines_of_tail}
 use Rattle.script_text.specs.declared.script.Script.{Script}
 use Rattle.script_text.specs.declared.fault.ScriptFault.{ScriptFault}
 use Rattle.script_text.specs.declared.fault.ScriptFault.TheVariants as faults
 use Rattle.script_text.specs.declared.reading.cause.LineCause.{LineCause}
 use Rattle.script_text.specs.declared.reading.reader.ScriptReader.{ScriptReader}
-use Rattle.script_text.specs.ScriptLine.{RefForm, ScriptLine, head, code, loader, load, on_module, trace, spawn, go, IsLine}
+use Rattle.script_text.specs.ScriptLine.{RefForm, ScriptLine, head, code, loader, load, on_atom, put, trace, spawn, go, IsLine}
 use Rattle.script_text.specs.Groups.{onto_last, groups_with}
 use Rattle.script_text.specs.Counts.{code_lines, is_title, module_texts}
 use Rattle.script_text.specs.LineFaults.{or_else, lack_in_texts, is_lacking, lack_in_loads, line_fault}
@@ -218,7 +218,8 @@ few_code (head ∷ lines) = let rest = few_code lines in omega (arith, rest)
 few_code (code line ∷ lines) = let rest = few_code lines in omega (arith, rest)
 few_code (loader ∷ lines) = let rest = few_code lines in omega (arith, rest)
 few_code (load refs ∷ lines) = let rest = few_code lines in omega (arith, rest)
-few_code (on_module command name ∷ lines) = let rest = few_code lines in omega (arith, rest)
+few_code (on_atom command name ∷ lines) = let rest = few_code lines in omega (arith, rest)
+few_code (put key term ∷ lines) = let rest = few_code lines in omega (arith, rest)
 few_code (trace n f arity on ∷ lines) = let rest = few_code lines in omega (arith, rest)
 few_code (spawn n f args ∷ lines) = let rest = few_code lines in omega (arith, rest)
 few_code (go ∷ lines) = let rest = few_code lines in omega (arith, rest)

@@ -8,8 +8,8 @@ use Rattle.term_core.specs.TermText.{atom_text, number_in}
 use Rattle.term_core.specs.Written.{is_positive_text}
 use Rattle.term_core.proofs.IntegerTexts.{own, Positive-from}
 use Rattle.term_core.proofs.NameTables.{slice_get-number_of}
-use Rattle.mod_core.specs.ModuleLine.{number_value, is_number_text, is_version_text, is_arity_text}
-use Rattle.mod_core.proofs.Options.{bytes_are}
+use Rattle.mod_text.specs.ModuleLine.{number_value, is_number_text, is_version_text, is_arity_text}
+use Rattle.mod_text.proofs.Options.{bytes_are}
 use Rattle.script_text.proofs.HeldNames.{IsHeldText, number_is}
 
 -- the text of a held atom's number is the atom's

@@ -6,23 +6,23 @@ use Rattle.std.proofs.lemmas.Bool.Decides.{nat_tests}
 use Rattle.std.proofs.lemmas.List.{map-append}
 use Rattle.term_core.specs.Names.{IsNames, Extends, number_of}
 use Rattle.term_core.specs.TermText.{number_in}
-use Rattle.mod_core.specs.declared.fault.LineFault.TheVariants as line_faults
-use Rattle.mod_core.specs.ModuleLine.{LineForm, title, header, label, instr, end, number_value}
-use Rattle.mod_core.specs.LineReading.{cut_at, line_reading}
-use Rattle.mod_core.specs.LineFaults.{names_after}
-use Rattle.mod_core.specs.ModuleValue.{module_of}
-use Rattle.mod_core.specs.Reading.{kept, judged}
-use Rattle.mod_core.proofs.Cuts.{cut_here, cut_is}
-use Rattle.mod_core.proofs.LineAgain.{text_again}
-use Rattle.mod_core.proofs.LineNames.{line_atoms_are}
-use Rattle.mod_core.proofs.Options.{guarded, bytes_are}
+use Rattle.mod_text.specs.declared.fault.LineFault.TheVariants as line_faults
+use Rattle.mod_text.specs.ModuleLine.{LineForm, title, header, label, instr, end, number_value}
+use Rattle.mod_text.specs.LineReading.{cut_at, line_reading}
+use Rattle.mod_text.specs.LineFaults.{names_after}
+use Rattle.mod_text.specs.ModuleValue.{module_of}
+use Rattle.mod_text.specs.Reading.{kept, judged}
+use Rattle.mod_text.proofs.Cuts.{cut_here, cut_is}
+use Rattle.mod_text.proofs.LineAgain.{text_again}
+use Rattle.mod_text.proofs.LineNames.{line_atoms_are}
+use Rattle.mod_text.proofs.Options.{guarded, bytes_are}
 use Rattle.server_core.specs.declared.command.ModRef.{ModRef}
 use Rattle.script_text.specs.declared.fault.Which.TheVariants as which
 use Rattle.script_text.specs.declared.reading.cause.LineCause.{LineCause}
 use Rattle.script_text.specs.declared.reading.cause.LineCause.TheVariants as causes
 use Rattle.script_text.specs.declared.reading.reader.Place.TheVariants.{Within}
 use Rattle.script_text.specs.declared.reading.reader.ScriptReader.{ScriptReader}
-use Rattle.script_text.specs.ScriptLine.{RefForm, ScriptLine, head, code, loader, load, on_module, trace, spawn, go, IsLine}
+use Rattle.script_text.specs.ScriptLine.{RefForm, ScriptLine, head, code, loader, load, on_atom, put, trace, spawn, go, IsLine}
 use Rattle.script_text.specs.Counts.{is_given}
 use Rattle.script_text.specs.ScriptValue.{ref_in, commands_of}
 use Rattle.script_text.specs.LineFaults.{may_stand_between, may_stand, or_else, lack_in_texts}
@@ -75,7 +75,8 @@ no_title m text follows no_loader no_go none (code (instr i)) l = misplaced m (c
 no_title m text follows no_loader no_go none (code end) l = misplaced m (code end) (follows (code end))
 no_title m text follows no_loader no_go none loader l = let yes : bytes_eq text (codes "loader") ≡ true = ap (λ (t : List ℕ). bytes_eq t (codes "loader")) l.text_is in absurd cc
 no_title m text follows no_loader no_go none (load refs) l = misplaced m (load refs) (follows (load refs))
-no_title m text follows no_loader no_go none (on_module command name) l = misplaced m (on_module command name) (follows (on_module command name))
+no_title m text follows no_loader no_go none (on_atom command name) l = misplaced m (on_atom command name) (follows (on_atom command name))
+no_title m text follows no_loader no_go none (put key term) l = misplaced m (put key term) (follows (put key term))
 no_title m text follows no_loader no_go none (trace f g arity on) l = misplaced m (trace f g arity on) (follows (trace f g arity on))
 no_title m text follows no_loader no_go none (spawn n f args) l = misplaced m (spawn n f args) (follows (spawn n f args))
 no_title m text follows no_loader no_go none go l = let yes : bytes_eq text (codes "go") ≡ true = ap (λ (t : List ℕ). bytes_eq t (codes "go")) l.text_is in absurd cc

@@ -6,25 +6,25 @@ use Rattle.std.proofs.lemmas.Bool.{and_parts}
 use Rattle.std.proofs.lemmas.Bool.Decides.{nat_tests}
 use Rattle.term_core.specs.declared.atom.Mfa.{Mfa}
 use Rattle.term_core.specs.Names.{IsNames}
-use Rattle.mod_core.specs.declared.fault.LineFault.{LineFault}
-use Rattle.mod_core.specs.declared.fault.LineFault.TheVariants as line_faults
-use Rattle.mod_core.specs.ModuleLine.{LineForm, title, header, label, instr, end, is_line_form, LineText}
-use Rattle.mod_core.specs.LineReading.{line_reading}
-use Rattle.mod_core.specs.LineFaults.{last_line, may_follow, line_atoms, names_after, is_repeated, overfills_names, is_seventeenth, ends_too_long, has_high_register, has_wide_integer, fault_of_line, counted_name, counted_by, counted_of}
-use Rattle.mod_core.specs.ModuleValue.{headers_in, is_header, IsTitled, module_of}
-use Rattle.mod_core.specs.Reading.{judged, kept}
-use Rattle.mod_core.proofs.Options.{some_is, passed, failed, bytes_are}
-use Rattle.mod_core.proofs.LineLaws.{line_is}
-use Rattle.mod_core.proofs.LineAgain.{text_again}
-use Rattle.mod_core.proofs.LineNames.{line_atoms_are}
-use Rattle.mod_core.proofs.Keepings.{last_line-push}
+use Rattle.mod_text.specs.declared.fault.LineFault.{LineFault}
+use Rattle.mod_text.specs.declared.fault.LineFault.TheVariants as line_faults
+use Rattle.mod_text.specs.ModuleLine.{LineForm, title, header, label, instr, end, is_line_form, LineText}
+use Rattle.mod_text.specs.LineReading.{line_reading}
+use Rattle.mod_text.specs.LineFaults.{last_line, may_follow, line_atoms, names_after, is_repeated, overfills_names, is_seventeenth, ends_too_long, has_high_register, has_wide_integer, has_long_term, fault_of_line, counted_name, counted_by, counted_of}
+use Rattle.mod_text.specs.ModuleValue.{headers_in, is_header, IsTitled, module_of}
+use Rattle.mod_text.specs.Reading.{judged, kept}
+use Rattle.mod_text.proofs.Options.{some_is, passed, failed, bytes_are}
+use Rattle.mod_text.proofs.LineLaws.{line_is}
+use Rattle.mod_text.proofs.LineAgain.{text_again}
+use Rattle.mod_text.proofs.LineNames.{line_atoms_are}
+use Rattle.mod_text.proofs.Keepings.{last_line-push}
 use Rattle.script_text.specs.declared.fault.Which.TheVariants as which
 use Rattle.script_text.specs.declared.fault.ScriptFault.TheVariants as faults
 use Rattle.script_text.specs.declared.reading.cause.LineCause.{LineCause}
 use Rattle.script_text.specs.declared.reading.cause.LineCause.TheVariants as causes
 use Rattle.script_text.specs.declared.reading.reader.Place.TheVariants.{Within}
 use Rattle.script_text.specs.declared.reading.reader.ScriptReader.{ScriptReader}
-use Rattle.script_text.specs.ScriptLine.{RefForm, ScriptLine, head, code, loader, load, on_module, trace, spawn, go, IsLine}
+use Rattle.script_text.specs.ScriptLine.{RefForm, ScriptLine, head, code, loader, load, on_atom, put, trace, spawn, go, IsLine}
 use Rattle.script_text.specs.Groups.{onto_last, last_group}
 use Rattle.script_text.specs.Counts.{line_functions, line_titles, is_title, home_after_line}
 use Rattle.script_text.specs.ScriptValue.{ref_in, commands_of}
@@ -64,7 +64,8 @@ only_syntax m before text follows none head l = misplaced m head (follows head)
 only_syntax m before text follows none (code line) l = none line (code_of text line l)
 only_syntax m before text follows none loader l = misplaced m loader (follows loader)
 only_syntax m before text follows none (load refs) l = misplaced m (load refs) (follows (load refs))
-only_syntax m before text follows none (on_module command name) l = misplaced m (on_module command name) (follows (on_module command name))
+only_syntax m before text follows none (on_atom command name) l = misplaced m (on_atom command name) (follows (on_atom command name))
+only_syntax m before text follows none (put key term) l = misplaced m (put key term) (follows (put key term))
 only_syntax m before text follows none (trace f g arity on) l = misplaced m (trace f g arity on) (follows (trace f g arity on))
 only_syntax m before text follows none (spawn m' f args) l = misplaced m (spawn m' f args) (follows (spawn m' f args))
 only_syntax m before text follows none go l = misplaced m go (follows go)
@@ -104,14 +105,15 @@ repeated_held names lines (label name) h e = tt
 repeated_held names lines (instr i) h e = absurd cc
 repeated_held names lines end h e = absurd cc
 
-duplicate_repeats : (high wide names functions long repeated : Bool) → own_fault high wide names functions long repeated ≡ Some line_faults.Duplicate → repeated ≡ true
-duplicate_repeats true wide names functions long repeated e = absurd cc
-duplicate_repeats false true names functions long repeated e = absurd cc
-duplicate_repeats false false true functions long repeated e = absurd cc
-duplicate_repeats false false false true long repeated e = absurd cc
-duplicate_repeats false false false false true repeated e = absurd cc
-duplicate_repeats false false false false false true e = refl
-duplicate_repeats false false false false false false e = absurd cc
+duplicate_repeats : (high wide big names functions long repeated : Bool) → own_fault high wide big names functions long repeated ≡ Some line_faults.Duplicate → repeated ≡ true
+duplicate_repeats true wide big names functions long repeated e = absurd cc
+duplicate_repeats false true big names functions long repeated e = absurd cc
+duplicate_repeats false false true names functions long repeated e = absurd cc
+duplicate_repeats false false false true functions long repeated e = absurd cc
+duplicate_repeats false false false false true long repeated e = absurd cc
+duplicate_repeats false false false false false true repeated e = absurd cc
+duplicate_repeats false false false false false false true e = refl
+duplicate_repeats false false false false false false false e = absurd cc
 
 -- ---- what is known after the line
 
@@ -164,23 +166,25 @@ open_line m r closed line fs o i =
 
 -- ---- what the line comes to
 
-never_memory : (misplaced wide names functions long exports processes loaders again : Bool) (number : ℕ) → table misplaced wide names functions long exports processes loaders again number ≡ Some faults.NoMemory → ⊥
-never_memory true wide names functions long exports processes loaders again number e = cc
-never_memory false true names functions long exports processes loaders again number e = cc
-never_memory false false true functions long exports processes loaders again number e = cc
-never_memory false false false true long exports processes loaders again number e = cc
-never_memory false false false false true exports processes loaders again number e = cc
-never_memory false false false false false true processes loaders again number e = cc
-never_memory false false false false false false true loaders again number e = cc
-never_memory false false false false false false false true again number e = cc
-never_memory false false false false false false false false true number e = cc
-never_memory false false false false false false false false false number e = cc
+never_memory : (misplaced wide big names functions long exports processes loaders again : Bool) (number : ℕ) → table misplaced wide big names functions long exports processes loaders again number ≡ Some faults.NoMemory → ⊥
+never_memory true wide big names functions long exports processes loaders again number e = cc
+never_memory false true big names functions long exports processes loaders again number e = cc
+never_memory false false true names functions long exports processes loaders again number e = cc
+never_memory false false false true functions long exports processes loaders again number e = cc
+never_memory false false false false true long exports processes loaders again number e = cc
+never_memory false false false false false true exports processes loaders again number e = cc
+never_memory false false false false false false true processes loaders again number e = cc
+never_memory false false false false false false false true loaders again number e = cc
+never_memory false false false false false false false false true again number e = cc
+never_memory false false false false false false false false false true number e = cc
+never_memory false false false false false false false false false false number e = cc
 
 -- a fault of the line itself
 refused : (m : Summary) (r : ScriptReader) (text : List ℕ) (line : LineForm) (before : Option Mfa) (fault : LineFault) (exports : Bool) → IsLine text (code line) → ((next : ScriptLine) → fault_by m (code line) ≡ Some (faults.Syntax (m.count + 1)) → IsLine text next → fault_by m next ≡ Some (faults.Syntax (m.count + 1))) → (fault ≡ line_faults.Duplicate → passes_counted r.functions before ≡ exports) → fault_by m (code line) ≡ with_counts (Some fault) exports false (m.count + 1) → Judges m text (line_added r text before (Err fault))
 refused m r text line before line_faults.Syntax exports is only passes e = λ next. only next e
 refused m r text line before line_faults.Register exports is only passes e = λ next. only next e
 refused m r text line before line_faults.Int exports is only passes e = record { line = code line; is_line = is; fault_is = e }
+refused m r text line before line_faults.Term exports is only passes e = record { line = code line; is_line = is; fault_is = e }
 refused m r text line before line_faults.Names exports is only passes e = record { line = code line; is_line = is; fault_is = e }
 refused m r text line before line_faults.TooManyFunctions exports is only passes e = record { line = code line; is_line = is; fault_is = e }
 refused m r text line before line_faults.TooLong exports is only passes e = record { line = code line; is_line = is; fault_is = e }
@@ -189,13 +193,14 @@ refused m r text line before line_faults.Duplicate exports is only passes e = by
     by_exports : (t : Bool) → passes_counted r.functions before ≡ t → fault_by m (code line) ≡ with_counts (Some line_faults.Duplicate) t false (m.count + 1) → Judges m text (Err (repeat_cause r.functions before))
     by_exports true p e = subst (λ (c : LineCause). Judges m text (Err c)) (sym (passed (passes_counted r.functions before) (causes.Limit which.Exports) causes.Duplicate p)) (record { line = code line; is_line = is; fault_is = e })
     by_exports false p e = subst (λ (c : LineCause). Judges m text (Err c)) (sym (failed (passes_counted r.functions before) (causes.Limit which.Exports) causes.Duplicate p)) (record { line = code line; is_line = is; fault_is = e })
-refused m r text line before line_faults.NoMemory exports is only passes e = never_memory _ _ _ _ _ _ _ _ _ (m.count + 1) e
+refused m r text line before line_faults.NoMemory exports is only passes e = never_memory _ _ _ _ _ _ _ _ _ _ (m.count + 1) e
 
-names_fit : (high wide names functions long repeated : Bool) → own_fault high wide names functions long repeated ≡ None → names ≡ false
-names_fit true wide names functions long repeated e = absurd cc
-names_fit false true names functions long repeated e = absurd cc
-names_fit false false true functions long repeated e = absurd cc
-names_fit false false false functions long repeated e = refl
+names_fit : (high wide big names functions long repeated : Bool) → own_fault high wide big names functions long repeated ≡ None → names ≡ false
+names_fit true wide big names functions long repeated e = absurd cc
+names_fit false true big names functions long repeated e = absurd cc
+names_fit false false true names functions long repeated e = absurd cc
+names_fit false false false true functions long repeated e = absurd cc
+names_fit false false false false functions long repeated e = refl
 
 -- the function that the line has
 counted_is : (m : Summary) (r : ScriptReader) (closed : List (List LineForm)) (text : List ℕ) (line : LineForm) → Knows m r closed → IsOpen m r closed → IsLine text (code line) → counted_of (names_after r.names line) (r.lines ++ line ∷ []) text ≡ first (map (function_in (names_after m.names line)) (line_functions m.home line))
@@ -238,7 +243,7 @@ read_line m r closed text line k o within is i sound e =
 
 names_sound : (m : Summary) (r : ScriptReader) (line : LineForm) → IsNames m.names → is_line_form line ≡ true → fault_of_line m.names r.lines line ≡ None → IsNames (names_after m.names line)
 names_sound m r line sound form e =
-    let fit : overfills_names m.names line ≡ false = names_fit (has_high_register line) (has_wide_integer line) (overfills_names m.names line) (is_seventeenth r.lines line) (ends_too_long m.names r.lines line) (is_repeated r.lines line) e in
+    let fit : overfills_names m.names line ≡ false = names_fit (has_high_register line) (has_wide_integer line) (has_long_term line) (overfills_names m.names line) (is_seventeenth r.lines line) (ends_too_long m.names r.lines line) (is_repeated r.lines line) e in
     let room : length (names_after m.names line) ≤ 4096 = grind (arith, nat_tests) in
     names_all-IsNames m.names (line_atoms line) sound (line_atoms_are line form) room
 
@@ -253,7 +258,7 @@ passes_is m r closed line k o held =
     (λ i. passes_counted (functions i) (counted i)) ∙ passes_line m.names m.functions (line_one m.home line) k.functions_held (line_held m.names m.home line o.home_held held) k.few_functions
 
 duplicate_held : (m : Summary) (r : ScriptReader) (closed : List (List LineForm)) (line : LineForm) → IsOpen m r closed → fault_of_line m.names r.lines line ≡ Some line_faults.Duplicate → AreHeld m.names (line_atoms line)
-duplicate_held m r closed line o e = repeated_held m.names r.lines line o.held (duplicate_repeats (has_high_register line) (has_wide_integer line) (overfills_names m.names line) (is_seventeenth r.lines line) (ends_too_long m.names r.lines line) (is_repeated r.lines line) e)
+duplicate_held m r closed line o e = repeated_held m.names r.lines line o.held (duplicate_repeats (has_high_register line) (has_wide_integer line) (has_long_term line) (overfills_names m.names line) (is_seventeenth r.lines line) (ends_too_long m.names r.lines line) (is_repeated r.lines line) e)
 
 -- a line that may stand there, by its own fault
 judges_fault : (m : Summary) (r : ScriptReader) (closed : List (List LineForm)) (text : List ℕ) (line : LineForm) → Knows m r closed → IsOpen m r closed → r.place ≡ Within → IsLine text (code line) → is_line_form line ≡ true → IsInner line → ((next : ScriptLine) → fault_by m (code line) ≡ Some (faults.Syntax (m.count + 1)) → IsLine text next → fault_by m next ≡ Some (faults.Syntax (m.count + 1))) → (o : Option LineFault) → fault_of_line m.names r.lines line ≡ o → fault_by m (code line) ≡ with_counts o (exports_by m (code line)) false (m.count + 1) → Judges m text (line_added r text (counted_name r.names r.lines line) (kept r.names r.lines line o))

@@ -4,17 +4,18 @@
 use Rattle.std.specs.Prelude.{ℕ, ◌<◌, ◌⊎◌, nat_lt, Bool, List, [], ◌∷◌, ◌++◌, map, length, IsTrue}
 use Rattle.std.specs.Fmt.{decimal, signed_decimal}
 use Rattle.std.specs.List.{flat_map, list_any}
+use Rattle.term_core.specs.Plain.{plain}
 use Rattle.term_core.specs.PlainTerm.{PlainTerm, map_leaves}
 use Rattle.term_core.specs.TermText.{atom_text}
 use Rattle.term_core.specs.Written.{WrittenTerm}
-use Rattle.mod_core.specs.ModuleLine.{LineForm}
-use Rattle.mod_core.specs.Canonical.{canonical as module_lines}
+use Rattle.mod_text.specs.ModuleLine.{LineForm}
+use Rattle.mod_text.specs.Canonical.{canonical as module_lines}
 use Rattle.server_core.specs.declared.command.ModRef.{ModRef}
 use Rattle.script_text.specs.declared.script.TheConstants.{LONGEST_SCRIPT, LONGEST_LINE}
 use Rattle.script_text.specs.declared.script.ScriptCmd.{ScriptCmd}
-use Rattle.script_text.specs.declared.script.ScriptCmd.TheVariants.{Load, Delete, SoftPurge, Purge, CheckOld, Trace, Spawn}
+use Rattle.script_text.specs.declared.script.ScriptCmd.TheVariants.{Load, Delete, SoftPurge, Purge, CheckOld, Put, Erase, Trace, Spawn}
 use Rattle.script_text.specs.declared.script.Script.{Script}
-use Rattle.script_text.specs.ScriptLine.{RefForm, delete, soft_purge, purge, check_old, ScriptLine, head, code, loader, load, on_module, trace, spawn, go, script_line_written}
+use Rattle.script_text.specs.ScriptLine.{RefForm, delete, soft_purge, purge, check_old, erase, ScriptLine, head, code, loader, load, on_atom, put, trace, spawn, go, script_line_written}
 use Rattle.script_text.specs.ScriptText.{ScriptText}
 use Rattle.script_text.specs.TextLines.{lines_of}
 
@@ -29,17 +30,19 @@ pub record IsOfSomeText (s : Script) : Type 0 where
 abbrev pub ref_form : List (List ℕ) → ModRef → RefForm
 ref_form names r = record { name = atom_text names r.name.0; version = decimal r.version }
 
--- an argument, with the texts of its integers and atoms
+-- a term, with the texts of its integers and atoms
 abbrev pub argument_form : List (List ℕ) → PlainTerm → WrittenTerm
 argument_form names term = map_leaves signed_decimal (atom_text names) term
 
 -- the line of a command
 abbrev pub command_line : List (List ℕ) → ScriptCmd → ScriptLine
 command_line names (Load refs) = load (map (ref_form names) refs)
-command_line names (Delete m) = on_module delete (atom_text names m.0)
-command_line names (SoftPurge m) = on_module soft_purge (atom_text names m.0)
-command_line names (Purge m) = on_module purge (atom_text names m.0)
-command_line names (CheckOld m) = on_module check_old (atom_text names m.0)
+command_line names (Delete m) = on_atom delete (atom_text names m.0)
+command_line names (SoftPurge m) = on_atom soft_purge (atom_text names m.0)
+command_line names (Purge m) = on_atom purge (atom_text names m.0)
+command_line names (CheckOld m) = on_atom check_old (atom_text names m.0)
+command_line names (Put key term) = put (atom_text names key.0) (argument_form names (plain term))
+command_line names (Erase key) = on_atom erase (atom_text names key.0)
 command_line names (Trace target on) = trace (atom_text names target.«module».0) (atom_text names target.name.0) (decimal target.arity) on
 command_line names (Spawn target args) = spawn (atom_text names target.«module».0) (atom_text names target.name.0) (map (argument_form names) args)
 

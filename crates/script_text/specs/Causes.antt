@@ -2,8 +2,8 @@
 use Rattle.std.specs.Prelude.{◌≡◌, ℕ, Result, Ok, Err}
 use Rattle.term_core.specs.declared.names.NameFault.{NameFault}
 use Rattle.term_core.specs.declared.names.NameFault.TheVariants as name_faults
-use Rattle.mod_core.specs.declared.fault.LineFault.{LineFault}
-use Rattle.mod_core.specs.declared.fault.LineFault.TheVariants as line_faults
+use Rattle.mod_text.specs.declared.fault.LineFault.{LineFault}
+use Rattle.mod_text.specs.declared.fault.LineFault.TheVariants as line_faults
 use Rattle.script_text.specs.declared.fault.Which.{Which}
 use Rattle.script_text.specs.declared.fault.Which.TheVariants as which
 use Rattle.script_text.specs.declared.fault.ScriptFault.{ScriptFault}
@@ -25,6 +25,7 @@ abbrev pub cause_of_code : LineFault → LineCause
 cause_of_code line_faults.Syntax = causes.Syntax
 cause_of_code line_faults.Register = causes.Syntax
 cause_of_code line_faults.Int = causes.Limit which.Integer
+cause_of_code line_faults.Term = causes.Limit which.Term
 cause_of_code line_faults.Names = causes.Limit which.Names
 cause_of_code line_faults.TooManyFunctions = causes.Limit which.Functions
 cause_of_code line_faults.TooLong = causes.Limit which.Module

@@ -5,9 +5,9 @@ use Rattle.std.specs.List.{flat_map, list_any}
 use Rattle.term_core.specs.Names.{given_names}
 use Rattle.term_core.specs.PlainTerm.{atoms_of}
 use Rattle.term_core.specs.TermText.{names_with_all}
-use Rattle.mod_core.specs.ModuleLine.{LineForm, InstrForm, move, add, sub, eq, less, jump, call, call_ext, ret, print, yield, title, header, label, instr, end, number_value}
-use Rattle.mod_core.specs.LineFaults.{line_atoms}
-use Rattle.script_text.specs.ScriptLine.{RefForm, ScriptLine, head, code, loader, load, on_module, trace, spawn, go}
+use Rattle.mod_text.specs.ModuleLine.{LineForm, InstrForm, move, add, sub, eq, less, jump, call, call_ext, ret, pget, pget_or, elem, print, yield, title, header, label, instr, end, number_value}
+use Rattle.mod_text.specs.LineFaults.{line_atoms}
+use Rattle.script_text.specs.ScriptLine.{RefForm, ScriptLine, head, code, loader, load, on_atom, put, trace, spawn, go}
 use Rattle.script_text.specs.Groups.{groups_of}
 
 -- ---- names
@@ -18,7 +18,8 @@ script_line_atoms head = []
 script_line_atoms (code line) = line_atoms line
 script_line_atoms loader = []
 script_line_atoms (load refs) = map (λ r. r.name) refs
-script_line_atoms (on_module command name) = name ∷ []
+script_line_atoms (on_atom command name) = name ∷ []
+script_line_atoms (put key term) = key ∷ atoms_of term
 script_line_atoms (trace «module» name arity on) = «module» ∷ name ∷ []
 script_line_atoms (spawn «module» name args) = «module» ∷ name ∷ flat_map atoms_of args
 script_line_atoms go = []
@@ -49,6 +50,9 @@ instr_functions (jump target) = []
 instr_functions (call name arity at) = []
 instr_functions (call_ext «module» name arity at) = record { «module» = «module»; name = name; arity = number_value arity } ∷ []
 instr_functions (ret value) = []
+instr_functions (pget key to) = []
+instr_functions (pget_or key other to) = []
+instr_functions (elem index from to) = []
 instr_functions (print value) = []
 instr_functions yield = []
 
@@ -66,7 +70,8 @@ script_line_functions home head = []
 script_line_functions home (code line) = line_functions home line
 script_line_functions home loader = []
 script_line_functions home (load refs) = []
-script_line_functions home (on_module command name) = []
+script_line_functions home (on_atom command name) = []
+script_line_functions home (put key term) = []
 script_line_functions home (trace «module» name arity on) = []
 script_line_functions home (spawn «module» name args) = record { «module» = «module»; name = name; arity = length args } ∷ []
 script_line_functions home go = []
@@ -85,7 +90,8 @@ home_after home head = home
 home_after home (code line) = home_after_line home line
 home_after home loader = home
 home_after home (load refs) = home
-home_after home (on_module command name) = home
+home_after home (on_atom command name) = home
+home_after home (put key term) = home
 home_after home (trace «module» name arity on) = home
 home_after home (spawn «module» name args) = home
 home_after home go = home
@@ -111,7 +117,8 @@ code_lines head = []
 code_lines (code line) = line ∷ []
 code_lines loader = []
 code_lines (load refs) = []
-code_lines (on_module command name) = []
+code_lines (on_atom command name) = []
+code_lines (put key term) = []
 code_lines (trace «module» name arity on) = []
 code_lines (spawn «module» name args) = []
 code_lines go = []
@@ -153,7 +160,8 @@ is_loader head = false
 is_loader (code line) = false
 is_loader loader = true
 is_loader (load refs) = false
-is_loader (on_module command name) = false
+is_loader (on_atom command name) = false
+is_loader (put key term) = false
 is_loader (trace «module» name arity on) = false
 is_loader (spawn «module» name args) = false
 is_loader go = false
@@ -163,7 +171,8 @@ is_spawn head = false
 is_spawn (code line) = false
 is_spawn loader = false
 is_spawn (load refs) = false
-is_spawn (on_module command name) = false
+is_spawn (on_atom command name) = false
+is_spawn (put key term) = false
 is_spawn (trace «module» name arity on) = false
 is_spawn (spawn «module» name args) = true
 is_spawn go = false
@@ -174,7 +183,8 @@ block_lines head = []
 block_lines (code line) = []
 block_lines loader = loader ∷ []
 block_lines (load refs) = load refs ∷ []
-block_lines (on_module command name) = on_module command name ∷ []
+block_lines (on_atom command name) = on_atom command name ∷ []
+block_lines (put key term) = put key term ∷ []
 block_lines (trace «module» name arity on) = trace «module» name arity on ∷ []
 block_lines (spawn «module» name args) = spawn «module» name args ∷ []
 block_lines go = []

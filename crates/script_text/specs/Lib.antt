@@ -10,6 +10,7 @@ pub mod FaultText
 pub mod Causes
 pub mod LineReading
 pub mod Sets
+pub mod KeptTerm
 pub mod WrittenLine
 pub mod Naming
 pub mod Adding

@@ -1,19 +1,20 @@
 -- What may be wrong with a line of a script, after the lines before it: whether it may stand there, each limit, and what is
 -- given again. Then what is lacking, which is judged where no line is wrong.
 -- Source: this project's script text. The limits are counted over the lines before; the code counts as it goes.
-use Rattle.std.specs.Prelude.{ℕ, ◌+◌, ◌||◌, not, nat_lt, Bool, true, false, List, [], ◌∷◌, ◌++◌, length, Option, Some, None, option_map, count_by, if◌then◌else◌}
+use Rattle.std.specs.Prelude.{ℕ, ◌+◌, ◌||◌, not, nat_lt, Bool, true, false, List, [], ◌∷◌, ◌++◌, length, Option, Some, None, is_some, option_map, count_by, if◌then◌else◌}
 use Rattle.std.specs.List.{list_all, list_any}
 use Rattle.term_core.specs.declared.names.TheConstants.{MOST_NAMES}
-use Rattle.term_core.specs.PlainTerm.{integer_leaf, atom_leaf, tuple_of, list_of}
-use Rattle.term_core.specs.Written.{WrittenTerm, integer_of, is_term_integer}
-use Rattle.mod_core.specs.ModuleLine.{LineForm, title, header, label, instr, end}
-use Rattle.mod_core.specs.ModuleValue.{unsettled_line}
-use Rattle.mod_core.specs.LineFaults.{may_follow, has_high_register, has_wide_integer, is_seventeenth, ends_too_long, is_repeated}
+use Rattle.term_core.specs.declared.term_text.TheConstants.{MOST_WORDS}
+use Rattle.term_core.specs.PlainTerm.{term_words}
+use Rattle.term_core.specs.Written.{WrittenTerm, outside_of}
+use Rattle.mod_text.specs.ModuleLine.{LineForm, title, header, label, instr, end}
+use Rattle.mod_text.specs.ModuleValue.{unsettled_line}
+use Rattle.mod_text.specs.LineFaults.{may_follow, has_high_register, has_wide_integer, has_long_term, is_seventeenth, ends_too_long, is_repeated}
 use Rattle.script_text.specs.declared.script.TheConstants.{MOST_FUNCTION_NAMES, MOST_LOADERS, MOST_PROCESSES}
 use Rattle.script_text.specs.declared.fault.Which.TheVariants as which
 use Rattle.script_text.specs.declared.fault.ScriptFault.{ScriptFault}
 use Rattle.script_text.specs.declared.fault.ScriptFault.TheVariants as faults
-use Rattle.script_text.specs.ScriptLine.{RefForm, ScriptLine, head, code, loader, load, on_module, trace, spawn, go}
+use Rattle.script_text.specs.ScriptLine.{RefForm, ScriptLine, head, code, loader, load, on_atom, put, trace, spawn, go}
 use Rattle.script_text.specs.Groups.{last_group}
 use Rattle.script_text.specs.Counts.{names_of, functions_of, module_texts, titles_of, line_titles, is_given, is_loader, is_spawn}
 
@@ -25,7 +26,8 @@ may_stand_between head = false
 may_stand_between (code line) = may_follow None line
 may_stand_between loader = true
 may_stand_between (load refs) = false
-may_stand_between (on_module command name) = false
+may_stand_between (on_atom command name) = false
+may_stand_between (put key term) = false
 may_stand_between (trace «module» name arity on) = false
 may_stand_between (spawn «module» name args) = false
 may_stand_between go = true
@@ -36,7 +38,8 @@ may_stand_within before head = false
 may_stand_within before (code line) = may_follow (Some before) line
 may_stand_within before loader = false
 may_stand_within before (load refs) = false
-may_stand_within before (on_module command name) = false
+may_stand_within before (on_atom command name) = false
+may_stand_within before (put key term) = false
 may_stand_within before (trace «module» name arity on) = false
 may_stand_within before (spawn «module» name args) = false
 may_stand_within before go = false
@@ -55,7 +58,8 @@ may_stand_loading head = false
 may_stand_loading (code line) = false
 may_stand_loading loader = true
 may_stand_loading (load refs) = true
-may_stand_loading (on_module command name) = true
+may_stand_loading (on_atom command name) = true
+may_stand_loading (put key term) = true
 may_stand_loading (trace «module» name arity on) = true
 may_stand_loading (spawn «module» name args) = true
 may_stand_loading go = true
@@ -65,7 +69,8 @@ is_head head = true
 is_head (code line) = false
 is_head loader = false
 is_head (load refs) = false
-is_head (on_module command name) = false
+is_head (on_atom command name) = false
+is_head (put key term) = false
 is_head (trace «module» name arity on) = false
 is_head (spawn «module» name args) = false
 is_head go = false
@@ -78,7 +83,8 @@ may_stand (Some head) line = may_stand_between line
 may_stand (Some (code before)) line = may_stand_behind before line
 may_stand (Some loader) line = may_stand_loading line
 may_stand (Some (load refs)) line = may_stand_loading line
-may_stand (Some (on_module command name)) line = may_stand_loading line
+may_stand (Some (on_atom command name)) line = may_stand_loading line
+may_stand (Some (put key term)) line = may_stand_loading line
 may_stand (Some (trace «module» name arity on)) line = may_stand_loading line
 may_stand (Some (spawn «module» name args)) line = may_stand_loading line
 may_stand (Some go) line = false
@@ -95,19 +101,21 @@ is_high head = false
 is_high (code line) = has_high_register line
 is_high loader = false
 is_high (load refs) = false
-is_high (on_module command name) = false
+is_high (on_atom command name) = false
+is_high (put key term) = false
 is_high (trace «module» name arity on) = false
 is_high (spawn «module» name args) = false
 is_high go = false
 
 -- ---- limits
 
--- whether an argument is an integer of more than 60 bits
-abbrev pub is_wide_argument : WrittenTerm → Bool
-is_wide_argument (integer_leaf text) = not (is_term_integer (integer_of text))
-is_wide_argument (atom_leaf text) = false
-is_wide_argument (tuple_of row) = false
-is_wide_argument (list_of row) = false
+-- whether a term has an integer of more than 60 bits
+abbrev pub is_wide_term : WrittenTerm → Bool
+is_wide_term term = is_some (outside_of term)
+
+-- whether a term has more than 64 words
+abbrev pub is_long_term : WrittenTerm → Bool
+is_long_term term = nat_lt MOST_WORDS (term_words term)
 
 -- whether a line has an integer of more than 60 bits
 abbrev pub is_wide : ScriptLine → Bool
@@ -115,10 +123,23 @@ is_wide head = false
 is_wide (code line) = has_wide_integer line
 is_wide loader = false
 is_wide (load refs) = false
-is_wide (on_module command name) = false
+is_wide (on_atom command name) = false
+is_wide (put key term) = is_wide_term term
 is_wide (trace «module» name arity on) = false
-is_wide (spawn «module» name args) = list_any is_wide_argument args
+is_wide (spawn «module» name args) = list_any is_wide_term args
 is_wide go = false
+
+-- whether a line has a term of more than 64 words
+abbrev pub is_long : ScriptLine → Bool
+is_long head = false
+is_long (code line) = has_long_term line
+is_long loader = false
+is_long (load refs) = false
+is_long (on_atom command name) = false
+is_long (put key term) = is_long_term term
+is_long (trace «module» name arity on) = false
+is_long (spawn «module» name args) = list_any is_long_term args
+is_long go = false
 
 -- whether a test holds of a line of a module's text
 abbrev pub of_code : (LineForm → Bool) → ScriptLine → Bool
@@ -126,7 +147,8 @@ of_code test head = false
 of_code test (code line) = test line
 of_code test loader = false
 of_code test (load refs) = false
-of_code test (on_module command name) = false
+of_code test (on_atom command name) = false
+of_code test (put key term) = false
 of_code test (trace «module» name arity on) = false
 of_code test (spawn «module» name args) = false
 of_code test go = false
@@ -151,6 +173,7 @@ abbrev pub line_faults : List ScriptLine → ScriptLine → ℕ → List (Bool �
 line_faults before line number =
     (not (may_stand (last_of before) line) || is_high line, faults.Syntax number)
     ∷ (is_wide line, faults.Limit number which.Integer)
+    ∷ (is_long line, faults.Limit number which.Term)
     ∷ (nat_lt MOST_NAMES (length (names_of (before ++ line ∷ []))), faults.Limit number which.Names)
     ∷ (of_code (is_seventeenth (last_text before)) line, faults.Limit number which.Functions)
     ∷ (of_code (ends_too_long (names_of before) (last_text before)) line, faults.Limit number which.Module)
@@ -181,7 +204,8 @@ is_lacking titles head = false
 is_lacking titles (code line) = false
 is_lacking titles loader = false
 is_lacking titles (load refs) = not (list_all (is_given titles) refs)
-is_lacking titles (on_module command name) = false
+is_lacking titles (on_atom command name) = false
+is_lacking titles (put key term) = false
 is_lacking titles (trace «module» name arity on) = false
 is_lacking titles (spawn «module» name args) = false
 is_lacking titles go = false

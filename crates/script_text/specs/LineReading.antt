@@ -4,11 +4,13 @@ use Rattle.std.specs.Prelude.{ℕ, ◌==◌, ◌&&◌, nat_le, Bool, true, false
 use Rattle.std.specs.List.{slice_split}
 use Rattle.term_core.specs.Names.{is_atom_text}
 use Rattle.term_core.specs.PlainTerm.{integer_leaf, atom_leaf}
+use Rattle.term_core.specs.TermForms.{is_complex_text, tree_of}
+use Rattle.term_core.specs.TermParts.{parts_of_terms}
 use Rattle.term_core.specs.Written.{WrittenTerm, is_integer_text}
 use Rattle.mod_core.specs.declared.code.TheConstants.{MOST_ARGUMENTS}
-use Rattle.mod_core.specs.ModuleLine.{number_value, is_version_text, is_arity_text}
-use Rattle.mod_core.specs.LineReading.{◌>>=◌, cut_at, tested, numbered_reading}
-use Rattle.script_text.specs.ScriptLine.{RefForm, ModuleCommand, delete, soft_purge, purge, check_old}
+use Rattle.mod_text.specs.ModuleLine.{number_value, is_version_text, is_arity_text}
+use Rattle.mod_text.specs.LineReading.{◌>>=◌, cut_at, tested, numbered_reading}
+use Rattle.script_text.specs.ScriptLine.{RefForm, AtomCommand, delete, soft_purge, purge, check_old, erase}
 
 -- the parts between such bytes
 abbrev pub parts_of : ℕ → List ℕ → List (List ℕ)
@@ -38,13 +40,14 @@ each_reading read (part ∷ parts) = do
 abbrev pub refs_reading : List ℕ → Option (List RefForm)
 refs_reading text = each_reading ref_reading (parts_of 32 text)
 
--- the command of one module that a word names
-abbrev pub command_reading : List ℕ → Option ModuleCommand
+-- the command of one atom that a word names
+abbrev pub command_reading : List ℕ → Option AtomCommand
 command_reading word =
     if bytes_eq word (codes "delete") then Some delete
     else (if bytes_eq word (codes "soft_purge") then Some soft_purge
     else (if bytes_eq word (codes "purge") then Some purge
-    else (if bytes_eq word (codes "check_old") then Some check_old else None)))
+    else (if bytes_eq word (codes "check_old") then Some check_old
+    else (if bytes_eq word (codes "erase") then Some erase else None))))
 
 -- a breakpoint, as it is written: its function with the digits of the arity, and whether it is set
 pub record TraceForm : Type 0 where
@@ -71,13 +74,29 @@ trace_reading text = do
   on ← switch_reading parts.1
   Some (record { «module» = «module»; name = function.0; arity = function.1; on = on })
 
--- an argument, which is an atom or an integer
+-- an argument, which is a term; an atom and an integer are known by their own bytes
 abbrev pub argument_reading : List ℕ → Option WrittenTerm
-argument_reading text = if is_atom_text text then Some (atom_leaf text) else option_map (λ t. integer_leaf t) (tested is_integer_text text)
+argument_reading text =
+    if is_atom_text text then Some (atom_leaf text)
+    else (if is_integer_text text then Some (integer_leaf text)
+    else option_map tree_of (tested is_complex_text text))
 
--- the arguments of a call, without their brackets
+-- a put, as it is written
+pub record PutForm : Type 0 where
+  pub key : List ℕ
+  pub term : WrittenTerm
+
+-- the key and the term of a put, behind its word
+abbrev pub put_reading : List ℕ → Option PutForm
+put_reading text = do
+  parts ← cut_at 32 text
+  key ← tested is_atom_text parts.0
+  term ← argument_reading parts.1
+  Some (record { key = key; term = term })
+
+-- the arguments of a call, without their brackets: they are parted at the commas that are outside of all brackets
 abbrev pub arguments_reading : List ℕ → Option (List WrittenTerm)
-arguments_reading text = if length text == 0 then Some [] else each_reading argument_reading (parts_of 44 text)
+arguments_reading text = if length text == 0 then Some [] else each_reading argument_reading (parts_of_terms text)
 
 -- a call, as it is written
 pub record CallForm : Type 0 where

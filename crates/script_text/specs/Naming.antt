@@ -5,12 +5,14 @@ use Rattle.term_core.specs.declared.atom.Mfa.{Mfa}
 use Rattle.term_core.specs.declared.names.TheConstants.{MOST_NAMES}
 use Rattle.term_core.specs.Names.{is_atom_text, names_with}
 use Rattle.term_core.specs.PlainTerm.{PlainTerm, integer_leaf, atom_leaf}
-use Rattle.term_core.specs.TermText.{number_in}
+use Rattle.term_core.specs.declared.term_text.TheConstants.{MOST_WORDS}
+use Rattle.term_core.specs.TermForms.{is_wide_text, term_atoms, term_in, text_words}
+use Rattle.term_core.specs.TermText.{names_with_all, number_in}
 use Rattle.server_core.specs.declared.command.ModRef.{ModRef}
 use Rattle.script_text.specs.declared.fault.Which.TheVariants as which
 use Rattle.script_text.specs.declared.reading.cause.LineCause.{LineCause}
 use Rattle.script_text.specs.declared.reading.cause.LineCause.TheVariants as causes
-use Rattle.script_text.specs.WrittenLine.{RefWords, TraceWords, ArgumentWords, integer, atom, complex, CallWords}
+use Rattle.script_text.specs.WrittenLine.{RefWords, TraceWords, ArgumentWords, integer, atom, complex, PutWords, CallWords}
 use Rattle.script_text.specs.Causes.{◌>>=◌}
 
 -- what was read, or a line of no form
@@ -53,18 +55,39 @@ abbrev pub argument_named : List (List ℕ) → ArgumentWords → Result (PlainT
 argument_named names (integer (Some z)) = Ok (integer_leaf z, names)
 argument_named names (integer None) = Err (causes.Limit which.Integer)
 argument_named names (atom text) = atom_named names text >>= λ a. Ok (atom_leaf a.0, a.1)
-argument_named names complex = Err causes.Syntax
+argument_named names (complex text) =
+    if nat_lt MOST_NAMES (length (names_with_all names (term_atoms text))) then Err (causes.Limit which.Names)
+    else Ok (term_in (names_with_all names (term_atoms text)) text, names_with_all names (term_atoms text))
 
 -- arguments, and the names after them
 abbrev pub arguments_named : List (List ℕ) → List ArgumentWords → Result (List PlainTerm × List (List ℕ)) LineCause
 arguments_named names args = each_named argument_named names args
 
--- whether an argument is an integer of more than 60 bits
+-- whether an argument has an integer of more than 60 bits
 abbrev pub is_wide_word : ArgumentWords → Bool
 is_wide_word (integer (Some z)) = false
 is_wide_word (integer None) = true
 is_wide_word (atom text) = false
-is_wide_word complex = false
+is_wide_word (complex text) = is_wide_text text
+
+-- whether an argument is a term of more than 64 words
+abbrev pub is_long_word : ArgumentWords → Bool
+is_long_word (integer z) = false
+is_long_word (atom text) = false
+is_long_word (complex text) = nat_lt MOST_WORDS (text_words text)
+
+-- the key of a put, its term, and the names after them
+unfoldable pub key_named : List (List ℕ) → PutWords → Result (ℕ × PlainTerm × List (List ℕ)) LineCause
+key_named names p = do
+  key ← atom_named names p.key
+  term ← argument_named key.1 p.term
+  Ok (key.0, term.0, term.1)
+
+-- the same, where no integer is too wide and the term is not too long
+abbrev pub put_named : List (List ℕ) → PutWords → Result (ℕ × PlainTerm × List (List ℕ)) LineCause
+put_named names p =
+    if is_wide_word p.term then Err (causes.Limit which.Integer)
+    else (if is_long_word p.term then Err (causes.Limit which.Term) else key_named names p)
 
 -- the target of a call, its arguments, and the names after them
 unfoldable pub target_named : List (List ℕ) → CallWords → Result (Mfa × List PlainTerm × List (List ℕ)) LineCause
@@ -74,6 +97,8 @@ target_named names call = do
   args ← arguments_named name.1 call.args
   Ok (record { «module» = record { 0 = target.0 }; name = record { 0 = name.0 }; arity = length args.0 }, args.0, args.1)
 
--- the same, where no integer is too wide
+-- the same, where no integer is too wide and no term too long
 abbrev pub call_named : List (List ℕ) → CallWords → Result (Mfa × List PlainTerm × List (List ℕ)) LineCause
-call_named names call = if list_any is_wide_word call.args then Err (causes.Limit which.Integer) else target_named names call
+call_named names call =
+    if list_any is_wide_word call.args then Err (causes.Limit which.Integer)
+    else (if list_any is_long_word call.args then Err (causes.Limit which.Term) else target_named names call)

@@ -4,16 +4,17 @@ use Rattle.std.specs.Prelude.{◌≡◌, ℕ, ◌+◌, ◌==◌, ◌&&◌, not, 
 use Rattle.std.specs.List.{list_all}
 use Rattle.term_core.specs.declared.atom.Mfa.{Mfa}
 use Rattle.term_core.specs.Names.{number_of, given_names}
-use Rattle.mod_core.specs.declared.fault.LineFault.TheVariants as line_faults
-use Rattle.mod_core.specs.ModuleLine.{LineForm, title, header, label, instr, end}
-use Rattle.mod_core.specs.LineFaults.{last_line, counted_of}
-use Rattle.mod_core.specs.LineReading.{cut_at}
-use Rattle.mod_core.specs.ModuleValue.{IsTitled, module_of, unsettled_line}
-use Rattle.mod_core.specs.Reading.{Step, line_step, is_end}
+use Rattle.term_core.specs.Plain.{term_of}
+use Rattle.mod_text.specs.declared.fault.LineFault.TheVariants as line_faults
+use Rattle.mod_text.specs.ModuleLine.{LineForm, title, header, label, instr, end}
+use Rattle.mod_text.specs.LineFaults.{last_line, counted_of}
+use Rattle.mod_text.specs.LineReading.{cut_at}
+use Rattle.mod_text.specs.ModuleValue.{IsTitled, module_of, unsettled_line}
+use Rattle.mod_text.specs.Reading.{Step, line_step, is_end}
 use Rattle.server_core.specs.declared.command.ModRef.{ModRef}
 use Rattle.script_text.specs.declared.script.TheConstants.{LONGEST_SCRIPT, LONGEST_LINE, MOST_LOADERS, MOST_PROCESSES}
 use Rattle.script_text.specs.declared.script.ScriptCmd.{ScriptCmd}
-use Rattle.script_text.specs.declared.script.ScriptCmd.TheVariants.{Load, Trace, Spawn}
+use Rattle.script_text.specs.declared.script.ScriptCmd.TheVariants.{Load, Put, Trace, Spawn}
 use Rattle.script_text.specs.declared.script.Script.{Script}
 use Rattle.script_text.specs.declared.fault.Which.TheVariants as which
 use Rattle.script_text.specs.declared.fault.ScriptFault.{ScriptFault}
@@ -26,9 +27,9 @@ use Rattle.script_text.specs.declared.reading.reader.ScriptReader.{ScriptReader}
 use Rattle.script_text.specs.Groups.{onto_last}
 use Rattle.script_text.specs.ScriptValue.{command_of}
 use Rattle.script_text.specs.LineFaults.{or_else}
-use Rattle.script_text.specs.LineReading.{refs_reading, command_reading, trace_reading, call_reading, title_reading}
-use Rattle.script_text.specs.WrittenLine.{ref_words, trace_words, call_words}
-use Rattle.script_text.specs.Naming.{or_syntax, atom_named, refs_named, trace_named, call_named}
+use Rattle.script_text.specs.LineReading.{refs_reading, command_reading, put_reading, trace_reading, call_reading, title_reading}
+use Rattle.script_text.specs.WrittenLine.{ref_words, put_words, trace_words, call_words}
+use Rattle.script_text.specs.Naming.{or_syntax, atom_named, refs_named, put_named, trace_named, call_named}
 use Rattle.script_text.specs.Causes.{◌>>=◌, fault_at, cause_of_code}
 use Rattle.script_text.specs.Sets.{mfa_added, is_among, ref_added}
 use Rattle.script_text.specs.Adding.{counted_added, passes_counted}
@@ -89,6 +90,7 @@ line_added s text before (Err line_faults.Duplicate) = Err (repeat_cause s.funct
 line_added s text before (Err line_faults.Syntax) = Err causes.Syntax
 line_added s text before (Err line_faults.Register) = Err causes.Syntax
 line_added s text before (Err line_faults.Int) = Err (causes.Limit which.Integer)
+line_added s text before (Err line_faults.Term) = Err (causes.Limit which.Term)
 line_added s text before (Err line_faults.Names) = Err (causes.Limit which.Names)
 line_added s text before (Err line_faults.TooManyFunctions) = Err (causes.Limit which.Functions)
 line_added s text before (Err line_faults.TooLong) = Err (causes.Limit which.Module)
@@ -122,12 +124,19 @@ load_step s number text = do
   refs ← refs_named s.names forms
   Ok (with_command (noted (record s { names = refs.1 }) number refs.0) (Load refs.0))
 
--- a command of one module, by its word
-unfoldable pub module_step : ScriptReader → List ℕ → List ℕ → Result ScriptReader LineCause
-module_step s word text = do
+-- a command of one atom, by its word
+unfoldable pub atom_step : ScriptReader → List ℕ → List ℕ → Result ScriptReader LineCause
+atom_step s word text = do
   command ← or_syntax (command_reading word)
   atom ← atom_named s.names text
   Ok (with_command (record s { names = atom.1 }) (command_of command (record { 0 = atom.0 })))
+
+-- a put of a term under a key
+unfoldable pub put_step : ScriptReader → List ℕ → Result ScriptReader LineCause
+put_step s text = do
+  form ← or_syntax (option_map put_words (put_reading text))
+  x ← put_named s.names form
+  Ok (with_command (record s { names = x.2 }) (Put (record { 0 = x.0 }) (term_of x.1)))
 
 -- a breakpoint that is set or taken away
 unfoldable pub trace_step : ScriptReader → List ℕ → Result ScriptReader LineCause
@@ -155,7 +164,8 @@ command_by s number None = Err causes.Syntax
 command_by s number (Some parts) =
     if bytes_eq parts.0 (codes "load") then load_step s number parts.1
     else (if bytes_eq parts.0 (codes "spawn") then spawn_step s parts.1
-    else (if bytes_eq parts.0 (codes "trace") then trace_step s parts.1 else module_step s parts.0 parts.1))
+    else (if bytes_eq parts.0 (codes "trace") then trace_step s parts.1
+    else (if bytes_eq parts.0 (codes "put") then put_step s parts.1 else atom_step s parts.0 parts.1)))
 
 abbrev pub command_step : ScriptReader → ℕ → List ℕ → Result ScriptReader LineCause
 command_step s number text = command_by s number (cut_at 32 text)

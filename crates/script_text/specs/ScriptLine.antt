@@ -3,32 +3,34 @@
 use Rattle.std.specs.Prelude.{◌≡◌, ℕ, ◌&&◌, nat_le, Bool, true, false, List, [], ◌∷◌, ◌++◌, length, IsTrue, codes}
 use Rattle.std.specs.List.{list_all, flat_map}
 use Rattle.term_core.specs.Names.{is_atom_text}
-use Rattle.term_core.specs.PlainTerm.{integer_leaf, atom_leaf, tuple_of, list_of, row_of}
-use Rattle.term_core.specs.Written.{WrittenTerm, parted, is_integer_text}
+use Rattle.term_core.specs.PlainTerm.{TermOf, RowOf, integer_leaf, atom_leaf, tuple_of, list_of, no_terms, term_then, row_of}
+use Rattle.term_core.specs.Written.{WrittenTerm, written, parted, is_integer_text}
 use Rattle.mod_core.specs.declared.code.TheConstants.{MOST_ARGUMENTS}
-use Rattle.mod_core.specs.ModuleLine.{LineForm, parted_by, spaced, function_written, line_written, is_line_form, is_function_form, is_version_text}
+use Rattle.mod_text.specs.ModuleLine.{LineForm, parted_by, spaced, function_written, line_written, is_line_form, is_function_form, is_version_text}
 
 -- a version of a module, as it is written: its name, and the digits of the version
 pub record RefForm : Type 0 where
   pub name : List ℕ
   pub version : List ℕ
 
--- a command of one module: its current code becomes old; its old code goes, if no process stands in it; its old code goes, and
--- the processes that stand in it end; whether it has old code
-pub data ModuleCommand : Type 0 where
-  delete : ModuleCommand
-  soft_purge : ModuleCommand
-  purge : ModuleCommand
-  check_old : ModuleCommand
+-- a command of one atom. Of a module: its current code becomes old; its old code goes, if no process stands in it; its old code
+-- goes, and the processes that stand in it end; whether it has old code. Of a key: it holds no persistent term any more
+pub data AtomCommand : Type 0 where
+  delete : AtomCommand
+  soft_purge : AtomCommand
+  purge : AtomCommand
+  check_old : AtomCommand
+  erase : AtomCommand
 
--- a line: the head, a line of a module's text, the start of a loader block, a load of modules at once, a command of one module, a
--- breakpoint of a function that is set or taken away, a spawn of a call, the end
+-- a line: the head, a line of a module's text, the start of a loader block, a load of modules at once, a command of one atom, a put
+-- of a term under a key, a breakpoint of a function that is set or taken away, a spawn of a call, the end
 pub data ScriptLine : Type 0 where
   head : ScriptLine
   code : LineForm → ScriptLine
   loader : ScriptLine
   load : List RefForm → ScriptLine
-  on_module : ModuleCommand → List ℕ → ScriptLine
+  on_atom : AtomCommand → List ℕ → ScriptLine
+  put : List ℕ → WrittenTerm → ScriptLine
   trace : List ℕ → List ℕ → List ℕ → Bool → ScriptLine
   spawn : List ℕ → List ℕ → List WrittenTerm → ScriptLine
   go : ScriptLine
@@ -38,11 +40,12 @@ abbrev pub ref_written : RefForm → List ℕ
 ref_written r = r.name ++ 46 ∷ r.version
 
 -- the word of a command
-abbrev pub command_word : ModuleCommand → List ℕ
+abbrev pub command_word : AtomCommand → List ℕ
 command_word delete = codes "delete"
 command_word soft_purge = codes "soft_purge"
 command_word purge = codes "purge"
 command_word check_old = codes "check_old"
+command_word erase = codes "erase"
 
 -- `on`, where a breakpoint is set, or `off`
 abbrev pub switch_word : Bool → List ℕ
@@ -63,7 +66,8 @@ script_line_written head = codes "beam script 1"
 script_line_written (code line) = line_written line
 script_line_written loader = codes "loader"
 script_line_written (load refs) = codes "load" ++ flat_map (λ r. 32 ∷ ref_written r) refs
-script_line_written (on_module command name) = spaced (command_word command) name
+script_line_written (on_atom command name) = spaced (command_word command) name
+script_line_written (put key term) = spaced (codes "put") (spaced key (written term))
 script_line_written (trace «module» name arity on) = spaced (codes "trace") (trace_written «module» name arity on)
 script_line_written (spawn «module» name args) = codes "spawn " ++ call_written «module» name args
 script_line_written go = codes "go"
@@ -77,12 +81,18 @@ abbrev pub are_some_refs : List RefForm → Bool
 are_some_refs [] = false
 are_some_refs (r ∷ refs) = list_all is_ref_form (r ∷ refs)
 
--- an integer of any size, or an atom
-abbrev pub is_argument_form : WrittenTerm → Bool
-is_argument_form (integer_leaf text) = is_integer_text text
-is_argument_form (atom_leaf text) = is_atom_text text
-is_argument_form (tuple_of row) = false
-is_argument_form (list_of row) = false
+-- a term, each leaf of which has its text; its integers may be of any size
+abbrev mutual
+  pub is_term_form : TermOf (List ℕ) (List ℕ) → Bool
+  is_term_form (integer_leaf text) = is_integer_text text
+  is_term_form (atom_leaf text) = is_atom_text text
+  is_term_form (tuple_of row) = is_row_form row
+  is_term_form (list_of row) = is_row_form row
+
+  -- the same of a row
+  pub is_row_form : RowOf (List ℕ) (List ℕ) → Bool
+  is_row_form no_terms = true
+  is_row_form (term_then t row) = is_term_form t && is_row_form row
 
 -- a line, each part of which has its text: a load of at least one module, an arity of at most 15, a call of at most 15 arguments
 abbrev pub is_script_line : ScriptLine → Bool
@@ -90,9 +100,10 @@ is_script_line head = true
 is_script_line (code line) = is_line_form line
 is_script_line loader = true
 is_script_line (load refs) = are_some_refs refs
-is_script_line (on_module command name) = is_atom_text name
+is_script_line (on_atom command name) = is_atom_text name
+is_script_line (put key term) = is_atom_text key && is_term_form term
 is_script_line (trace «module» name arity on) = is_atom_text «module» && is_function_form name arity
-is_script_line (spawn «module» name args) = is_atom_text «module» && (is_atom_text name && (nat_le (length args) MOST_ARGUMENTS && list_all is_argument_form args))
+is_script_line (spawn «module» name args) = is_atom_text «module» && (is_atom_text name && (nat_le (length args) MOST_ARGUMENTS && list_all is_term_form args))
 is_script_line go = true
 
 -- the bytes are the text of this line

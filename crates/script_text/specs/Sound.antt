@@ -3,22 +3,27 @@
 use Rattle.std.specs.Prelude.{◌≡◌, ℕ, ◌<◌, ◌≤◌, List, length, IsTrue, is_some, sum_by}
 use Rattle.std.specs.List.{AllByRecursion}
 use Rattle.term_core.specs.Names.{IsNames}
-use Rattle.term_core.specs.PlainTerm.{PlainTerm, integer_leaf, atom_leaf, tuple_of, list_of}
+use Rattle.term_core.specs.declared.term_text.TheConstants.{MOST_WORDS}
+use Rattle.term_core.specs.Plain.{plain}
+use Rattle.term_core.specs.PlainTerm.{PlainTerm, EachLeaf, term_words}
 use Rattle.term_core.specs.Written.{IsTermInteger}
 use Rattle.mod_core.specs.declared.code.Module.{Module}
 use Rattle.server_core.specs.declared.command.ModRef.{ModRef}
 use Rattle.server_core.specs.CommandTable.{AreTexts, text_of}
 use Rattle.script_text.specs.declared.script.TheConstants.{MOST_LOADERS, MOST_PROCESSES}
 use Rattle.script_text.specs.declared.script.ScriptCmd.{ScriptCmd}
-use Rattle.script_text.specs.declared.script.ScriptCmd.TheVariants.{Load, Delete, SoftPurge, Purge, CheckOld, Trace, Spawn}
+use Rattle.script_text.specs.declared.script.ScriptCmd.TheVariants.{Load, Delete, SoftPurge, Purge, CheckOld, Put, Erase, Trace, Spawn}
 use Rattle.script_text.specs.declared.script.Script.{Script}
 
--- a term of one word, whose atom has a name
-abbrev pub IsImmediateOf : List (List ℕ) → PlainTerm → Type 0
-IsImmediateOf names (integer_leaf z) = IsTermInteger z
-IsImmediateOf names (atom_leaf a) = a < length names
-IsImmediateOf names (tuple_of row) = ⊥
-IsImmediateOf names (list_of row) = ⊥
+-- a term of at most 64 words, its integers of 60 bits, its atoms named
+pub record IsTermOf (names : List (List ℕ)) (term : PlainTerm) : Type 0 where
+  pub leaves : EachLeaf IsTermInteger (λ atom. atom < length names) term
+  pub short : term_words term ≤ MOST_WORDS
+
+-- a put of a term under a key that has a name
+pub record IsPutOf (names : List (List ℕ)) (key : ℕ) (term : PlainTerm) : Type 0 where
+  pub key_named : key < length names
+  pub is_term : IsTermOf names term
 
 -- a load of at least one module, each of which is given
 pub record IsLoadOf (texts : List Module) (refs : List ModRef) : Type 0 where
@@ -31,21 +36,23 @@ pub record IsTraceOf (names : List (List ℕ)) (m f arity : ℕ) : Type 0 where
   pub name_named : f < length names
   pub few : arity ≤ 15
 
--- a spawn of a function whose atoms have names, with as many arguments as its arity, each of one word
+-- a spawn of a function whose atoms have names, with as many arguments as its arity, each a term within the limits
 pub record IsSpawnOf (names : List (List ℕ)) (m f arity : ℕ) (args : List PlainTerm) : Type 0 where
   pub module_named : m < length names
   pub name_named : f < length names
   pub arity_is : arity ≡ length args
   pub few : arity ≤ 15
-  pub each : AllByRecursion (IsImmediateOf names) args
+  pub each : AllByRecursion (IsTermOf names) args
 
--- a command that can be made: what a load or a spawn needs; and a module or function that is named
+-- a command that can be made: what a load, a put or a spawn needs; and a module, a function or a key that is named
 abbrev pub IsCmdOf : List (List ℕ) → List Module → ScriptCmd → Type 0
 IsCmdOf names texts (Load refs) = IsLoadOf texts refs
 IsCmdOf names texts (Delete m) = m.0 < length names
 IsCmdOf names texts (SoftPurge m) = m.0 < length names
 IsCmdOf names texts (Purge m) = m.0 < length names
 IsCmdOf names texts (CheckOld m) = m.0 < length names
+IsCmdOf names texts (Put key term) = IsPutOf names key.0 (plain term)
+IsCmdOf names texts (Erase key) = key.0 < length names
 IsCmdOf names texts (Trace target on) = IsTraceOf names target.«module».0 target.name.0 target.arity
 IsCmdOf names texts (Spawn target args) = IsSpawnOf names target.«module».0 target.name.0 target.arity args
 
@@ -56,6 +63,8 @@ spawns_in (Delete m) = 0
 spawns_in (SoftPurge m) = 0
 spawns_in (Purge m) = 0
 spawns_in (CheckOld m) = 0
+spawns_in (Put key term) = 0
+spawns_in (Erase key) = 0
 spawns_in (Trace target on) = 0
 spawns_in (Spawn target args) = 1
 

@@ -45,6 +45,11 @@ fn copy_command(alloc: Global, command: &ScriptCmd) -> Result<ScriptCmd, NoMemor
         ScriptCmd::SoftPurge(module) => Ok(ScriptCmd::SoftPurge(*module)),
         ScriptCmd::Purge(module) => Ok(ScriptCmd::Purge(*module)),
         ScriptCmd::CheckOld(module) => Ok(ScriptCmd::CheckOld(*module)),
+        ScriptCmd::Put { key, term } => Ok(ScriptCmd::Put {
+            key: *key,
+            term: term.copy(alloc)?,
+        }),
+        ScriptCmd::Erase(key) => Ok(ScriptCmd::Erase(*key)),
         ScriptCmd::Trace { target, on } => Ok(ScriptCmd::Trace {
             target: *target,
             on: *on,

@@ -1,13 +1,9 @@
 //! The text of a script: what it says, its reader with the one fault of every other text, and its printer.
 #![tactic(auto)]
 
-#[cfg(test)]
-mod command_tests;
 mod copying;
 mod fault;
 mod fault_text;
-#[cfg(test)]
-mod pair_tests;
 mod printing;
 #[cfg(test)]
 mod printing_tests;

@@ -8,9 +8,9 @@ ghost use Rattle.term_core.specs.Plain.{plain};
 ghost use Rattle.term_core.specs.PlainTerm.{row_of};
 ghost use Rattle.term_core.specs.TermText.{atom_text, term_text};
 ghost use Rattle.term_core.specs.Written.{parted};
-ghost use Rattle.mod_core.specs.Canonical.{canonical as module_lines, IsModuleHeld};
+ghost use Rattle.mod_text.specs.Canonical.{canonical as module_lines, IsModuleHeld};
 ghost use Rattle.mod_core.specs.Module.{IsModule};
-ghost use Rattle.mod_core.specs.ModuleLine.{spaced, function_written, lines_written};
+ghost use Rattle.mod_text.specs.ModuleLine.{spaced, function_written, lines_written};
 ghost use Rattle.script_text.specs.declared.script.Script.{Script as ScriptValue};
 ghost use Rattle.script_text.specs.ScriptLine.{ref_written, switch_word, trace_written, call_written, script_line_written, load};
 ghost use Rattle.script_text.specs.ScriptText.{ScriptText};
@@ -20,7 +20,8 @@ ghost use Rattle.script_text.specs.Canonical.{IsOfSomeText, ref_form, argument_f
 use crate::fault::PrintFault;
 use crate::reading::words::cut_at;
 use crate::script::{CommandList, LONGEST_LINE, LONGEST_SCRIPT, Script, ScriptCmd};
-use mod_core::{Module, print_module};
+use mod_core::Module;
+use mod_text::print_module;
 use server_core::ModRef;
 use term_core::{
     AtomId, ByteList, Mfa, Names, NoMemory, Term, TermList, print_atom, print_number, print_term,
@@ -147,10 +148,12 @@ fn write_command(names: &Names, command: &ScriptCmd, out: &mut ByteList) -> Resu
 {
     match command {
         ScriptCmd::Load(refs) => write_load(names, refs.as_slice(), out),
-        ScriptCmd::Delete(module) => write_on_module(names, b"delete", *module, out),
-        ScriptCmd::SoftPurge(module) => write_on_module(names, b"soft_purge", *module, out),
-        ScriptCmd::Purge(module) => write_on_module(names, b"purge", *module, out),
-        ScriptCmd::CheckOld(module) => write_on_module(names, b"check_old", *module, out),
+        ScriptCmd::Delete(module) => write_on_atom(names, b"delete", *module, out),
+        ScriptCmd::SoftPurge(module) => write_on_atom(names, b"soft_purge", *module, out),
+        ScriptCmd::Purge(module) => write_on_atom(names, b"purge", *module, out),
+        ScriptCmd::CheckOld(module) => write_on_atom(names, b"check_old", *module, out),
+        ScriptCmd::Put { key, term } => write_put(names, *key, term, out),
+        ScriptCmd::Erase(key) => write_on_atom(names, b"erase", *key, out),
         ScriptCmd::Trace { target, on } => write_trace(names, *target, *on, out),
         ScriptCmd::Spawn { target, args } => write_spawn(names, *target, args, out),
     }
@@ -177,19 +180,30 @@ fn write_ref(names: &Names, to: ModRef, out: &mut ByteList) -> Result<(), NoMemo
     print_number(u64::from(to.version), out)
 }
 
-/// A command of one module, by its word.
-fn write_on_module(
+/// A command of one atom, by its word.
+fn write_on_atom(
     names: &Names,
     word: &[u8],
-    module: AtomId,
+    atom: AtomId,
     out: &mut ByteList,
 ) -> Result<(), NoMemory>
-    ensures ok { OnOk result (out.new ≡ out.old ++ spaced word.now (atom_text names.now «module».0)) }
+    ensures ok { OnOk result (out.new ≡ out.old ++ spaced word.now (atom_text names.now atom.0)) }
     ensures kept { StartsWith out.new out.old }
 {
     out.extend_from_slice(word)?;
     out.push(b' ')?;
-    print_atom(names, module, out)
+    print_atom(names, atom, out)
+}
+
+/// A put, as `put k {1,[ok]}`.
+fn write_put(names: &Names, key: AtomId, term: &Term, out: &mut ByteList) -> Result<(), NoMemory>
+    ensures ok { OnOk result (out.new ≡ out.old ++ spaced (codes "put") (spaced (atom_text names.now key.0) (term_text names.now term.now))) }
+    ensures kept { StartsWith out.new out.old }
+{
+    out.extend_from_slice(b"put ")?;
+    print_atom(names, key, out)?;
+    out.push(b' ')?;
+    print_term(names, term, out)
 }
 
 fn write_trace(names: &Names, target: Mfa, on: bool, out: &mut ByteList) -> Result<(), NoMemory>

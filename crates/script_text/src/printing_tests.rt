@@ -44,266 +44,34 @@ fn is_printed_as(alloc: Global, text: &str, canonical: &str) -> Result<bool, Fai
     Ok(out.as_slice() == wanted.as_bytes() && same)
 }
 
-const ARGUMENT: &str = "beam script 1
-module greeter.3
-export main/1
-print hello
-print $0
-ret $0
-end
-loader
-load greeter.3
-spawn greeter:main(world)
-go
-";
-
-const FIRST: &str = "beam script 1
+const COMMANDS: &str = "beam script 1
 module m.1
 export main/0
 add 1 2 $0
 print $0
 end
-loader
-load m.1
-spawn m:main()
-go
-";
-
-const LOADERS: &str = "beam script 1
-module m.1
-export main/0
-yield
-print 1
-end
-module n.1
-export main/0
-print 2
-end
-loader
-load m.1
-spawn m:main()
-loader
-load n.1
-spawn n:main()
-go
-";
-
-const OVERFLOW: &str = "beam script 1
-module m.1
-export main/0
-print 576460752303423487
-add 576460752303423487 1 $0
-print $0
-end
-loader
-load m.1
-spawn m:main()
-go
-";
-
-const UNDEFINED: &str = "beam script 1
-module m.1
-export main/0
-print 1
-end
-loader
-load m.1
-spawn m:start()
-go
-";
-
-#[test]
-fn texts_without_labels_stay(rt: HostRuntime) -> Result<(), Fail> {
-    let texts = [
-        "beam script 1\ngo\n",
-        "beam script 1\nloader\nloader\nspawn m:f(-1,ok,0)\ngo\n",
-        "beam script 1\nloader\ndelete m\nsoft_purge n\npurge m\ncheck_old m\ngo\n",
-        "beam script 1\nloader\ntrace m:f/0 on\ntrace n:g/15 off\ngo\n",
-        ARGUMENT,
-        FIRST,
-        LOADERS,
-        OVERFLOW,
-        UNDEFINED,
-    ];
-    for text in texts {
-        assert!(rt; is_printed_as(rt.alloc(), text, text)?, "at {text}");
-    }
-    Ok(())
-}
-
-const CHECK_OLD: &str = "beam script 1
-module m.1
-end
 module m.2
-end
-loader
-check_old m
-load m.1
-check_old m
-load m.2
-check_old m
-soft_purge m
-check_old m
-go
-";
-
-const DELETE: &str = "beam script 1
-module m.1
-export main/0
-call_ext m:say/0 $0
-print $0
-yield
-call say/0 $0
-print $0
-call_ext m:say/0 $0
-export say/0
-ret 1
+export main/1
+pget k $1
+pget_or k {none,[k]} $2
+elem 1 $2 $3
 end
 loader
 load m.1
+put k {1,[ok,-2]}
+put j []
 spawn m:main()
+loader
+load m.2 m.2
+trace m:main/1 on
+spawn m:main({1,2},[],x)
+spawn m:main(-1)
 delete m
-delete m
-go
-";
-
-const SOFT_PURGE: &str = "beam script 1
-module m.1
-export main/0
-yield
-yield
-print 1
-end
-module m.2
-export main/0
-print 2
-end
-loader
-load m.1
-spawn m:main()
-load m.2
 soft_purge m
-soft_purge m
-soft_purge m
-go
-";
-
-const TRACE: &str = "beam script 1
-module m.1
-export main/0
-move 7 $0
-call f/1 $0
-yield
-call f/1 $0
-yield
-call f/1 $0
-local f/1
-ret $0
-end
-loader
-load m.1
-spawn m:main()
-trace m:f/1 on
-trace m:f/1 off
-go
-";
-
-const PURGE: &str = "beam script 1
-module m.1
-export main/0
-label a
-yield
-jump a
-end
-module m.2
-end
-loader
-load m.1
-spawn m:main()
-load m.2
-purge m
-purge m
-go
-";
-
-const PURGE_PRINTED: &str = "beam script 1
-module m.1
-export main/0
-label l0
-yield
-jump l0
-end
-module m.2
-end
-loader
-load m.1
-spawn m:main()
-load m.2
-purge m
-purge m
-go
-";
-
-#[test]
-fn texts_of_each_command_are_printed(rt: HostRuntime) -> Result<(), Fail> {
-    let cases = [
-        (CHECK_OLD, CHECK_OLD),
-        (DELETE, DELETE),
-        (SOFT_PURGE, SOFT_PURGE),
-        (TRACE, TRACE),
-        (PURGE, PURGE_PRINTED),
-    ];
-    for (text, canonical) in cases {
-        assert!(rt; is_printed_as(rt.alloc(), text, canonical)?, "at {text}");
-    }
-    Ok(())
-}
-
-const UPGRADE: &str = "beam script 1
-module m.1
-export main/0
-label again
-yield
-call_ext m:say/0 $1
-print $1
-add $0 1 $0
-less $0 3 again
-export say/0
-ret 1
-end
-module m.2
-export main/0
-export say/0
-ret 2
-end
-loader
-load m.1
-spawn m:main()
-load m.2
-go
-";
-
-const UPGRADE_PRINTED: &str = "beam script 1
-module m.1
-export main/0
-label l0
-yield
-call_ext m:say/0 $1
-print $1
-add $0 1 $0
-less $0 3 l0
-export say/0
-ret 1
-end
-module m.2
-export main/0
-export say/0
-ret 2
-end
-loader
-load m.1
-spawn m:main()
-load m.2
+check_old m
+purge n
+erase k
+trace m:main/1 off
 go
 ";
 
@@ -324,7 +92,7 @@ call count/1 $2
 end
 loader
 load m.1 m.1
-spawn m:count(3,-4)
+spawn m:count(3,{-4})
 go
 ";
 
@@ -341,26 +109,19 @@ call count/1 $2
 end
 loader
 load m.1 m.1
-spawn m:count(3,-4)
+spawn m:count(3,{-4})
 go
 ";
 
 #[test]
-fn labels_are_renamed_or_dropped(rt: HostRuntime) -> Result<(), Fail> {
+fn scripts_are_printed(rt: HostRuntime) -> Result<(), Fail> {
     let cases = [
-        (UPGRADE, UPGRADE_PRINTED),
-        (UPGRADE_PRINTED, UPGRADE_PRINTED),
+        ("beam script 1\ngo\n", "beam script 1\ngo\n"),
+        (COMMANDS, COMMANDS),
         (COUNTDOWN, COUNTDOWN_PRINTED),
     ];
     for (text, canonical) in cases {
         assert!(rt; is_printed_as(rt.alloc(), text, canonical)?, "at {text}");
-    }
-    Ok(())
-}
-
-#[test]
-fn a_copy_is_the_same(rt: HostRuntime) -> Result<(), Fail> {
-    for text in ["beam script 1\ngo\n", LOADERS, UPGRADE, COUNTDOWN] {
         let script = read(rt.alloc(), text.as_bytes())?;
         let copy = script.copy(rt.alloc())?;
         assert!(rt; are_same(rt.alloc(), &copy, &script)?, "at {text}");

@@ -1,6 +1,6 @@
 use mod_core::ModuleList;
 use server_core::RefList;
-use term_core::{AtomId, Items, Mfa, Names, TermList};
+use term_core::{AtomId, Items, Mfa, Names, Term, TermList};
 
 /// How many bytes a script has at most.
 pub const LONGEST_SCRIPT: usize = 1_048_576;
@@ -30,6 +30,10 @@ pub enum ScriptCmd {
     Purge(AtomId),
     /// Whether the module has old code.
     CheckOld(AtomId),
+    /// The key holds the term.
+    Put { key: AtomId, term: Term },
+    /// The key holds no term.
+    Erase(AtomId),
     /// A breakpoint of a function in its module's current instance is set or taken away.
     Trace { target: Mfa, on: bool },
     /// A process enters the function with these arguments.

@@ -9,7 +9,7 @@ ghost use Rattle.script_text.specs.WrittenLine.{kept_word};
 
 use crate::reading::cause::LineCause;
 use crate::reading::sets::FunctionSet;
-use crate::reading::written::ModuleWord;
+use crate::reading::written::AtomWord;
 use crate::script::{CommandList, LoaderList, ScriptCmd};
 use std::alloc::Global;
 use term_core::{AtomId, Mfa, NoMemory};
@@ -24,15 +24,16 @@ pub fn add_counted(functions: &mut FunctionSet, counted: Option<Mfa>) -> Result<
     }
 }
 
-/// The command of a module.
-pub fn command_of(word: ModuleWord, module: AtomId) -> ScriptCmd
-    ensures { result ≡ command_of (kept_word word) «module» }
+/// The command of an atom.
+pub fn command_of(word: AtomWord, atom: AtomId) -> ScriptCmd
+    ensures { result ≡ command_of (kept_word word) atom }
 {
     match word {
-        ModuleWord::Delete => ScriptCmd::Delete(module),
-        ModuleWord::SoftPurge => ScriptCmd::SoftPurge(module),
-        ModuleWord::Purge => ScriptCmd::Purge(module),
-        ModuleWord::CheckOld => ScriptCmd::CheckOld(module),
+        AtomWord::Delete => ScriptCmd::Delete(atom),
+        AtomWord::SoftPurge => ScriptCmd::SoftPurge(atom),
+        AtomWord::Purge => ScriptCmd::Purge(atom),
+        AtomWord::CheckOld => ScriptCmd::CheckOld(atom),
+        AtomWord::Erase => ScriptCmd::Erase(atom),
     }
 }
 

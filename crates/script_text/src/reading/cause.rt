@@ -1,7 +1,7 @@
 //! What is wrong with a line, wherever it stands.
 
 use crate::fault::{ScriptFault, Which};
-use mod_core::LineFault;
+use mod_text::LineFault;
 use std::alloc::{AllocError, AllocFailed};
 use term_core::{NameFault, NoMemory};
 
@@ -92,6 +92,7 @@ impl From<LineFault> for LineCause {
         match fault {
             LineFault::Syntax | LineFault::Register => LineCause::Syntax,
             LineFault::Int => LineCause::Limit(Which::Integer),
+            LineFault::Term => LineCause::Limit(Which::Term),
             LineFault::Names => LineCause::Limit(Which::Names),
             LineFault::TooManyFunctions => LineCause::Limit(Which::Functions),
             LineFault::TooLong => LineCause::Limit(Which::Module),

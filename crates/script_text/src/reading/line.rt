@@ -1,20 +1,24 @@
 //! The lines that are in no module's text: their words, from left to right.
 
-ghost use Rattle.std.specs.Prelude.{◌≡◌, ◌≤◌, map, option_map, vec_len, IfOk};
+ghost use Rattle.std.specs.Prelude.{◌≡◌, ◌≤◌, map, option_map, vec_len, All, IfOk, IsTrue};
 ghost use Rattle.term_core.specs.Names.{is_atom_text as is_atom};
-ghost use Rattle.mod_core.specs.ModuleLine.{is_arity_text};
-ghost use Rattle.mod_core.specs.LineReading.{tested, numbered_reading};
+ghost use Rattle.term_core.specs.TermForms.{is_complex_text};
+ghost use Rattle.term_core.specs.TermParts.{parts_of_terms};
+ghost use Rattle.mod_text.specs.ModuleLine.{is_arity_text};
+ghost use Rattle.mod_text.specs.LineReading.{tested, numbered_reading};
 ghost use Rattle.script_text.specs.Causes.{Gives};
-ghost use Rattle.script_text.specs.LineReading.{ref_reading, refs_reading, command_reading, switch_reading, trace_reading, argument_reading, arguments_reading, each_reading, parts_of, closed_arguments, call_reading, title_reading};
+ghost use Rattle.script_text.specs.LineReading.{ref_reading, refs_reading, command_reading, switch_reading, put_reading, trace_reading, argument_reading, arguments_reading, each_reading, closed_arguments, call_reading, title_reading};
 ghost use Rattle.script_text.specs.Naming.{or_syntax};
-ghost use Rattle.script_text.specs.WrittenLine.{ref_words, kept_ref, kept_word, function_words, trace_words, kept_trace, argument_words, kept_argument, call_words, kept_call};
+ghost use Rattle.script_text.specs.WrittenLine.{ref_words, kept_ref, kept_word, function_words, trace_words, kept_trace, argument_words, is_sound_word, kept_argument, put_words, kept_put, call_words, kept_call};
 
 use crate::reading::cause::LineCause;
 use crate::reading::words::{arity_of, cut_at, integer_of, is_integer_text, version_of};
-use crate::reading::written::{ModuleWord, WrittenArgument, WrittenCall, WrittenRef, WrittenTrace};
+use crate::reading::written::{
+    AtomWord, WrittenArgument, WrittenCall, WrittenPut, WrittenRef, WrittenTrace,
+};
 use mod_core::MOST_ARGUMENTS;
 use std::alloc::Global;
-use term_core::is_atom_text;
+use term_core::{NoMemory, cut_term, is_atom_text, is_term_text};
 
 fn read_atom(text: &[u8]) -> Option<&[u8]>
     ensures { option_map (λ name. name.now) result ≡ tested is_atom text.now }
@@ -46,18 +50,20 @@ pub fn read_refs(alloc: Global, text: &[u8]) -> Result<Vec<WrittenRef<'_>>, Line
     Ok(refs)
 }
 
-/// The command of one module that a word names.
-pub fn read_word(word: &[u8]) -> Option<ModuleWord>
+/// The command of one atom that a word names.
+pub fn read_word(word: &[u8]) -> Option<AtomWord>
     ensures { option_map kept_word result ≡ command_reading word.now }
 {
     if word == b"delete".as_slice() {
-        Some(ModuleWord::Delete)
+        Some(AtomWord::Delete)
     } else if word == b"soft_purge".as_slice() {
-        Some(ModuleWord::SoftPurge)
+        Some(AtomWord::SoftPurge)
     } else if word == b"purge".as_slice() {
-        Some(ModuleWord::Purge)
+        Some(AtomWord::Purge)
     } else if word == b"check_old".as_slice() {
-        Some(ModuleWord::CheckOld)
+        Some(AtomWord::CheckOld)
+    } else if word == b"erase".as_slice() {
+        Some(AtomWord::Erase)
     } else {
         None
     }
@@ -102,34 +108,61 @@ pub fn read_trace(text: &[u8]) -> Option<WrittenTrace<'_>>
     })
 }
 
-fn read_argument(text: &[u8]) -> Option<WrittenArgument<'_>>
-    ensures { option_map kept_argument result ≡ option_map argument_words (argument_reading text.now) }
+/// Whether a text is that of a tuple or a list.
+fn is_complex(alloc: Global, text: &[u8]) -> Result<bool, NoMemory>
+    ensures { IfOk result (λ is. is ≡ is_complex_text text.now) }
 {
-    if is_atom_text(text) {
-        Some(WrittenArgument::Atom(text))
-    } else if is_integer_text(text) {
-        Some(WrittenArgument::Integer(integer_of(text)))
-    } else {
-        None
+    match text.first() {
+        Some(b'{' | b'[') => is_term_text(alloc, text),
+        _ => Ok(false),
     }
 }
 
-/// Arguments with commas between them, at least one.
+/// A term that stands in a line.
+fn read_argument(alloc: Global, text: &[u8]) -> Result<WrittenArgument<'_>, LineCause>
+    ensures read { Gives kept_argument result (or_syntax (option_map argument_words (argument_reading text.now))) }
+    ensures sound { IfOk result (λ argument. IsTrue (is_sound_word (kept_argument argument))) }
+{
+    if is_atom_text(text) {
+        Ok(WrittenArgument::Atom(text))
+    } else if is_integer_text(text) {
+        Ok(WrittenArgument::Integer(integer_of(text)))
+    } else if is_complex(alloc, text)? {
+        Ok(WrittenArgument::Complex(text))
+    } else {
+        Err(LineCause::Syntax)
+    }
+}
+
+/// A put, behind its word, as `k {1,[ok]}`.
+pub fn read_put(alloc: Global, text: &[u8]) -> Result<WrittenPut<'_>, LineCause>
+    ensures read { Gives kept_put result (or_syntax (option_map put_words (put_reading text.now))) }
+    ensures sound { IfOk result (λ put. IsTrue (is_sound_word (kept_argument put.term))) }
+{
+    let (key, rest) = cut_at(text, b' ').ok_or(LineCause::Syntax)?;
+    let key = read_atom(key).ok_or(LineCause::Syntax)?;
+    let term = read_argument(alloc, rest)?;
+    Ok(WrittenPut { key, term })
+}
+
+/// Arguments with commas between them, at least one. A comma inside of brackets is their argument's own.
 fn read_some_arguments(alloc: Global, text: &[u8]) -> Result<Vec<WrittenArgument<'_>>, LineCause>
-    ensures { Gives (λ args. map kept_argument args.items) result (or_syntax (option_map (map argument_words) (each_reading argument_reading (parts_of 44 text.now)))) }
+    ensures read { Gives (λ args. map kept_argument args.items) result (or_syntax (option_map (map argument_words) (each_reading argument_reading (parts_of_terms text.now)))) }
+    ensures sound { IfOk result (λ args. All (λ argument. IsTrue (is_sound_word (kept_argument argument))) args.items) }
 {
     let mut args = Vec::new(alloc);
-    let mut rest = text;
-    while let Some((part, behind)) = cut_at(rest, b',') {
-        args.push(read_argument(part).ok_or(LineCause::Syntax)?)?;
+    let mut rest = Some(text);
+    'arguments: while let Some(left) = rest {
+        let (part, behind) = cut_term(left);
+        args.push(read_argument(alloc, part)?)?;
         rest = behind;
     }
-    args.push(read_argument(rest).ok_or(LineCause::Syntax)?)?;
     Ok(args)
 }
 
 fn read_arguments(alloc: Global, text: &[u8]) -> Result<Vec<WrittenArgument<'_>>, LineCause>
-    ensures { Gives (λ args. map kept_argument args.items) result (or_syntax (option_map (map argument_words) (arguments_reading text.now))) }
+    ensures read { Gives (λ args. map kept_argument args.items) result (or_syntax (option_map (map argument_words) (arguments_reading text.now))) }
+    ensures sound { IfOk result (λ args. All (λ argument. IsTrue (is_sound_word (kept_argument argument))) args.items) }
 {
     if text.is_empty() {
         return Ok(Vec::new(alloc));
@@ -145,6 +178,7 @@ fn read_closed_arguments<'a>(
 ) -> Result<Vec<WrittenArgument<'a>>, LineCause>
     ensures read { Gives (λ args. map kept_argument args.items) result (or_syntax (option_map (map argument_words) (closed_arguments (inside.now, behind.now)))) }
     ensures few { IfOk result (λ args. vec_len args ≤ MOST_ARGUMENTS) }
+    ensures sound { IfOk result (λ args. All (λ argument. IsTrue (is_sound_word (kept_argument argument))) args.items) }
 {
     let args = read_arguments(alloc, inside)?;
     if behind.is_empty() && args.len() <= MOST_ARGUMENTS as usize {

@@ -1,18 +1,22 @@
 //! The names of a line get their numbers, in order.
 
-ghost use Rattle.std.specs.Prelude.{◌≡◌, map, length, IfOk};
+ghost use Rattle.std.specs.Prelude.{◌≡◌, false, map, length, All, IfOk, IsTrue};
 ghost use Rattle.std.specs.List.{list_any};
 ghost use Rattle.term_core.specs.Plain.{plain};
+ghost use Rattle.term_core.specs.TermForms.{is_term_text as is_form, is_wide_text as is_wide_form};
 ghost use Rattle.script_text.specs.Causes.{Gives};
-ghost use Rattle.script_text.specs.Naming.{atom_named, ref_named, refs_named, trace_named, argument_named, arguments_named, target_named, call_named, is_wide_word};
-ghost use Rattle.script_text.specs.WrittenLine.{kept_ref, kept_trace, kept_argument, kept_call};
+ghost use Rattle.script_text.specs.Naming.{atom_named, ref_named, refs_named, trace_named, argument_named, arguments_named, is_wide_word, is_long_word, key_named, put_named, target_named, call_named};
+ghost use Rattle.script_text.specs.WrittenLine.{complex, is_sound_word, kept_ref, kept_trace, kept_argument, kept_put, kept_call};
 
 use crate::fault::Which;
 use crate::reading::cause::LineCause;
-use crate::reading::written::{WrittenArgument, WrittenCall, WrittenRef, WrittenTrace};
+use crate::reading::written::{WrittenArgument, WrittenCall, WrittenPut, WrittenRef, WrittenTrace};
 use server_core::{ModRef, RefList};
 use std::alloc::Global;
-use term_core::{AtomId, Mfa, Names, Term, TermList, is_atom_text};
+use term_core::{
+    AtomId, MOST_WORDS, Mfa, Names, Term, TermList, is_atom_text, is_wide_text, name_atoms,
+    term_in, text_words,
+};
 
 /// The number of an atom's text.
 pub fn name_atom(names: &mut Names, text: &[u8]) -> Result<AtomId, LineCause>
@@ -63,13 +67,30 @@ pub fn name_trace(names: &mut Names, trace: WrittenTrace<'_>) -> Result<Mfa, Lin
     })
 }
 
-fn name_argument(names: &mut Names, argument: WrittenArgument<'_>) -> Result<Term, LineCause>
+/// The term of a tuple's or a list's text.
+fn name_complex(alloc: Global, names: &mut Names, text: &[u8]) -> Result<Term, LineCause>
+    requires form { IsTrue (is_form text.now) }
+    requires narrow { is_wide_form text.now ≡ false }
+    ensures { Gives (λ term. (plain term, names.new)) result (argument_named names.old (complex text.now)) }
+{
+    name_atoms(names, text)?;
+    Ok(term_in(alloc, names, text)?)
+}
+
+fn name_argument(
+    alloc: Global,
+    names: &mut Names,
+    argument: WrittenArgument<'_>,
+) -> Result<Term, LineCause>
+    requires sound { IsTrue (is_sound_word (kept_argument argument)) }
+    requires narrow { is_wide_word (kept_argument argument) ≡ false }
     ensures { Gives (λ term. (plain term, names.new)) result (argument_named names.old (kept_argument argument.entry)) }
 {
     match argument {
         WrittenArgument::Integer(Some(number)) => Ok(Term::Int(number)),
         WrittenArgument::Integer(None) => Err(LineCause::Limit(Which::Integer)),
         WrittenArgument::Atom(text) => Ok(Term::Atom(name_atom(names, text)?)),
+        WrittenArgument::Complex(text) => name_complex(alloc, names, text),
     }
 }
 
@@ -78,12 +99,14 @@ fn name_arguments(
     names: &mut Names,
     args: &[WrittenArgument<'_>],
 ) -> Result<TermList, LineCause>
+    requires sound { All (λ argument. IsTrue (is_sound_word (kept_argument argument))) args.now }
+    requires narrow { All (λ argument. is_wide_word (kept_argument argument) ≡ false) args.now }
     ensures named { Gives (λ terms. (terms, names.new)) result (arguments_named names.old (map kept_argument args.now)) }
     ensures count { IfOk result (λ terms. length terms ≡ length args.now) }
 {
     let mut terms = TermList::new(alloc);
     for argument in args {
-        terms.push(name_argument(names, *argument)?)?;
+        terms.push(name_argument(alloc, names, *argument)?)?;
     }
     Ok(terms)
 }
@@ -91,13 +114,65 @@ fn name_arguments(
 fn is_wide(argument: WrittenArgument<'_>) -> bool
     ensures { result ≡ is_wide_word (kept_argument argument.entry) }
 {
-    matches!(argument, WrittenArgument::Integer(None))
+    match argument {
+        WrittenArgument::Integer(number) => number.is_none(),
+        WrittenArgument::Atom(_) => false,
+        WrittenArgument::Complex(text) => is_wide_text(text),
+    }
+}
+
+fn is_long(argument: WrittenArgument<'_>) -> bool
+    ensures { result ≡ is_long_word (kept_argument argument.entry) }
+{
+    match argument {
+        WrittenArgument::Complex(text) => text_words(text) > MOST_WORDS,
+        _ => false,
+    }
 }
 
 fn are_wide(args: &[WrittenArgument<'_>]) -> bool
     ensures { result ≡ list_any (λ argument. is_wide_word (kept_argument argument)) args.now }
 {
     args.iter().any(|argument| is_wide(*argument))
+}
+
+fn are_long(args: &[WrittenArgument<'_>]) -> bool
+    ensures { result ≡ list_any (λ argument. is_long_word (kept_argument argument)) args.now }
+{
+    args.iter().any(|argument| is_long(*argument))
+}
+
+#[tactic(auto, unfolding(crate::specs::Naming::key_named))]
+fn name_key(
+    alloc: Global,
+    names: &mut Names,
+    put: WrittenPut<'_>,
+) -> Result<(AtomId, Term), LineCause>
+    requires sound { IsTrue (is_sound_word (kept_argument put.term)) }
+    requires narrow { is_wide_word (kept_argument put.term) ≡ false }
+    ensures { Gives (λ made. (made.0.0, plain made.1, names.new)) result (key_named names.old (kept_put put.entry)) }
+{
+    let key = name_atom(names, put.key)?;
+    let term = name_argument(alloc, names, put.term)?;
+    Ok((key, term))
+}
+
+/// The key of a put, and its term. The limits of the term come before names without a number.
+pub fn name_put(
+    alloc: Global,
+    names: &mut Names,
+    put: WrittenPut<'_>,
+) -> Result<(AtomId, Term), LineCause>
+    requires { IsTrue (is_sound_word (kept_argument put.term)) }
+    ensures { Gives (λ made. (made.0.0, plain made.1, names.new)) result (put_named names.old (kept_put put.entry)) }
+{
+    if is_wide(put.term) {
+        return Err(LineCause::Limit(Which::Integer));
+    }
+    if is_long(put.term) {
+        return Err(LineCause::Limit(Which::Term));
+    }
+    name_key(alloc, names, put)
 }
 
 /// The target of a call, and its arguments.
@@ -107,6 +182,7 @@ fn name_target(
     names: &mut Names,
     call: &WrittenCall<'_>,
 ) -> Result<(Mfa, TermList), LineCause>
+    requires { All (λ argument. is_wide_word (kept_argument argument) ≡ false) call.now.args.items }
     ensures { Gives (λ made. (made.0, made.1, names.new)) result (target_named names.old (kept_call call.now)) }
 {
     let module = name_atom(names, call.module)?;
@@ -121,7 +197,7 @@ fn name_target(
     Ok((target, args))
 }
 
-/// The target of a call, and its arguments. Integers of more than 60 bits come before names without a number.
+/// The target of a call, and its arguments. The limits of the arguments come before names without a number.
 pub fn name_call(
     alloc: Global,
     names: &mut Names,
@@ -131,6 +207,9 @@ pub fn name_call(
 {
     if are_wide(call.args.as_slice()) {
         return Err(LineCause::Limit(Which::Integer));
+    }
+    if are_long(call.args.as_slice()) {
+        return Err(LineCause::Limit(Which::Term));
     }
     name_target(alloc, names, call)
 }

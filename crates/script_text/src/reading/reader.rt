@@ -3,14 +3,15 @@
 use crate::fault::{ScriptFault, Which};
 use crate::reading::adding::{add_counted, command_of, push_command};
 use crate::reading::cause::LineCause;
-use crate::reading::line::{read_call, read_refs, read_title, read_trace, read_word};
-use crate::reading::naming::{name_atom, name_call, name_refs, name_trace};
+use crate::reading::line::{read_call, read_put, read_refs, read_title, read_trace, read_word};
+use crate::reading::naming::{name_atom, name_call, name_put, name_refs, name_trace};
 use crate::reading::sets::{FunctionSet, RefSet};
 use crate::reading::words::cut_at;
 use crate::script::{
     CommandList, LONGEST_LINE, LoaderList, MOST_LOADERS, MOST_PROCESSES, Script, ScriptCmd,
 };
-use mod_core::{FinishFault, LineFault, ModuleList, ModuleReader};
+use mod_core::ModuleList;
+use mod_text::{FinishFault, LineFault, ModuleReader};
 use server_core::ModRef;
 use std::alloc::Global;
 use std::mem;
@@ -54,11 +55,11 @@ pub struct ScriptReader<'a> {
 impl<'a> ScriptReader<'a> {
     ghost use Rattle.std.specs.Prelude.{◌≡◌, ◌+◌, ◌<◌, ◌^◌, length, IfOk, IfSome, OnOk};
     ghost use Rattle.std.specs.List.{list_all};
-    ghost use Rattle.mod_core.specs.ModuleValue.{IsTitled, unsettled_line};
+    ghost use Rattle.mod_text.specs.ModuleValue.{IsTitled, unsettled_line};
     ghost use Rattle.script_text.specs.LineFaults.{or_else};
     ghost use Rattle.script_text.specs.Causes.{Gives, GivesText};
     ghost use Rattle.script_text.specs.Sets.{is_among};
-    ghost use Rattle.script_text.specs.Reading.{opening, head_step, title_step, counted_step, within_step, text_closed, closed_by, block_step, load_step, module_step, trace_step, spawn_step, command_step, other_step, line_at, line_judged, text_ended, IsCounted, repeat_cause, script_known};
+    ghost use Rattle.script_text.specs.Reading.{opening, head_step, title_step, counted_step, within_step, text_closed, closed_by, block_step, load_step, atom_step, put_step, trace_step, spawn_step, command_step, other_step, line_at, line_judged, text_ended, IsCounted, repeat_cause, script_known};
 
     /// What is known before the first line.
     pub fn new(alloc: Global) -> Result<ScriptReader<'a>, NoMemory>
@@ -212,14 +213,25 @@ impl<'a> ScriptReader<'a> {
         Ok(())
     }
 
-    /// A command of one module, by its word.
-    #[tactic(auto, unfolding(crate::specs::Reading::module_step))]
-    fn take_module(&mut self, alloc: Global, word: &[u8], text: &[u8]) -> Result<(), LineCause>
-        ensures { Gives (λ _. self.new) result (module_step self.old word.now text.now) }
+    /// A command of one atom, by its word.
+    #[tactic(auto, unfolding(crate::specs::Reading::atom_step))]
+    fn take_atom(&mut self, alloc: Global, word: &[u8], text: &[u8]) -> Result<(), LineCause>
+        ensures { Gives (λ _. self.new) result (atom_step self.old word.now text.now) }
     {
         let command = read_word(word).ok_or(LineCause::Syntax)?;
-        let module = name_atom(&mut self.names, text)?;
-        push_command(alloc, &mut self.loaders, command_of(command, module))?;
+        let atom = name_atom(&mut self.names, text)?;
+        push_command(alloc, &mut self.loaders, command_of(command, atom))?;
+        Ok(())
+    }
+
+    /// A put of a term under a key.
+    #[tactic(auto, unfolding(crate::specs::Reading::put_step))]
+    fn take_put(&mut self, alloc: Global, text: &[u8]) -> Result<(), LineCause>
+        ensures { Gives (λ _. self.new) result (put_step self.old text.now) }
+    {
+        let put = read_put(alloc, text)?;
+        let (key, term) = name_put(alloc, &mut self.names, put)?;
+        push_command(alloc, &mut self.loaders, ScriptCmd::Put { key, term })?;
         Ok(())
     }
 
@@ -263,8 +275,10 @@ impl<'a> ScriptReader<'a> {
                     self.take_spawn(alloc, rest)
                 } else if word == b"trace".as_slice() {
                     self.take_trace(alloc, rest)
+                } else if word == b"put".as_slice() {
+                    self.take_put(alloc, rest)
                 } else {
-                    self.take_module(alloc, word, rest)
+                    self.take_atom(alloc, word, rest)
                 }
             }
         }

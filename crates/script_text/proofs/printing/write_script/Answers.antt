@@ -1,9 +1,9 @@
 use Rattle.std.proofs.Common.{◌++◌, ◌∙◌, ap, subst, sym, All, List}
 use Rattle.std.specs.List.{flat_map}
 use Rattle.mod_core.specs.declared.code.Module.{Module}
-use Rattle.mod_core.specs.Canonical.{canonical, IsModuleHeld}
+use Rattle.mod_text.specs.Canonical.{canonical, IsModuleHeld}
 use Rattle.mod_core.specs.Module.{IsModule}
-use Rattle.mod_core.specs.ModuleLine.{lines_written}
+use Rattle.mod_text.specs.ModuleLine.{lines_written}
 use Rattle.script_text.specs.declared.script.ScriptCmd.{ScriptCmd}
 use Rattle.script_text.specs.Canonical.{block_bytes}
 use Rattle.script_text.proofs.CanonicalScripts.{modules_sound, modules_held}

@@ -1,43 +1,55 @@
-use Rattle.std.proofs.Common.{◌≡◌, ◌∙◌, Option, List, None, Some, sym, ap, arith}
-use Rattle.std.specs.Prelude.{map, option_map}
+use Rattle.std.proofs.Common.{◌≡◌, ℕ, List, ◌∷◌, Option, Some, sym, ap, ◌∙◌, arith}
+use Rattle.std.specs.Prelude.{map, option_map, All, IsTrue}
 use Rattle.std.proofs.lemmas.List.{map-append}
+use Rattle.std.proofs.lemmas.List.Elements.{All-push, All-nil}
 use Rattle.std.proofs.lemmas.Result.{err_from_is_err_and}
-use Rattle.mod_core.specs.LineReading.{cut_at}
 use Rattle.script_text.specs.Naming.{or_syntax}
 use Rattle.script_text.specs.LineReading.{argument_reading}
-use Rattle.script_text.specs.WrittenLine.{kept_argument, argument_words}
-use Rattle.script_text.proofs.Parts.{shorter_rest}
-use Rattle.script_text.proofs.ReadingLoops.{reads_go_on, reads_stop, reads_end, reads_stop_last, syntax_exit}
+use Rattle.script_text.specs.WrittenLine.{kept_argument, argument_words, is_sound_word}
+use Rattle.script_text.proofs.ReadingLoops.{with_read, with_read_none, all_read, part_goes_on, part_stops, parts_end}
+use Rattle.term_core.specs.TermParts.{parts_of_rest}
+use Rattle.script_text.proofs.TermParts.{left_of, left_behind, parts_cut}
 use Rattle.script_text.proofs.reading.line.read_some_arguments.Goals as goal
 
--- a part is read
-pub loop-part-preserved : goal.loop-part-preserved
-loop-part-preserved c =
-    rw (c.in_ok-push.ensures.items, map-append) (reads_go_on argument_words argument_reading 44 (map kept_argument c.loop-part.args.items) c.loop-part.rest.now c.in-Some.part.now c.in-Some.behind.now (kept_argument c.in_ok-ok_or.field-0) _
-    (sym c.in-Some.ensures) (sym c.read_argument.ensures ∙ ap (option_map kept_argument) c.in_ok-ok_or.ensures.ok_part) c.loop-part.invariant)
+-- nothing is read at the start
+pub arguments-init : goal.arguments-init
+arguments-init c = rw c.new-args.ensures.items (record {
+  so_far = with_read_none (all_read argument_words argument_reading (parts_of_rest (Some c.args.text.now)));
+  sound = All-nil (λ argument. IsTrue (is_sound_word (kept_argument argument)));
+})
+
+-- an argument is read
+pub arguments-preserved : goal.arguments-preserved
+arguments-preserved c =
+    let l = c.arguments in
+    let so_far = ap (λ o. with_read (map kept_argument l.args.items) (all_read argument_words argument_reading (parts_of_rest (option_map (λ rest. rest.now) o)))) (sym c.in-Some.is) ∙ l.invariant.so_far in
+    let parts = parts_cut c.in-Some.left.now c.cut_term.result.0.now (option_map (λ rest. rest.now) c.cut_term.result.1) c.cut_term.ensures.front c.cut_term.ensures.rest in
+    rw (c.in_ok-push.ensures.items, map-append) (record {
+      so_far = part_goes_on argument_words argument_reading (map kept_argument l.args.items) c.cut_term.result.0.now (parts_of_rest (option_map (λ rest. rest.now) c.cut_term.result.1)) (kept_argument c.in_ok-read_argument.field-0) _
+          c.in_ok-read_argument.ensures.read (ap (λ ps. with_read (map kept_argument l.args.items) (all_read argument_words argument_reading ps)) (sym parts) ∙ so_far);
+      sound = All-push (λ argument. IsTrue (is_sound_word (kept_argument argument))) l.args.items c.in_ok-read_argument.field-0 l.invariant.sound c.in_ok-read_argument.ensures.sound;
+    })
 
 -- what is behind it is shorter
-pub loop-part-smaller : goal.loop-part-smaller
-loop-part-smaller c = shorter_rest 44 c.loop-part.rest.now c.in-Some.part.now c.in-Some.behind.now (sym c.in-Some.ensures)
+pub arguments-smaller : goal.arguments-smaller
+arguments-smaller c =
+    let here = ap (λ o. left_of (option_map (λ rest. rest.now) o)) c.in-Some.is in
+    let less = left_behind c.in-Some.left.now (option_map (λ rest. rest.now) c.cut_term.result.1) c.cut_term.ensures.rest in
+    omega (arith, here, less)
 
--- a part is of no form
-pub returns-in_err-ok_or : goal.returns-in_err-ok_or
-returns-in_err-ok_or c =
+-- an argument is of no form, or memory is refused
+pub returns-in_err-read_argument-clause-read : goal.returns-in_err-read_argument-clause-read
+returns-in_err-read_argument-clause-read c =
+    let l = c.arguments in
     let p = err_from_is_err_and c.from_residual.result c.from_residual.ensures.1 in
-    rw (p.1, p.2) (syntax_exit _ c.read_argument.result c.in_err-ok_or.field-0.0 c.in_err-ok_or.ensures.value (λ none. reads_stop argument_words argument_reading 44 (map kept_argument c.loop-part.args.items) c.loop-part.rest.now c.in-Some.part.now c.in-Some.behind.now _
-    (sym c.in-Some.ensures) (sym c.read_argument.ensures ∙ ap (option_map kept_argument) none) c.loop-part.invariant))
+    let so_far = ap (λ o. with_read (map kept_argument l.args.items) (all_read argument_words argument_reading (parts_of_rest (option_map (λ rest. rest.now) o)))) (sym c.in-Some.is) ∙ l.invariant.so_far in
+    let parts = parts_cut c.in-Some.left.now c.cut_term.result.0.now (option_map (λ rest. rest.now) c.cut_term.result.1) c.cut_term.ensures.front c.cut_term.ensures.rest in
+    rw (p.1, p.2) (part_stops argument_words argument_reading (map kept_argument l.args.items) c.cut_term.result.0.now (parts_of_rest (option_map (λ rest. rest.now) c.cut_term.result.1)) _ c.in_err-read_argument.field-0.0
+    c.in_err-read_argument.ensures.read (ap (λ ps. with_read (map kept_argument l.args.items) (all_read argument_words argument_reading ps)) (sym parts) ∙ so_far))
 
--- the last part is of no form
-pub returns-in_err-ok_or-2 : goal.returns-in_err-ok_or-2
-returns-in_err-ok_or-2 c =
-    let uncut : cut_at 44 c.loop-part.rest.now ≡ None = grind (arith, c.cut_at.ensures) in
-    let p = err_from_is_err_and c.from_residual-in_err-ok_or-2.result c.from_residual-in_err-ok_or-2.ensures.1 in
-    rw (p.1, p.2) (syntax_exit _ c.read_argument-2.result c.in_err-ok_or-2.field-0.0 c.in_err-ok_or-2.ensures.value (λ none. reads_stop_last argument_words argument_reading 44 (map kept_argument c.loop-part.args.items) c.loop-part.rest.now _
-    uncut (sym c.read_argument-2.ensures ∙ ap (option_map kept_argument) none) c.loop-part.invariant))
-
--- the last part is read
-pub returns : goal.returns
-returns c =
-    let uncut : cut_at 44 c.loop-part.rest.now ≡ None = grind (arith, c.cut_at.ensures) in
-    rw (c.in_ok-push-2.ensures.items, map-append) (ap or_syntax (reads_end argument_words argument_reading 44 (map kept_argument c.loop-part.args.items) c.loop-part.rest.now (kept_argument c.in_ok-ok_or-2.field-0) _
-    uncut (sym c.read_argument-2.ensures ∙ ap (option_map kept_argument) c.in_ok-ok_or-2.ensures.ok_part) c.loop-part.invariant))
+-- all are read
+pub returns-clause-read : goal.returns-clause-read
+returns-clause-read c =
+    let l = c.arguments in
+    ap or_syntax (parts_end argument_words argument_reading (map kept_argument l.args.items) _
+    (ap (λ o. with_read (map kept_argument l.args.items) (all_read argument_words argument_reading (parts_of_rest (option_map (λ rest. rest.now) o)))) (sym c.in_default.is) ∙ l.invariant.so_far))

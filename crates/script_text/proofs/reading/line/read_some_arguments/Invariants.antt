@@ -1,14 +1,19 @@
-use Rattle.std.proofs.Common.{◌≡◌, length}
-use Rattle.std.specs.Prelude.{map}
+use Rattle.std.proofs.Common.{◌≡◌, Some}
+use Rattle.std.specs.Prelude.{map, option_map, All, IsTrue}
 use Rattle.script_text.specs.LineReading.{argument_reading}
-use Rattle.script_text.specs.WrittenLine.{kept_argument, argument_words}
-use Rattle.script_text.proofs.ReadingLoops.{with_read, parts_read}
+use Rattle.script_text.specs.WrittenLine.{kept_argument, argument_words, is_sound_word}
+use Rattle.script_text.proofs.ReadingLoops.{with_read, all_read}
+use Rattle.term_core.specs.TermParts.{parts_of_rest}
+use Rattle.script_text.proofs.TermParts.{left_of}
 use Rattle.script_text.proofs.reading.line.read_some_arguments.Given as goal
 
 -- what was read, in front of what is left, is the whole
-abbrev pub invariant-loop-part : goal.invariant-loop-part
-invariant-loop-part l = with_read (map kept_argument l.args.items) (parts_read argument_words argument_reading 44 l.rest) ≡ parts_read argument_words argument_reading 44 l.fn.text
+abbrev pub invariant-arguments : goal.invariant-arguments
+invariant-arguments l = record {
+  so_far : with_read (map kept_argument l.args.items) (all_read argument_words argument_reading (parts_of_rest (option_map (λ rest. rest.now) l.rest))) ≡ all_read argument_words argument_reading (parts_of_rest (Some l.fn.text));
+  sound : All (λ argument. IsTrue (is_sound_word (kept_argument argument))) l.args.items;
+}
 
 -- the bytes that are left
-abbrev pub decreases-loop-part : goal.decreases-loop-part
-decreases-loop-part l = length l.rest
+abbrev pub decreases-arguments : goal.decreases-arguments
+decreases-arguments l = left_of (option_map (λ rest. rest.now) l.rest)

@@ -1,5 +1,5 @@
 use Rattle.std.proofs.Common.{◌≡◌, ◌<◌, length, Some, sym, ap, ◌∙◌, arith}
-use Rattle.mod_core.specs.ModuleValue.{unsettled_line}
+use Rattle.mod_text.specs.ModuleValue.{unsettled_line}
 use Rattle.script_text.proofs.OpenText.{unsettled_within}
 use Rattle.script_text.proofs.reading.reader.ScriptReader.close_text.Goals as goal
 
