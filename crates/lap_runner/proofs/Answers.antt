@@ -90,6 +90,8 @@ module _ (texts : List Module) (journal : List Entry) (histories : List History)
   silent_stands s (cmds.Doom name) h = tt
   silent_stands s (cmds.Purge name killed) h = subst (λ old. IfSome old (λ serial. StaysPurged s (published_count journal) serial killed histories)) (sym h) tt
   silent_stands s (cmds.CheckOld name) h = tt
+  silent_stands s (cmds.Put key term) h = tt
+  silent_stands s (cmds.Erase key) h = tt
   silent_stands s (cmds.Trace target on) h = tt
   silent_stands s (cmds.Spawn target args) h = tt
   silent_stands s (cmds.Release serial) h = absurd h

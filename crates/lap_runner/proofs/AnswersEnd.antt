@@ -25,6 +25,8 @@ dropped_stands now s published hs (cmds.SoftPurge name (Some linger)) serial is 
 dropped_stands now s published hs (cmds.Doom name) serial is h = absurd (none-some serial is)
 dropped_stands now s published hs (cmds.Purge name killed) serial is h = (MatchOption-at_some ⊤ (λ n. StaysPurged now published n killed hs) serial is h).dropped
 dropped_stands now s published hs (cmds.CheckOld name) serial is h = absurd (none-some serial is)
+dropped_stands now s published hs (cmds.Put key term) serial is h = absurd (none-some serial is)
+dropped_stands now s published hs (cmds.Erase key) serial is h = absurd (none-some serial is)
 dropped_stands now s published hs (cmds.Trace target on) serial is h = absurd (none-some serial is)
 dropped_stands now s published hs (cmds.Spawn target args) serial is h = absurd (none-some serial is)
 dropped_stands now s published hs (cmds.Release other) serial is h = absurd (none-some serial is)

@@ -1,16 +1,16 @@
 -- The turns of a process: the last one up to a generation, what one more turn changes, and where a process lingers.
-use Rattle.std.proofs.Common.{◌≡◌, ◌⊎◌, ℕ, zero, suc, ◌+◌, ◌<◌, ◌≤◌, Bool, true, false, List, [], ◌∷◌, ◌++◌, length, Option, Some, None, IfSome, IsSome, IsTrue, is_some, slice_get, if◌then◌else◌, refl, sym, ap, subst, ◌∙◌, ⊎_elim, add-one, arith, nat_le}
-use Rattle.std.proofs.lemmas.Bool.{both_ways, cases_lt, false_from_ne_true, le-leb}
+use Rattle.std.proofs.Common.{◌≡◌, ℕ, zero, suc, ◌+◌, ◌<◌, ◌≤◌, Bool, true, false, List, [], ◌∷◌, ◌++◌, length, Option, Some, None, IfSome, IsSome, is_some, slice_get, if◌then◌else◌, refl, sym, ap, subst, ◌∙◌, ⊎_elim, add-one, arith, nat_le}
+use Rattle.std.proofs.lemmas.Bool.{both_ways, cases_lt, le-leb}
 use Rattle.std.proofs.lemmas.List.{length-append}
 use Rattle.std.proofs.lemmas.Option.{MatchOption-from_none, slice_get_past, slice_get_within}
 use Rattle.std.specs.List.{AllByRecursion}
-use Rattle.server_core.specs.ServerState.{ServerState, IsDropped, current_of}
+use Rattle.server_core.specs.ServerState.{ServerState}
 use Rattle.machine_core.specs.declared.process.End.{End}
 use Rattle.machine_core.specs.Holds.{is_among}
 use Rattle.machine_core.specs.Process.{PlainProcess, frame_names, names_of}
 use Rattle.run_log.specs.Legal.{Lingers, Mark, NamesNot, last_up_to}
 use Rattle.run_log.proofs.Marks.{last_here, last_past}
-use Rattle.lap_runner.specs.Answers.{HasTurned, History, IsHistory, IsLeftBy, NamesAfter}
+use Rattle.lap_runner.specs.Answers.{HasTurned, History, IsHistory, IsLeftBy}
 use Rattle.lap_runner.proofs.Lists.{all_at, all_push, all_weaker, get_front}
 
 -- a value that is there is chosen
@@ -121,18 +121,6 @@ stands_going serial (Some end) p over stands = absurd (both_ways (is_among (name
 -- a process without frames names nothing
 pub names_nothing : (serial : ℕ) (p : PlainProcess) → p.frames ≡ [] → NamesNot serial p
 names_nothing serial p h = record { frames = ap (λ fs. is_among (frame_names fs).frames serial) h; literals = ap (λ fs. is_among (frame_names fs).literals serial) h }
-
--- a process names what its frames name, and no area for literals
-pub names_after : (s : ServerState) (p q : PlainProcess)
-    → ((serial : ℕ) → IsTrue (is_among (names_of q).frames serial) → IsTrue (is_among (names_of p).frames serial) ⊎ ((name : ℕ) × (current_of s name ≡ Some serial))) → NamesAfter s p q
-names_after s p q frames = record { frames = frames; literals = λ serial h. h }
-
--- what is out of use is named by a process after a turn no more than before it
-pub names_not_after : (s : ServerState) (serial : ℕ) (p q : PlainProcess) → IsDropped s serial → NamesAfter s p q → NamesNot serial p → NamesNot serial q
-names_not_after s serial p q d names not_named = record {
-  frames = false_from_ne_true (is_among (names_of q).frames serial) (λ h. ⊎_elim (λ before. both_ways (is_among (names_of p).frames serial) not_named.frames before) (λ current. d.not_current current.0 current.1) (names.frames serial h));
-  literals = false_from_ne_true (is_among (names_of q).literals serial) (λ h. both_ways (is_among (names_of p).literals serial) not_named.literals (names.literals serial h));
-}
 
 -- a process that is new has no turn, no frame and no end
 pub new_history : (newest : ℕ) (h : History) → h.marks ≡ [] → h.now.frames ≡ [] → h.now.turns ≡ 0 → IsHistory newest h

@@ -13,7 +13,7 @@ use Rattle.run_log.specs.Legal.{Lingers, NamesNot, StandsNotIn, last_up_to}
 use Rattle.run_log.proofs.SpanRuns.{some_and, some_at}
 use Rattle.lap_runner.specs.Answers.{AnswerStands, AllRestOrTurn, Each, HasTurned, History, IsHistory, RestsOrTurns, rests, turns, StaysDropped, StaysLingering, StaysPurged, StaysReleased, has_ended_by}
 use Rattle.lap_runner.proofs.AnswersTable.{KeepsDropped}
-use Rattle.lap_runner.proofs.AnswersMarks.{last_stays, lingers_more, names_not_after, turned_history}
+use Rattle.lap_runner.proofs.AnswersMarks.{last_stays, lingers_more, turned_history}
 use Rattle.lap_runner.proofs.AnswersLists.{any_alike}
 use Rattle.lap_runner.proofs.Lists.{get_within}
 
@@ -40,6 +40,8 @@ module _ (s t : ServerState) (keeps : KeepsDropped s t) (published : ℕ) (hs : 
   answer_later before (cmds.Doom name) h = tt
   answer_later before (cmds.Purge name killed) h = IfSome_then (old_of before name.0) {P = λ serial. StaysPurged s published serial killed hs} {Q = λ serial. StaysPurged t published serial killed hs} h (λ serial. purged_later serial killed)
   answer_later before (cmds.CheckOld name) h = tt
+  answer_later before (cmds.Put key term) h = tt
+  answer_later before (cmds.Erase key) h = tt
   answer_later before (cmds.Trace target on) h = tt
   answer_later before (cmds.Spawn target args) h = tt
   answer_later before (cmds.Release serial) h = released_later serial h
@@ -76,7 +78,7 @@ module _ (s : ServerState) (hs gs : List History) (steps : AllRestOrTurn s hs gs
   -- after a turn a process names what is out of use no more than before
   unnamed_step : (serial : ℕ) → IsDropped s serial → (h g : History) → RestsOrTurns s h g → NamesNot serial h.now → NamesNot serial g.now
   unnamed_step serial d h g (rests is) not_named = subst (λ x. NamesNot serial x.now) (sym is) not_named
-  unnamed_step serial d h g (turns t) not_named = names_not_after s serial h.now g.now d t.names not_named
+  unnamed_step serial d h g (turns t) not_named = t.names.unnamed serial d not_named
 
   -- what the last turn up to a generation has, one more turn has too, or is under a later generation
   last_step : (published : ℕ) (P : PlainProcess → Type 0) (h g : History) → RestsOrTurns s h g → (s.generation ≤ published → HasTurned s h g → P g.now) → IfSome (last_up_to published h.marks) (λ m. P m.process)
@@ -110,7 +112,7 @@ module _ (s : ServerState) (hs gs : List History) (steps : AllRestOrTurn s hs gs
   released_after published serial r = record {
     dropped = r.dropped;
     unnamed_then = each_after (λ h. NamesNot serial h.now × IfSome (last_up_to published h.marks) (λ m. NamesNot serial m.process)) (λ g. IfSome (last_up_to published g.marks) (λ m. NamesNot serial m.process))
-        (λ h g step known. last_step published (NamesNot serial) h g step (λ early t. names_not_after s serial h.now g.now r.dropped t.names known.0) known.1)
+        (λ h g step known. last_step published (NamesNot serial) h g step (λ early t. t.names.unnamed serial r.dropped known.0) known.1)
         (λ k h at. (r.unnamed k h at, r.unnamed_then k h at));
     unnamed = each_after (λ h. NamesNot serial h.now) (λ g. NamesNot serial g.now) (unnamed_step serial r.dropped) r.unnamed;
   }
@@ -150,6 +152,8 @@ module _ (s : ServerState) (hs gs : List History) (steps : AllRestOrTurn s hs gs
   answer_after sound before published (cmds.Purge name killed) h =
       IfSome_then (old_of before name.0) {P = λ serial. StaysPurged s published serial killed hs} {Q = λ serial. StaysPurged s published serial killed gs} h (λ serial. purged_after sound published serial killed)
   answer_after sound before published (cmds.CheckOld name) h = tt
+  answer_after sound before published (cmds.Put key term) h = tt
+  answer_after sound before published (cmds.Erase key) h = tt
   answer_after sound before published (cmds.Trace target on) h = tt
   answer_after sound before published (cmds.Spawn target args) h = tt
   answer_after sound before published (cmds.Release serial) h = released_after published serial h

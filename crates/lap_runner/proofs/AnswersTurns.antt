@@ -1,5 +1,5 @@
 -- A turn of the call machine is a turn of a process's history.
-use Rattle.std.proofs.Common.{◌≡◌, false, List, [], Some, None, IsSome, refl, sym, ap}
+use Rattle.std.proofs.Common.{◌≡◌, false, List, [], Some, None, IsSome, inr, refl, sym, ap}
 use Rattle.std.proofs.lemmas.Bool.{both_ways}
 use Rattle.std.proofs.lemmas.Option.{none-some, same_Some}
 use Rattle.server_core.specs.ServerState.{ServerState}
@@ -10,11 +10,10 @@ use Rattle.machine_core.specs.declared.process.TurnEnd.TheVariants.{Again, Ended
 use Rattle.machine_core.specs.Process.{PlainFrame}
 use Rattle.machine_core.specs.Turn.{turn_of}
 use Rattle.machine_core.proofs.Killing.{killed_is_doomed}
-use Rattle.machine_core.proofs.TurnNames.{turn_names}
+use Rattle.machine_core.proofs.TurnNames.{turn_names, turn_unnames}
 use Rattle.run_log.proofs.Marks.{again_counts}
 use Rattle.run_log.proofs.StatesForTurns.{turn_ended}
 use Rattle.lap_runner.specs.Answers.{HasTurned, History, fin_after, history_after}
-use Rattle.lap_runner.proofs.AnswersMarks.{names_after}
 
 -- by its end a history tells how the turn ended
 fin_ended : (end : TurnEnd) (fin : End) → fin_after end ≡ Some fin → end ≡ Ended fin
@@ -36,7 +35,10 @@ pub has_turned : (s : ServerState) (h : History) → h.fin ≡ None → HasTurne
 has_turned s h going = record {
   going = going;
   marks = refl;
-  names = names_after s h.now (turn_of s h.now).process (turn_names s h.now);
+  names = record {
+    frames = turn_names s h.now;
+    unnamed = λ serial dropped named. let u = turn_unnames s h.now serial dropped named.frames (inr named.literals) in record { frames = u.frames; literals = u.literals };
+  };
   killed = λ serial e. (killed_is_doomed s h.now serial (fin_ended (turn_of s h.now).end (Killed serial) e)).doomed;
   over = left_none (turn_of s h.now).end (turn_of s h.now).process.frames (λ fin. turn_ended s h.now fin);
   counts = λ e. again_counts s h.now (fin_again (turn_of s h.now).end e);

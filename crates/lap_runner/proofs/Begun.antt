@@ -7,6 +7,8 @@ use Rattle.script_text.specs.declared.script.TheConstants.{MOST_PROCESSES}
 use Rattle.std.proofs.lemmas.List.Sums.{sum_by-cons}
 use Rattle.std.proofs.lemmas.Option.{none-some, same_Some, slice_get-map, slice_get_within}
 use Rattle.server_core.specs.ServerState.{IsSound, empty_state}
+use Rattle.machine_core.specs.Process.{Words}
+use Rattle.machine_core.specs.View.{server_words}
 use Rattle.script_text.specs.declared.script.Script.{Script}
 use Rattle.script_text.specs.declared.script.ScriptCmd.{ScriptCmd}
 use Rattle.script_text.specs.declared.script.ScriptCmd.TheVariants.{Spawn}
@@ -19,7 +21,7 @@ use Rattle.lap_runner.specs.declared.run.LoaderRun.{LoaderRun}
 use Rattle.lap_runner.specs.declared.run.Run.{Run}
 use Rattle.lap_runner.specs.Answers.{AreKnown, Each, IsHistory}
 use Rattle.lap_runner.specs.Runs.{DoomsJust, HasArity, IsRun, StandsIn, done_of, half_of, histories_of, history_of, loaders_from, spawn_count, spawn_number, waiting_from, waiting_of, waiting_stand}
-use Rattle.lap_runner.specs.Steps.{Stand, stand_of}
+use Rattle.lap_runner.specs.Steps.{Stand, stand_in, stand_of}
 use Rattle.lap_runner.proofs.Answers.{known_at_start}
 use Rattle.lap_runner.proofs.AnswersLists.{each_map}
 use Rattle.lap_runner.proofs.AnswersMarks.{new_history}
@@ -38,6 +40,11 @@ empty_sound = record {
   retired = λ serial h. absurd (false≢true h);
   released = λ serial h. absurd (false≢true h);
   live = omega arith;
+  terms = λ serial. tt;
+  keys = λ key. tt;
+  keys_apart = λ key other serial h. absurd (none-some serial h);
+  few_keys = omega arith;
+  few_areas = omega arith;
 }
 
 -- as many processes as spawns
@@ -107,7 +114,13 @@ begins_at number (commands ∷ loaders) (suc k) l h =
     let b = begins_at (number + spawn_count commands) loaders k l h in
     record { none = b.none; next = omega (arith, b.next) }
 
-module _ (s : Script) (run : Run) (server : run.server ≡ empty_state) (journal : run.journal ≡ []) (purging : run.purging ≡ None) (loaders : run.loaders.items ≡ loaders_from 0 s.loaders) (processes : map stand_of run.processes.items ≡ waiting_of 0 s.loaders) where
+module _ (s : Script) (run : Run) (server : run.server ≡ empty_state) (journal : run.journal ≡ []) (purging : run.purging ≡ None) (loaders : run.loaders.items ≡ loaders_from 0 s.loaders) (all_wait : (words : Words) → map (stand_of words) run.processes.items ≡ waiting_of 0 s.loaders) where
+  abbrev stand : ProcessRun → Stand
+  stand p = stand_in run.server p
+
+  processes : map stand run.processes.items ≡ waiting_of 0 s.loaders
+  processes = all_wait (server_words run.server)
+
   done_none : (k : ℕ) → done_of run.loaders.items k ≡ 0
   done_none k = ap (λ ls. done_of ls k) loaders ∙ none_done 0 s.loaders k
 
@@ -117,22 +130,22 @@ module _ (s : Script) (run : Run) (server : run.server ≡ empty_state) (journal
       let n : l.next_process ≡ spawn_number s.loaders k 0 = omega (arith, b.next) in
       n ∙ ap (spawn_number s.loaders k) (sym b.none)
 
-  stand_at : (number : ℕ) (line : SpawnLine) (p : ProcessRun) → slice_get (spawns_of 0 s.loaders) number ≡ Some line → slice_get run.processes.items number ≡ Some p → waiting_stand number line.target line.args ≡ stand_of p
+  stand_at : (number : ℕ) (line : SpawnLine) (p : ProcessRun) → slice_get (spawns_of 0 s.loaders) number ≡ Some line → slice_get run.processes.items number ≡ Some p → waiting_stand number line.target line.args ≡ stand p
   stand_at number line p line_is p_is =
-      let a : slice_get (map stand_of run.processes.items) number ≡ Some (stand_of p) = slice_get-map stand_of run.processes.items number ∙ ap (option_map stand_of) p_is in
+      let a : slice_get (map stand run.processes.items) number ≡ Some (stand p) = slice_get-map stand run.processes.items number ∙ ap (option_map stand) p_is in
       let b = waiting_at 0 0 s.loaders number line line_is in
       let e : 0 + number ≡ number = omega arith in
       same_Some _ _ (sym (stand_same (0 + number) number line line e refl) ∙ sym b ∙ ap (λ ps. slice_get ps number) (sym processes) ∙ a)
 
-  new_at : (number : ℕ) (p : ProcessRun) → slice_get run.processes.items number ≡ Some p → IsHistory 0 (history_of (state_at s.modules empty_state run.journal) (stand_of p))
+  new_at : (number : ℕ) (p : ProcessRun) → slice_get run.processes.items number ≡ Some p → IsHistory 0 (history_of (state_at s.modules empty_state run.journal) (stand p))
   new_at number p h =
-      let many : length run.processes.items ≡ length (spawns_of 0 s.loaders) = sym (length-map run.processes.items stand_of) ∙ ap length processes ∙ many_waiting 0 0 s.loaders in
+      let many : length run.processes.items ≡ length (spawns_of 0 s.loaders) = sym (length-map run.processes.items stand) ∙ ap length processes ∙ many_waiting 0 0 s.loaders in
       let line = get_within (spawns_of 0 s.loaders) number (omega (arith, slice_get_within run.processes.items number p h, many)) in
       subst (λ (x : Stand). IsHistory 0 (history_of (state_at s.modules empty_state run.journal) x)) (stand_at number line.0 p line.1 h)
       (new_history 0 (history_of (state_at s.modules empty_state run.journal) (waiting_stand number line.0.target line.0.args)) refl refl refl)
 
-  all_new : Each (histories_of (state_at s.modules empty_state run.journal) run.processes.items) (IsHistory 0)
-  all_new = each_map (IsHistory 0) (λ p. history_of (state_at s.modules empty_state run.journal) (stand_of p)) run.processes.items new_at
+  all_new : Each (histories_of (state_at s.modules empty_state run.journal) run.server run.processes.items) (IsHistory 0)
+  all_new = each_map (IsHistory 0) (λ p. history_of (state_at s.modules empty_state run.journal) (stand p)) run.processes.items new_at
 
   -- before its first lap a run is as it should be
   pub begun_is : IsRun s run
@@ -146,11 +159,12 @@ module _ (s : Script) (run : Run) (server : run.server ≡ empty_state) (journal
     within = λ k. omega (arith, done_none k);
     numbers = number_of;
     in_order = λ k. ap (commands_in k) journal ∙ ap (λ n. take n (commands_of s k)) (sym (done_none k));
-    processes = sym (length-map run.processes.items stand_of) ∙ ap length processes ∙ many_waiting 0 0 s.loaders;
+    processes = sym (length-map run.processes.items stand) ∙ ap length processes ∙ many_waiting 0 0 s.loaders;
     process = λ number line p line_is p_is.
-        subst (λ x. StandsIn run.journal (state_at s.modules empty_state run.journal) run.server (done_of run.loaders.items line.loader) number line x x.phase) (stand_at number line p line_is p_is)
-        (record { process = refl; spans = refl; still = omega (arith, done_none line.loader) });
-    answers = subst (λ j. AreKnown s.modules j (histories_of (state_at s.modules empty_state run.journal) run.processes.items)) (sym journal) (known_at_start s.modules (histories_of (state_at s.modules empty_state run.journal) run.processes.items) all_new);
+        let same = sym (stand_at number line p line_is p_is) in
+        subst (StandsIn run.journal (state_at s.modules empty_state run.journal) run.server (done_of run.loaders.items line.loader) number line p) (sym (ap (λ (x : Stand). x.phase) same))
+        (record { process = ap (λ (x : Stand). x.process) same; spans = ap (λ (x : Stand). x.spans) same; still = omega (arith, done_none line.loader) });
+    answers = subst (λ j. AreKnown s.modules j (histories_of (state_at s.modules empty_state run.journal) run.server run.processes.items)) (sym journal) (known_at_start s.modules (histories_of (state_at s.modules empty_state run.journal) run.server run.processes.items) all_new);
   }
 
 -- one more loader and its processes, of those that are left
@@ -177,9 +191,9 @@ has_arity names texts (Spawn target args) h = sym h.arity_is
 has_arity names texts cmd h = tt
 
 -- before the first loader
-pub listed_none : (s : Script) → IsScript s → (made : List LoaderRun) (processes : List ProcessRun) (items : List (List ScriptCmd)) → made ≡ [] → processes ≡ [] → items ≡ s.loaders → ListedSoFar s.loaders made (map stand_of processes) items
-listed_none s sound made processes items m p i =
-    subst (λ x. ListedSoFar s.loaders x (map stand_of processes) items) (sym m) (subst (λ x. ListedSoFar s.loaders [] (map stand_of x) items) (sym p) (subst (ListedSoFar s.loaders [] []) (sym i)
+pub listed_none : (words : Words) (s : Script) → IsScript s → (made : List LoaderRun) (processes : List ProcessRun) (items : List (List ScriptCmd)) → made ≡ [] → processes ≡ [] → items ≡ s.loaders → ListedSoFar s.loaders made (map (stand_of words) processes) items
+listed_none words s sound made processes items m p i =
+    subst (λ x. ListedSoFar s.loaders x (map (stand_of words) processes) items) (sym m) (subst (λ x. ListedSoFar s.loaders [] (map (stand_of words) x) items) (sym p) (subst (ListedSoFar s.loaders [] []) (sym i)
     (record {
       made_are = refl;
       processes_are = refl;
@@ -187,32 +201,32 @@ listed_none s sound made processes items m p i =
       arities = all_weaker (λ commands. AllByRecursion (IsCmdOf s.names s.modules) commands) (λ commands. AllByRecursion HasArity commands) (λ commands h. all_weaker (IsCmdOf s.names s.modules) HasArity (has_arity s.names s.modules) commands h) s.loaders sound.commands;
     })))
 
-module _ (loaders : List (List ScriptCmd)) (made : List LoaderRun) (processes : List ProcessRun) (items : List (List ScriptCmd)) (i : ℕ) (so_far : ListedSoFar loaders made (map stand_of processes) (drop i items)) where
+module _ (words : Words) (loaders : List (List ScriptCmd)) (made : List LoaderRun) (processes : List ProcessRun) (items : List (List ScriptCmd)) (i : ℕ) (so_far : ListedSoFar loaders made (map (stand_of words) processes) (drop i items)) where
   module _ (commands : List ScriptCmd) (low : i < length items) (commands_are : commands ≡ get_or items i commands) where
-    next_listed : ListedSoFar loaders made (map stand_of processes) (commands ∷ drop (i + 1) items)
-    next_listed = subst (ListedSoFar loaders made (map stand_of processes)) (drop_more items i commands low ∙ ap (λ c. c ∷ drop (i + 1) items) (sym commands_are)) so_far
+    next_listed : ListedSoFar loaders made (map (stand_of words) processes) (commands ∷ drop (i + 1) items)
+    next_listed = subst (ListedSoFar loaders made (map (stand_of words) processes)) (drop_more items i commands low ∙ ap (λ c. c ∷ drop (i + 1) items) (sym commands_are)) so_far
 
     -- the next loader's processes have room
     pub few_listed : length processes + spawn_count commands ≤ MOST_PROCESSES
-    few_listed = omega (arith, next_listed.few, sum_by-cons spawn_count commands (drop (i + 1) items), length-map processes stand_of)
+    few_listed = omega (arith, next_listed.few, sum_by-cons spawn_count commands (drop (i + 1) items), length-map processes (stand_of words))
 
     pub arities_listed : AllByRecursion HasArity commands
     arities_listed = next_listed.arities.0
 
     -- the next loader is listed
-    pub one_listed : (more : List LoaderRun) (count : ℕ) (after : List ProcessRun) → more ≡ made ++ record { done = 0; next_process = count } ∷ [] → count ≡ length processes → map stand_of after ≡ map stand_of processes ++ waiting_from (length processes) commands
-        → ListedSoFar loaders more (map stand_of after) (drop (i + 1) items)
+    pub one_listed : (more : List LoaderRun) (count : ℕ) (after : List ProcessRun) → more ≡ made ++ record { done = 0; next_process = count } ∷ [] → count ≡ length processes → map (stand_of words) after ≡ map (stand_of words) processes ++ waiting_from (length processes) commands
+        → ListedSoFar loaders more (map (stand_of words) after) (drop (i + 1) items)
     one_listed more count after more_is count_is after_is =
-        let many = length-map processes stand_of in
-        subst (λ x. ListedSoFar loaders x (map stand_of after) (drop (i + 1) items)) (ap (λ n. made ++ record { done = 0; next_process = n } ∷ []) (many ∙ sym count_is) ∙ sym more_is)
-        (listed_more loaders made (map stand_of processes) (map stand_of after) commands (drop (i + 1) items) next_listed (after_is ∙ ap (λ n. map stand_of processes ++ waiting_from n commands) (sym many)))
+        let many = length-map processes (stand_of words) in
+        subst (λ x. ListedSoFar loaders x (map (stand_of words) after) (drop (i + 1) items)) (ap (λ n. made ++ record { done = 0; next_process = n } ∷ []) (many ∙ sym count_is) ∙ sym more_is)
+        (listed_more loaders made (map (stand_of words) processes) (map (stand_of words) after) commands (drop (i + 1) items) next_listed (after_is ∙ ap (λ n. map (stand_of words) processes ++ waiting_from n commands) (sym many)))
 
-  none_left : length items ≤ i → ListedSoFar loaders made (map stand_of processes) []
-  none_left past = subst (ListedSoFar loaders made (map stand_of processes)) (drop_all i items past) so_far
+  none_left : length items ≤ i → ListedSoFar loaders made (map (stand_of words) processes) []
+  none_left past = subst (ListedSoFar loaders made (map (stand_of words) processes)) (drop_all i items past) so_far
 
   -- after the last loader
   pub loaders_listed : length items ≤ i → made ≡ loaders_from 0 loaders
   loaders_listed past = sym (append-nil made) ∙ (none_left past).made_are
 
-  pub processes_listed : length items ≤ i → map stand_of processes ≡ waiting_of 0 loaders
-  processes_listed past = sym (append-nil (map stand_of processes)) ∙ (none_left past).processes_are
+  pub processes_listed : length items ≤ i → map (stand_of words) processes ≡ waiting_of 0 loaders
+  processes_listed past = sym (append-nil (map (stand_of words) processes)) ∙ (none_left past).processes_are

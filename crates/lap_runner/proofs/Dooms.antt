@@ -1,20 +1,24 @@
 -- What is doomed after a command, and that the commands which a run makes have a case.
-use Rattle.std.proofs.Common.{◌≡◌, ℕ, ◌==◌, ◌||◌, ◌+◌, Bool, true, false, List, [], ◌∷◌, ◌++◌, length, Option, Some, None, IfSome, IsSome, IsTrue, is_some, is_none, option_map, option_and_then, if◌then◌else◌, refl, sym, ap, subst, ◌∙◌, nat_lt}
+use Rattle.std.proofs.Common.{◌≡◌, ℕ, ◌==◌, ◌||◌, ◌&&◌, ◌+◌, Bool, true, false, not, List, [], ◌∷◌, ◌++◌, length, Option, Some, None, IfSome, IsSome, IsTrue, is_some, is_none, option_map, option_and_then, if◌then◌else◌, refl, sym, ap, subst, ◌∙◌, nat_le, nat_lt}
 use Rattle.std.proofs.lemmas.Bool.{eq-eqb, false≢true}
 use Rattle.std.proofs.lemmas.Option.{same_Some}
 use Rattle.std.specs.List.{AllByRecursion, list_any}
 use Rattle.term_core.specs.declared.atom.AtomId.{AtomId}
 use Rattle.term_core.specs.declared.atom.Mfa.{Mfa}
+use Rattle.term_core.specs.declared.term.Term.{Term}
+use Rattle.term_core.specs.Image.{is_immediate}
+use Rattle.term_core.specs.Plain.{plain}
+use Rattle.term_core.specs.PlainTerm.{PlainTerm}
 use Rattle.mod_core.specs.declared.code.Module.{Module}
-use Rattle.server_core.specs.declared.command.TheConstants.{MOST_INSTANCES}
+use Rattle.server_core.specs.declared.command.TheConstants.{MOST_INSTANCES, MOST_KEYS, MOST_TERMS}
 use Rattle.server_core.specs.declared.command.Cmd.{Cmd}
-use Rattle.server_core.specs.declared.command.Cmd.TheVariants.{Load, Delete, SoftPurge, Doom, Purge, CheckOld, Trace, Spawn, Release}
-use Rattle.server_core.specs.declared.command.Limit.TheVariants.{Instances}
+use Rattle.server_core.specs.declared.command.Cmd.TheVariants.{Load, Delete, SoftPurge, Doom, Purge, CheckOld, Put, Erase, Trace, Spawn, Release}
+use Rattle.server_core.specs.declared.command.Limit.TheVariants.{Areas, Instances, Keys}
 use Rattle.server_core.specs.declared.command.Linger.{Linger}
 use Rattle.server_core.specs.declared.command.ModRef.{ModRef}
 use Rattle.server_core.specs.declared.command.Reply.TheVariants as replies
-use Rattle.server_core.specs.ServerState.{ServerState, Entry, current_of, is_doomed, is_retired, live_count, old_of, traceable_of}
-use Rattle.server_core.specs.CommandTable.{Outcome, admitted, answered, apply_of, delete_of, doom_of, load_of, loaded, names_of, not_purged, published, purge_of, repeated_after, soft_purge_of, text_of, texts_of, trace_of, unchanged, while_none_doomed, with_all, with_deleted, with_loaded, with_purged, with_released, with_trace, without_number}
+use Rattle.server_core.specs.ServerState.{ServerState, Entry, Persistent, current_of, is_doomed, is_retired, live_areas, live_count, old_of, persistent_of, traceable_of}
+use Rattle.server_core.specs.CommandTable.{Outcome, admitted, answered, apply_of, delete_of, doom_of, erase_of, holds_equal, load_of, loaded, names_of, not_purged, published, purge_of, put_of, repeated_after, soft_purge_of, text_of, texts_of, trace_of, unchanged, while_none_doomed, with_all, with_complex, with_deleted, with_immediate, with_loaded, with_purged, with_put, with_released, with_trace, without_number}
 
 -- an outcome leaves the doomed instances as they were
 abbrev Keeps : ServerState → Outcome → Type 0
@@ -71,6 +75,23 @@ trace_kept : (s : ServerState) (on : Bool) (e : Option Entry) → Keeps s (trace
 trace_kept s on None = refl
 trace_kept s on (Some e) = either_keeps s _ (unchanged s replies.True) (published (with_trace s e on) replies.True) refl refl
 
+put_kept : (s : ServerState) (key : ℕ) (term : PlainTerm) → Keeps s (put_of s key term)
+put_kept s key term =
+    let keys_full = unchanged s (replies.SystemLimit Keys) in
+    let areas_full = unchanged s (replies.SystemLimit Areas) in
+    let made = published (with_put s key term) replies.Ok in
+    either_keeps s (holds_equal (persistent_of s key) term) (unchanged s replies.Ok) _ refl
+    (either_keeps s (is_none (persistent_of s key) && nat_le MOST_KEYS (length s.keys)) keys_full _ refl
+    (either_keeps s (not (is_immediate term) && nat_le MOST_TERMS (live_areas s.keys)) areas_full made refl (with_put_kept (is_immediate term))))
+  where
+    with_put_kept : (b : Bool) → (if b then with_immediate s key term else with_complex s key term).doomed ≡ s.doomed
+    with_put_kept true = refl
+    with_put_kept false = refl
+
+erase_kept : (s : ServerState) (key : ℕ) (p : Option Persistent) → Keeps s (erase_of s key p)
+erase_kept s key None = refl
+erase_kept s key (Some p) = refl
+
 -- a command that is no half of a purge
 abbrev pub IsOther : Cmd → Type 0
 IsOther (Load refs) = Unit {0}
@@ -79,6 +100,8 @@ IsOther (SoftPurge name lingers) = Unit {0}
 IsOther (Doom name) = ⊥
 IsOther (Purge name killed) = ⊥
 IsOther (CheckOld name) = Unit {0}
+IsOther (Put key term) = Unit {0}
+IsOther (Erase key) = Unit {0}
 IsOther (Trace target on) = Unit {0}
 IsOther (Spawn target args) = Unit {0}
 IsOther (Release serial) = Unit {0}
@@ -90,6 +113,8 @@ kept_in texts s (SoftPurge name lingers) other = unless_kept s (nat_lt 0 (length
 kept_in texts s (Doom name) other = absurd other
 kept_in texts s (Purge name killed) other = absurd other
 kept_in texts s (CheckOld name) other = refl
+kept_in texts s (Put key term) other = unless_kept s (nat_lt 0 (length s.doomed)) _ (put_kept s key.0 (plain term))
+kept_in texts s (Erase key) other = unless_kept s (nat_lt 0 (length s.doomed)) _ (erase_kept s key.0 (persistent_of s key.0))
 kept_in texts s (Trace target on) other = unless_kept s (nat_lt 0 (length s.doomed)) _ (trace_kept s on (traceable_of s target))
 kept_in texts s (Spawn target args) other = refl
 kept_in texts s (Release serial) other = where_kept s (is_retired s serial) _ refl
@@ -106,6 +131,8 @@ IsMeanwhile (SoftPurge name lingers) = ⊥
 IsMeanwhile (Doom name) = ⊥
 IsMeanwhile (Purge name killed) = ⊥
 IsMeanwhile (CheckOld name) = Unit {0}
+IsMeanwhile (Put key term) = ⊥
+IsMeanwhile (Erase key) = ⊥
 IsMeanwhile (Trace target on) = ⊥
 IsMeanwhile (Spawn target args) = Unit {0}
 IsMeanwhile (Release serial) = Unit {0}
@@ -119,6 +146,8 @@ meanwhile_other (Delete name) h = absurd h
 meanwhile_other (SoftPurge name lingers) h = absurd h
 meanwhile_other (Doom name) h = absurd h
 meanwhile_other (Purge name killed) h = absurd h
+meanwhile_other (Put key term) h = absurd h
+meanwhile_other (Erase key) h = absurd h
 meanwhile_other (Trace target on) h = absurd h
 
 where_same : (s : ServerState) (b : Bool) (o : Outcome) → o.state.versions ≡ s.versions → IfSome (if b then Some o else None) (λ x. x.state.versions ≡ s.versions)
@@ -134,6 +163,8 @@ versions_in texts s (Delete name) h = absurd h
 versions_in texts s (SoftPurge name lingers) h = absurd h
 versions_in texts s (Doom name) h = absurd h
 versions_in texts s (Purge name killed) h = absurd h
+versions_in texts s (Put key term) h = absurd h
+versions_in texts s (Erase key) h = absurd h
 versions_in texts s (Trace target on) h = absurd h
 
 -- it leaves current and old code as they were
@@ -205,6 +236,12 @@ delete_enabled texts s name none = at_rest s (Some (delete_of s name.0)) none re
 
 pub trace_enabled : (texts : List Module) (s : ServerState) (target : Mfa) (on : Bool) → s.doomed ≡ [] → IsSome (apply_of texts s (Trace target on))
 trace_enabled texts s target on none = at_rest s (Some (trace_of s on (traceable_of s target))) none refl
+
+pub put_enabled : (texts : List Module) (s : ServerState) (key : AtomId) (term : Term) → s.doomed ≡ [] → IsSome (apply_of texts s (Put key term))
+put_enabled texts s key term none = at_rest s (Some (put_of s key.0 (plain term))) none refl
+
+pub erase_enabled : (texts : List Module) (s : ServerState) (key : AtomId) → s.doomed ≡ [] → IsSome (apply_of texts s (Erase key))
+erase_enabled texts s key none = at_rest s (Some (erase_of s key.0 (persistent_of s key.0))) none refl
 
 pub soft_purge_enabled : (texts : List Module) (s : ServerState) (name : AtomId) (lingers : Option Linger) → s.doomed ≡ [] → IsSome (soft_purge_of s name.0 lingers (old_of s name.0)) → IsSome (apply_of texts s (SoftPurge name lingers))
 soft_purge_enabled texts s name lingers none h = at_rest s (soft_purge_of s name.0 lingers (old_of s name.0)) none h

@@ -3,7 +3,7 @@ use Rattle.std.proofs.Common.{◌≡◌, ℕ, zero, suc, ◌<◌, Bool, true, Li
 use Rattle.std.proofs.lemmas.Option.{none-some, slice_get_within, slice_get_read}
 use Rattle.std.specs.List.{AllByRecursion}
 use Rattle.server_core.specs.declared.command.Cmd.{Cmd}
-use Rattle.server_core.specs.CommandTable.{apply_of}
+use Rattle.server_core.specs.CommandTable.{IsOfText, apply_of}
 use Rattle.script_text.specs.declared.script.Script.{Script}
 use Rattle.script_text.specs.declared.script.ScriptCmd.{ScriptCmd}
 use Rattle.script_text.specs.declared.script.ScriptCmd.TheVariants.{Spawn}
@@ -18,7 +18,7 @@ use Rattle.lap_runner.specs.Looks.{next_cmd}
 use Rattle.lap_runner.specs.Runs.{IsRun, done_of, spawn_number}
 use Rattle.lap_runner.specs.Steps.{Advances, CanSpawn, HasAdvanced, HasJoined, HasMade, SpawnsNext, loader_after, purging_after}
 use Rattle.lap_runner.proofs.Lists.{all_at}
-use Rattle.lap_runner.proofs.Nexts.{next_enabled}
+use Rattle.lap_runner.proofs.Nexts.{next_enabled, next_of_text}
 use Rattle.lap_runner.proofs.SpawnLines.{commands_at, spawn_at}
 
 -- what is known of each command of each loader is known of one that is there
@@ -38,6 +38,11 @@ pub enabled_at : (s : Script) → IsScript s → (run : Run) → IsRun s run →
     → IsSome (apply_of s.modules run.server made)
 enabled_at s sound run known k place cmd h made next =
     next_enabled s run.server run.loaders.items run.processes.items k cmd made (cmd_at (IsCmdOf s.names s.modules) s.loaders k place cmd sound.commands h) run.purging known.dooms next
+
+-- and a term that it puts is one that a text can say
+pub of_text_at : (s : Script) → IsScript s → (run : Run) (k place : ℕ) (cmd : ScriptCmd) → slice_get (commands_of s k) place ≡ Some cmd → (made : Cmd) → next_cmd run.server run.processes.items run.purging k cmd ≡ Some made → IsOfText made
+of_text_at s sound run k place cmd h made next =
+    next_of_text s.names s.modules run.server run.processes.items run.purging k cmd made sound.names.room (cmd_at (IsCmdOf s.names s.modules) s.loaders k place cmd sound.commands h) next
 
 module _ (s : Script) (run : Run) (known : IsRun s run) (k : ℕ) (cmd : ScriptCmd) (next : slice_get (commands_of s k) (done_of run.loaders.items k) ≡ Some cmd) where
   pub loader_within : k < length run.loaders.items

@@ -20,22 +20,22 @@ use Rattle.lap_runner.specs.declared.process_run.ProcessRun.{ProcessRun}
 use Rattle.lap_runner.specs.declared.run.Run.{Run}
 use Rattle.lap_runner.specs.Answers.{AreHistoriesOf, History}
 use Rattle.lap_runner.specs.Runs.{HasNoWork, IsEnd, IsOver, IsRun, Rests, StandsIn, done_of, end_of, fin_in, half_of, histories_of, history_of, log_of}
-use Rattle.lap_runner.specs.Steps.{Stand, stand_of}
+use Rattle.lap_runner.specs.Steps.{stand_in}
 use Rattle.lap_runner.proofs.AnswersEnd.{lingers_told, purged_unnamed, released_unnamed}
 use Rattle.lap_runner.proofs.Joining.{generations_counted, line_for}
 use Rattle.lap_runner.proofs.Making.{line_text}
 
 -- a process that rests has ended, where its loader is past its spawn
-over_in : (journal : List Entry) (states : ℕ → ServerState) (newest : ServerState) (done number : ℕ) (line : SpawnLine) (stand : Stand) (phase : Phase) → line.place < done → Rests phase → StandsIn journal states newest done number line stand phase
-    → IsOver journal states newest done number line stand (end_of phase)
-over_in journal states newest done number line stand Waiting past rests h = absurd (omega (arith, past, h.still))
-over_in journal states newest done number line stand Going past rests h = absurd rests
-over_in journal states newest done number line stand (Ended fin) past rests h = h
+over_in : (journal : List Entry) (states : ℕ → ServerState) (newest : ServerState) (done number : ℕ) (line : SpawnLine) (p : ProcessRun) (phase : Phase) → line.place < done → Rests phase → StandsIn journal states newest done number line p phase
+    → IsOver journal states newest done number line (stand_in newest p) (end_of phase)
+over_in journal states newest done number line p Waiting past rests h = absurd (omega (arith, past, h.still))
+over_in journal states newest done number line p Going past rests h = absurd rests
+over_in journal states newest done number line p (Ended fin) past rests h = h
 
-end_in : (journal : List Entry) (states : ℕ → ServerState) (newest : ServerState) (done number : ℕ) (line : SpawnLine) (stand : Stand) (phase : Phase) → line.place < done → Rests phase → StandsIn journal states newest done number line stand phase → IsEnd phase
-end_in journal states newest done number line stand Waiting past rests h = absurd (omega (arith, past, h.still))
-end_in journal states newest done number line stand Going past rests h = absurd rests
-end_in journal states newest done number line stand (Ended fin) past rests h = tt
+end_in : (journal : List Entry) (states : ℕ → ServerState) (newest : ServerState) (done number : ℕ) (line : SpawnLine) (p : ProcessRun) (phase : Phase) → line.place < done → Rests phase → StandsIn journal states newest done number line p phase → IsEnd phase
+end_in journal states newest done number line p Waiting past rests h = absurd (omega (arith, past, h.still))
+end_in journal states newest done number line p Going past rests h = absurd rests
+end_in journal states newest done number line p (Ended fin) past rests h = tt
 
 mapped : {A B : Type 0} (f : A → B) (o : Option A) (y : B) → option_map f o ≡ Some y → (x : A) × ((o ≡ Some x) × (f x ≡ y))
 mapped f None y h = absurd (none-some y h)
@@ -66,15 +66,15 @@ module _ (s : Script) (run : Run) (known : IsRun s run) (over : HasNoWork s run)
   past_place number line h = omega (arith, slice_get_within (commands_of s line.loader) line.place _ (line_text s number line h).0, over.loaders line.loader)
 
   over_at : (number : ℕ) (line : SpawnLine) (p : ProcessRun) → slice_get (spawns_of 0 s.loaders) number ≡ Some line → slice_get run.processes.items number ≡ Some p
-      → IsOver run.journal states run.server (done_of run.loaders.items line.loader) number line (stand_of p) (end_of p.phase)
+      → IsOver run.journal states run.server (done_of run.loaders.items line.loader) number line (stand_in run.server p) (end_of p.phase)
   over_at number line p line_is p_is =
-      over_in run.journal states run.server (done_of run.loaders.items line.loader) number line (stand_of p) p.phase (past_place number line line_is) (over.processes number p p_is) (known.process number line p line_is p_is)
+      over_in run.journal states run.server (done_of run.loaders.items line.loader) number line p p.phase (past_place number line line_is) (over.processes number p p_is) (known.process number line p line_is p_is)
 
   -- each process has ended
   pub all_ended : (number : ℕ) (p : ProcessRun) → slice_get run.processes.items number ≡ Some p → IsEnd p.phase
   all_ended number p h =
       let line = line_for s run known number p h in
-      end_in run.journal states run.server (done_of run.loaders.items (line.0).loader) number line.0 (stand_of p) p.phase (past_place number line.0 line.1) (over.processes number p h) (known.process number line.0 p line.1 h)
+      end_in run.journal states run.server (done_of run.loaders.items (line.0).loader) number line.0 p p.phase (past_place number line.0 line.1) (over.processes number p h) (known.process number line.0 p line.1 h)
 
   abbrev logs : List ProcessLog
   logs = map log_of run.processes.items
@@ -91,7 +91,7 @@ module _ (s : Script) (run : Run) (known : IsRun s run) (over : HasNoWork s run)
   follow_at number p h =
       let line = line_for s run known number p h in
       let o = over_at number line.0 p line.1 h in
-      subst (λ x. SpansFollow states x p.spans (end_of p.phase)) (same_start number line.0 (stand_of p).process o.was.target o.was.args) o.follow
+      subst (λ x. SpansFollow states x p.spans (end_of p.phase)) (same_start number line.0 (stand_in run.server p).process o.was.target o.was.args) o.follow
 
   turns_follow : TurnsFollow s (record { journal = run.journal; processes = logs })
   turns_follow number log log_is =
@@ -121,10 +121,10 @@ module _ (s : Script) (run : Run) (known : IsRun s run) (over : HasNoWork s run)
   the_log = record { journal = run.journal; processes = logs }
 
   abbrev histories : List History
-  histories = histories_of states run.processes.items
+  histories = histories_of states run.server run.processes.items
 
-  process_of_history : (number : ℕ) (h : History) → slice_get histories number ≡ Some h → (p : ProcessRun) × ((slice_get run.processes.items number ≡ Some p) × (history_of states (stand_of p) ≡ h))
-  process_of_history number h at = mapped (λ p. history_of states (stand_of p)) (slice_get run.processes.items number) h (sym (slice_get-map (λ p. history_of states (stand_of p)) run.processes.items number) ∙ at)
+  process_of_history : (number : ℕ) (h : History) → slice_get histories number ≡ Some h → (p : ProcessRun) × ((slice_get run.processes.items number ≡ Some p) × (history_of states (stand_in run.server p) ≡ h))
+  process_of_history number h at = mapped (λ p. history_of states (stand_in run.server p)) (slice_get run.processes.items number) h (sym (slice_get-map (λ p. history_of states (stand_in run.server p)) run.processes.items number) ∙ at)
 
   same_marks : (number : ℕ) (p : ProcessRun) → slice_get run.processes.items number ≡ Some p → marks_of states (new_process p.process.number p.process.target p.process.args) p.spans ≡ marks_of states (new_process number p.process.target p.process.args) p.spans
   same_marks number p h = let line = line_for s run known number p h in ap (λ n. marks_of states (new_process n p.process.target p.process.args) p.spans) (over_at number line.0 p line.1 h).was.numbered
@@ -137,7 +137,7 @@ module _ (s : Script) (run : Run) (known : IsRun s run) (over : HasNoWork s run)
   -- the history of a process and its log
   are_histories : AreHistoriesOf s the_log histories
   are_histories = record {
-    many = length-map run.processes.items (λ p. history_of states (stand_of p)) ∙ sym (length-map run.processes.items log_of);
+    many = length-map run.processes.items (λ p. history_of states (stand_in run.server p)) ∙ sym (length-map run.processes.items log_of);
     marks = λ number h log h_is log_is.
         let p = process_of_history number h h_is in
         let q = process_of_log number log log_is in

@@ -1,13 +1,13 @@
 -- The least of the areas that no process names, as they are gone over.
-use Rattle.std.proofs.Common.{◌≡◌, ◌==◌, ◌||◌, ◌+◌, ◌<◌, ◌≤◌, ℕ, nat_lt, Bool, true, false, List, [], ◌∷◌, ◌++◌, length, take, get_or, Option, Some, None, IsTrue, MatchOption, ◌⊎◌, inl, inr, if◌then◌else◌, refl, sym, ap, subst, ◌∙◌, arith}
+use Rattle.std.proofs.Common.{◌≡◌, ◌==◌, ◌||◌, ◌+◌, ◌<◌, ◌≤◌, ℕ, Bool, true, false, List, [], ◌∷◌, ◌++◌, length, take, get_or, Option, Some, None, IsTrue, MatchOption, ◌⊎◌, inl, inr, refl, sym, ap, subst, ◌∙◌, arith}
 use Rattle.std.proofs.lemmas.Bool.Decides.{nat_tests}
-use Rattle.std.proofs.lemmas.Bool.{false≢true}
+use Rattle.std.proofs.lemmas.Bool.{eq-eqb, false≢true}
 use Rattle.std.proofs.lemmas.List.{take_all}
-use Rattle.std.proofs.lemmas.List.Folds.{list_any-append}
+use Rattle.std.proofs.lemmas.List.Folds.{list_any-append, list_any_at}
 use Rattle.std.proofs.lemmas.Option.{slice_get-get_or}
 use Rattle.server_core.specs.ServerState.{is_serial_in}
 use Rattle.lap_runner.specs.declared.process_run.ProcessRun.{ProcessRun}
-use Rattle.lap_runner.specs.Looks.{AreNamed, IsLeastFree, lesser, some_names}
+use Rattle.lap_runner.specs.Looks.{AreNamed, AreNamedBelow, IsLeastFree, is_before, some_names}
 use Rattle.lap_runner.proofs.Lists.{take_next}
 
 -- of the first so many areas, the least that no process names, or none where each is named
@@ -60,27 +60,29 @@ module _ (serials : List ℕ) (ps : List ProcessRun) (serial : ℕ) where
       by_place other unnamed (inl front) = absurd (false≢true (sym unnamed ∙ all other front))
       by_place other unnamed (inr same) = omega arith
 
-  lesser_free : (least : ℕ) (b : Bool) → nat_lt least serial ≡ b → some_names serial ps ≡ false → IsLeastFree serials ps least → IsLeastFree (serials ++ serial ∷ []) ps (if b then least else serial)
-  lesser_free least true e free l = record { there = first_in serials serial least l.there; unnamed = l.unnamed; least = λ other h unnamed. by_place other unnamed (last_in serials serial other h) }
+  -- one that is less than the least so far is the least
+  lesser_free : (least : ℕ) → serial < least → some_names serial ps ≡ false → IsLeastFree serials ps least → IsLeastFree (serials ++ serial ∷ []) ps serial
+  lesser_free least below free l = record { there = there_in serials serial; unnamed = free; least = λ other h unnamed. by_place other unnamed (last_in serials serial other h) }
     where
-      below : least < serial
-      below = grind (arith, nat_tests)
-
-      by_place : (other : ℕ) → some_names other ps ≡ false → IsTrue (is_serial_in serials other) ⊎ (serial ≡ other) → least ≤ other
-      by_place other unnamed (inl front) = l.least other front unnamed
-      by_place other unnamed (inr same) = omega (arith, below, same)
-  lesser_free least false e free l = record { there = there_in serials serial; unnamed = free; least = λ other h unnamed. by_place other unnamed (last_in serials serial other h) }
-    where
-      above : serial ≤ least
-      above = grind (arith, nat_tests)
-
       by_place : (other : ℕ) → some_names other ps ≡ false → IsTrue (is_serial_in serials other) ⊎ (serial ≡ other) → serial ≤ other
-      by_place other unnamed (inl front) = omega (arith, above, l.least other front unnamed)
+      by_place other unnamed (inl front) = omega (arith, below, l.least other front unnamed)
       by_place other unnamed (inr same) = omega (arith, same)
 
-  free_more : (least : Option ℕ) → some_names serial ps ≡ false → MatchOption least (AreNamed serials ps) (IsLeastFree serials ps) → IsLeastFree (serials ++ serial ∷ []) ps (lesser least serial)
-  free_more None free h = first_free free h
-  free_more (Some least) free h = lesser_free least (nat_lt least serial) refl free h
+  pub free_more : (least : Option ℕ) → is_before serial least ≡ true → some_names serial ps ≡ false → MatchOption least (AreNamed serials ps) (IsLeastFree serials ps) → IsLeastFree (serials ++ serial ∷ []) ps serial
+  free_more None below free h = first_free free h
+  free_more (Some least) below free h = lesser_free least (grind (arith, nat_tests)) free h
+
+  greater_left : (least : ℕ) → least ≤ serial → IsLeastFree serials ps least → IsLeastFree (serials ++ serial ∷ []) ps least
+  greater_left least above l = record { there = first_in serials serial least l.there; unnamed = l.unnamed; least = λ other h unnamed. by_place other unnamed (last_in serials serial other h) }
+    where
+      by_place : (other : ℕ) → some_names other ps ≡ false → IsTrue (is_serial_in serials other) ⊎ (serial ≡ other) → least ≤ other
+      by_place other unnamed (inl front) = l.least other front unnamed
+      by_place other unnamed (inr same) = omega (arith, above, same)
+
+  -- one that is not changes nothing
+  pub past_more : (least : Option ℕ) → is_before serial least ≡ false → MatchOption least (AreNamed serials ps) (IsLeastFree serials ps) → MatchOption least (AreNamed (serials ++ serial ∷ []) ps) (IsLeastFree (serials ++ serial ∷ []) ps)
+  past_more None past h = absurd (false≢true (sym past))
+  past_more (Some least) past h = greater_left least (grind (arith, nat_tests)) h
 
 module _ (serials : List ℕ) (ps : List ProcessRun) (count : ℕ) (least : Option ℕ) (serial : ℕ) (low : count < length serials) (is : serial ≡ get_or serials count serial) (so_far : FreeSoFar serials ps count least) where
   next_front : take (count + 1) serials ≡ take count serials ++ serial ∷ []
@@ -90,9 +92,17 @@ module _ (serials : List ℕ) (ps : List ProcessRun) (count : ℕ) (least : Opti
   pub named_next : some_names serial ps ≡ true → FreeSoFar serials ps (count + 1) least
   named_next named = subst (λ xs. MatchOption least (AreNamed xs ps) (IsLeastFree xs ps)) (sym next_front) (named_more (take count serials) ps serial least named so_far)
 
-  -- or that none does
-  pub free_next : some_names serial ps ≡ false → FreeSoFar serials ps (count + 1) (Some (lesser least serial))
-  free_next free = subst (λ xs. IsLeastFree xs ps (lesser least serial)) (sym next_front) (free_more (take count serials) ps serial least free so_far)
+  -- or that is not less than the least so far
+  pub past_next : is_before serial least ≡ false → FreeSoFar serials ps (count + 1) least
+  past_next past = subst (λ xs. MatchOption least (AreNamed xs ps) (IsLeastFree xs ps)) (sym next_front) (past_more (take count serials) ps serial least past so_far)
+
+  -- or that is, and that no process names
+  pub free_next : is_before serial least ≡ true → some_names serial ps ≡ false → FreeSoFar serials ps (count + 1) (Some serial)
+  free_next below free = subst (λ xs. IsLeastFree xs ps serial) (sym next_front) (free_more (take count serials) ps serial least below free so_far)
+
+  -- one below the first that is looked at is named
+  pub below_next : (first : ℕ) → serial < first → AreNamedBelow first serials ps → FreeSoFar serials ps (count + 1) least
+  below_next first below named = named_next (named serial below (list_any_at (λ n. n == serial) serials count serial low (eq-eqb _ serial (sym is))))
 
 -- before the first area
 pub free_begins : (serials : List ℕ) (ps : List ProcessRun) → FreeSoFar serials ps 0 None

@@ -1,12 +1,13 @@
 -- The parts of a lap: the loaders one after the other, and then the processes.
 use Rattle.std.proofs.Common.{◌≡◌, ◌==◌, ◌||◌, ℕ, suc, ◌+◌, ◌<◌, ◌≤◌, Bool, true, false, List, [], ◌∷◌, get_or, length, length-set, slice_get, slice_set, sum_by, Option, Some, None, IsSome, unwrap_or, option_map, if◌then◌else◌, ◌⊎◌, inl, inr, refl, sym, ap, subst, ◌∙◌, arith}
 use Rattle.std.proofs.lemmas.Bool.{cases_lt, eqb-false, false≢true, true≢false, or_right}
-use Rattle.std.proofs.lemmas.Option.{none-some, same_Some, slice_get-get_or, slice_get-map, slice_get_past, slice_get_read, slice_get_within}
+use Rattle.std.proofs.lemmas.Option.{none-some, same_Some, slice_get-get_or, slice_get_past, slice_get_read, slice_get_within}
 use Rattle.std.specs.List.{list_any}
 use Rattle.server_core.specs.declared.command.Cmd.TheVariants as cmds
 use Rattle.server_core.specs.ServerState.{ServerState, empty_state, old_of}
 use Rattle.machine_core.specs.Holds.{is_among}
-use Rattle.machine_core.specs.Process.{frame_names, process_of}
+use Rattle.machine_core.specs.Process.{frame_names}
+use Rattle.machine_core.specs.View.{server_words}
 use Rattle.script_text.specs.declared.script.Script.{Script}
 use Rattle.script_text.specs.declared.script.ScriptCmd.{ScriptCmd}
 use Rattle.run_log.specs.declared.logs.Entry.{Entry}
@@ -19,11 +20,12 @@ use Rattle.lap_runner.specs.declared.process_run.ProcessRun.{ProcessRun}
 use Rattle.lap_runner.specs.declared.run.LoaderRun.{LoaderRun}
 use Rattle.lap_runner.specs.declared.run.Purging.{Purging}
 use Rattle.lap_runner.specs.declared.run.Run.{Run}
-use Rattle.lap_runner.specs.Looks.{closing, goes_meanwhile, next_cmd, opening, some_killed, some_stands, stands_in}
-use Rattle.lap_runner.specs.Runs.{AreIdle, all_made, one_goes, DoomsJust, IsReady, IsReadyIn, IsRun, PurgeWaits, Rests, StandsIn, done_of, fin_in, history_of, one_if, turns_left, work_left}
-use Rattle.lap_runner.specs.Steps.{HadTurn, HasMade, HasWaited, LapOf, Stand, stand_of}
+use Rattle.lap_runner.specs.Looks.{closing, goes_meanwhile, next_cmd, opening, some_killed, some_stands, stands_in, unread}
+use Rattle.lap_runner.specs.Runs.{AreIdle, all_made, one_goes, DoomsJust, IsReady, IsReadyIn, IsRun, PurgeWaits, Rests, StandsIn, done_of, fin_in, one_if, turns_left, work_left}
+use Rattle.lap_runner.specs.Steps.{HadItsTurn, HasMade, HasWaited, LapOf, stand_in}
 use Rattle.lap_runner.proofs.Enabled.{loader_there}
-use Rattle.lap_runner.proofs.Joining.{line_for, stands_at}
+use Rattle.lap_runner.proofs.Frames.{stands_unread}
+use Rattle.lap_runner.proofs.Joining.{frames_over, line_for, stands_at}
 use Rattle.lap_runner.proofs.Lists.{SetAt, get_within, here, set_at, set_there, there}
 use Rattle.lap_runner.proofs.Making.{made_keeps}
 use Rattle.lap_runner.proofs.Work.{made_less, sum_less, turn_less}
@@ -84,24 +86,24 @@ module _ (s : ServerState) (before now : List ProcessRun) (count : ℕ) (turned 
     rest = λ e k x h is. resting_at rests e k x (cases_lt k count) h is;
   }
 
-  turned_at : (q : ProcessRun) → p.phase ≡ Going → HadTurn s (stand_of p) (stand_of q) → (k : ℕ) (x y : ProcessRun) → k < count + 1 → slice_get before k ≡ Some x → SetAt now count q k y → LapOf s x y x.phase
+  turned_at : (q : ProcessRun) → p.phase ≡ Going → HadItsTurn s p q → (k : ℕ) (x y : ProcessRun) → k < count + 1 → slice_get before k ≡ Some x → SetAt now count q k y → LapOf s x y x.phase
   turned_at q going had k x y h was (here e f) =
       let first = same_before x (ap (slice_get before) (sym e) ∙ was) in
       subst (λ z. LapOf s x z x.phase) f (subst (λ z. LapOf s z q z.phase) first (subst (LapOf s p q) (sym going) had))
   turned_at q going had k x y h was (there n f) = so_far.had k x y (omega (arith, h, n)) was f
 
   -- a process that goes on had its turn
-  pub lap_turns : (q : ProcessRun) → p.phase ≡ Going → IsReady s (stand_of p) → HadTurn s (stand_of p) (stand_of q) → LapSoFar s before (slice_set now count q) (count + 1) true
+  pub lap_turns : (q : ProcessRun) → p.phase ≡ Going → IsReady s p → HadItsTurn s p q → LapSoFar s before (slice_set now count q) (count + 1) true
   lap_turns q going ready had = record {
     many = length-set now count q ∙ so_far.many;
     had = λ k x y h was is. turned_at q going had k x y h was (set_at now count q k y is);
     left = λ k h. set_there now count q k (λ e. absurd (omega (arith, e, h))) ∙ so_far.left k (omega (arith, h));
-    less = omega (arith, sum_less now count p q there_is (turn_less s p q going ready had), so_far.less);
+    less = omega (arith, sum_less now count p q there_is (turn_less s p q going ready had.turn), so_far.less);
     rest = λ e. absurd (true≢false e);
   }
 
   -- the process at the place is still as it was
-  pub still_ready : ((k : ℕ) (x : ProcessRun) → slice_get before k ≡ Some x → IsReadyIn s x x.phase) → p.phase ≡ Going → IsReady s (stand_of p)
+  pub still_ready : ((k : ℕ) (x : ProcessRun) → slice_get before k ≡ Some x → IsReadyIn s x x.phase) → p.phase ≡ Going → IsReady s p
   still_ready ready going = subst (IsReadyIn s p) going (ready count p (sym (so_far.left count (omega arith)) ∙ there_is))
 
 -- the same, by what the code reads
@@ -174,13 +176,13 @@ past_loaders s run known k past =
     omega (arith, none, within)
 
 -- a process that stands somewhere goes on
-stander_goes : (journal : List Entry) (states : ℕ → ServerState) (newest : ServerState) (done number : ℕ) (line : SpawnLine) (stand : Stand) (phase : Phase) → StandsIn journal states newest done number line stand phase
-    → (IsSome (fin_in phase) → stand.process.frames ≡ []) → (serial : ℕ) → stands_in serial stand.process ≡ true → phase ≡ Going
-stander_goes journal states newest done number line stand Waiting h over serial stands =
-    absurd (false≢true (sym (ap (λ x. stands_in serial x) h.process) ∙ stands))
-stander_goes journal states newest done number line stand Going h over serial stands = refl
-stander_goes journal states newest done number line stand (Ended fin) h over serial stands =
-    absurd (false≢true (sym (ap (λ fs. is_among (frame_names fs).frames serial) (over refl)) ∙ stands))
+stander_goes : (journal : List Entry) (states : ℕ → ServerState) (newest : ServerState) (done number : ℕ) (line : SpawnLine) (p : ProcessRun) (phase : Phase) → StandsIn journal states newest done number line p phase
+    → (IsSome (fin_in phase) → (stand_in newest p).process.frames ≡ []) → (serial : ℕ) → stands_in serial (unread p.process) ≡ true → phase ≡ Going
+stander_goes journal states newest done number line p Waiting h over serial stands =
+    absurd (false≢true (sym (ap (λ x. stands_in serial x) h.process) ∙ sym (stands_unread (server_words newest) p.process serial) ∙ stands))
+stander_goes journal states newest done number line p Going h over serial stands = refl
+stander_goes journal states newest done number line p (Ended fin) h over serial stands =
+    absurd (false≢true (sym (ap (λ fs. is_among (frame_names fs).frames serial) (over refl)) ∙ sym (stands_unread (server_words newest) p.process serial) ∙ stands))
 
 -- an element that passes
 abbrev Passes : {X : Type 0} → (X → Bool) → List X → Type 0
@@ -199,13 +201,12 @@ module _ (s : Script) (run : Run) (known : IsRun s run) where
   -- some process stands in the instance, so one goes on
   stands_idle : (serial : ℕ) → some_stands serial run.processes.items ≡ true → AreIdle s run
   stands_idle serial h =
-      let found = some_passes (λ (p : ProcessRun). stands_in serial (process_of p.process)) run.processes.items h in
+      let found = some_passes (λ (p : ProcessRun). stands_in serial (unread p.process)) run.processes.items h in
       let k = found.0 in
       let p = found.1.0 in
       let at = found.1.1.0 in
       one_goes k p at
-      (stander_goes run.journal (state_at s.modules empty_state run.journal) run.server _ k (line_for s run known k p at).0 (stand_of p) p.phase (stands_at s run known k p at)
-      (known.answers.processes k (history_of (state_at s.modules empty_state run.journal) (stand_of p)) (slice_get-map (λ p. history_of (state_at s.modules empty_state run.journal) (stand_of p)) run.processes.items k ∙ ap (option_map (λ p. history_of (state_at s.modules empty_state run.journal) (stand_of p))) at)).over
+      (stander_goes run.journal (state_at s.modules empty_state run.journal) run.server _ k (line_for s run known k p at).0 p p.phase (stands_at s run known k p at) (frames_over s run known k p at)
       serial found.1.1.1)
 
   closing_idle : (p : Purging) (serial : ℕ) (b : Bool) → some_stands serial run.processes.items ≡ b → (if b then None else Some (cmds.Purge p.«module» (some_killed serial run.processes.items))) ≡ None → AreIdle s run

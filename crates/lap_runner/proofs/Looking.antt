@@ -1,13 +1,14 @@
 -- What the run looked at for a command is what its answer tells of the processes.
-use Rattle.std.proofs.Common.{◌≡◌, ◌||◌, ℕ, zero, suc, Bool, true, false, List, [], ◌∷◌, ◌++◌, slice_get, Option, Some, None, IfSome, IsTrue, option_map, if◌then◌else◌, refl, sym, ap, subst, ◌∙◌}
-use Rattle.std.proofs.lemmas.Option.{none-some, same_Some, slice_get-map}
+use Rattle.std.proofs.Common.{◌≡◌, ◌||◌, ℕ, zero, suc, Bool, true, false, List, [], ◌∷◌, ◌++◌, slice_get, Option, Some, None, IfSome, IsTrue, if◌then◌else◌, refl, sym, ap, subst, ◌∙◌}
+use Rattle.std.proofs.lemmas.Option.{none-some, same_Some}
 use Rattle.std.specs.List.{list_any}
 use Rattle.term_core.specs.declared.atom.AtomId.{AtomId}
 use Rattle.server_core.specs.declared.command.Cmd.{Cmd}
 use Rattle.server_core.specs.declared.command.Cmd.TheVariants as cmds
 use Rattle.server_core.specs.declared.command.Linger.{Linger}
 use Rattle.server_core.specs.ServerState.{ServerState, IsSound, empty_state, old_of}
-use Rattle.machine_core.specs.Process.{process_of}
+use Rattle.machine_core.specs.Process.{PlainProcess}
+use Rattle.machine_core.specs.View.{server_words}
 use Rattle.script_text.specs.declared.script.Script.{Script}
 use Rattle.run_log.specs.declared.logs.Who.{Who}
 use Rattle.run_log.specs.declared.logs.Entry.{Entry}
@@ -18,12 +19,13 @@ use Rattle.lap_runner.specs.declared.process_run.Phase.TheVariants.{Waiting, Goi
 use Rattle.lap_runner.specs.declared.process_run.ProcessRun.{ProcessRun}
 use Rattle.lap_runner.specs.declared.run.Run.{Run}
 use Rattle.lap_runner.specs.Answers.{AreKnown, Each, History, IsSilent, has_ended_by}
-use Rattle.lap_runner.specs.Looks.{lingering, lingering_in, names_area, some_names, some_stands, stands_in, was_killed_by}
+use Rattle.lap_runner.specs.Looks.{lingering, lingering_in, names_area, some_names, some_stands, stands_in, unread, was_killed_by}
 use Rattle.lap_runner.specs.Runs.{IsRun, StandsIn, fin_in, histories_of, history_of}
-use Rattle.lap_runner.specs.Steps.{HasJoined, Stand, stand_of}
+use Rattle.lap_runner.specs.Steps.{HasJoined, stand_in}
 use Rattle.lap_runner.proofs.Answers.{linger_joins, purge_joins, release_joins, silent_joins, soft_purge_joins}
 use Rattle.lap_runner.proofs.AnswersLists.{any_map, each_map}
-use Rattle.lap_runner.proofs.Joining.{applied_at, generations_counted, line_for, next_newest, stands_at}
+use Rattle.lap_runner.proofs.Frames.{any_same, names_unread, stands_unread}
+use Rattle.lap_runner.proofs.Joining.{applied_at, generations_counted, history_at, line_for, next_newest, stands_at}
 use Rattle.lap_runner.proofs.Nexts.{HasPurgeLook, Looked}
 
 first_false : (a b : Bool) → (a || b) ≡ false → a ≡ false
@@ -41,23 +43,19 @@ each_false f [] h k x at = absurd (none-some x at)
 each_false f (y ∷ ys) h zero x at = subst (λ z. f z ≡ false) (same_Some y x at) (first_false (f y) (list_any f ys) h)
 each_false f (y ∷ ys) h (suc k) x at = each_false f ys (later_false (f y) (list_any f ys) h) k x at
 
-any_same : {X : Type 0} (f g : X → Bool) (xs : List X) → ((x : X) → f x ≡ g x) → list_any f xs ≡ list_any g xs
-any_same f g [] h = refl
-any_same f g (x ∷ xs) h = ap (λ b. b || list_any f xs) (h x) ∙ ap (λ b. g x || b) (any_same f g xs h)
-
 -- a process that lingers: it stands in the instance
 pub record IsLingering (serial : ℕ) (ps : List ProcessRun) (linger : Linger) : Type 0 where
   pub number : ℕ
   pub process : ProcessRun
   pub there : slice_get ps number ≡ Some process
-  pub stands : stands_in serial (process_of process.process) ≡ true
+  pub stands : stands_in serial (unread process.process) ≡ true
   pub process_is : linger.process ≡ process.process.number
   pub turn_is : linger.turn ≡ process.process.turns
 
 further : (serial : ℕ) (p : ProcessRun) (ps : List ProcessRun) (linger : Linger) → IsLingering serial ps linger → IsLingering serial (p ∷ ps) linger
 further serial p ps linger l = record { number = suc l.number; process = l.process; there = l.there; stands = l.stands; process_is = l.process_is; turn_is = l.turn_is }
 
-lingers_or : (serial : ℕ) (p : ProcessRun) (ps : List ProcessRun) (linger : Linger) (b : Bool) → stands_in serial (process_of p.process) ≡ b → (lingering_in serial ps ≡ Some linger → IsLingering serial ps linger)
+lingers_or : (serial : ℕ) (p : ProcessRun) (ps : List ProcessRun) (linger : Linger) (b : Bool) → stands_in serial (unread p.process) ≡ b → (lingering_in serial ps ≡ Some linger → IsLingering serial ps linger)
     → (if b then Some (record { process = p.process.number; turn = p.process.turns }) else lingering_in serial ps) ≡ Some linger → IsLingering serial (p ∷ ps) linger
 lingers_or serial p ps linger true stands rest h =
     let same : record { process = p.process.number; turn = p.process.turns } ≡ linger = same_Some _ _ h in
@@ -66,9 +64,9 @@ lingers_or serial p ps linger false stands rest h = further serial p ps linger (
 
 lingers_at : (serial : ℕ) (ps : List ProcessRun) (linger : Linger) → lingering_in serial ps ≡ Some linger → IsLingering serial ps linger
 lingers_at serial [] linger h = absurd (none-some linger h)
-lingers_at serial (p ∷ ps) linger h = lingers_or serial p ps linger (stands_in serial (process_of p.process)) refl (lingers_at serial ps linger) h
+lingers_at serial (p ∷ ps) linger h = lingers_or serial p ps linger (stands_in serial (unread p.process)) refl (lingers_at serial ps linger) h
 
-none_or : (serial : ℕ) (p : ProcessRun) (ps : List ProcessRun) (b : Bool) → stands_in serial (process_of p.process) ≡ b → (lingering_in serial ps ≡ None → some_stands serial ps ≡ false)
+none_or : (serial : ℕ) (p : ProcessRun) (ps : List ProcessRun) (b : Bool) → stands_in serial (unread p.process) ≡ b → (lingering_in serial ps ≡ None → some_stands serial ps ≡ false)
     → (if b then Some (record { process = p.process.number; turn = p.process.turns }) else lingering_in serial ps) ≡ None → some_stands serial (p ∷ ps) ≡ false
 none_or serial p ps true stands rest h = absurd (none-some _ (sym h))
 none_or serial p ps false stands rest h = ap (λ b. b || some_stands serial ps) stands ∙ rest h
@@ -76,7 +74,7 @@ none_or serial p ps false stands rest h = ap (λ b. b || some_stands serial ps) 
 -- where none lingers none stands there
 none_lingers : (serial : ℕ) (ps : List ProcessRun) → lingering_in serial ps ≡ None → some_stands serial ps ≡ false
 none_lingers serial [] h = refl
-none_lingers serial (p ∷ ps) h = none_or serial p ps (stands_in serial (process_of p.process)) refl (none_lingers serial ps) h
+none_lingers serial (p ∷ ps) h = none_or serial p ps (stands_in serial (unread p.process)) refl (none_lingers serial ps) h
 
 killed_is : (serial : ℕ) (phase : Phase) → was_killed_by serial phase ≡ has_ended_by serial (fin_in phase)
 killed_is serial Waiting = refl
@@ -84,10 +82,10 @@ killed_is serial Going = refl
 killed_is serial (Ended fin) = refl
 
 -- a process has its number
-numbered_in : (journal : List Entry) (states : ℕ → ServerState) (newest : ServerState) (done number : ℕ) (line : SpawnLine) (stand : Stand) (phase : Phase) → StandsIn journal states newest done number line stand phase → stand.process.number ≡ number
-numbered_in journal states newest done number line stand Waiting w = ap (λ x. x.number) w.process
-numbered_in journal states newest done number line stand Going g = g.was.numbered
-numbered_in journal states newest done number line stand (Ended fin) o = o.was.numbered
+numbered_in : (journal : List Entry) (states : ℕ → ServerState) (newest : ServerState) (done number : ℕ) (line : SpawnLine) (p : ProcessRun) (phase : Phase) → StandsIn journal states newest done number line p phase → p.process.number ≡ number
+numbered_in journal states newest done number line p Waiting w = ap (λ (x : PlainProcess). x.number) w.process
+numbered_in journal states newest done number line p Going g = g.was.numbered
+numbered_in journal states newest done number line p (Ended fin) o = o.was.numbered
 
 module _ (s : Script) (run : Run) (known : IsRun s run) (who : Who) (cmd : Cmd) (t : ServerState) (after : List Entry) (joined : HasJoined s.modules who cmd run.server t run.journal after) where
   abbrev states : ℕ → ServerState
@@ -100,7 +98,10 @@ module _ (s : Script) (run : Run) (known : IsRun s run) (who : Who) (cmd : Cmd) 
   ps = run.processes.items
 
   abbrev histories : List History
-  histories = histories_of states ps
+  histories = histories_of states run.server ps
+
+  abbrev history : ProcessRun → History
+  history p = history_of states (stand_in run.server p)
 
   abbrev Told : Type 0
   Told = AreKnown s.modules (run.journal ++ joined.entry ∷ []) histories
@@ -108,16 +109,20 @@ module _ (s : Script) (run : Run) (known : IsRun s run) (who : Who) (cmd : Cmd) 
   counted_newest : published_count run.journal ≡ newest.generation
   counted_newest = generations_counted s run known ∙ ap (λ x. x.generation) known.server
 
-  each_history : (P : History → Type 0) → Each ps (λ p. P (history_of states (stand_of p))) → Each histories P
-  each_history P each = each_map P (λ p. history_of states (stand_of p)) ps each
+  each_history : (P : History → Type 0) → Each ps (λ p. P (history p)) → Each histories P
+  each_history P each = each_map P history ps each
 
   stand_apart : (serial : ℕ) → some_stands serial ps ≡ false → Each histories (λ h. StandsNotIn serial h.now)
-  stand_apart serial none = each_history (λ h. StandsNotIn serial h.now) (each_false (λ p. stands_in serial (process_of p.process)) ps none)
+  stand_apart serial none =
+      each_history (λ h. StandsNotIn serial h.now)
+      (λ k p at. sym (stands_unread (server_words run.server) p.process serial) ∙ each_false (λ (p : ProcessRun). stands_in serial (unread p.process)) ps none k p at)
 
   name_not : (serial : ℕ) → some_names serial ps ≡ false → Each histories (λ h. NamesNot serial h.now)
   name_not serial none =
       each_history (λ h. NamesNot serial h.now)
-      (λ k p at. let f = each_false (λ (p : ProcessRun). names_area serial (process_of p.process)) ps none k p at in record { frames = first_false _ _ f; literals = later_false _ _ f })
+      (λ k p at.
+      let f = sym (names_unread (server_words run.server) p.process serial) ∙ each_false (λ (p : ProcessRun). names_area serial (unread p.process)) ps none k p at in
+      record { frames = first_false _ _ f; literals = later_false _ _ f })
 
   silent : (c : Cmd) → joined.entry.cmd ≡ c → IsSilent newest c → Told
   silent c is h = silent_joins s.modules run.journal histories joined.entry known.answers (subst (IsSilent newest) (sym is) h)
@@ -128,11 +133,11 @@ module _ (s : Script) (run : Run) (known : IsRun s run) (who : Who) (cmd : Cmd) 
   lingers_told : (name : AtomId) (serial : ℕ) (linger : Linger) → joined.entry.cmd ≡ cmds.SoftPurge name (Some linger) → old_of run.server name.0 ≡ Some serial → IsLingering serial ps linger → Told
   lingers_told name serial linger is old l =
       let line = line_for s run known l.number l.process l.there in
-      let numbered = numbered_in run.journal states run.server _ l.number line.0 (stand_of l.process) l.process.phase (stands_at s run known l.number l.process l.there) in
-      linger_joins s.modules run.journal histories known.answers counted_newest joined.entry name linger (history_of states (stand_of l.process)) is
-      (ap (slice_get histories) (l.process_is ∙ numbered) ∙ slice_get-map (λ p. history_of states (stand_of p)) ps l.number ∙ ap (option_map (λ p. history_of states (stand_of p))) l.there)
+      let numbered = numbered_in run.journal states run.server _ l.number line.0 l.process l.process.phase (stands_at s run known l.number l.process l.there) in
+      linger_joins s.modules run.journal histories known.answers counted_newest joined.entry name linger (history l.process) is
+      (ap (slice_get histories) (l.process_is ∙ numbered) ∙ history_at s run known l.number l.process l.there)
       l.turn_is
-      (λ n at. subst (λ k. IsTrue (stands_in k (process_of l.process.process))) (same_Some serial n (sym (old_newest name (Some serial) old) ∙ at)) l.stands)
+      (λ n at. subst (λ k. IsTrue (stands_in k (stand_in run.server l.process).process)) (same_Some serial n (sym (old_newest name (Some serial) old) ∙ at)) (sym (stands_unread (server_words run.server) l.process.process serial) ∙ l.stands))
 
   soft_purge_by : (name : AtomId) (lingers : Option Linger) (serial : ℕ) → joined.entry.cmd ≡ cmds.SoftPurge name lingers → old_of run.server name.0 ≡ Some serial → lingers ≡ lingering_in serial ps → Told
   soft_purge_by name None serial is old looked =
@@ -154,7 +159,7 @@ module _ (s : Script) (run : Run) (known : IsRun s run) (who : Who) (cmd : Cmd) 
       (λ n at. subst (λ k. killed ≡ list_any (λ h. has_ended_by k h.fin) histories) (same_Some serial n (sym (old_newest name (Some serial) old) ∙ at))
       (looked.told
       ∙ any_same (λ p. was_killed_by serial p.phase) (λ p. has_ended_by serial (fin_in p.phase)) ps (λ p. killed_is serial p.phase)
-      ∙ sym (any_map (λ h. has_ended_by serial h.fin) (λ p. history_of states (stand_of p)) ps)))
+      ∙ sym (any_map (λ h. has_ended_by serial h.fin) history ps)))
 
   told_by : (c : Cmd) → joined.entry.cmd ≡ c → Looked run.server ps c → Told
   told_by (cmds.Load refs) is looked = silent (cmds.Load refs) is tt
@@ -163,6 +168,8 @@ module _ (s : Script) (run : Run) (known : IsRun s run) (who : Who) (cmd : Cmd) 
   told_by (cmds.Doom name) is looked = silent (cmds.Doom name) is tt
   told_by (cmds.Purge name killed) is looked = purge_told name killed (old_of run.server name.0) is refl looked
   told_by (cmds.CheckOld name) is looked = silent (cmds.CheckOld name) is tt
+  told_by (cmds.Put key term) is looked = silent (cmds.Put key term) is tt
+  told_by (cmds.Erase key) is looked = silent (cmds.Erase key) is tt
   told_by (cmds.Trace target on) is looked = silent (cmds.Trace target on) is tt
   told_by (cmds.Spawn target args) is looked = silent (cmds.Spawn target args) is tt
   told_by (cmds.Release serial) is looked =

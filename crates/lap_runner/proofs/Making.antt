@@ -14,11 +14,11 @@ use Rattle.server_core.specs.CommandTable.{Outcome, apply_of}
 use Rattle.term_core.specs.declared.hold.TheConstants.{MOST_AREAS}
 use Rattle.machine_core.specs.declared.process.TheConstants.{MOST_TURNS}
 use Rattle.machine_core.specs.Holds.{area_count}
-use Rattle.machine_core.specs.Process.{names_of, new_process}
-use Rattle.machine_core.specs.Turn.{MayTurn}
+use Rattle.machine_core.specs.Process.{PlainProcess, names_of, new_process}
+use Rattle.machine_core.specs.View.{shown_of}
 use Rattle.script_text.specs.declared.script.Script.{Script}
 use Rattle.script_text.specs.declared.script.ScriptCmd.{ScriptCmd}
-use Rattle.script_text.specs.declared.script.ScriptCmd.TheVariants.{Load, Delete, SoftPurge, Purge, CheckOld, Trace, Spawn}
+use Rattle.script_text.specs.declared.script.ScriptCmd.TheVariants.{Load, Delete, SoftPurge, Purge, CheckOld, Put, Erase, Trace, Spawn}
 use Rattle.script_text.specs.Sound.{spawns_in}
 use Rattle.run_log.specs.declared.logs.Who.{Who}
 use Rattle.run_log.specs.declared.logs.Who.TheVariants.{Loader}
@@ -38,12 +38,12 @@ use Rattle.lap_runner.specs.declared.run.Run.{Run}
 use Rattle.lap_runner.specs.Answers.{AreKnown}
 use Rattle.lap_runner.specs.Looks.{some_killed}
 use Rattle.lap_runner.specs.Runs.{DoomsJust, Goes, IsRun, PurgeWaits, StandsIn, Waits, done_of, fin_in, half_of, histories_of, history_of, spawn_number}
-use Rattle.lap_runner.specs.Steps.{Advances, HasAdvanced, HasJoined, HasMade, HasStayed, SpawnsNext, Stand, loader_after, purging_after, stand_of}
+use Rattle.lap_runner.specs.Steps.{Advances, HasAdvanced, HasJoined, HasMade, HasStayed, SpawnsNext, loader_after, purging_after, stand_in}
 use Rattle.lap_runner.proofs.Lists.{SetAt, here, map_kept, set_at, set_here, set_there, take_next, there}
 use Rattle.lap_runner.proofs.SpawnLines.{line_at, number_next, spawn_at}
 use Rattle.lap_runner.proofs.Dooms.{IsMeanwhile, doom_dooms, purge_lifts, versions_kept}
 use Rattle.lap_runner.proofs.Nexts.{HasPurgeLook, IsNext, IsQuiet, Looked, at_once, between, first_half, half_is, next_is, quiet_keeps, quiet_starts, second_half, still_waits}
-use Rattle.lap_runner.proofs.Joining.{histories_kept, process_kept, purges_after, replays_after, server_after}
+use Rattle.lap_runner.proofs.Joining.{histories_kept, process_kept, purges_after, replays_after, server_after, waits_later}
 use Rattle.lap_runner.proofs.Looking.{answers_after}
 use Rattle.machine_core.proofs.TurnLaws.{may_turn_new}
 
@@ -78,35 +78,35 @@ pub record IsSpawnOfWaiting (run after : Run) : Type 0 where
   pub changed : after.processes.items ≡ slice_set run.processes.items place (record process { phase = Going })
 
 -- only a process that waits stands at the place at which its loader is
-waits_there : (journal : List Entry) (states : ℕ → ServerState) (newest : ServerState) (number : ℕ) (line : SpawnLine) (stand : Stand) (phase : Phase) → StandsIn journal states newest line.place number line stand phase → Waits line.place number line stand
-waits_there journal states newest number line stand Waiting h = h
-waits_there journal states newest number line stand Going h = absurd (omega (arith, h.was.spawned))
-waits_there journal states newest number line stand (Ended fin) h = absurd (omega (arith, h.was.spawned))
+waits_there : (journal : List Entry) (states : ℕ → ServerState) (newest : ServerState) (number : ℕ) (line : SpawnLine) (p : ProcessRun) (phase : Phase) → StandsIn journal states newest line.place number line p phase → Waits line.place number line (stand_in newest p)
+waits_there journal states newest number line p Waiting h = h
+waits_there journal states newest number line p Going h = absurd (omega (arith, h.was.spawned))
+waits_there journal states newest number line p (Ended fin) h = absurd (omega (arith, h.was.spawned))
 
-phase_waits : (journal : List Entry) (states : ℕ → ServerState) (newest : ServerState) (number : ℕ) (line : SpawnLine) (stand : Stand) (phase : Phase) → StandsIn journal states newest line.place number line stand phase → phase ≡ Waiting
-phase_waits journal states newest number line stand Waiting h = refl
-phase_waits journal states newest number line stand Going h = absurd (omega (arith, h.was.spawned))
-phase_waits journal states newest number line stand (Ended fin) h = absurd (omega (arith, h.was.spawned))
+phase_waits : (journal : List Entry) (states : ℕ → ServerState) (newest : ServerState) (number : ℕ) (line : SpawnLine) (p : ProcessRun) (phase : Phase) → StandsIn journal states newest line.place number line p phase → phase ≡ Waiting
+phase_waits journal states newest number line p Waiting h = refl
+phase_waits journal states newest number line p Going h = absurd (omega (arith, h.was.spawned))
+phase_waits journal states newest number line p (Ended fin) h = absurd (omega (arith, h.was.spawned))
 
 -- a process begins with the command that spawns it
-begins : (journal : List Entry) (states : ℕ → ServerState) (t : ServerState) (line : SpawnLine) (number done : ℕ) (p : ProcessRun) → line.place < done → Waits line.place number line (stand_of p)
-    → Goes journal states t done number line (stand_of (record p { phase = Going }))
+begins : (journal : List Entry) (states : ℕ → ServerState) (t : ServerState) (line : SpawnLine) (number done : ℕ) (p : ProcessRun) → line.place < done → Waits line.place number line (stand_in t p)
+    → Goes journal states t done number line (record p { phase = Going })
 begins journal states t line number done p spawned w = record {
   was = record {
     spawned = spawned;
-    numbered = ap (λ x. x.number) w.process;
-    target = ap (λ x. x.target) w.process;
-    args = ap (λ x. x.args) w.process;
+    numbered = ap (λ (x : PlainProcess). x.number) w.process;
+    target = ap (λ (x : PlainProcess). x.target) w.process;
+    args = ap (λ (x : PlainProcess). x.args) w.process;
     started = subst (λ x. IfSome (first_generation x) (λ g. published_before line.loader line.place journal ≤ g)) (sym w.spans) tt;
     known = subst (AllByRecursion (λ (span : Span). span.generation ≤ t.generation)) (sym w.spans) tt;
     whole = subst AreWhole (sym w.spans) (record { turns = tt; apart = tt });
   };
-  follow = subst (λ x. SpansGo states (new_process number line.target line.args) x (stand_of p).process) (sym w.spans) (sym w.process);
+  follow = subst (λ x. SpansGo states (new_process number line.target line.args) x (stand_in t p).process) (sym w.spans) (sym w.process);
   ready = record {
-    may_turn = subst (λ x. MayTurn t (names_of x) x) (sym w.process) (may_turn_new t number line.target line.args);
-    few = subst (λ x. area_count (names_of x) ≤ MOST_AREAS) (sym w.process) (omega arith);
-    bound = subst (λ x. x.turns ≤ MOST_TURNS) (sym w.process) (omega arith);
-    counted = subst (AllByRecursion (λ (span : Span). span.turns ≤ (stand_of p).process.turns)) (sym w.spans) tt;
+    may_turn = may_turn_new (shown_of t) p.process number line.target line.args w.process;
+    few = subst (λ (x : PlainProcess). area_count (names_of x) ≤ MOST_AREAS) (sym w.process) (omega arith);
+    bound = subst (λ (x : PlainProcess). x.turns ≤ MOST_TURNS) (sym w.process) (omega arith);
+    counted = subst (AllByRecursion (λ (span : Span). span.turns ≤ p.process.turns)) (sym w.spans) tt;
   };
 }
 
@@ -122,11 +122,13 @@ spawned_is (Delete name) next before after h = none_spawned refl h
 spawned_is (SoftPurge name) next before after h = none_spawned refl h
 spawned_is (Purge name) next before after h = none_spawned refl h
 spawned_is (CheckOld name) next before after h = none_spawned refl h
+spawned_is (Put key term) next before after h = none_spawned refl h
+spawned_is (Erase key) next before after h = none_spawned refl h
 spawned_is (Trace target on) next before after h = none_spawned refl h
 
 -- a process that goes on from now has the history that it had
-going_same : (states : ℕ → ServerState) (p : ProcessRun) → p.phase ≡ Waiting → history_of states (stand_of (record p { phase = Going })) ≡ history_of states (stand_of p)
-going_same states p waits = ap (λ fin. record { marks = (history_of states (stand_of p)).marks; now = (stand_of p).process; fin = fin }) (sym (ap fin_in waits))
+going_same : (states : ℕ → ServerState) (s : ServerState) (p : ProcessRun) → p.phase ≡ Waiting → history_of states (stand_in s (record p { phase = Going })) ≡ history_of states (stand_in s p)
+going_same states s p waits = ap (λ fin. record { marks = (history_of states (stand_in s p)).marks; now = (stand_in s p).process; fin = fin }) (sym (ap fin_in waits))
 
 -- after a step of the runtime or of a loader that ends no command
 module _ (s : Script) (run after : Run) (known : IsRun s run) (who : Who) (cmd : Cmd) (joined : HasJoined s.modules who cmd run.server after.server run.journal after.journal) (stayed : HasStayed run after) where
@@ -155,7 +157,7 @@ module _ (s : Script) (run after : Run) (known : IsRun s run) (who : Who) (cmd :
         process_kept s run known who cmd after.server after.journal joined number (done_of after.loaders.items line.loader) line p line_is (ap (λ ps. slice_get ps number) (sym stayed.processes) ∙ p_is)
         (omega (arith, same_done line.loader)) (λ h. omega (arith, same_done line.loader, h));
     answers = subst (AreKnown s.modules after.journal)
-        (sym (ap (histories_of (state_at s.modules empty_state after.journal)) stayed.processes ∙ histories_kept s run known who cmd after.server after.journal joined))
+        (sym (ap (histories_of (state_at s.modules empty_state after.journal) after.server) stayed.processes ∙ histories_kept s run known who cmd after.server after.journal joined))
         (answers_after s run known who cmd after.server after.journal joined looked);
   }
 
@@ -221,11 +223,11 @@ module _ (s : Script) (loader : ℕ) (cmd : ScriptCmd) (run after : Run) (known 
         let e : 0 + loader ≡ loader = omega arith in
         ap (slice_get (spawns_of 0 s.loaders)) the_number ∙ spawn_at 0 s.loaders loader place target args (next ∙ ap Some is) ∙ ap (λ k. Some (record { loader = k; place = place; target = target; args = args })) e
 
-    stood : StandsIn run.journal (state_at s.modules empty_state run.journal) run.server place (item.0).next_process the_line (stand_of the_process.0) the_process.0.phase
+    stood : StandsIn run.journal (state_at s.modules empty_state run.journal) run.server place (item.0).next_process the_line the_process.0 the_process.0.phase
     stood = known.process (item.0).next_process the_line the_process.0 line_there the_process.1.0
 
     waited : the_process.0.phase ≡ Waiting
-    waited = phase_waits run.journal (state_at s.modules empty_state run.journal) run.server (item.0).next_process the_line (stand_of the_process.0) the_process.0.phase stood
+    waited = phase_waits run.journal (state_at s.modules empty_state run.journal) run.server (item.0).next_process the_line the_process.0 the_process.0.phase stood
 
     -- the process that a spawn names waits before it
     pub waiting_process : IsSpawnOfWaiting run after
@@ -239,12 +241,12 @@ module _ (s : Script) (loader : ℕ) (cmd : ScriptCmd) (run after : Run) (known 
       ap length p.1.1 ∙ length-set run.processes.items (item.0).next_process (record (p.0) { phase = Going }) ∙ known.processes
 
   -- with the histories that they had
-  same_histories : (states : ℕ → ServerState) → Spawned cmd (item.0).next_process run.processes.items after.processes.items → histories_of states after.processes.items ≡ histories_of states run.processes.items
-  same_histories states (none_spawned none same) = ap (histories_of states) same
-  same_histories states (one_spawned target args is sets) =
+  same_histories : (states : ℕ → ServerState) (t : ServerState) → Spawned cmd (item.0).next_process run.processes.items after.processes.items → histories_of states t after.processes.items ≡ histories_of states t run.processes.items
+  same_histories states t (none_spawned none same) = ap (histories_of states t) same
+  same_histories states t (one_spawned target args is sets) =
       let p = the_process target args is sets in
-      ap (histories_of states) p.1.1
-      ∙ map_kept (λ q. history_of states (stand_of q)) run.processes.items (item.0).next_process p.0 (record (p.0) { phase = Going }) p.1.0 (going_same states p.0 (waited target args is sets))
+      ap (histories_of states t) p.1.1
+      ∙ map_kept (λ q. history_of states (stand_in t q)) run.processes.items (item.0).next_process p.0 (record (p.0) { phase = Going }) p.1.0 (going_same states t p.0 (waited target args is sets))
 
   module _ (made : Cmd) (joined : HasJoined s.modules (Loader loader) made run.server after.server run.journal after.journal) (ended : ended_by made ≡ cmd ∷ []) where
     own : is_of loader joined.entry.who ≡ true
@@ -264,7 +266,7 @@ module _ (s : Script) (loader : ℕ) (cmd : ScriptCmd) (run after : Run) (known 
         ∙ ap (λ n. take n (commands_of s other)) (sym (done_other other n))
 
     abbrev fits : ProcessRun → ℕ → SpawnLine → Type 0
-    fits p number line = StandsIn after.journal (state_at s.modules empty_state after.journal) after.server (done_of after.loaders.items line.loader) number line (stand_of p) p.phase
+    fits p number line = StandsIn after.journal (state_at s.modules empty_state after.journal) after.server (done_of after.loaders.items line.loader) number line p p.phase
 
     -- a process that the command does not spawn
     kept_at : (number : ℕ) (line : SpawnLine) (p : ProcessRun) → slice_get (spawns_of 0 s.loaders) number ≡ Some line → slice_get run.processes.items number ≡ Some p → (line.loader ≡ loader → line.place ≡ place → ⊥) → fits p number line
@@ -276,7 +278,8 @@ module _ (s : Script) (loader : ℕ) (cmd : ScriptCmd) (run after : Run) (known 
         → fits (record (the_process target args is sets).0 { phase = Going }) (item.0).next_process (the_line target args is sets)
     spawned_now target args is sets =
         begins after.journal (state_at s.modules empty_state after.journal) after.server (the_line target args is sets) (item.0).next_process (done_of after.loaders.items loader) (the_process target args is sets).0 (omega (arith, done_own))
-        (waits_there run.journal (state_at s.modules empty_state run.journal) run.server (item.0).next_process (the_line target args is sets) (stand_of (the_process target args is sets).0) (the_process target args is sets).0.phase (stood target args is sets))
+        (waits_later run.server after.server place (item.0).next_process (the_line target args is sets) (the_process target args is sets).0
+        (waits_there run.journal (state_at s.modules empty_state run.journal) run.server (item.0).next_process (the_line target args is sets) (the_process target args is sets).0 (the_process target args is sets).0.phase (stood target args is sets)))
 
     spawned_at : (target : Mfa) (args : List PlainTerm) (is : cmd ≡ Spawn target args) (sets : IsSomeAnd (slice_get run.processes.items (item.0).next_process) (λ p. after.processes.items ≡ slice_set run.processes.items (item.0).next_process (record p { phase = Going })))
         → (number : ℕ) (line : SpawnLine) (p : ProcessRun) → slice_get (spawns_of 0 s.loaders) number ≡ Some line → SetAt run.processes.items (item.0).next_process (record (the_process target args is sets).0 { phase = Going }) number p → fits p number line
@@ -312,7 +315,7 @@ module _ (s : Script) (loader : ℕ) (cmd : ScriptCmd) (run after : Run) (known 
       processes = many_after spawned;
       process = fits_after spawned;
       answers = subst (AreKnown s.modules after.journal)
-          (sym (same_histories (state_at s.modules empty_state after.journal) spawned ∙ histories_kept s run known (Loader loader) made after.server after.journal joined))
+          (sym (same_histories (state_at s.modules empty_state after.journal) after.server spawned ∙ histories_kept s run known (Loader loader) made after.server after.journal joined))
           (answers_after s run known (Loader loader) made after.server after.journal joined looked);
     }
 
@@ -330,6 +333,8 @@ stands_between half who (cmds.Delete name) h n = absurd h
 stands_between half who (cmds.SoftPurge name lingers) h n = absurd h
 stands_between half who (cmds.Doom name) h n = absurd h
 stands_between half who (cmds.Purge name killed) h n = absurd h
+stands_between half who (cmds.Put key term) h n = absurd h
+stands_between half who (cmds.Erase key) h n = absurd h
 stands_between half who (cmds.Trace target on) h n = absurd h
 
 -- while a purge waits, what is made meanwhile may stand, and the purge waits on

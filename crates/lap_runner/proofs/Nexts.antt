@@ -1,17 +1,22 @@
 -- What a loader's next command comes to: a command that is made at once, a half of a purge, or none.
-use Rattle.std.proofs.Common.{◌≡◌, ◌==◌, ℕ, Bool, true, false, List, [], ◌∷◌, Option, Some, None, IfSome, IsSome, option_map, if◌then◌else◌, refl, sym, ap, subst, ◌∙◌}
+use Rattle.std.proofs.Common.{◌≡◌, ◌==◌, ◌<◌, ◌≤◌, ℕ, Bool, true, false, List, [], ◌∷◌, length, Option, Some, None, IfSome, IsSome, option_map, if◌then◌else◌, refl, sym, ap, subst, ◌∙◌, arith}
 use Rattle.std.proofs.lemmas.Bool.{eqb-false, eqb-true, false≢true}
 use Rattle.std.proofs.lemmas.Option.{none-some, same_Some}
 use Rattle.term_core.specs.declared.atom.AtomId.{AtomId}
+use Rattle.term_core.specs.declared.names.TheConstants.{MOST_NAMES}
+use Rattle.term_core.specs.Plain.{plain}
+use Rattle.term_core.specs.PlainTerm.{PlainTerm}
+use Rattle.term_core.specs.Written.{IsTermInteger}
+use Rattle.term_core.proofs.LeafFacts.{EachLeaf-weaker}
 use Rattle.mod_core.specs.declared.code.Module.{Module}
 use Rattle.server_core.specs.declared.command.Cmd.{Cmd}
 use Rattle.server_core.specs.declared.command.Cmd.TheVariants as cmds
 use Rattle.server_core.specs.declared.command.Linger.{Linger}
-use Rattle.server_core.specs.ServerState.{ServerState, old_of}
-use Rattle.server_core.specs.CommandTable.{Outcome, apply_of, soft_purge_of}
+use Rattle.server_core.specs.ServerState.{ServerState, IsShortTerm, old_of}
+use Rattle.server_core.specs.CommandTable.{IsOfText, Outcome, apply_of, soft_purge_of}
 use Rattle.script_text.specs.declared.script.ScriptCmd.{ScriptCmd}
-use Rattle.script_text.specs.declared.script.ScriptCmd.TheVariants.{Load, Delete, SoftPurge, Purge, CheckOld, Trace, Spawn}
-use Rattle.script_text.specs.Sound.{IsCmdOf}
+use Rattle.script_text.specs.declared.script.ScriptCmd.TheVariants.{Load, Delete, SoftPurge, Purge, CheckOld, Put, Erase, Trace, Spawn}
+use Rattle.script_text.specs.Sound.{IsCmdOf, IsTermOf}
 use Rattle.run_log.specs.declared.logs.Who.TheVariants.{Loader}
 use Rattle.run_log.specs.Journal.{ends_one}
 use Rattle.run_log.specs.Legal.{MayStart, ended_by, half_after, is_release}
@@ -22,7 +27,7 @@ use Rattle.script_text.specs.declared.script.Script.{Script}
 use Rattle.lap_runner.specs.Looks.{closing, goes_meanwhile, lingering, next_cmd, opening, purge_opening, some_killed, some_names, some_stands}
 use Rattle.lap_runner.specs.Runs.{DoomsJust, half_of}
 use Rattle.lap_runner.specs.Steps.{purging_after}
-use Rattle.lap_runner.proofs.Dooms.{IsMeanwhile, delete_enabled, doom_enabled, doomed_kept, idle_purge_enabled, idle_purge_keeps, load_enabled, purge_enabled, soft_purge_enabled, trace_enabled}
+use Rattle.lap_runner.proofs.Dooms.{IsMeanwhile, delete_enabled, doom_enabled, doomed_kept, erase_enabled, idle_purge_enabled, idle_purge_keeps, load_enabled, purge_enabled, put_enabled, soft_purge_enabled, trace_enabled}
 use Rattle.run_log.proofs.SpanRuns.{some_and}
 
 -- a command that leaves what is doomed as it is: no half of a purge, but a purge where there is no old code
@@ -33,6 +38,8 @@ IsQuiet s (cmds.SoftPurge name lingers) = Unit {0}
 IsQuiet s (cmds.Doom name) = ⊥
 IsQuiet s (cmds.Purge name killed) = (killed ≡ false) × (old_of s name.0 ≡ None)
 IsQuiet s (cmds.CheckOld name) = Unit {0}
+IsQuiet s (cmds.Put key term) = Unit {0}
+IsQuiet s (cmds.Erase key) = Unit {0}
 IsQuiet s (cmds.Trace target on) = Unit {0}
 IsQuiet s (cmds.Spawn target args) = Unit {0}
 IsQuiet s (cmds.Release serial) = Unit {0}
@@ -44,6 +51,8 @@ quiet_keeps texts s (cmds.Load refs) o h applied = doomed_kept texts s (cmds.Loa
 quiet_keeps texts s (cmds.Delete name) o h applied = doomed_kept texts s (cmds.Delete name) o tt applied
 quiet_keeps texts s (cmds.SoftPurge name lingers) o h applied = doomed_kept texts s (cmds.SoftPurge name lingers) o tt applied
 quiet_keeps texts s (cmds.CheckOld name) o h applied = doomed_kept texts s (cmds.CheckOld name) o tt applied
+quiet_keeps texts s (cmds.Put key term) o h applied = doomed_kept texts s (cmds.Put key term) o tt applied
+quiet_keeps texts s (cmds.Erase key) o h applied = doomed_kept texts s (cmds.Erase key) o tt applied
 quiet_keeps texts s (cmds.Trace target on) o h applied = doomed_kept texts s (cmds.Trace target on) o tt applied
 quiet_keeps texts s (cmds.Spawn target args) o h applied = doomed_kept texts s (cmds.Spawn target args) o tt applied
 quiet_keeps texts s (cmds.Release serial) o h applied = doomed_kept texts s (cmds.Release serial) o tt applied
@@ -55,6 +64,8 @@ quiet_starts s (cmds.Load refs) h = tt
 quiet_starts s (cmds.Delete name) h = tt
 quiet_starts s (cmds.SoftPurge name lingers) h = tt
 quiet_starts s (cmds.CheckOld name) h = tt
+quiet_starts s (cmds.Put key term) h = tt
+quiet_starts s (cmds.Erase key) h = tt
 quiet_starts s (cmds.Trace target on) h = tt
 quiet_starts s (cmds.Spawn target args) h = tt
 quiet_starts s (cmds.Release serial) h = tt
@@ -68,6 +79,8 @@ meanwhile_quiet s (cmds.Delete name) h = absurd h
 meanwhile_quiet s (cmds.SoftPurge name lingers) h = absurd h
 meanwhile_quiet s (cmds.Doom name) h = absurd h
 meanwhile_quiet s (cmds.Purge name killed) h = absurd h
+meanwhile_quiet s (cmds.Put key term) h = absurd h
+meanwhile_quiet s (cmds.Erase key) h = absurd h
 meanwhile_quiet s (cmds.Trace target on) h = absurd h
 
 -- no process stands in what is purged, and the answer tells whether one was killed
@@ -83,6 +96,8 @@ Looked s ps (cmds.SoftPurge name lingers) = lingers ≡ lingering (old_of s name
 Looked s ps (cmds.Doom name) = Unit {0}
 Looked s ps (cmds.Purge name killed) = IfSome (old_of s name.0) (λ serial. HasPurgeLook serial killed ps)
 Looked s ps (cmds.CheckOld name) = Unit {0}
+Looked s ps (cmds.Put key term) = Unit {0}
+Looked s ps (cmds.Erase key) = Unit {0}
 Looked s ps (cmds.Trace target on) = Unit {0}
 Looked s ps (cmds.Spawn target args) = Unit {0}
 Looked s ps (cmds.Release serial) = some_names serial ps ≡ false
@@ -115,6 +130,8 @@ module _ (s : ServerState) (ps : List ProcessRun) (loader : ℕ) where
   opened (SoftPurge name) = at_once refl (record { ended = refl; one = refl; quiet = tt; looked = refl; loaders = refl; rests = λ l. refl })
   opened (Purge name) = purge_opened name (old_of s name.0) refl
   opened (CheckOld name) = at_once refl (record { ended = refl; one = refl; quiet = tt; looked = tt; loaders = refl; rests = λ l. refl })
+  opened (Put key term) = at_once refl (record { ended = refl; one = refl; quiet = tt; looked = tt; loaders = refl; rests = λ l. refl })
+  opened (Erase key) = at_once refl (record { ended = refl; one = refl; quiet = tt; looked = tt; loaders = refl; rests = λ l. refl })
   opened (Trace target on) = at_once refl (record { ended = refl; one = refl; quiet = tt; looked = tt; loaders = refl; rests = λ l. refl })
   opened (Spawn target args) = at_once refl (record { ended = refl; one = refl; quiet = tt; looked = tt; loaders = refl; rests = λ l. refl })
 
@@ -137,6 +154,8 @@ module _ (s : ServerState) (ps : List ProcessRun) (loader : ℕ) where
   stands_between p (Delete name) made other h = absurd (none-some made h)
   stands_between p (SoftPurge name) made other h = absurd (none-some made h)
   stands_between p (Purge name) made other h = absurd (none-some made h)
+  stands_between p (Put key term) made other h = absurd (none-some made h)
+  stands_between p (Erase key) made other h = absurd (none-some made h)
   stands_between p (Trace target on) made other h = absurd (none-some made h)
 
   purging_or : (p : Purging) (cmd : ScriptCmd) (made : Cmd) (b : Bool) → (p.loader == loader) ≡ b
@@ -165,6 +184,8 @@ opening_some names texts s ps (Delete name) none h = delete_enabled texts s name
 opening_some names texts s ps (SoftPurge name) none h = soft_purge_enabled texts s name (lingering (old_of s name.0) ps) none (soft_purge_some s name.0 ps (old_of s name.0) (lingering (old_of s name.0) ps) refl)
 opening_some names texts s ps (Purge name) none h = purge_opening_some texts s name (old_of s name.0) none refl
 opening_some names texts s ps (CheckOld name) none h = refl
+opening_some names texts s ps (Put key term) none h = put_enabled texts s key term none
+opening_some names texts s ps (Erase key) none h = erase_enabled texts s key none
 opening_some names texts s ps (Trace target on) none h = trace_enabled texts s target on none
 opening_some names texts s ps (Spawn target args) none h = refl
 
@@ -177,6 +198,8 @@ meanwhile_some texts s (cmds.Delete name) h l = absurd h
 meanwhile_some texts s (cmds.SoftPurge name lingers) h l = absurd h
 meanwhile_some texts s (cmds.Doom name) h l = absurd h
 meanwhile_some texts s (cmds.Purge name killed) h l = absurd h
+meanwhile_some texts s (cmds.Put key term) h l = absurd h
+meanwhile_some texts s (cmds.Erase key) h l = absurd h
 meanwhile_some texts s (cmds.Trace target on) h l = absurd h
 
 module _ (s : Script) (newest : ServerState) (loaders : List LoaderRun) (ps : List ProcessRun) (loader : ℕ) (cmd : ScriptCmd) (made : Cmd) (fits : IsCmdOf s.names s.modules cmd) where
@@ -195,6 +218,46 @@ module _ (s : Script) (newest : ServerState) (loaders : List LoaderRun) (ps : Li
   pub next_enabled : (purging : Option Purging) → DoomsJust s newest loaders purging → next_cmd newest ps purging loader cmd ≡ Some made → IsSome (apply_of s.modules newest made)
   next_enabled purging dooms next = some_of purging dooms next (next_is newest ps loader purging cmd made next)
 
+short_term : (names : List (List ℕ)) (term : PlainTerm) → length names ≤ MOST_NAMES → IsTermOf names term → IsShortTerm term
+short_term names term room h = record {
+  fits = EachLeaf-weaker IsTermInteger IsTermInteger (λ atom. atom < length names) (λ atom. atom < 4294967296) (λ z fits. fits) (λ atom named. omega (arith, named, room)) term h.leaves;
+  short = h.short;
+}
+
+opening_of_text : (names : List (List ℕ)) (texts : List Module) (s : ServerState) (ps : List ProcessRun) (cmd : ScriptCmd) → length names ≤ MOST_NAMES → IsCmdOf names texts cmd → IsOfText (opening s ps cmd)
+opening_of_text names texts s ps (Put key term) room h = short_term names (plain term) room h.is_term
+opening_of_text names texts s ps (Load refs) room h = tt
+opening_of_text names texts s ps (Delete name) room h = tt
+opening_of_text names texts s ps (SoftPurge name) room h = tt
+opening_of_text names texts s ps (Purge name) room h = purge_of_text name (old_of s name.0)
+  where
+    purge_of_text : (name : AtomId) (old : Option ℕ) → IsOfText (purge_opening name old)
+    purge_of_text name None = tt
+    purge_of_text name (Some serial) = tt
+opening_of_text names texts s ps (CheckOld name) room h = tt
+opening_of_text names texts s ps (Erase key) room h = tt
+opening_of_text names texts s ps (Trace target on) room h = tt
+opening_of_text names texts s ps (Spawn target args) room h = tt
+
+closing_of_text : (name : AtomId) (ps : List ProcessRun) (old : Option ℕ) (made : Cmd) → closing name old ps ≡ Some made → IsOfText made
+closing_of_text name ps None made h = absurd (none-some made h)
+closing_of_text name ps (Some serial) made h = closed_or (some_stands serial ps) h
+  where
+    closed_or : (b : Bool) → (if b then None else Some (cmds.Purge name (some_killed serial ps))) ≡ Some made → IsOfText made
+    closed_or true e = absurd (none-some made e)
+    closed_or false e = subst IsOfText (same_Some _ _ e) tt
+
+-- a term that a loader's next command puts is one that a text can say
+pub next_of_text : (names : List (List ℕ)) (texts : List Module) (s : ServerState) (ps : List ProcessRun) (purging : Option Purging) (loader : ℕ) (cmd : ScriptCmd) (made : Cmd) → length names ≤ MOST_NAMES → IsCmdOf names texts cmd
+    → next_cmd s ps purging loader cmd ≡ Some made → IsOfText made
+next_of_text names texts s ps None loader cmd made room fits h = subst IsOfText (same_Some _ _ h) (opening_of_text names texts s ps cmd room fits)
+next_of_text names texts s ps (Some p) loader cmd made room fits h = next_or (p.loader == loader) (goes_meanwhile cmd) h
+  where
+    next_or : (own meanwhile : Bool) → (if own then closing p.«module» (old_of s p.«module».0) ps else if meanwhile then Some (opening s ps cmd) else None) ≡ Some made → IsOfText made
+    next_or true b e = closing_of_text p.«module» ps (old_of s p.«module».0) made e
+    next_or false true e = subst IsOfText (same_Some _ _ e) (opening_of_text names texts s ps cmd room fits)
+    next_or false false e = absurd (none-some made e)
+
 -- the purge that waits after a command, as the journal has it
 pub half_is : (purging : Option Purging) (loader : ℕ) (made : Cmd) → option_map half_of (purging_after purging loader made) ≡ half_after (option_map half_of purging) (Loader loader) made
 half_is purging loader (cmds.Load refs) = refl
@@ -203,6 +266,8 @@ half_is purging loader (cmds.SoftPurge name lingers) = refl
 half_is purging loader (cmds.Doom name) = refl
 half_is purging loader (cmds.Purge name killed) = refl
 half_is purging loader (cmds.CheckOld name) = refl
+half_is purging loader (cmds.Put key term) = refl
+half_is purging loader (cmds.Erase key) = refl
 half_is purging loader (cmds.Trace target on) = refl
 half_is purging loader (cmds.Spawn target args) = refl
 half_is purging loader (cmds.Release serial) = refl
@@ -217,4 +282,6 @@ still_waits purging loader (cmds.Delete name) h = absurd h
 still_waits purging loader (cmds.SoftPurge name lingers) h = absurd h
 still_waits purging loader (cmds.Doom name) h = absurd h
 still_waits purging loader (cmds.Purge name killed) h = absurd h
+still_waits purging loader (cmds.Put key term) h = absurd h
+still_waits purging loader (cmds.Erase key) h = absurd h
 still_waits purging loader (cmds.Trace target on) h = absurd h

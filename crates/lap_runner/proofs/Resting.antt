@@ -1,11 +1,12 @@
 -- After a lap in which nothing was done no work is left.
-use Rattle.std.proofs.Common.{◌≡◌, ◌||◌, ℕ, suc, Bool, true, false, List, [], ◌∷◌, length, slice_get, Some, None, IsSome, IsTrue, option_map, refl, sym, ap, subst, ◌∙◌, arith}
+use Rattle.std.proofs.Common.{◌≡◌, ◌||◌, ℕ, suc, Bool, true, false, List, [], ◌∷◌, length, slice_get, Some, None, IsSome, IsTrue, refl, sym, ap, subst, ◌∙◌, arith}
 use Rattle.std.proofs.lemmas.Bool.{eq-eqb, false≢true}
-use Rattle.std.proofs.lemmas.Option.{slice_get-map, slice_get_within}
+use Rattle.std.proofs.lemmas.Option.{slice_get_within}
 use Rattle.std.specs.List.{list_any}
 use Rattle.server_core.specs.ServerState.{ServerState, empty_state, is_serial_in}
 use Rattle.machine_core.specs.Holds.{is_area_held}
-use Rattle.machine_core.specs.Process.{frame_names, process_of}
+use Rattle.machine_core.specs.Process.{frame_names}
+use Rattle.machine_core.specs.View.{server_words}
 use Rattle.script_text.specs.declared.script.Script.{Script}
 use Rattle.run_log.specs.declared.logs.Entry.{Entry}
 use Rattle.run_log.specs.Journal.{state_at}
@@ -14,10 +15,11 @@ use Rattle.lap_runner.specs.declared.process_run.Phase.{Phase}
 use Rattle.lap_runner.specs.declared.process_run.Phase.TheVariants.{Waiting, Going, Ended}
 use Rattle.lap_runner.specs.declared.process_run.ProcessRun.{ProcessRun}
 use Rattle.lap_runner.specs.declared.run.Run.{Run}
-use Rattle.lap_runner.specs.Looks.{AreNamed, names_area, some_names}
-use Rattle.lap_runner.specs.Runs.{AreIdle, all_made, one_goes, HasNoWork, HasReleased, IsRun, Rests, StandsIn, done_of, fin_in, history_of}
-use Rattle.lap_runner.specs.Steps.{LapOf, Stand, stand_of}
-use Rattle.lap_runner.proofs.Joining.{line_for, stands_at}
+use Rattle.lap_runner.specs.Looks.{AreNamed, names_area, some_names, unread}
+use Rattle.lap_runner.specs.Runs.{AreIdle, all_made, one_goes, HasNoWork, HasReleased, IsRun, Rests, StandsIn, done_of, fin_in}
+use Rattle.lap_runner.specs.Steps.{LapOf, stand_in}
+use Rattle.lap_runner.proofs.Frames.{names_unread}
+use Rattle.lap_runner.proofs.Joining.{frames_over, line_for, stands_at}
 use Rattle.lap_runner.proofs.Lists.{get_within}
 
 -- where each fails, none passes
@@ -26,11 +28,11 @@ none_passes f [] h = refl
 none_passes f (x ∷ xs) h = ap (λ b. b || list_any f xs) (h 0 x refl) ∙ none_passes f xs (λ k y e. h (suc k) y e)
 
 -- a process that rests names nothing
-names_none : (journal : List Entry) (states : ℕ → ServerState) (newest : ServerState) (done number : ℕ) (line : SpawnLine) (stand : Stand) (phase : Phase) → StandsIn journal states newest done number line stand phase
-    → (IsSome (fin_in phase) → stand.process.frames ≡ []) → Rests phase → (serial : ℕ) → names_area serial stand.process ≡ false
-names_none journal states newest done number line stand Waiting h over rests serial = ap (names_area serial) h.process
-names_none journal states newest done number line stand Going h over rests serial = absurd rests
-names_none journal states newest done number line stand (Ended fin) h over rests serial = ap (λ fs. is_area_held (frame_names fs) serial) (over refl)
+names_none : (journal : List Entry) (states : ℕ → ServerState) (newest : ServerState) (done number : ℕ) (line : SpawnLine) (p : ProcessRun) (phase : Phase) → StandsIn journal states newest done number line p phase
+    → (IsSome (fin_in phase) → (stand_in newest p).process.frames ≡ []) → Rests phase → (serial : ℕ) → names_area serial (unread p.process) ≡ false
+names_none journal states newest done number line p Waiting h over rests serial = names_unread (server_words newest) p.process serial ∙ ap (names_area serial) h.process
+names_none journal states newest done number line p Going h over rests serial = absurd rests
+names_none journal states newest done number line p (Ended fin) h over rests serial = names_unread (server_words newest) p.process serial ∙ ap (λ fs. is_area_held (frame_names fs) serial) (over refl)
 
 -- where no serial is there, none is
 none_there : (serials : List ℕ) → ((serial : ℕ) → IsTrue (is_serial_in serials serial) → false ≡ true) → serials ≡ []
@@ -40,11 +42,8 @@ none_there (n ∷ ns) h = absurd (false≢true (h n (ap (λ b. b || is_serial_in
 module _ (s : Script) (run : Run) (known : IsRun s run) (rest : (k : ℕ) (p : ProcessRun) → slice_get run.processes.items k ≡ Some p → Rests p.phase) where
   none_named : (serial : ℕ) → some_names serial run.processes.items ≡ false
   none_named serial =
-      none_passes (λ (p : ProcessRun). names_area serial (process_of p.process)) run.processes.items
-      (λ k p at. names_none run.journal (state_at s.modules empty_state run.journal) run.server _ k (line_for s run known k p at).0 (stand_of p) p.phase (stands_at s run known k p at)
-      (known.answers.processes k (history_of (state_at s.modules empty_state run.journal) (stand_of p))
-      (slice_get-map (λ p. history_of (state_at s.modules empty_state run.journal) (stand_of p)) run.processes.items k ∙ ap (option_map (λ p. history_of (state_at s.modules empty_state run.journal) (stand_of p))) at)).over
-      (rest k p at) serial)
+      none_passes (λ (p : ProcessRun). names_area serial (unread p.process)) run.processes.items
+      (λ k p at. names_none run.journal (state_at s.modules empty_state run.journal) run.server _ k (line_for s run known k p at).0 p p.phase (stands_at s run known k p at) (frames_over s run known k p at) (rest k p at) serial)
 
   -- so what each of them would have to name is nothing
   nothing_retired : AreNamed run.server.retired run.processes.items → run.server.retired ≡ []

@@ -1,13 +1,13 @@
 -- A turn of a process that goes on leaves it where its spans say.
-use Rattle.std.proofs.Common.{◌≡◌, ◌≢◌, ℕ, ◌+◌, ◌<◌, ◌≤◌, List, [], ◌∷◌, ◌++◌, IfSome, refl, sym, ap, subst, ◌∙◌, arith, add-one}
+use Rattle.std.proofs.Common.{◌≡◌, ◌≢◌, ℕ, ◌+◌, ◌<◌, ◌≤◌, List, [], ◌∷◌, ◌++◌, IfSome, IsTrue, refl, sym, ap, subst, ◌∙◌, arith, add-one}
 use Rattle.std.specs.List.{AllByRecursion}
 use Rattle.term_core.specs.declared.hold.TheConstants.{MOST_AREAS}
-use Rattle.server_core.specs.ServerState.{ServerState}
+use Rattle.server_core.specs.ServerState.{ServerState, is_retired}
 use Rattle.machine_core.specs.declared.process.TheConstants.{MOST_TURNS}
 use Rattle.machine_core.specs.declared.process.End.{End}
 use Rattle.machine_core.specs.declared.process.TurnEnd.{TurnEnd}
 use Rattle.machine_core.specs.declared.process.TurnEnd.TheVariants as turns
-use Rattle.machine_core.specs.Holds.{area_count}
+use Rattle.machine_core.specs.Holds.{area_count, is_among}
 use Rattle.machine_core.specs.Process.{PlainProcess, names_of, new_process}
 use Rattle.machine_core.specs.Turn.{Turn, turn_of}
 use Rattle.run_log.specs.declared.logs.Entry.{Entry}
@@ -20,8 +20,9 @@ use Rattle.run_log.proofs.Marks.{marks_empty, marks_more, process_empty, process
 use Rattle.run_log.proofs.StatesForTurns.{for_turns, turn_alike}
 use Rattle.run_log.proofs.TurnRuns.{no_turns, some_turn, turns_more}
 use Rattle.run_log.proofs.SpanRuns.{first_front, first_more, go_cut, go_more, go_over}
+use Rattle.lap_runner.specs.declared.process_run.ProcessRun.{ProcessRun}
 use Rattle.lap_runner.specs.Runs.{Goes, IsOver, StandsIn, WasSpawned}
-use Rattle.lap_runner.specs.Steps.{HadTurn, IsTaken, Stand, last_one, new_one, phase_after}
+use Rattle.lap_runner.specs.Steps.{HadItsTurn, IsTaken, Stand, last_one, new_one, phase_after, stand_in}
 use Rattle.lap_runner.proofs.Lists.{all_front, all_last, all_push, all_weaker}
 use Rattle.lap_runner.proofs.TurnLaws.{again_counted}
 use Rattle.machine_core.proofs.FewAreas.{turn_few}
@@ -90,111 +91,119 @@ open_taken states generation most first P spans others span now (new_one new sam
 abbrev pub span_after : ServerState → Span → PlainProcess → Span
 span_after s span p = record { generation = s.generation; turns = span.turns + 1; lines = span.lines ++ (turn_of s p).made }
 
-module _ (journal : List Entry) (states : ℕ → ServerState) (newest : ServerState) (done number : ℕ) (line : SpawnLine) (before after : Stand) (here : for_turns (states newest.generation) ≡ for_turns newest) (goes : Goes journal states newest done number line before) (had : HadTurn newest before after) where
+module _ (journal : List Entry) (states : ℕ → ServerState) (newest : ServerState) (done number : ℕ) (line : SpawnLine) (old now : ProcessRun) (here : for_turns (states newest.generation) ≡ for_turns newest)
+    (agree : (serial : ℕ) → IsTrue (is_among (names_of (stand_in newest old).process).literals serial) → is_retired (states newest.generation) serial ≡ is_retired newest serial)
+    (goes : Goes journal states newest done number line old) (had : HadItsTurn newest old now) where
+  abbrev before : Stand
+  before = stand_in newest old
+
+  abbrev after : Stand
+  after = stand_in newest now
+
   abbrev first : PlainProcess
   first = new_process number line.target line.args
 
   abbrev Started : ℕ → Type 0
   Started g = published_before line.loader line.place journal ≤ g
 
-  opened : IsOpen states newest.generation before.process.turns first Started had.others had.span before.process
-  opened = open_taken states newest.generation before.process.turns first Started before.spans had.others had.span before.process had.taken goes.follow goes.was.known goes.ready.counted goes.was.started goes.was.whole
+  opened : IsOpen states newest.generation before.process.turns first Started had.turn.others had.turn.span before.process
+  opened = open_taken states newest.generation before.process.turns first Started before.spans had.turn.others had.turn.span before.process had.turn.taken goes.follow goes.was.known goes.ready.counted goes.was.started goes.was.whole
 
-  -- turns see the newest generation's state as the server's
+  -- a turn sees the newest generation's state as the server's: they agree on what its process names for literals
   same_turn : turn_of (states newest.generation) before.process ≡ turn_of newest before.process
-  same_turn = turn_alike (states newest.generation) newest before.process here
+  same_turn = turn_alike (states newest.generation) newest before.process here agree
 
-  turned : turns_of (states newest.generation) (had.span.turns + 1) opened.between [] ≡ some_turn (turn_of newest before.process).process (had.span.lines ++ (turn_of newest before.process).made) (turn_of newest before.process).end
+  turned : turns_of (states newest.generation) (had.turn.span.turns + 1) opened.between [] ≡ some_turn (turn_of newest before.process).process (had.turn.span.lines ++ (turn_of newest before.process).made) (turn_of newest before.process).end
   turned =
-      subst (λ (t : Turn). turns_of (states newest.generation) (had.span.turns + 1) opened.between [] ≡ some_turn t.process (had.span.lines ++ t.made) t.end) same_turn
-      (rw add-one (turns_more (states newest.generation) had.span.turns opened.between [] before.process had.span.lines opened.turns))
+      subst (λ (t : Turn). turns_of (states newest.generation) (had.turn.span.turns + 1) opened.between [] ≡ some_turn t.process (had.turn.span.lines ++ t.made) t.end) same_turn
+      (rw add-one (turns_more (states newest.generation) had.turn.span.turns opened.between [] before.process had.turn.span.lines opened.turns))
 
   was : published_before line.loader line.place journal ≤ newest.generation → WasSpawned newest.generation done number journal line after
   was later =
       let call = turn_same newest before.process in
       record {
         spawned = goes.was.spawned;
-        numbered = ap (λ x. x.number) (sym had.process) ∙ call.number ∙ goes.was.numbered;
-        target = ap (λ x. x.target) (sym had.process) ∙ call.target ∙ goes.was.target;
-        args = ap (λ x. x.args) (sym had.process) ∙ call.args ∙ goes.was.args;
-        started = subst (λ x. IfSome (first_generation x) Started) (sym had.spans) (first_more Started had.others (span_after newest had.span before.process) opened.started later);
-        known = subst (AllByRecursion (λ s. s.generation ≤ newest.generation)) (sym had.spans) (all_push (λ s. s.generation ≤ newest.generation) had.others (span_after newest had.span before.process) opened.known (omega arith));
-        whole = subst AreWhole (sym had.spans) (record {
-          turns = all_push (λ s. 0 < s.turns) had.others (span_after newest had.span before.process) opened.some (omega arith);
-          apart = apart_more had.others (span_after newest had.span before.process) opened.apart opened.fresh;
+        numbered = ap (λ x. x.number) (sym had.turn.process) ∙ call.number ∙ goes.was.numbered;
+        target = ap (λ x. x.target) (sym had.turn.process) ∙ call.target ∙ goes.was.target;
+        args = ap (λ x. x.args) (sym had.turn.process) ∙ call.args ∙ goes.was.args;
+        started = subst (λ x. IfSome (first_generation x) Started) (sym had.turn.spans) (first_more Started had.turn.others (span_after newest had.turn.span before.process) opened.started later);
+        known = subst (AllByRecursion (λ s. s.generation ≤ newest.generation)) (sym had.turn.spans) (all_push (λ s. s.generation ≤ newest.generation) had.turn.others (span_after newest had.turn.span before.process) opened.known (omega arith));
+        whole = subst AreWhole (sym had.turn.spans) (record {
+          turns = all_push (λ s. 0 < s.turns) had.turn.others (span_after newest had.turn.span before.process) opened.some (omega arith);
+          apart = apart_more had.turn.others (span_after newest had.turn.span before.process) opened.apart opened.fresh;
         });
       }
 
-  again_stands : (turn_of newest before.process).end ≡ turns.Again → published_before line.loader line.place journal ≤ newest.generation → Goes journal states newest done number line after
+  again_stands : (turn_of newest before.process).end ≡ turns.Again → published_before line.loader line.place journal ≤ newest.generation → Goes journal states newest done number line now
   again_stands again later =
       let count = again_counted newest before.process again in
-      let more : after.process.turns ≡ before.process.turns + 1 = ap (λ x. x.turns) (sym had.process) ∙ count.one_more in
-      let bound : after.process.turns ≤ MOST_TURNS = subst (λ (x : PlainProcess). x.turns ≤ MOST_TURNS) had.process (count.bound goes.ready.bound) in
+      let more : after.process.turns ≡ before.process.turns + 1 = ap (λ x. x.turns) (sym had.turn.process) ∙ count.one_more in
+      let bound : after.process.turns ≤ MOST_TURNS = subst (λ (x : PlainProcess). x.turns ≤ MOST_TURNS) had.turn.process (count.bound goes.ready.bound) in
       record {
         was = was later;
-        follow = subst (λ x. SpansGo states first x after.process) (sym had.spans)
-            (go_more states first had.others (span_after newest had.span before.process) opened.between after.process opened.known opened.front
-            (subst (λ e. turns_of (states newest.generation) (had.span.turns + 1) opened.between [] ≡ some_turn after.process (had.span.lines ++ (turn_of newest before.process).made) e) again
-            (subst (λ x. turns_of (states newest.generation) (had.span.turns + 1) opened.between [] ≡ some_turn x (had.span.lines ++ (turn_of newest before.process).made) (turn_of newest before.process).end) had.process turned)));
+        follow = subst (λ x. SpansGo states first x after.process) (sym had.turn.spans)
+            (go_more states first had.turn.others (span_after newest had.turn.span before.process) opened.between after.process opened.known opened.front
+            (subst (λ e. turns_of (states newest.generation) (had.turn.span.turns + 1) opened.between [] ≡ some_turn after.process (had.turn.span.lines ++ (turn_of newest before.process).made) e) again
+            (subst (λ x. turns_of (states newest.generation) (had.turn.span.turns + 1) opened.between [] ≡ some_turn x (had.turn.span.lines ++ (turn_of newest before.process).made) (turn_of newest before.process).end) had.turn.process turned)));
         ready = record {
-          may_turn = had.again again;
-          few = subst (λ x. area_count (names_of x) ≤ MOST_AREAS) had.process (turn_few newest before.process goes.ready.few);
+          may_turn = had.again (had.turn.phase ∙ ap phase_after again);
+          few = subst (λ x. area_count (names_of x) ≤ MOST_AREAS) had.turn.process (turn_few newest before.process goes.ready.few);
           bound = bound;
-          counted = subst (AllByRecursion (λ s. s.turns ≤ after.process.turns)) (sym had.spans)
-              (all_push (λ s. s.turns ≤ after.process.turns) had.others (span_after newest had.span before.process)
-              (all_weaker (λ s. s.turns ≤ before.process.turns) (λ s. s.turns ≤ after.process.turns) (λ s h. omega (arith, h, more)) had.others opened.counted) (omega (arith, opened.few, more)));
+          counted = subst (AllByRecursion (λ s. s.turns ≤ after.process.turns)) (sym had.turn.spans)
+              (all_push (λ s. s.turns ≤ after.process.turns) had.turn.others (span_after newest had.turn.span before.process)
+              (all_weaker (λ s. s.turns ≤ before.process.turns) (λ s. s.turns ≤ after.process.turns) (λ s h. omega (arith, h, more)) had.turn.others opened.counted) (omega (arith, opened.few, more)));
         };
       }
 
   over_stands : (fin : End) → (turn_of newest before.process).end ≡ turns.Ended fin → published_before line.loader line.place journal ≤ newest.generation → IsOver journal states newest done number line after fin
   over_stands fin ended later = record {
     was = was later;
-    follow = subst (λ x. SpansFollow states first x fin) (sym had.spans)
-        (go_over states first had.others (span_after newest had.span before.process) opened.between after.process fin opened.known opened.front
-        (subst (λ e. turns_of (states newest.generation) (had.span.turns + 1) opened.between [] ≡ some_turn after.process (had.span.lines ++ (turn_of newest before.process).made) e) ended
-        (subst (λ x. turns_of (states newest.generation) (had.span.turns + 1) opened.between [] ≡ some_turn x (had.span.lines ++ (turn_of newest before.process).made) (turn_of newest before.process).end) had.process turned)));
+    follow = subst (λ x. SpansFollow states first x fin) (sym had.turn.spans)
+        (go_over states first had.turn.others (span_after newest had.turn.span before.process) opened.between after.process fin opened.known opened.front
+        (subst (λ e. turns_of (states newest.generation) (had.turn.span.turns + 1) opened.between [] ≡ some_turn after.process (had.turn.span.lines ++ (turn_of newest before.process).made) e) ended
+        (subst (λ x. turns_of (states newest.generation) (had.turn.span.turns + 1) opened.between [] ≡ some_turn x (had.turn.span.lines ++ (turn_of newest before.process).made) (turn_of newest before.process).end) had.turn.process turned)));
   }
 
-  ended_as : (e : TurnEnd) → (turn_of newest before.process).end ≡ e → published_before line.loader line.place journal ≤ newest.generation → StandsIn journal states newest done number line after (phase_after e)
+  ended_as : (e : TurnEnd) → (turn_of newest before.process).end ≡ e → published_before line.loader line.place journal ≤ newest.generation → StandsIn journal states newest done number line now (phase_after e)
   ended_as turns.Again h later = again_stands h later
   ended_as (turns.Ended fin) h later = over_stands fin h later
 
   -- after the turn the process stands in its new phase
-  pub turn_stands : published_before line.loader line.place journal ≤ newest.generation → StandsIn journal states newest done number line after after.phase
-  turn_stands later = subst (StandsIn journal states newest done number line after) (sym had.phase) (ended_as (turn_of newest before.process).end refl later)
+  pub turn_stands : published_before line.loader line.place journal ≤ newest.generation → StandsIn journal states newest done number line now now.phase
+  turn_stands later = subst (StandsIn journal states newest done number line now) (sym had.turn.phase) (ended_as (turn_of newest before.process).end refl later)
 
   abbrev the_mark : Mark
   the_mark = record { generation = newest.generation; process = after.process }
 
-  mark_by : (span : Span) → span.generation ≡ newest.generation → before.spans ≡ had.others ++ span ∷ [] → after.spans ≡ had.others ++ record { generation = newest.generation; turns = span.turns + 1; lines = span.lines ++ (turn_of newest before.process).made } ∷ []
+  mark_by : (span : Span) → span.generation ≡ newest.generation → before.spans ≡ had.turn.others ++ span ∷ [] → after.spans ≡ had.turn.others ++ record { generation = newest.generation; turns = span.turns + 1; lines = span.lines ++ (turn_of newest before.process).made } ∷ []
       → marks_of states first after.spans ≡ marks_of states first before.spans ++ the_mark ∷ []
   mark_by span same was now =
       let one : Span = record { generation = newest.generation; turns = span.turns; lines = span.lines } in
       let is : span ≡ one = ap (λ g. record { generation = g; turns = span.turns; lines = span.lines }) same in
-      let before_is : before.spans ≡ had.others ++ one ∷ [] = was ∙ ap (λ x. had.others ++ x ∷ []) is in
+      let before_is : before.spans ≡ had.turn.others ++ one ∷ [] = was ∙ ap (λ x. had.turn.others ++ x ∷ []) is in
       ap (marks_of states first) now
-      ∙ marks_more states first had.others newest.generation span.turns span.lines (span.lines ++ (turn_of newest before.process).made)
+      ∙ marks_more states first had.turn.others newest.generation span.turns span.lines (span.lines ++ (turn_of newest before.process).made)
       ∙ ap (λ (xs : List Span). marks_of states first xs ++ record { generation = newest.generation; process = (turn_of (states newest.generation) (process_after states first xs)).process } ∷ []) (sym before_is)
       ∙ ap (λ (x : PlainProcess). marks_of states first before.spans ++ record { generation = newest.generation; process = (turn_of (states newest.generation) x).process } ∷ []) (process_now states first before.spans before.process goes.follow)
-      ∙ ap (λ (x : PlainProcess). marks_of states first before.spans ++ record { generation = newest.generation; process = x } ∷ []) (ap (λ (t : Turn). t.process) same_turn ∙ had.process)
+      ∙ ap (λ (x : PlainProcess). marks_of states first before.spans ++ record { generation = newest.generation; process = x } ∷ []) (ap (λ (t : Turn). t.process) same_turn ∙ had.turn.process)
 
-  mark_new : had.span ≡ record { generation = newest.generation; turns = 0; lines = [] } → had.others ≡ before.spans → marks_of states first after.spans ≡ marks_of states first before.spans ++ the_mark ∷ []
+  mark_new : had.turn.span ≡ record { generation = newest.generation; turns = 0; lines = [] } → had.turn.others ≡ before.spans → marks_of states first after.spans ≡ marks_of states first before.spans ++ the_mark ∷ []
   mark_new new same =
       let none : Span = record { generation = newest.generation; turns = 0; lines = [] } in
-      let now : after.spans ≡ had.others ++ record { generation = newest.generation; turns = 0 + 1; lines = [] ++ (turn_of newest before.process).made } ∷ [] =
-      had.spans ∙ ap (λ (x : Span). had.others ++ record { generation = newest.generation; turns = x.turns + 1; lines = x.lines ++ (turn_of newest before.process).made } ∷ []) new in
+      let now : after.spans ≡ had.turn.others ++ record { generation = newest.generation; turns = 0 + 1; lines = [] ++ (turn_of newest before.process).made } ∷ [] =
+      had.turn.spans ∙ ap (λ (x : Span). had.turn.others ++ record { generation = newest.generation; turns = x.turns + 1; lines = x.lines ++ (turn_of newest before.process).made } ∷ []) new in
       ap (marks_of states first) now
-      ∙ marks_more states first had.others newest.generation 0 [] ([] ++ (turn_of newest before.process).made)
-      ∙ ap (λ (ms : List Mark). ms ++ record { generation = newest.generation; process = (turn_of (states newest.generation) (process_after states first (had.others ++ none ∷ []))).process } ∷ []) (marks_empty states first had.others newest.generation [])
-      ∙ ap (λ (x : PlainProcess). marks_of states first had.others ++ record { generation = newest.generation; process = (turn_of (states newest.generation) x).process } ∷ []) (process_empty states first had.others newest.generation [])
+      ∙ marks_more states first had.turn.others newest.generation 0 [] ([] ++ (turn_of newest before.process).made)
+      ∙ ap (λ (ms : List Mark). ms ++ record { generation = newest.generation; process = (turn_of (states newest.generation) (process_after states first (had.turn.others ++ none ∷ []))).process } ∷ []) (marks_empty states first had.turn.others newest.generation [])
+      ∙ ap (λ (x : PlainProcess). marks_of states first had.turn.others ++ record { generation = newest.generation; process = (turn_of (states newest.generation) x).process } ∷ []) (process_empty states first had.turn.others newest.generation [])
       ∙ ap (λ (xs : List Span). marks_of states first xs ++ record { generation = newest.generation; process = (turn_of (states newest.generation) (process_after states first xs)).process } ∷ []) same
       ∙ ap (λ (x : PlainProcess). marks_of states first before.spans ++ record { generation = newest.generation; process = (turn_of (states newest.generation) x).process } ∷ []) (process_now states first before.spans before.process goes.follow)
-      ∙ ap (λ (x : PlainProcess). marks_of states first before.spans ++ record { generation = newest.generation; process = x } ∷ []) (ap (λ (t : Turn). t.process) same_turn ∙ had.process)
+      ∙ ap (λ (x : PlainProcess). marks_of states first before.spans ++ record { generation = newest.generation; process = x } ∷ []) (ap (λ (t : Turn). t.process) same_turn ∙ had.turn.process)
 
-  one_mark : IsTaken newest.generation before.spans had.others had.span → marks_of states first after.spans ≡ marks_of states first before.spans ++ the_mark ∷ []
-  one_mark (last_one same parts) = mark_by had.span same parts had.spans
+  one_mark : IsTaken newest.generation before.spans had.turn.others had.turn.span → marks_of states first after.spans ≡ marks_of states first before.spans ++ the_mark ∷ []
+  one_mark (last_one same parts) = mark_by had.turn.span same parts had.turn.spans
   one_mark (new_one new same fresh) = mark_new new same
 
   -- it has the turns that it had, and this one
   pub turn_marks : marks_of states first after.spans ≡ marks_of states first before.spans ++ record { generation = newest.generation; process = after.process } ∷ []
-  turn_marks = one_mark had.taken
+  turn_marks = one_mark had.turn.taken

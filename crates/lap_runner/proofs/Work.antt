@@ -6,6 +6,7 @@ use Rattle.server_core.specs.ServerState.{ServerState}
 use Rattle.machine_core.specs.declared.process.TheConstants.{MOST_TURNS}
 use Rattle.machine_core.specs.declared.process.TurnEnd.{TurnEnd}
 use Rattle.machine_core.specs.declared.process.TurnEnd.TheVariants as turns
+use Rattle.machine_core.specs.Process.{PlainProcess}
 use Rattle.machine_core.specs.Turn.{turn_of}
 use Rattle.script_text.specs.declared.script.Script.{Script}
 use Rattle.script_text.specs.declared.script.ScriptCmd.{ScriptCmd}
@@ -16,7 +17,7 @@ use Rattle.lap_runner.specs.declared.process_run.ProcessRun.{ProcessRun}
 use Rattle.lap_runner.specs.declared.run.LoaderRun.{LoaderRun}
 use Rattle.lap_runner.specs.declared.run.Run.{Run}
 use Rattle.lap_runner.specs.Runs.{IsReady, IsRun, commands_left, done_of, one_if, turns_in, turns_left, work_left}
-use Rattle.lap_runner.specs.Steps.{Advances, HadTurn, HasAdvanced, HasMade, HasStayed, loader_after, phase_after, purging_after, stand_of}
+use Rattle.lap_runner.specs.Steps.{Advances, HadTurn, HasAdvanced, HasMade, HasStayed, loader_after, phase_after, purging_after, stand_in}
 use Rattle.lap_runner.proofs.Nexts.{IsNext, at_once, between, first_half, next_is, second_half}
 use Rattle.lap_runner.proofs.SpawnLines.{commands_at}
 use Rattle.lap_runner.proofs.TurnLaws.{again_counted}
@@ -102,11 +103,11 @@ turn_tested before after turns.Again bound again = omega (arith, bound, again re
 turn_tested before after (turns.Ended fin) bound again = omega (arith, bound)
 
 -- a turn leaves less work
-pub turn_less : (s : ServerState) (p q : ProcessRun) → p.phase ≡ Going → IsReady s (stand_of p) → HadTurn s (stand_of p) (stand_of q) → turns_left q + 1 ≤ turns_left p
+pub turn_less : (s : ServerState) (p q : ProcessRun) → p.phase ≡ Going → IsReady s p → HadTurn s (stand_in s p) (stand_in s q) → turns_left q + 1 ≤ turns_left p
 turn_less s p q going ready had =
-    let t = turn_tested p.process.turns q.process.turns (turn_of s (stand_of p).process).end ready.bound (λ again. ap (λ x. x.turns) (sym had.process) ∙ (again_counted s (stand_of p).process again).one_more) in
+    let t = turn_tested p.process.turns q.process.turns (turn_of s (stand_in s p).process).end ready.bound (λ again. ap (λ (x : PlainProcess). x.turns) (sym had.process) ∙ (again_counted s (stand_in s p).process again).one_more) in
     let before : turns_left p ≡ MOST_TURNS + 1 - p.process.turns = ap (turns_in p.process.turns) going in
-    let now : turns_left q ≡ turns_in q.process.turns (phase_after (turn_of s (stand_of p).process).end) = ap (turns_in q.process.turns) had.phase in
+    let now : turns_left q ≡ turns_in q.process.turns (phase_after (turn_of s (stand_in s p).process).end) = ap (turns_in q.process.turns) had.phase in
     omega (arith, t, before, now)
 
 -- so the sum of the processes is less by one

@@ -82,6 +82,8 @@ AnswerStands now s published histories (cmds.SoftPurge name (Some linger)) = IfS
 AnswerStands now s published histories (cmds.Doom name) = Unit {0}
 AnswerStands now s published histories (cmds.Purge name killed) = IfSome (old_of s name.0) (λ serial. StaysPurged now published serial killed histories)
 AnswerStands now s published histories (cmds.CheckOld name) = Unit {0}
+AnswerStands now s published histories (cmds.Put key term) = Unit {0}
+AnswerStands now s published histories (cmds.Erase key) = Unit {0}
 AnswerStands now s published histories (cmds.Trace target on) = Unit {0}
 AnswerStands now s published histories (cmds.Spawn target args) = Unit {0}
 AnswerStands now s published histories (cmds.Release serial) = StaysReleased now published serial histories
@@ -100,10 +102,10 @@ pub record AreKnown (texts : List Module) (journal : List Entry) (histories : Li
   pub stand : AnswersStand texts journal histories
   pub processes : Each histories (IsHistory (newest texts journal).generation)
 
--- what a process names after a turn it named before, or it is an instance that is current; it names no further area for literals
+-- the instance of a frame after a turn was one before, or it is current; an area that is out of use and that was not named before is not named after
 pub record NamesAfter (s : ServerState) (before after : PlainProcess) : Type 0 where
   pub frames : (serial : ℕ) → IsTrue (is_among (names_of after).frames serial) → IsTrue (is_among (names_of before).frames serial) ⊎ ((name : ℕ) × (current_of s name ≡ Some serial))
-  pub literals : (serial : ℕ) → IsTrue (is_among (names_of after).literals serial) → IsTrue (is_among (names_of before).literals serial)
+  pub unnamed : (serial : ℕ) → IsDropped s serial → NamesNot serial before → NamesNot serial after
 
 -- a process had a turn under a state: it has one mark more, and a kill is by an instance that is doomed
 pub record HasTurned (s : ServerState) (before after : History) : Type 0 where
@@ -146,6 +148,8 @@ IsSilent s (cmds.SoftPurge name lingers) = old_of s name.0 ≡ None
 IsSilent s (cmds.Doom name) = Unit {0}
 IsSilent s (cmds.Purge name killed) = old_of s name.0 ≡ None
 IsSilent s (cmds.CheckOld name) = Unit {0}
+IsSilent s (cmds.Put key term) = Unit {0}
+IsSilent s (cmds.Erase key) = Unit {0}
 IsSilent s (cmds.Trace target on) = Unit {0}
 IsSilent s (cmds.Spawn target args) = Unit {0}
 IsSilent s (cmds.Release serial) = ⊥

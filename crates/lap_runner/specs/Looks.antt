@@ -1,7 +1,7 @@
 -- What a run looks at before a command: which processes stand in an instance or name an area, and what a loader's next command comes to.
--- Source: the manual pages `code` and `erlang`; the order of laps is this project's own. The definitions look at whole lists; the code goes over them until
+-- Source: the manual pages `code`, `erlang` and `persistent_term`; the order of laps is this project's own. The definitions look at whole lists; the code goes over them until
 -- the answer is known.
-use Rattle.std.specs.Prelude.{◌≡◌, ℕ, ◌≤◌, ◌==◌, nat_lt, Bool, true, false, List, [], ◌∷◌, Option, Some, None, IsTrue, if◌then◌else◌}
+use Rattle.std.specs.Prelude.{◌≡◌, ℕ, ◌<◌, ◌≤◌, ◌==◌, nat_lt, Bool, true, false, List, [], ◌∷◌, Option, Some, None, IsTrue, if◌then◌else◌}
 use Rattle.std.specs.List.{list_any}
 use Rattle.term_core.specs.declared.atom.AtomId.{AtomId}
 use Rattle.server_core.specs.declared.command.Cmd.{Cmd}
@@ -9,18 +9,35 @@ use Rattle.server_core.specs.declared.command.Cmd.TheVariants as cmds
 use Rattle.server_core.specs.declared.command.Linger.{Linger}
 use Rattle.server_core.specs.ServerState.{ServerState, is_serial_in, old_of}
 use Rattle.machine_core.specs.Holds.{is_among, is_area_held}
+use Rattle.machine_core.specs.declared.process.Frame.{Frame}
+use Rattle.machine_core.specs.declared.process.Process.{Process}
+use Rattle.machine_core.specs.declared.process.Value.{Value}
+use Rattle.machine_core.specs.declared.process.Value.TheVariants.{Owned, Literal}
 use Rattle.machine_core.specs.Process.{PlainProcess, names_of, process_of}
 use Rattle.script_text.specs.declared.script.ScriptCmd.{ScriptCmd}
-use Rattle.script_text.specs.declared.script.ScriptCmd.TheVariants.{Load, Delete, SoftPurge, Purge, CheckOld, Trace, Spawn}
+use Rattle.script_text.specs.declared.script.ScriptCmd.TheVariants.{Load, Delete, SoftPurge, Purge, CheckOld, Put, Erase, Trace, Spawn}
 use Rattle.run_log.specs.Legal.{is_killed_by}
 use Rattle.lap_runner.specs.declared.process_run.Phase.{Phase}
 use Rattle.lap_runner.specs.declared.process_run.Phase.TheVariants.{Waiting, Going, Ended}
 use Rattle.lap_runner.specs.declared.process_run.ProcessRun.{ProcessRun}
 use Rattle.lap_runner.specs.declared.run.Purging.{Purging}
 
+-- a process as it names areas, whose literals were not read: what it names does not depend on the words of the areas
+abbrev pub unread : Process → PlainProcess
+unread p = process_of (λ serial. []) p
+
 -- whether a frame of the process is of this instance
 abbrev pub stands_in : ℕ → PlainProcess → Bool
 stands_in serial p = is_among (names_of p).frames serial
+
+-- whether the value is a literal of this area
+abbrev pub is_literal_of : ℕ → Value → Bool
+is_literal_of serial (Owned term) = false
+is_literal_of serial (Literal at) = at.area.serial == serial
+
+-- whether a register of the frame holds a literal of this area
+abbrev pub has_literal_of : ℕ → Frame → Bool
+has_literal_of serial f = list_any (is_literal_of serial) f.registers
 
 -- whether the process names the area in any way
 abbrev pub names_area : ℕ → PlainProcess → Bool
@@ -28,11 +45,11 @@ names_area serial p = is_area_held (names_of p) serial
 
 -- whether one of these processes stands in the instance
 abbrev pub some_stands : ℕ → List ProcessRun → Bool
-some_stands serial ps = list_any (λ p. stands_in serial (process_of p.process)) ps
+some_stands serial ps = list_any (λ p. stands_in serial (unread p.process)) ps
 
 -- whether one of these processes names the area
 abbrev pub some_names : ℕ → List ProcessRun → Bool
-some_names serial ps = list_any (λ p. names_area serial (process_of p.process)) ps
+some_names serial ps = list_any (λ p. names_area serial (unread p.process)) ps
 
 -- whether a process in this phase ended since it stood in the instance
 abbrev pub was_killed_by : ℕ → Phase → Bool
@@ -47,7 +64,7 @@ some_killed serial ps = list_any (λ p. was_killed_by serial p.phase) ps
 -- the first of these processes that stands in the instance, with its number of turns
 abbrev pub lingering_in : ℕ → List ProcessRun → Option Linger
 lingering_in serial [] = None
-lingering_in serial (p ∷ ps) = if stands_in serial (process_of p.process) then Some (record { process = p.process.number; turn = p.process.turns }) else lingering_in serial ps
+lingering_in serial (p ∷ ps) = if stands_in serial (unread p.process) then Some (record { process = p.process.number; turn = p.process.turns }) else lingering_in serial ps
 
 -- the process that keeps a module's old code, if there is such code, from going
 abbrev pub lingering : Option ℕ → List ProcessRun → Option Linger
@@ -66,6 +83,8 @@ opening s ps (Delete name) = cmds.Delete name
 opening s ps (SoftPurge name) = cmds.SoftPurge name (lingering (old_of s name.0) ps)
 opening s ps (Purge name) = purge_opening name (old_of s name.0)
 opening s ps (CheckOld name) = cmds.CheckOld name
+opening s ps (Put key term) = cmds.Put key term
+opening s ps (Erase key) = cmds.Erase key
 opening s ps (Trace target on) = cmds.Trace target on
 opening s ps (Spawn target args) = cmds.Spawn target args
 
@@ -81,6 +100,8 @@ goes_meanwhile (Delete name) = false
 goes_meanwhile (SoftPurge name) = false
 goes_meanwhile (Purge name) = false
 goes_meanwhile (CheckOld name) = true
+goes_meanwhile (Put key term) = false
+goes_meanwhile (Erase key) = false
 goes_meanwhile (Trace target on) = false
 goes_meanwhile (Spawn target args) = true
 
@@ -92,14 +113,18 @@ next_cmd s ps (Some purging) loader cmd =
     else if goes_meanwhile cmd then Some (opening s ps cmd)
     else None
 
--- the lesser of two serials, where there are two
-abbrev pub lesser : Option ℕ → ℕ → ℕ
-lesser None serial = serial
-lesser (Some least) serial = if nat_lt least serial then least else serial
+-- whether a serial is less than another, or there is no other
+abbrev pub is_before : ℕ → Option ℕ → Bool
+is_before serial None = true
+is_before serial (Some other) = nat_lt serial other
 
 -- each of these areas is named by a process
 abbrev pub AreNamed : List ℕ → List ProcessRun → Type 0
 AreNamed serials ps = (serial : ℕ) → IsTrue (is_serial_in serials serial) → IsTrue (some_names serial ps)
+
+-- so is each of them with a lesser serial than this one
+abbrev pub AreNamedBelow : ℕ → List ℕ → List ProcessRun → Type 0
+AreNamedBelow first serials ps = (serial : ℕ) → serial < first → IsTrue (is_serial_in serials serial) → IsTrue (some_names serial ps)
 
 -- the least of these areas that no process names
 pub record IsLeastFree (serials : List ℕ) (ps : List ProcessRun) (serial : ℕ) : Type 0 where

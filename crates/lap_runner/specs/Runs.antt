@@ -13,9 +13,10 @@ use Rattle.machine_core.specs.declared.process.End.TheVariants.{Normal}
 use Rattle.machine_core.specs.Holds.{area_count}
 use Rattle.machine_core.specs.Process.{names_of, new_process}
 use Rattle.machine_core.specs.Turn.{MayTurn}
+use Rattle.machine_core.specs.View.{shown_of}
 use Rattle.script_text.specs.declared.script.Script.{Script}
 use Rattle.script_text.specs.declared.script.ScriptCmd.{ScriptCmd}
-use Rattle.script_text.specs.declared.script.ScriptCmd.TheVariants.{Load, Delete, SoftPurge, Purge, CheckOld, Trace, Spawn}
+use Rattle.script_text.specs.declared.script.ScriptCmd.TheVariants.{Load, Delete, SoftPurge, Purge, CheckOld, Put, Erase, Trace, Spawn}
 use Rattle.script_text.specs.Sound.{spawns_in}
 use Rattle.run_log.specs.declared.logs.Who.TheVariants.{Loader}
 use Rattle.run_log.specs.declared.logs.Entry.{Entry}
@@ -30,7 +31,7 @@ use Rattle.lap_runner.specs.declared.run.LoaderRun.{LoaderRun}
 use Rattle.lap_runner.specs.declared.run.Purging.{Purging}
 use Rattle.lap_runner.specs.declared.run.Run.{Run}
 use Rattle.lap_runner.specs.Answers.{AreKnown, History}
-use Rattle.lap_runner.specs.Steps.{Stand, stand_of}
+use Rattle.lap_runner.specs.Steps.{Stand, stand_in}
 
 -- how many spawns stand among these commands
 abbrev pub spawn_count : List ScriptCmd → ℕ
@@ -62,18 +63,18 @@ pub record WasSpawned (top done number : ℕ) (journal : List Entry) (line : Spa
   pub known : AllByRecursion (λ span. span.generation ≤ top) stand.spans
   pub whole : AreWhole stand.spans
 
--- a process may have a turn under a state
-pub record IsReady (s : ServerState) (stand : Stand) : Type 0 where
-  pub may_turn : MayTurn s (names_of stand.process) stand.process
-  pub few : area_count (names_of stand.process) ≤ MOST_AREAS
-  pub bound : stand.process.turns ≤ MOST_TURNS
-  pub counted : AllByRecursion (λ span. span.turns ≤ stand.process.turns) stand.spans
+-- a process may have a turn beside a server in this state
+pub record IsReady (s : ServerState) (p : ProcessRun) : Type 0 where
+  pub may_turn : MayTurn (shown_of s) (names_of (stand_in s p).process) p.process
+  pub few : area_count (names_of (stand_in s p).process) ≤ MOST_AREAS
+  pub bound : p.process.turns ≤ MOST_TURNS
+  pub counted : AllByRecursion (λ span. span.turns ≤ p.process.turns) p.spans
 
 -- a process that was spawned and goes on
-pub record Goes (journal : List Entry) (states : ℕ → ServerState) (newest : ServerState) (done number : ℕ) (line : SpawnLine) (stand : Stand) : Type 0 where
-  pub was : WasSpawned newest.generation done number journal line stand
-  pub follow : SpansGo states (new_process number line.target line.args) stand.spans stand.process
-  pub ready : IsReady newest stand
+pub record Goes (journal : List Entry) (states : ℕ → ServerState) (newest : ServerState) (done number : ℕ) (line : SpawnLine) (p : ProcessRun) : Type 0 where
+  pub was : WasSpawned newest.generation done number journal line (stand_in newest p)
+  pub follow : SpansGo states (new_process number line.target line.args) p.spans (stand_in newest p).process
+  pub ready : IsReady newest p
 
 -- a process that has ended
 pub record IsOver (journal : List Entry) (states : ℕ → ServerState) (newest : ServerState) (done number : ℕ) (line : SpawnLine) (stand : Stand) (fin : End) : Type 0 where
@@ -81,10 +82,10 @@ pub record IsOver (journal : List Entry) (states : ℕ → ServerState) (newest 
   pub follow : SpansFollow states (new_process number line.target line.args) stand.spans fin
 
 -- what is known of a process in a phase
-abbrev pub StandsIn : List Entry → (ℕ → ServerState) → ServerState → ℕ → ℕ → SpawnLine → Stand → Phase → Type 0
-StandsIn journal states newest done number line stand Waiting = Waits done number line stand
-StandsIn journal states newest done number line stand Going = Goes journal states newest done number line stand
-StandsIn journal states newest done number line stand (Ended fin) = IsOver journal states newest done number line stand fin
+abbrev pub StandsIn : List Entry → (ℕ → ServerState) → ServerState → ℕ → ℕ → SpawnLine → ProcessRun → Phase → Type 0
+StandsIn journal states newest done number line p Waiting = Waits done number line (stand_in newest p)
+StandsIn journal states newest done number line p Going = Goes journal states newest done number line p
+StandsIn journal states newest done number line p (Ended fin) = IsOver journal states newest done number line (stand_in newest p) fin
 
 -- how a process ended, if it did
 abbrev pub fin_in : Phase → Option End
@@ -96,9 +97,9 @@ fin_in (Ended fin) = Some fin
 abbrev pub history_of : (ℕ → ServerState) → Stand → History
 history_of states stand = record { marks = marks_of states (new_process stand.process.number stand.process.target stand.process.args) stand.spans; now = stand.process; fin = fin_in stand.phase }
 
--- the histories of processes
-abbrev pub histories_of : (ℕ → ServerState) → List ProcessRun → List History
-histories_of states ps = map (λ p. history_of states (stand_of p)) ps
+-- the histories of processes beside a server in this state
+abbrev pub histories_of : (ℕ → ServerState) → ServerState → List ProcessRun → List History
+histories_of states newest ps = map (λ p. history_of states (stand_in newest p)) ps
 
 -- a purge as the journal has it
 abbrev pub half_of : Purging → HalfPurge
@@ -128,13 +129,13 @@ pub record IsRun (s : Script) (run : Run) : Type 0 where
   pub in_order : (loader : ℕ) → commands_in loader run.journal ≡ take (done_of run.loaders.items loader) (commands_of s loader)
   pub processes : length run.processes.items ≡ length (spawns_of 0 s.loaders)
   pub process : (number : ℕ) (line : SpawnLine) (p : ProcessRun) → slice_get (spawns_of 0 s.loaders) number ≡ Some line → slice_get run.processes.items number ≡ Some p
-      → StandsIn run.journal (state_at s.modules empty_state run.journal) run.server (done_of run.loaders.items line.loader) number line (stand_of p) p.phase
-  pub answers : AreKnown s.modules run.journal (histories_of (state_at s.modules empty_state run.journal) run.processes.items)
+      → StandsIn run.journal (state_at s.modules empty_state run.journal) run.server (done_of run.loaders.items line.loader) number line p p.phase
+  pub answers : AreKnown s.modules run.journal (histories_of (state_at s.modules empty_state run.journal) run.server run.processes.items)
 
 -- a process that goes on may have a turn
 abbrev pub IsReadyIn : ServerState → ProcessRun → Phase → Type 0
 IsReadyIn s p Waiting = Unit {0}
-IsReadyIn s p Going = IsReady s (stand_of p)
+IsReadyIn s p Going = IsReady s p
 IsReadyIn s p (Ended end) = Unit {0}
 
 -- how many turns a process in a phase can still have
@@ -209,6 +210,8 @@ HasArity (Delete name) = Unit {0}
 HasArity (SoftPurge name) = Unit {0}
 HasArity (Purge name) = Unit {0}
 HasArity (CheckOld name) = Unit {0}
+HasArity (Put key term) = Unit {0}
+HasArity (Erase key) = Unit {0}
 HasArity (Trace target on) = Unit {0}
 HasArity (Spawn target args) = length args ≡ target.arity
 
@@ -224,6 +227,8 @@ waiting_from number (Delete name ∷ commands) = waiting_from number commands
 waiting_from number (SoftPurge name ∷ commands) = waiting_from number commands
 waiting_from number (Purge name ∷ commands) = waiting_from number commands
 waiting_from number (CheckOld name ∷ commands) = waiting_from number commands
+waiting_from number (Put key term ∷ commands) = waiting_from number commands
+waiting_from number (Erase key ∷ commands) = waiting_from number commands
 waiting_from number (Trace target on ∷ commands) = waiting_from number commands
 waiting_from number (Spawn target args ∷ commands) = waiting_stand number target args ∷ waiting_from (number + 1) commands
 

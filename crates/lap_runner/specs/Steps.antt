@@ -8,11 +8,12 @@ use Rattle.server_core.specs.ServerState.{ServerState, IsSound}
 use Rattle.server_core.specs.CommandTable.{apply_of}
 use Rattle.machine_core.specs.declared.process.TurnEnd.{TurnEnd}
 use Rattle.machine_core.specs.declared.process.TurnEnd.TheVariants as turns
-use Rattle.machine_core.specs.Process.{PlainProcess, names_of, process_of}
+use Rattle.machine_core.specs.Process.{PlainProcess, Words, names_of, process_of}
 use Rattle.machine_core.specs.Turn.{MayTurn, turn_of}
+use Rattle.machine_core.specs.View.{server_words, shown_of}
 use Rattle.script_text.specs.declared.script.Script.{Script}
 use Rattle.script_text.specs.declared.script.ScriptCmd.{ScriptCmd}
-use Rattle.script_text.specs.declared.script.ScriptCmd.TheVariants.{Load, Delete, SoftPurge, Purge, CheckOld, Trace, Spawn}
+use Rattle.script_text.specs.declared.script.ScriptCmd.TheVariants.{Load, Delete, SoftPurge, Purge, CheckOld, Put, Erase, Trace, Spawn}
 use Rattle.script_text.specs.Sound.{spawns_in}
 use Rattle.run_log.specs.declared.logs.Who.{Who}
 use Rattle.run_log.specs.declared.logs.Who.TheVariants.{Loader}
@@ -34,9 +35,13 @@ pub record Stand : Type 0 where
   pub spans : List Span
   pub phase : Phase
 
--- what a process of a run stands for
-abbrev pub stand_of : ProcessRun → Stand
-stand_of p = record { process = process_of p.process; spans = p.spans; phase = p.phase }
+-- what a process of a run stands for, where the areas have these words
+abbrev pub stand_of : Words → ProcessRun → Stand
+stand_of words p = record { process = process_of words p.process; spans = p.spans; phase = p.phase }
+
+-- what a process of a run stands for beside a server in this state
+abbrev pub stand_in : ServerState → ProcessRun → Stand
+stand_in s p = stand_of (server_words s) p
 
 -- a command was made on the server, and its entry joined the journal with what the command table gives
 pub record HasJoined (texts : List Module) (who : Who) (cmd : Cmd) (s t : ServerState) (before after : List Entry) : Type 0 where
@@ -58,6 +63,8 @@ CanSpawn (Delete name) next processes = Unit {0}
 CanSpawn (SoftPurge name) next processes = Unit {0}
 CanSpawn (Purge name) next processes = Unit {0}
 CanSpawn (CheckOld name) next processes = Unit {0}
+CanSpawn (Put key term) next processes = Unit {0}
+CanSpawn (Erase key) next processes = Unit {0}
 CanSpawn (Trace target on) next processes = Unit {0}
 CanSpawn (Spawn target args) next processes = next < length processes
 
@@ -68,6 +75,8 @@ SpawnsNext (Delete name) next before after = after ≡ before
 SpawnsNext (SoftPurge name) next before after = after ≡ before
 SpawnsNext (Purge name) next before after = after ≡ before
 SpawnsNext (CheckOld name) next before after = after ≡ before
+SpawnsNext (Put key term) next before after = after ≡ before
+SpawnsNext (Erase key) next before after = after ≡ before
 SpawnsNext (Trace target on) next before after = after ≡ before
 SpawnsNext (Spawn target args) next before after = IsSomeAnd (slice_get before next) (λ p. after ≡ slice_set before next (record p { phase = Going }))
 
@@ -79,6 +88,8 @@ purging_after purging loader (cmds.SoftPurge name lingers) = purging
 purging_after purging loader (cmds.Doom name) = Some (record { loader = loader; «module» = name })
 purging_after purging loader (cmds.Purge name killed) = None
 purging_after purging loader (cmds.CheckOld name) = purging
+purging_after purging loader (cmds.Put key term) = purging
+purging_after purging loader (cmds.Erase key) = purging
 purging_after purging loader (cmds.Trace target on) = purging
 purging_after purging loader (cmds.Spawn target args) = purging
 purging_after purging loader (cmds.Release serial) = purging
@@ -129,10 +140,14 @@ pub record HadTurn (s : ServerState) (before after : Stand) : Type 0 where
   pub process : (turn_of s before.process).process ≡ after.process
   pub spans : after.spans ≡ others ++ record { generation = s.generation; turns = span.turns + 1; lines = span.lines ++ (turn_of s before.process).made } ∷ []
   pub phase : after.phase ≡ phase_after (turn_of s before.process).end
-  pub again : (turn_of s before.process).end ≡ turns.Again → MayTurn s (names_of after.process) after.process
+
+-- a process of a run had a turn beside a server in this state; where it goes on it may have another
+pub record HadItsTurn (s : ServerState) (before after : ProcessRun) : Type 0 where
+  pub turn : HadTurn s (stand_in s before) (stand_in s after)
+  pub again : after.phase ≡ Going → MayTurn (shown_of s) (names_of (stand_in s after).process) after.process
 
 -- a process in a lap: one that goes on has one turn, and no other changes
 abbrev pub LapOf : ServerState → ProcessRun → ProcessRun → Phase → Type 0
 LapOf s before after Waiting = after ≡ before
-LapOf s before after Going = HadTurn s (stand_of before) (stand_of after)
+LapOf s before after Going = HadItsTurn s before after
 LapOf s before after (Ended end) = after ≡ before

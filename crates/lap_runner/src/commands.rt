@@ -93,6 +93,11 @@ fn opening(alloc: Global, command: &ScriptCmd, run: &Run) -> Result<Cmd, NoMemor
         },
         ScriptCmd::Purge(module) => purge_opening(*module, &run.server),
         ScriptCmd::CheckOld(module) => Cmd::CheckOld(*module),
+        ScriptCmd::Put { key, term } => Cmd::Put {
+            key: *key,
+            term: term.copy(alloc)?,
+        },
+        ScriptCmd::Erase(key) => Cmd::Erase(*key),
         ScriptCmd::Trace { target, on } => Cmd::Trace {
             target: *target,
             on: *on,

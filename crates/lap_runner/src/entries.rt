@@ -1,5 +1,5 @@
 ghost use Rattle.std.specs.Prelude.{IfOk, IsSome};
-ghost use Rattle.server_core.specs.CommandTable.{AreTexts, apply_of};
+ghost use Rattle.server_core.specs.CommandTable.{AreTexts, IsOfText, apply_of};
 ghost use Rattle.lap_runner.specs.Steps.{HasJoined};
 
 use mod_core::ModuleList;
@@ -16,6 +16,7 @@ pub fn make(
     journal: &mut EntryList,
 ) -> Result<(), NoMemory>
     requires texts { AreTexts texts.now }
+    requires put { IsOfText cmd }
     requires enabled { IsSome (apply_of texts.now server.old cmd) }
     ensures { IfOk result (λ _. HasJoined texts.now who cmd server.old server.new journal.old journal.new) }
 {

@@ -1,11 +1,10 @@
 ghost use Rattle.std.specs.Prelude.{◌≡◌, ◌==◌, IfOk};
 ghost use Rattle.std.specs.List.{list_any};
-ghost use Rattle.machine_core.specs.Process.{process_of};
-ghost use Rattle.lap_runner.specs.Looks.{names_area, stands_in};
+ghost use Rattle.lap_runner.specs.Looks.{has_literal_of, is_literal_of, names_area, stands_in, unread};
 ghost use Rattle.lap_runner.specs.Runs.{IsEnd, IsReady, log_of};
-ghost use Rattle.lap_runner.specs.Steps.{HadTurn, IsTaken, phase_after, stand_of};
+ghost use Rattle.lap_runner.specs.Steps.{HadItsTurn, IsTaken, phase_after};
 
-use machine_core::{End, Frame, LineList, PlainView, Process, TurnEnd, turn};
+use machine_core::{End, Frame, LineList, PlainView, Process, TurnEnd, Value, turn};
 use run_log::{ProcessLog, Span, SpanList};
 use server_core::Server;
 use std::alloc::Global;
@@ -31,7 +30,7 @@ pub struct ProcessRun {
 
 /// Whether a frame of the process is of this instance.
 pub fn stands_in(process: &Process, serial: u64) -> bool
-    ensures { result ≡ stands_in serial (process_of process.now) }
+    ensures { result ≡ stands_in serial (unread process.now) }
 {
     some_frame_of(process.frames.as_slice(), serial)
 }
@@ -43,19 +42,47 @@ fn some_frame_of(frames: &[Frame], serial: u64) -> bool
     frames.iter().any(|frame| frame.code.area.serial == serial)
 }
 
-/// Whether the process names this area, in any way: as the instance of a frame.
+/// Whether the process names this area, in any way: as the instance of a frame, or by a literal.
 pub fn names(process: &Process, serial: u64) -> bool
-    ensures { result ≡ names_area serial (process_of process.now) }
+    ensures { result ≡ names_area serial (unread process.now) }
 {
-    stands_in(process, serial)
+    stands_in(process, serial) || some_literal_of(process.frames.as_slice(), serial)
+}
+
+/// Whether a register of one of these frames holds a literal of this area.
+fn some_literal_of(frames: &[Frame], serial: u64) -> bool
+    ensures { result ≡ list_any (has_literal_of serial) frames.now }
+{
+    frames.iter().any(|frame| has_literal_of(frame, serial))
+}
+
+/// Whether a register of the frame holds a literal of this area.
+fn has_literal_of(frame: &Frame, serial: u64) -> bool
+    ensures { result ≡ has_literal_of serial frame.now }
+{
+    frame
+        .registers
+        .as_slice()
+        .iter()
+        .any(|value| is_literal_of(value, serial))
+}
+
+/// Whether the value is a literal of this area.
+fn is_literal_of(value: &Value, serial: u64) -> bool
+    ensures { result ≡ is_literal_of serial value.now }
+{
+    match value {
+        Value::Owned(_) => false,
+        Value::Literal(at) => at.area.serial == serial,
+    }
 }
 
 /// One turn of a process that goes on, under the server's newest generation.
 ///
 /// It takes memory for the view and for what the turn makes. After `NoMemory` the process is only dropped.
 pub fn take_turn(alloc: Global, server: &Server, run: &mut ProcessRun) -> Result<(), NoMemory>
-    requires { IsReady server.now (stand_of run.old) }
-    ensures { IfOk result (λ _. HadTurn server.now (stand_of run.old) (stand_of run.new)) }
+    requires { IsReady server.now run.old }
+    ensures { IfOk result (λ _. HadItsTurn server.now run.old run.new) }
 {
     let mut span = take_span(alloc, server.generation(), &mut run.spans)?;
     let mut view = PlainView::new(alloc, server, &run.process)?;

@@ -1,6 +1,6 @@
 ghost use Rattle.std.specs.Prelude.{◌≡◌, IfOk, MatchOption};
 ghost use Rattle.script_text.specs.Sound.{IsScript};
-ghost use Rattle.lap_runner.specs.Looks.{AreNamed, IsLeastFree, lesser, some_names};
+ghost use Rattle.lap_runner.specs.Looks.{AreNamed, AreNamedBelow, IsLeastFree, is_before, some_names};
 ghost use Rattle.lap_runner.specs.Runs.{HasReleased, IsRun};
 
 use crate::entries::make;
@@ -13,14 +13,15 @@ use term_core::NoMemory;
 
 /// The part of a lap for the areas: each retired one that no process names is released, the least serial first.
 ///
-/// Few are retired at a time, since a loader drops at most one in a lap.
+/// Several may be retired in a lap: one of each loader, and those that processes named until their last turn.
 pub fn release_areas(script: &Script, run: &mut Run) -> Result<(), NoMemory>
     requires script { IsScript script.now }
     requires run { IsRun script.now run.old }
     ensures released { IfOk result (λ _. HasReleased script.now run.old run.new) }
     ensures named { IfOk result (λ _. AreNamed run.new.server.retired run.new.processes.items) }
 {
-    while let Some(serial) = least_free(run.server.retired_areas(), &run.processes) {
+    let mut first = 0;
+    while let Some(serial) = least_free(run.server.retired_areas(), first, &run.processes) {
         make(
             Who::Runtime,
             Cmd::Release(serial),
@@ -28,30 +29,32 @@ pub fn release_areas(script: &Script, run: &mut Run) -> Result<(), NoMemory>
             &mut run.server,
             &mut run.journal,
         )?;
+        first = serial;
     }
     Ok(())
 }
 
-/// The least of these serials of areas that no process names.
-fn least_free(serials: &[u64], processes: &[ProcessRun]) -> Option<u64>
+/// The least of these serials of areas that no process names. Those below the first one are known to be named, and are not looked at.
+fn least_free(serials: &[u64], first: u64, processes: &[ProcessRun]) -> Option<u64>
+    requires { AreNamedBelow first serials.now processes.now }
     ensures { MatchOption result (AreNamed serials.now processes.now) (IsLeastFree serials.now processes.now) }
 {
     let mut least = None;
     for serial in serials {
-        if !some_names(*serial, processes) {
-            least = Some(lesser(least, *serial));
+        if *serial >= first && is_before(*serial, least) && !some_names(*serial, processes) {
+            least = Some(*serial);
         }
     }
     least
 }
 
-/// The lesser of two serials, where there are two.
-fn lesser(least: Option<u64>, serial: u64) -> u64
-    ensures { result ≡ lesser least serial }
+/// Whether a serial is less than another one, or there is no other.
+fn is_before(serial: u64, other: Option<u64>) -> bool
+    ensures { result ≡ is_before serial other }
 {
-    match least {
-        Some(least) if least < serial => least,
-        _ => serial,
+    match other {
+        Some(other) => serial < other,
+        None => true,
     }
 }
 

@@ -1,5 +1,6 @@
 ghost use Rattle.std.specs.Prelude.{◌≡◌, ◌+◌, ◌++◌, ◌≤◌, length, map, IfOk, OnOk};
 ghost use Rattle.std.specs.List.{AllByRecursion};
+ghost use Rattle.machine_core.specs.Process.{Words};
 ghost use Rattle.script_text.specs.Sound.{IsScript};
 ghost use Rattle.lap_runner.specs.Runs.{HasArity, IsRun, loaders_from, spawn_count, waiting_from, waiting_of, waiting_stand};
 ghost use Rattle.lap_runner.specs.Steps.{stand_of};
@@ -62,7 +63,7 @@ pub fn begin(alloc: Global, script: &Script) -> Result<Run, NoMemory>
 fn listed(alloc: Global, script: &Script) -> Result<(Vec<LoaderRun>, Vec<ProcessRun>), NoMemory>
     requires { IsScript script.now }
     ensures loaders { IfOk result (λ lists. lists.0.items ≡ loaders_from 0 script.now.loaders) }
-    ensures processes { IfOk result (λ lists. map stand_of lists.1.items ≡ waiting_of 0 script.now.loaders) }
+    ensures processes { IfOk result (λ lists. (words : Words) → map (stand_of words) lists.1.items ≡ waiting_of 0 script.now.loaders) }
 {
     let mut loaders = Vec::new(alloc);
     let mut processes = Vec::new(alloc);
@@ -84,7 +85,7 @@ fn list_processes(
 ) -> Result<(), NoMemory>
     requires few { length processes.old.items + spawn_count commands.now ≤ MOST_PROCESSES }
     requires arities { AllByRecursion HasArity commands.now }
-    ensures { OnOk result (map stand_of processes.new.items ≡ map stand_of processes.old.items ++ waiting_from (length processes.old.items) commands.now) }
+    ensures { OnOk result ((words : Words) → map (stand_of words) processes.new.items ≡ map (stand_of words) processes.old.items ++ waiting_from (length processes.old.items) commands.now) }
 {
     for command in commands.as_slice() {
         if let ScriptCmd::Spawn { target, args } = command {
@@ -98,7 +99,7 @@ fn list_processes(
 /// A process whose spawn is still to come.
 fn waiting(alloc: Global, number: u32, target: Mfa, args: &TermList) -> Result<ProcessRun, NoMemory>
     requires { length args.now ≡ target.arity }
-    ensures { IfOk result (λ run. stand_of run ≡ waiting_stand number target args.now) }
+    ensures { IfOk result (λ run. (words : Words) → stand_of words run ≡ waiting_stand number target args.now) }
 {
     let args = args.copy(alloc)?;
     Ok(ProcessRun {

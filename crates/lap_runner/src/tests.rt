@@ -55,40 +55,37 @@ end normal
 end report
 ";
 
-/// A process goes round in code that is purged, and a second purge finds no old code.
-const PURGE_KILLS: &str = "beam script 1
-module m.1
+/// A key is erased beneath a process that holds its literal.
+const KEY_ERASED: &str = "beam script 1
+module n.1
 export main/0
-label a
+pget k $0
 yield
-jump a
-end
-module m.2
+yield
+print $0
 end
 loader
-load m.1
-spawn m:main()
-load m.2
-purge m
-purge m
+put k {1,2}
+load n.1
+spawn n:main()
+erase k
 go
 ";
 
-/// The doom is made in lap 4, whose turn kills the process; the purge and the release are those of lap 5.
-const PURGE_KILLS_REPORT: &str = "beam report 1
-generations 4
-entry L0 load m.1 = ok @1
-entry L0 spawn m:main() = ok -
-entry L0 load m.2 = ok @2
-entry L0 doom m = ok @3
-entry L0 purge m = true @4
+/// The turn in lap 4, after the erase, makes the literal the process's own term, so that the area is released in that lap
+/// though the process goes on.
+const KEY_ERASED_REPORT: &str = "beam report 1
+generations 3
+entry L0 put k {1,2} = ok @1
+entry L0 load n.1 = ok @2
+entry L0 spawn n:main() = ok -
+entry L0 erase k = true @3
 entry rt release 1 = ok -
-entry L0 purge m = false -
-process 0 m:main()
-span 1 1
+process 0 n:main()
 span 2 1
-span 3 1
-end killed 1
+span 3 2
+print {1,2}
+end normal
 end report
 ";
 
@@ -143,7 +140,7 @@ end normal
 end report
 ";
 
-/// Between the two halves of a purge a spawn and a look for old code are made, and a load waits.
+/// Between the two halves of a purge a spawn and a look for old code are made, and a load waits. A second purge finds no old code.
 const ONE_WAITS: &str = "beam script 1
 module m.1
 export main/0
@@ -165,6 +162,7 @@ load n.1
 loader
 spawn m:main()
 check_old m
+purge m
 purge m
 loader
 check_old m
@@ -195,6 +193,7 @@ entry L3 check_old m = true -
 entry L1 purge m = true @4
 entry rt release 1 = ok -
 entry L0 load n.1 = ok @5
+entry L1 purge m = false -
 process 0 m:main()
 span 1 1
 span 2 1
@@ -212,7 +211,7 @@ fn runs_have_these_reports(rt: HostRuntime) -> Result<(), Fail> {
     let alloc = rt.alloc();
     let cases = [
         (TWO_LOADERS, TWO_LOADERS_REPORT),
-        (PURGE_KILLS, PURGE_KILLS_REPORT),
+        (KEY_ERASED, KEY_ERASED_REPORT),
         (ONE_LINGERS, ONE_LINGERS_REPORT),
         (ONE_WAITS, ONE_WAITS_REPORT),
     ];

@@ -1,4 +1,4 @@
--- The logs of a purge beneath a process, and of a release before a turn, compute.
+-- The logs of a purge beneath a process compute.
 use Rattle.std.proofs.Common.{◌≡◌, ℕ, zero, suc, ◌≤◌, Bool, true, false, List, [], ◌∷◌, Option, Some, None, refl, sym, ap, ◌∙◌, arith}
 use Rattle.std.proofs.Math.Dec.{eqb-zero-suc}
 use Rattle.std.proofs.lemmas.Bool.{true≢false, false≢true}
@@ -14,7 +14,7 @@ use Rattle.machine_core.specs.Turn.{run_of}
 use Rattle.run_log.specs.declared.logs.Span.{Span}
 use Rattle.run_log.specs.FirstRun.{m_atom}
 use Rattle.run_log.specs.Legal.{Complete, Legal, LingersTold, LoadersInOrder, PurgedUnnamed, ReleasedUnnamed, Replays, SpawnBeforeTurns, TurnsFollow, after_turns, commands_in, commands_of, is_killed_by, marks_in, turns_of}
-use Rattle.run_log.specs.Examples.{Clause, InComplete, InLingers, InOrder, InPurges, InReleases, InReplay, InRetired, InSpawns, InTurns, Meets, BreaksAlone, back_by_loader, dropped_beneath, goes_on_doomed, kept_retired, killed_log, log_of, other_reply, over_before, purge_journal, purge_script, released_beneath, reload_journal, reload_script, said_no_kill, spared_log, to_purge, turns, unsaid_kill, untold_process}
+use Rattle.run_log.specs.Examples.{Clause, InComplete, InLingers, InOrder, InPurges, InReleases, InReplay, InRetired, InSpawns, InTurns, Meets, BreaksAlone, back_by_loader, dropped_beneath, goes_on_doomed, kept_retired, killed_log, log_of, other_reply, purge_journal, purge_script, said_no_kill, spared_log, to_purge, turns, unsaid_kill, untold_process}
 use Rattle.run_log.proofs.Clauses.{lingers_by, purged_by, released_by, spawns_by, turns_by}
 use Rattle.run_log.proofs.ExampleParts.{any_one, complete_by}
 
@@ -300,42 +300,3 @@ untold_process_others InComplete n = absurd (n refl)
 -- a process that is left out breaks its clause alone
 pub untold_process_alone : BreaksAlone InComplete purge_script untold_process
 untold_process_alone = record { broken = untold_process_broken; others = untold_process_others }
-
--- the journal with a load behind the release
-reload_replays : Replays reload_script.modules empty_state reload_journal
-reload_replays = (record { by_whom = refl; applied = refl }, (record { by_whom = refl; applied = refl }, (record { by_whom = refl; applied = refl }, (record { by_whom = refl; applied = refl }, (record { by_whom = refl; applied = refl }, (record { by_whom = refl; applied = refl }, (record { by_whom = refl; applied = refl }, tt)))))))
-
-reload_commands : (loader : ℕ) → commands_in loader reload_journal ≡ commands_of reload_script loader
-reload_commands zero = refl
-reload_commands (suc n) = rw (eqb-zero-suc n) refl
-
-over_turns : TurnsFollow reload_script over_before
-unfolding turns_of run_of marks_in after_turns
-over_turns = turns_by reload_script over_before ((refl, refl), tt)
-
-over_releases : ReleasedUnnamed reload_script over_before
-unfolding turns_of run_of marks_in after_turns
-over_releases = released_by reload_script over_before (tt, (tt, (tt, (tt, (tt, ((record { frames = refl; literals = refl }, tt), (tt, tt)))))))
-
-over_drops : PurgedUnnamed reload_script over_before
-unfolding turns_of run_of marks_in after_turns
-over_drops = purged_by reload_script over_before (tt, (tt, (tt, (tt, ((refl, tt), (tt, (tt, tt))))))) (tt, (tt, (tt, (tt, (refl, (tt, (tt, tt)))))))
-
--- the log whose process was over before the release is lawful
-pub over_legal : Legal reload_script over_before
-over_legal = record {
-  replays = reload_replays;
-  loaders_in_order = record { commands = reload_commands; purges = (tt, (tt, (tt, (tt, ((refl, refl), (tt, (tt, refl))))))) };
-  spawn_before_turns = spawns_by reload_script over_before (omega arith, tt);
-  turns_follow = over_turns;
-  released_unnamed = over_releases;
-  lingers_told = lingers_by reload_script over_before (tt, (tt, (tt, (tt, (tt, (tt, (tt, tt)))))));
-  purged_unnamed = over_drops;
-  nothing_retired = refl;
-  complete = complete_by reload_script reload_journal (turns 1 2) [] Normal (record { target = refl; args = refl }, tt) (omega arith, tt);
-}
-
--- a release beneath a process breaks its clause
-pub released_beneath_broken : ReleasedUnnamed reload_script released_beneath → ⊥
-unfolding turns_of run_of marks_in after_turns
-released_beneath_broken h = true≢false (h 5 1 0 _ _ refl refl refl).frames

@@ -1,202 +1,48 @@
--- How a journal grows by an entry: the states of its generations stay, and the state after it is that of the newest.
-use Rattle.std.proofs.Common.{◌≡◌, ℕ, zero, suc, ◌+◌, ◌<◌, ◌≤◌, ◌==◌, Bool, true, false, cond, List, [], ◌∷◌, ◌++◌, length, length-append, Option, Some, None, is_some, is_none, ◌&&◌, option_map, if◌then◌else◌, refl, sym, ap, subst, ◌∙◌, arith, nat_lt}
+-- How a journal grows by an entry: the states of its generations stay, and the state after it is that of the newest but for what was released since.
+use Rattle.std.proofs.Common.{◌≡◌, ℕ, zero, suc, ◌+◌, ◌<◌, ◌≤◌, ◌==◌, Bool, true, false, cond, List, [], ◌∷◌, ◌++◌, length, length-append, Option, Some, is_some, ◌&&◌, if◌then◌else◌, refl, sym, ap, subst, ◌∙◌, arith}
 use Rattle.std.proofs.lemmas.Bool.{cond_both, cond-true, cond-false, eqb-true, eqb-false, eq-eqb}
 use Rattle.std.proofs.lemmas.List.{append-nil}
 use Rattle.std.proofs.lemmas.Grind.{flat_map-append}
 use Rattle.std.proofs.lemmas.List.Elements.{filter-append}
-use Rattle.std.specs.Bool.{beq}
 use Rattle.std.specs.List.{flat_map}
 use Rattle.std.proofs.lemmas.List.Sums.{sum-map, sum_by-cons}
-use Rattle.std.proofs.lemmas.Option.{none-some}
-use Rattle.term_core.specs.declared.atom.AtomId.{AtomId}
 use Rattle.mod_core.specs.declared.code.Module.{Module}
-use Rattle.server_core.specs.declared.command.TheConstants.{MOST_INSTANCES}
 use Rattle.server_core.specs.declared.command.Cmd.{Cmd}
-use Rattle.server_core.specs.declared.command.Cmd.TheVariants.{Load, Delete, SoftPurge, Doom, Purge, CheckOld, Trace, Spawn, Release}
-use Rattle.server_core.specs.declared.command.Limit.TheVariants.{Instances}
-use Rattle.server_core.specs.declared.command.ModRef.{ModRef}
-use Rattle.server_core.specs.declared.command.Reply.{Reply}
-use Rattle.server_core.specs.declared.command.Reply.TheVariants as replies
-use Rattle.server_core.specs.declared.command.Linger.{Linger}
-use Rattle.server_core.specs.ServerState.{ServerState, Entry as Function, Instance, code_among, code_of, current_of, is_doomed, is_retired, is_traced, live_count, old_of, traceable_of}
-use Rattle.server_core.specs.CommandTable.{Outcome, apply_of, admitted, answered, delete_of, doom_of, load_of, loaded, names_of, not_purged, published, purge_of, release_of, repeated_after, soft_purge_of, texts_of, trace_of, unchanged, while_none_doomed, with_all, with_deleted, with_dropped, with_loaded, with_purged, with_released, with_trace}
+use Rattle.server_core.specs.declared.command.Cmd.TheVariants.{Load, Delete, SoftPurge, Doom, Purge, CheckOld, Put, Erase, Trace, Spawn, Release}
+use Rattle.server_core.specs.ServerState.{ServerState}
+use Rattle.server_core.specs.CommandTable.{Outcome, apply_of}
 use Rattle.machine_core.proofs.TurnLaws.{HasInstances}
 use Rattle.run_log.specs.declared.logs.Entry.{Entry}
 use Rattle.run_log.specs.Journal.{state_after, next_state, newest_state, state_at, publishes, published_count, is_of, ends_one, ends_command, entries_of, published_before}
 use Rattle.run_log.specs.Legal.{EntryFollows, HalfPurge, MayStand, PurgesGo, Replays, commands_in, ended_by, half_after, is_release, is_runtime}
 use Rattle.run_log.proofs.StatesForTurns.{for_turns}
-
--- an outcome leaves the state as turns see it and publishes nothing, or makes the next generation, and keeps each instance
-pub data IsStep (s : ServerState) (o : Outcome) : Type 0 where
-  stays : for_turns o.state ≡ for_turns s → o.answer.published ≡ None → IsStep s o
-  publishes_next : o.state.generation ≡ s.generation + 1 → o.answer.published ≡ Some (s.generation + 1) → HasInstances s o.state → IsStep s o
-
-choice_some : (b : Bool) (x : Module) (o p : Option Module) (m : Module) → (o ≡ Some m → p ≡ Some m) → (if b then Some x else o) ≡ Some m → (if b then Some x else p) ≡ Some m
-choice_some true x o p m f h = h
-choice_some false x o p m f h = f h
-
-code_before : (before more : List Instance) (serial : ℕ) (m : Module) → code_among before serial ≡ Some m → code_among (before ++ more) serial ≡ Some m
-code_before [] more serial m h = absurd (none-some m h)
-code_before (i ∷ is) more serial m h = choice_some (i.serial == serial) i.code (code_among is serial) (code_among (is ++ more) serial) m (code_before is more serial m) h
-
-loaded_stays : (s : ServerState) (m : Module) → HasInstances s (with_loaded s m)
-loaded_stays s m serial n h = code_before s.instances _ serial n h
-
-all_stay : (s : ServerState) (modules : List Module) → HasInstances s (with_all s modules)
-all_stay s [] serial m h = h
-all_stay s (m ∷ ms) serial n h = all_stay (with_loaded s m) ms serial n (loaded_stays s m serial n h)
-
--- the modules that come in make no generation by themselves
-with_all_generation : (s : ServerState) (modules : List Module) → (with_all s modules).generation ≡ s.generation
-with_all_generation s [] = refl
-with_all_generation s (m ∷ ms) = with_all_generation (with_loaded s m) ms
-
-choice_step : (s : ServerState) (b : Bool) (x y : Outcome) → IsStep s x → IsStep s y → IsStep s (if b then x else y)
-choice_step s true x y p q = p
-choice_step s false x y p q = q
-
-admitted_step : (s : ServerState) (refs : List ModRef) (modules : List Module) → IsStep s (admitted s refs modules)
-admitted_step s refs modules =
-    let come_in = published (with_all s modules) replies.Ok in
-    let many = unchanged s (replies.SystemLimit Instances) in
-    let old = unchanged s (replies.NotPurged (not_purged s refs)) in
-    choice_step s (nat_lt 0 (length (not_purged s refs))) old (if nat_lt MOST_INSTANCES (live_count s.versions + length refs) then many else come_in) (stays refl refl)
-    (choice_step s (nat_lt MOST_INSTANCES (live_count s.versions + length refs)) many come_in (stays refl refl)
-    (publishes_next (ap (λ n. n + 1) (with_all_generation s modules)) (ap (λ n. Some (n + 1)) (with_all_generation s modules)) (all_stay s modules)))
-
-loaded_step : (s : ServerState) (refs : List ModRef) (modules : List Module) (name : Option AtomId) → IsStep s (loaded s refs modules name)
-loaded_step s refs modules None = admitted_step s refs modules
-loaded_step s refs modules (Some name) = stays refl refl
-
--- what a command gives is a step, if it gives anything
-abbrev pub StepIn : ServerState → Option Outcome → Type 0
-StepIn s None = Unit {0}
-StepIn s (Some o) = IsStep s o
-
-mapped_step : (s : ServerState) (f : List Module → Outcome) (o : Option (List Module)) → ((modules : List Module) → IsStep s (f modules)) → StepIn s (option_map f o)
-mapped_step s f None h = tt
-mapped_step s f (Some modules) h = h modules
-
--- where an instance is doomed a command may have no case
-none_doomed_step : (s : ServerState) (b : Bool) (o : Option Outcome) → StepIn s o → StepIn s (if b then None else o)
-none_doomed_step s true o h = tt
-none_doomed_step s false o h = h
-
--- a load
-pub load_step : (texts : List Module) (s : ServerState) (refs : List ModRef) → StepIn s (load_of texts s refs)
-load_step texts s refs = mapped_step s _ (texts_of texts refs) (λ modules. loaded_step s refs modules (repeated_after [] (names_of refs)))
-
--- the instances stay where the state changes in other ways
-same_instances : (s t : ServerState) → t.instances ≡ s.instances → HasInstances s t
-same_instances s t e serial m h = ap (λ is. code_among is serial) e ∙ h
-
--- a state with the same instances becomes the next generation
-next_step : (s t : ServerState) (reply : Reply) → t.generation ≡ s.generation → t.instances ≡ s.instances → IsStep s (published t reply)
-next_step s t reply g e = publishes_next (ap (λ n. n + 1) g) (ap (λ n. Some (n + 1)) g) (same_instances s (published t reply).state e)
-
--- a delete
-delete_step : (s : ServerState) (name : ℕ) → IsStep s (delete_of s name)
-delete_step s name =
-    let same = unchanged s replies.False in
-    let next = published (with_deleted s name) replies.True in
-    choice_step s (is_some (old_of s name)) same (if is_none (current_of s name) then same else next) (stays refl refl)
-    (choice_step s (is_none (current_of s name)) same next (stays refl refl) (next_step s (with_deleted s name) replies.True refl refl))
-
--- a soft purge
-soft_purge_step : (s : ServerState) (name : ℕ) (lingers : Option Linger) (old : Option ℕ) → StepIn s (soft_purge_of s name lingers old)
-soft_purge_step s name None None = stays refl refl
-soft_purge_step s name None (Some serial) = next_step s (with_dropped s name serial) replies.True refl refl
-soft_purge_step s name (Some linger) None = tt
-soft_purge_step s name (Some linger) (Some serial) = stays refl refl
-
--- the first half of a purge
-doom_step : (s : ServerState) (old : Option ℕ) → StepIn s (doom_of s old)
-doom_step s None = tt
-doom_step s (Some serial) = next_step s (record s { doomed = s.doomed ++ serial ∷ [] }) replies.Ok refl refl
-
-alone_step : (s : ServerState) (killed : Bool) (o : Option Outcome) → StepIn s o → StepIn s (if killed then None else o)
-alone_step s true o h = tt
-alone_step s false o h = h
-
-doomed_step : (s : ServerState) (b : Bool) (o : Outcome) → IsStep s o → StepIn s (if b then Some o else None)
-doomed_step s true o h = h
-doomed_step s false o h = tt
-
--- a purge
-purge_step : (s : ServerState) (name : ℕ) (killed : Bool) (old : Option ℕ) → StepIn s (purge_of s name killed old)
-purge_step s name killed None =
-    let same = Some (unchanged s replies.False) in
-    alone_step s killed (while_none_doomed s same) (none_doomed_step s (nat_lt 0 (length s.doomed)) same (stays refl refl))
-purge_step s name killed (Some serial) =
-    doomed_step s (is_doomed s serial) (published (with_purged s name serial) (answered killed)) (next_step s (with_purged s name serial) (answered killed) refl refl)
-
--- a trace
-trace_step : (s : ServerState) (on : Bool) (at : Option Function) → IsStep s (trace_of s on at)
-trace_step s on None = stays refl refl
-trace_step s on (Some at) =
-    choice_step s (beq (is_traced s at) on) (unchanged s replies.True) (published (with_trace s at on) replies.True) (stays refl refl) (next_step s (with_trace s at on) replies.True refl refl)
-
--- a release
-release_step : (s : ServerState) (serial : ℕ) → StepIn s (release_of s serial)
-release_step s serial = doomed_step s (is_retired s serial) (unchanged (with_released s serial) replies.Ok) (stays refl refl)
-
-pub step_in : (texts : List Module) (s : ServerState) (cmd : Cmd) → StepIn s (apply_of texts s cmd)
-step_in texts s (Load refs) = none_doomed_step s (nat_lt 0 (length s.doomed)) (load_of texts s refs) (load_step texts s refs)
-step_in texts s (Delete name) = none_doomed_step s (nat_lt 0 (length s.doomed)) (Some (delete_of s name.0)) (delete_step s name.0)
-step_in texts s (SoftPurge name lingers) =
-    none_doomed_step s (nat_lt 0 (length s.doomed)) (soft_purge_of s name.0 lingers (old_of s name.0)) (soft_purge_step s name.0 lingers (old_of s name.0))
-step_in texts s (Doom name) = none_doomed_step s (nat_lt 0 (length s.doomed)) (doom_of s (old_of s name.0)) (doom_step s (old_of s name.0))
-step_in texts s (Purge name killed) = purge_step s name.0 killed (old_of s name.0)
-step_in texts s (CheckOld name) = stays refl refl
-step_in texts s (Trace target on) = none_doomed_step s (nat_lt 0 (length s.doomed)) (Some (trace_of s on (traceable_of s target))) (trace_step s on (traceable_of s target))
-step_in texts s (Spawn target args) = stays refl refl
-step_in texts s (Release serial) = release_step s serial
-
--- a state after a command: the same as turns see it, or one of the next generation
-pub data IsNext (s t : ServerState) : Type 0 where
-  same : for_turns t ≡ for_turns s → IsNext s t
-  next : t.generation ≡ s.generation + 1 → HasInstances s t → IsNext s t
-
-step_next : (s : ServerState) (o : Option Outcome) → StepIn s o → IsNext s (state_after s o)
-step_next s None h = same refl
-step_next s (Some o) (stays p q) = same p
-step_next s (Some o) (publishes_next p q k) = next p k
-
-pub next_is : (texts : List Module) (s : ServerState) (cmd : Cmd) → IsNext s (next_state texts s cmd)
-next_is texts s cmd = step_next s (apply_of texts s cmd) (step_in texts s cmd)
-
-next_bounds : (s t : ServerState) → IsNext s t → (s.generation ≤ t.generation) × (t.generation ≤ s.generation + 1)
-next_bounds s t (same e) = let g : t.generation ≡ s.generation = ap (λ x. x.generation) e in (omega arith, omega arith)
-next_bounds s t (next g k) = (omega arith, omega arith)
-
-next_stays : (s t : ServerState) → IsNext s t → HasInstances s t
-next_stays s t (same e) serial m h = ap (λ x. code_of x serial) e ∙ h
-next_stays s t (next g k) serial m h = k serial m h
+use Rattle.run_log.proofs.Steps.{IsNext, IsStep, StepIn, left_alone, next_bounds, next_generation, next_is, next_stays, publishes_next, releases, stays, step_in, without_area}
 
 -- a command leaves the generation or makes the next one
 pub never_falls : (texts : List Module) (s : ServerState) (cmd : Cmd) → s.generation ≤ (next_state texts s cmd).generation
-never_falls texts s cmd = (next_bounds s (next_state texts s cmd) (next_is texts s cmd)).0
+never_falls texts s cmd = (next_bounds s (next_state texts s cmd) cmd (next_is texts s cmd)).0
 
 -- a command keeps the instances
 pub instances_stay : (texts : List Module) (s : ServerState) (cmd : Cmd) → HasInstances s (next_state texts s cmd)
-instances_stay texts s cmd = next_stays s (next_state texts s cmd) (next_is texts s cmd)
+instances_stay texts s cmd = next_stays s (next_state texts s cmd) cmd (next_is texts s cmd)
 
 -- generations never fall
 pub later : (texts : List Module) (s : ServerState) (journal : List Entry) → s.generation ≤ (newest_state texts s journal).generation
 later texts s [] = omega arith
-later texts s (e ∷ journal) = omega (arith, (next_bounds s (next_state texts s e.cmd) (next_is texts s e.cmd)).0, later texts (next_state texts s e.cmd) journal)
+later texts s (e ∷ journal) = omega (arith, never_falls texts s e.cmd, later texts (next_state texts s e.cmd) journal)
 
-same_behind : (texts : List Module) (s t : ServerState) (journal : List Entry) → IsNext s t → (newest_state texts t journal).generation ≡ s.generation
+same_behind : (texts : List Module) (s t : ServerState) (cmd : Cmd) (journal : List Entry) → IsNext s cmd t → (newest_state texts t journal).generation ≡ s.generation
     → ((newest_state texts t journal).generation ≡ t.generation → for_turns (newest_state texts t journal) ≡ for_turns t) → for_turns (newest_state texts t journal) ≡ for_turns s
-same_behind texts s t journal (same e) h rest = rest (h ∙ sym (ap (λ x. x.generation) e)) ∙ e
-same_behind texts s t journal (next g k) h rest = absurd (omega (arith, g, h, later texts t journal))
+same_behind texts s t cmd journal (left_alone e) h rest = rest (h ∙ sym (ap (λ x. x.generation) e)) ∙ ap for_turns e
+same_behind texts s t cmd journal (without_area serial is e) h rest = rest (h ∙ sym (ap (λ x. x.generation) e)) ∙ ap for_turns e
+same_behind texts s t cmd journal (next_generation g k more) h rest = absurd (omega (arith, g, h, later texts t journal))
 
--- where no generation was made, turns see the state before
+-- where no generation was made, turns see the state before but for what is retired
 pub same_state : (texts : List Module) (s : ServerState) (journal : List Entry) → (newest_state texts s journal).generation ≡ s.generation → for_turns (newest_state texts s journal) ≡ for_turns s
 same_state texts s [] h = refl
-same_state texts s (e ∷ journal) h = same_behind texts s (next_state texts s e.cmd) journal (next_is texts s e.cmd) h (same_state texts (next_state texts s e.cmd) journal)
+same_state texts s (e ∷ journal) h = same_behind texts s (next_state texts s e.cmd) e.cmd journal (next_is texts s e.cmd) h (same_state texts (next_state texts s e.cmd) journal)
 
--- turns see the newest generation's state as the one after the whole journal: what was released since does not count for them
+-- the newest generation's state is the one after the whole journal, but for what is retired and released
 pub newest_at : (texts : List Module) (s : ServerState) (journal : List Entry) → for_turns (state_at texts s journal (newest_state texts s journal).generation) ≡ for_turns (newest_state texts s journal)
 newest_at texts s [] = refl
 newest_at texts s (e ∷ journal) =
@@ -217,7 +63,7 @@ state_kept texts s [] e k low high = cond-true (s.generation == k) s (next_state
 state_kept texts s (x ∷ journal) e k low high =
     let t = next_state texts s x.cmd in
     same_choice (s.generation == k) s (state_at texts t (journal ++ e ∷ []) k) (state_at texts t journal k)
-    (λ h. let other = eqb-false s.generation k h in state_kept texts t journal e k (omega (arith, low, other, (next_bounds s t (next_is texts s x.cmd)).1)) high)
+    (λ h. let other = eqb-false s.generation k h in state_kept texts t journal e k (omega (arith, low, other, (next_bounds s t x.cmd (next_is texts s x.cmd)).1)) high)
 
 pub newest_more : (texts : List Module) (s : ServerState) (journal : List Entry) (e : Entry) → newest_state texts s (journal ++ e ∷ []) ≡ next_state texts (newest_state texts s journal) e.cmd
 newest_more texts s [] e = refl
@@ -239,18 +85,22 @@ pub entry_follows : (texts : List Module) (s : ServerState) (e : Entry) (t : Ser
     → apply_of texts s e.cmd ≡ Some (record { state = t; answer = record { reply = e.reply; published = e.published } }) → EntryFollows texts s e
 entry_follows texts s e t by h = record { by_whom = by; applied = h ∙ ap (λ (x : ServerState). Some (record { state = x; answer = record { reply = e.reply; published = e.published } })) (sym (ap (state_after s) h)) }
 
-counted_step : (s : ServerState) (o : Outcome) → IsStep s o → count_of o.answer.published + s.generation ≡ o.state.generation
-counted_step s o (stays p q) =
+counted_step : (s : ServerState) (cmd : Cmd) (o : Outcome) → IsStep s cmd o → count_of o.answer.published + s.generation ≡ o.state.generation
+counted_step s cmd o (stays p q) =
     let n : count_of o.answer.published ≡ 0 = ap count_of q in
     let g : o.state.generation ≡ s.generation = ap (λ x. x.generation) p in
     omega (arith, n, g)
-counted_step s o (publishes_next p q k) =
+counted_step s cmd o (releases serial is p q) =
+    let n : count_of o.answer.published ≡ 0 = ap count_of q in
+    let g : o.state.generation ≡ s.generation = ap (λ x. x.generation) p in
+    omega (arith, n, g)
+counted_step s cmd o (publishes_next p q k more) =
     let n : count_of o.answer.published ≡ 1 = ap count_of q in
     omega (arith, n, p)
 
 -- an entry that follows counts the generation that it makes
 entry_counted : (texts : List Module) (s : ServerState) (e : Entry) → EntryFollows texts s e → publishes e + s.generation ≡ (next_state texts s e.cmd).generation
-entry_counted texts s e f = counted_step s (record { state = next_state texts s e.cmd; answer = record { reply = e.reply; published = e.published } }) (subst (StepIn s) f.applied (step_in texts s e.cmd))
+entry_counted texts s e f = counted_step s e.cmd (record { state = next_state texts s e.cmd; answer = record { reply = e.reply; published = e.published } }) (subst (StepIn s e.cmd) f.applied (step_in texts s e.cmd))
 
 -- a replayed journal has made as many generations as its entries published
 pub counted : (texts : List Module) (s : ServerState) (journal : List Entry) → Replays texts s journal → published_count journal + s.generation ≡ (newest_state texts s journal).generation
@@ -288,6 +138,8 @@ ended_length (SoftPurge name lingers) = refl
 ended_length (Doom name) = refl
 ended_length (Purge name killed) = refl
 ended_length (CheckOld name) = refl
+ended_length (Put key term) = refl
+ended_length (Erase key) = refl
 ended_length (Trace target on) = refl
 ended_length (Spawn target args) = refl
 ended_length (Release serial) = refl

@@ -1,6 +1,9 @@
 pub mod RenderingText
 pub mod StatesForTurns
+pub mod Steps
 pub mod Journals
+pub mod AreaWords
+pub mod Releases
 pub mod TurnRuns
 pub mod SpanRuns
 pub mod Marks
@@ -9,6 +12,7 @@ pub mod FirstLegal
 pub mod Clauses
 pub mod ExampleParts
 pub mod ExamplePurges
+pub mod ExampleReleases
 pub mod ExampleLingers
 pub mod ExampleSpawns
 pub mod ExampleOrders

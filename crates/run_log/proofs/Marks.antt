@@ -12,13 +12,12 @@ use Rattle.machine_core.specs.declared.process.TurnEnd.{TurnEnd}
 use Rattle.machine_core.specs.declared.process.TurnEnd.TheVariants.{Again, Ended}
 use Rattle.machine_core.specs.Process.{PlainProcess}
 use Rattle.machine_core.specs.Turn.{Turn, turn_of}
-use Rattle.machine_core.proofs.TurnLaws.{limit_ends, turn_counts}
+use Rattle.machine_core.proofs.TurnLaws.{limit_ends, turn_counts, turn_ended}
 use Rattle.run_log.specs.declared.logs.Entry.{Entry}
 use Rattle.run_log.specs.declared.logs.Span.{Span}
 use Rattle.run_log.specs.Journal.{newest_state, state_at}
 use Rattle.run_log.specs.Legal.{Mark, SpansFollow, SpansGo, after_turn, after_turns, last_up_to, marks_in, marks_of, process_after, turns_of}
 use Rattle.run_log.proofs.Journals.{state_kept}
-use Rattle.run_log.proofs.StatesForTurns.{turn_ended}
 use Rattle.run_log.proofs.TurnRuns.{ended_again, some_turn}
 use Rattle.run_log.proofs.SpanRuns.{some_and}
 

@@ -1,8 +1,14 @@
 -- Small scripts, each with a log that is lawful for it, and beside that logs that break one clause.
 -- Source: worked out by hand from the command table and the machine; a process here enters m:main/0, yields, and returns in its second turn.
-use Rattle.std.specs.Prelude.{◌≡◌, ℕ, Bool, true, false, List, [], ◌∷◌, ◌++◌, Some, None}
+-- Areas are numbered from 1 in the order in which they come in.
+use Rattle.std.specs.Prelude.{◌≡◌, ℕ, pos, Bool, true, false, List, [], ◌∷◌, ◌++◌, Some, None, codes}
+use Rattle.term_core.specs.declared.atom.AtomId.{AtomId}
+use Rattle.term_core.specs.declared.term.Term.{Term}
+use Rattle.term_core.specs.declared.term.Term.TheVariants.{Int, Tuple}
+use Rattle.term_core.specs.PlainTerm.{integer_leaf}
+use Rattle.mod_core.specs.declared.code.Operand.TheVariants.{Reg}
 use Rattle.mod_core.specs.declared.code.Instr.{Instr}
-use Rattle.mod_core.specs.declared.code.Instr.TheVariants.{Yield}
+use Rattle.mod_core.specs.declared.code.Instr.TheVariants.{Pget, Print, Yield}
 use Rattle.mod_core.specs.declared.code.Module.{Module}
 use Rattle.server_core.specs.declared.command.ModRef.{ModRef}
 use Rattle.server_core.specs.declared.command.Linger.{Linger}
@@ -107,7 +113,7 @@ purged loader killed generation = made loader (cmds.Purge m_atom killed) (answer
 abbrev pub nothing_purged : ℕ → Entry
 nothing_purged loader = told loader (cmds.Purge m_atom false) replies.False
 
--- instance 1 is given back
+-- area 1 is given back
 abbrev pub given_back : Entry
 given_back = record { who = Runtime; cmd = cmds.Release 1; reply = replies.Ok; published = None }
 
@@ -183,16 +189,45 @@ untold_process = log_alone (purge_journal false)
 abbrev pub reload_script : Script
 reload_script = script_of (Yield ∷ []) ((load_line ∷ spawn_line ∷ delete_line ∷ purge_line ∷ load_line ∷ []) ∷ [])
 
-abbrev pub reload_journal : List Entry
-reload_journal = to_purge false ++ given_back ∷ load_made 5 ∷ []
-
--- the process was over before the release: lawful
-abbrev pub over_before : RunLog
-over_before = log_of reload_journal (turns 1 2 ∷ []) Normal
-
 -- the process still stood in the instance; so did it when that was dropped
 abbrev pub released_beneath : RunLog
-released_beneath = log_of reload_journal (turns 1 1 ∷ turns 5 1 ∷ []) Normal
+released_beneath = log_of (to_purge false ++ given_back ∷ load_made 5 ∷ []) (turns 1 1 ∷ turns 5 1 ∷ []) Normal
+
+-- A literal: a process reads a tuple under a key, then the key is erased, and a further put makes a generation for the process's second turn.
+abbrev pub k_atom : AtomId
+k_atom = record { 0 = 5 }
+
+abbrev pub z_atom : AtomId
+z_atom = record { 0 = 6 }
+
+abbrev pub pair : Term
+pair = Tuple (integer_leaf (pos 1) ∷ integer_leaf (pos 2) ∷ [])
+
+abbrev pub literal_script : Script
+literal_script = record {
+  names = first_names ++ codes "k" ∷ codes "z" ∷ [];
+  modules = module_of (Pget k_atom 0 ∷ Yield ∷ Print (Reg 0) ∷ []) ∷ [];
+  loaders = (script.Put k_atom pair ∷ load_line ∷ spawn_line ∷ script.Erase k_atom ∷ script.Put z_atom (Int (pos 1)) ∷ []) ∷ [];
+}
+
+-- the tuple is area 1; the erase retires it
+abbrev pub to_erase : List Entry
+to_erase = made 0 (cmds.Put k_atom pair) replies.Ok 1 ∷ load_made 2 ∷ spawned ∷ made 0 (cmds.Erase k_atom) replies.True 3 ∷ []
+
+abbrev pub other_put : Entry
+other_put = made 0 (cmds.Put z_atom (Int (pos 1))) replies.Ok 4
+
+-- the process reads the tuple before the erase, and shows it in a turn after the put
+abbrev pub shown_late : List Span
+shown_late = turns 2 1 ∷ record { generation = 4; turns = 1; lines = lines.Print pair ∷ [] } ∷ []
+
+-- the area goes after that turn: lawful
+abbrev pub released_late : RunLog
+released_late = log_of (to_erase ++ other_put ∷ given_back ∷ []) shown_late Normal
+
+-- the area goes while the process still names it
+abbrev pub released_early : RunLog
+released_early = log_of (to_erase ++ given_back ∷ other_put ∷ []) shown_late Normal
 
 -- A soft purge that finds a process in the old code.
 abbrev pub linger_script : Script

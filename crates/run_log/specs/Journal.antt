@@ -3,7 +3,7 @@
 use Rattle.std.specs.Prelude.{ℕ, zero, suc, ◌+◌, Bool, true, false, ◌&&◌, ◌==◌, List, [], ◌∷◌, map, filter, sum, Option, Some, None, is_some, if◌then◌else◌}
 use Rattle.mod_core.specs.declared.code.Module.{Module}
 use Rattle.server_core.specs.declared.command.Cmd.{Cmd}
-use Rattle.server_core.specs.declared.command.Cmd.TheVariants.{Load, Delete, SoftPurge, Doom, Purge, CheckOld, Trace, Spawn, Release}
+use Rattle.server_core.specs.declared.command.Cmd.TheVariants.{Load, Delete, SoftPurge, Doom, Purge, CheckOld, Put, Erase, Trace, Spawn, Release}
 use Rattle.server_core.specs.ServerState.{ServerState}
 use Rattle.server_core.specs.CommandTable.{Outcome, apply_of}
 use Rattle.run_log.specs.declared.logs.Who.{Who}
@@ -54,6 +54,8 @@ ends_one (SoftPurge name lingers) = true
 ends_one (Doom name) = false
 ends_one (Purge name killed) = true
 ends_one (CheckOld name) = true
+ends_one (Put key term) = true
+ends_one (Erase key) = true
 ends_one (Trace target on) = true
 ends_one (Spawn target args) = true
 ends_one (Release serial) = false

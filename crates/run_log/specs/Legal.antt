@@ -1,5 +1,5 @@
 -- Which logs are lawful for a script: those of a history of one code server.
--- Source: this project's profile, as the sequential reading of erts internal documentation, CodeLoading.
+-- Source: this project's profile, as the sequential reading of erts internal documentation, CodeLoading, and of the manual page `persistent_term`.
 -- The definition replays the journal and the turns; the run keeps one server and its processes.
 use Rattle.std.specs.Prelude.{◌≡◌, ◌≢◌, ℕ, zero, suc, ◌+◌, ◌≤◌, ◌==◌, nat_le, Bool, true, false, List, [], ◌∷◌, ◌++◌, length, take, slice_get, Option, Some, None, is_some, IfSome, IsSomeAnd, unwrap_or, All, if◌then◌else◌}
 use Rattle.std.specs.List.{flat_map, list_any}
@@ -44,6 +44,8 @@ is_release (cmds.SoftPurge name lingers) = false
 is_release (cmds.Doom name) = false
 is_release (cmds.Purge name killed) = false
 is_release (cmds.CheckOld name) = false
+is_release (cmds.Put key term) = false
+is_release (cmds.Erase key) = false
 is_release (cmds.Trace target on) = false
 is_release (cmds.Spawn target args) = false
 is_release (cmds.Release serial) = true
@@ -71,6 +73,8 @@ ended_by (cmds.SoftPurge name lingers) = script.SoftPurge name ∷ []
 ended_by (cmds.Doom name) = []
 ended_by (cmds.Purge name killed) = script.Purge name ∷ []
 ended_by (cmds.CheckOld name) = script.CheckOld name ∷ []
+ended_by (cmds.Put key term) = script.Put key term ∷ []
+ended_by (cmds.Erase key) = script.Erase key ∷ []
 ended_by (cmds.Trace target on) = script.Trace target on ∷ []
 ended_by (cmds.Spawn target args) = script.Spawn target args ∷ []
 ended_by (cmds.Release serial) = []
@@ -92,6 +96,8 @@ MayStart s (cmds.SoftPurge name lingers) = Unit {0}
 MayStart s (cmds.Doom name) = Unit {0}
 MayStart s (cmds.Purge name killed) = old_of s name.0 ≡ None
 MayStart s (cmds.CheckOld name) = Unit {0}
+MayStart s (cmds.Put key term) = Unit {0}
+MayStart s (cmds.Erase key) = Unit {0}
 MayStart s (cmds.Trace target on) = Unit {0}
 MayStart s (cmds.Spawn target args) = Unit {0}
 MayStart s (cmds.Release serial) = Unit {0}
@@ -104,6 +110,8 @@ MayStandBetween half who (cmds.SoftPurge name lingers) = ⊥
 MayStandBetween half who (cmds.Doom name) = ⊥
 MayStandBetween half who (cmds.Purge name killed) = (who ≡ half.who) × (name ≡ half.name)
 MayStandBetween half who (cmds.CheckOld name) = who ≢ half.who
+MayStandBetween half who (cmds.Put key term) = ⊥
+MayStandBetween half who (cmds.Erase key) = ⊥
 MayStandBetween half who (cmds.Trace target on) = ⊥
 MayStandBetween half who (cmds.Spawn target args) = who ≢ half.who
 MayStandBetween half who (cmds.Release serial) = who ≢ half.who
@@ -116,6 +124,8 @@ half_after half who (cmds.SoftPurge name lingers) = half
 half_after half who (cmds.Doom name) = Some (record { who = who; name = name })
 half_after half who (cmds.Purge name killed) = None
 half_after half who (cmds.CheckOld name) = half
+half_after half who (cmds.Put key term) = half
+half_after half who (cmds.Erase key) = half
 half_after half who (cmds.Trace target on) = half
 half_after half who (cmds.Spawn target args) = half
 half_after half who (cmds.Release serial) = half
@@ -152,6 +162,8 @@ spawns_from loader place (script.Delete name ∷ cmds) = spawns_from loader (suc
 spawns_from loader place (script.SoftPurge name ∷ cmds) = spawns_from loader (suc place) cmds
 spawns_from loader place (script.Purge name ∷ cmds) = spawns_from loader (suc place) cmds
 spawns_from loader place (script.CheckOld name ∷ cmds) = spawns_from loader (suc place) cmds
+spawns_from loader place (script.Put key term ∷ cmds) = spawns_from loader (suc place) cmds
+spawns_from loader place (script.Erase key ∷ cmds) = spawns_from loader (suc place) cmds
 spawns_from loader place (script.Trace target on ∷ cmds) = spawns_from loader (suc place) cmds
 spawns_from loader place (script.Spawn target args ∷ cmds) = record { loader = loader; place = place; target = target; args = args } ∷ spawns_from loader (suc place) cmds
 
@@ -287,6 +299,8 @@ dropped_by s (cmds.SoftPurge name (Some linger)) = None
 dropped_by s (cmds.Doom name) = None
 dropped_by s (cmds.Purge name killed) = old_of s name.0
 dropped_by s (cmds.CheckOld name) = None
+dropped_by s (cmds.Put key term) = None
+dropped_by s (cmds.Erase key) = None
 dropped_by s (cmds.Trace target on) = None
 dropped_by s (cmds.Spawn target args) = None
 dropped_by s (cmds.Release serial) = None

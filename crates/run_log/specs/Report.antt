@@ -9,9 +9,9 @@ use Rattle.term_core.specs.TermText.{atom_text, term_text}
 use Rattle.term_core.specs.Written.{written}
 use Rattle.server_core.specs.declared.command.ModRef.{ModRef}
 use Rattle.server_core.specs.declared.command.Cmd.{Cmd}
-use Rattle.server_core.specs.declared.command.Cmd.TheVariants.{Load, Delete, SoftPurge, Doom, Purge, CheckOld, Trace, Spawn, Release}
+use Rattle.server_core.specs.declared.command.Cmd.TheVariants.{Load, Delete, SoftPurge, Doom, Purge, CheckOld, Put, Erase, Trace, Spawn, Release}
 use Rattle.server_core.specs.declared.command.Limit.{Limit}
-use Rattle.server_core.specs.declared.command.Limit.TheVariants.{Instances}
+use Rattle.server_core.specs.declared.command.Limit.TheVariants.{Instances, Keys, Areas}
 use Rattle.server_core.specs.declared.command.Reply.{Reply}
 use Rattle.server_core.specs.declared.command.Reply.TheVariants as replies
 use Rattle.machine_core.specs.declared.process.Line.{Line}
@@ -64,6 +64,8 @@ cmd_text names (SoftPurge name lingers) = codes "soft_purge " ++ atom_text names
 cmd_text names (Doom name) = codes "doom " ++ atom_text names name.0
 cmd_text names (Purge name killed) = codes "purge " ++ atom_text names name.0
 cmd_text names (CheckOld name) = codes "check_old " ++ atom_text names name.0
+cmd_text names (Put key term) = codes "put " ++ atom_text names key.0 ++ 32 ∷ term_text names term
+cmd_text names (Erase key) = codes "erase " ++ atom_text names key.0
 cmd_text names (Trace target on) = codes "trace " ++ mfa_text names target ++ 32 ∷ switch_text on
 cmd_text names (Spawn target args) = codes "spawn " ++ call_text names target args
 cmd_text names (Release serial) = codes "release " ++ decimal serial
@@ -71,6 +73,8 @@ cmd_text names (Release serial) = codes "release " ++ decimal serial
 -- the word of a limit
 abbrev pub limit_text : Limit → List ℕ
 limit_text Instances = codes "instances"
+limit_text Keys = codes "keys"
+limit_text Areas = codes "areas"
 
 -- a reply
 abbrev pub reply_text : List (List ℕ) → Reply → List ℕ

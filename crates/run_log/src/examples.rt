@@ -1,6 +1,6 @@
 ghost use Rattle.server_core.specs.ServerState.{empty_state};
 ghost use Rattle.run_log.specs.Legal.{Legal, LoadersInOrder, ReleasedUnnamed, Replays};
-ghost use Rattle.run_log.specs.Examples.{BreaksAlone, InComplete, InLingers, InOrder, InPurges, InReplay, InRetired, InSpawns, InTurns, again_script, back_by_loader, dropped_beneath, each_its_own, early_turn, goes_on_doomed, gone_before, kept_retired, killed_log, linger_script, lingers_log, load_after, load_between, look_between, look_first, look_script, no_turn, other_process, other_reply, other_turn, over_before, purge_of_other, purge_script, released_beneath, reload_script, rivals_script, said_no_kill, spared_log, trace_script, traced_log, unpublished_turn, unsaid_kill, untold_call, untold_process};
+ghost use Rattle.run_log.specs.Examples.{BreaksAlone, InComplete, InLingers, InOrder, InPurges, InReleases, InReplay, InRetired, InSpawns, InTurns, again_script, back_by_loader, dropped_beneath, each_its_own, early_turn, goes_on_doomed, gone_before, kept_retired, killed_log, linger_script, lingers_log, literal_script, load_after, load_between, look_between, look_first, look_script, no_turn, other_process, other_reply, other_turn, purge_of_other, purge_script, released_beneath, released_early, released_late, reload_script, rivals_script, said_no_kill, spared_log, trace_script, traced_log, unpublished_turn, unsaid_kill, untold_call, untold_process};
 
 /// A purge tells whether it killed, drops code beneath no process, and is followed by a release.
 pub fn purges_tell_and_drop()
@@ -16,10 +16,12 @@ pub fn purges_tell_and_drop()
     ensures untold_process { BreaksAlone InComplete purge_script untold_process }
 {}
 
-/// A release waits for the processes that stand in the area. It is never alone in being wrong: the area was then
-/// dropped beneath the same process.
+/// The area of a term waits for the processes that read it under its key, and an instance for those that stand in it.
+///
+/// The release of an instance is never alone in being wrong: it was then dropped beneath the same process.
 pub fn releases_wait()
-    ensures over_before { Legal reload_script over_before }
+    ensures released_late { Legal literal_script released_late }
+    ensures released_early { BreaksAlone InReleases literal_script released_early }
     ensures released_beneath { ReleasedUnnamed reload_script released_beneath → ⊥ }
 {}
 

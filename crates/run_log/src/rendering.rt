@@ -87,18 +87,20 @@ fn write_cmd(names: &Names, cmd: &Cmd, out: &mut ByteList) -> Result<(), NoMemor
 {
     match cmd {
         Cmd::Load(refs) => write_load(names, refs, out),
-        Cmd::Delete(module) => write_on_module(b"delete ", names, *module, out),
-        Cmd::SoftPurge { module, .. } => write_on_module(b"soft_purge ", names, *module, out),
-        Cmd::Doom(module) => write_on_module(b"doom ", names, *module, out),
-        Cmd::Purge { module, .. } => write_on_module(b"purge ", names, *module, out),
-        Cmd::CheckOld(module) => write_on_module(b"check_old ", names, *module, out),
+        Cmd::Delete(module) => write_on_atom(b"delete ", names, *module, out),
+        Cmd::SoftPurge { module, .. } => write_on_atom(b"soft_purge ", names, *module, out),
+        Cmd::Doom(module) => write_on_atom(b"doom ", names, *module, out),
+        Cmd::Purge { module, .. } => write_on_atom(b"purge ", names, *module, out),
+        Cmd::CheckOld(module) => write_on_atom(b"check_old ", names, *module, out),
+        Cmd::Put { key, term } => write_put(names, *key, term, out),
+        Cmd::Erase(key) => write_on_atom(b"erase ", names, *key, out),
         Cmd::Trace { target, on } => write_trace(names, *target, *on, out),
         Cmd::Spawn { target, args } => write_spawn(names, *target, args, out),
         Cmd::Release(serial) => write_release(*serial, out),
     }
 }
 
-fn write_on_module(
+fn write_on_atom(
     word: &[u8],
     names: &Names,
     name: AtomId,
@@ -109,6 +111,16 @@ fn write_on_module(
 {
     out.extend_from_slice(word)?;
     print_atom(names, name, out)
+}
+
+fn write_put(names: &Names, key: AtomId, term: &Term, out: &mut ByteList) -> Result<(), NoMemory>
+    ensures ok { OnOk result (out.new ≡ out.old ++ cmd_text names.now (Cmd.Put key term.now)) }
+    ensures kept { StartsWith out.new out.old }
+{
+    out.extend_from_slice(b"put ")?;
+    print_atom(names, key, out)?;
+    out.push(b' ')?;
+    print_term(names, term, out)
 }
 
 fn write_trace(names: &Names, target: Mfa, on: bool, out: &mut ByteList) -> Result<(), NoMemory>
@@ -247,6 +259,8 @@ fn write_limit(limit: Limit, out: &mut ByteList) -> Result<(), NoMemory>
 {
     match limit {
         Limit::Instances => out.extend_from_slice(b"instances"),
+        Limit::Keys => out.extend_from_slice(b"keys"),
+        Limit::Areas => out.extend_from_slice(b"areas"),
     }
 }
 

@@ -18,12 +18,16 @@ const MAIN: Mfa = Mfa {
 
 /// A journal with each command and each reply; the lines are written by hand.
 const JOURNAL: &str = "beam report 1
-generations 9
+generations 11
 entry L0 load m.1 n.20 = ok @1
 entry L7 load m.1 = duplicated m -
 entry L0 load n.1 = not_purged [n,m] -
 entry L1 load = system_limit instances -
 entry L10 spawn m:n([1],-7) = ok -
+entry L3 put m {1} = ok @10
+entry L3 put m n = system_limit keys -
+entry L3 put n [1] = system_limit areas -
+entry L3 erase m = true @11
 entry L0 delete n = true @2
 entry L0 delete m = false -
 entry L2 soft_purge m = false 3 12 -
@@ -124,6 +128,46 @@ fn loads(alloc: Global, entries: &mut EntryList) -> Result<(), NoMemory> {
     ];
     for (loader, cmd, reply, published) in rows {
         let who = Who::Loader(loader);
+        entries.push(Entry {
+            who,
+            cmd,
+            reply,
+            published,
+        })?;
+    }
+    Ok(())
+}
+
+fn puts(alloc: Global, entries: &mut EntryList) -> Result<(), NoMemory> {
+    let rows = [
+        (
+            Cmd::Put {
+                key: M,
+                term: Term::Tuple(one_term(alloc)?),
+            },
+            Reply::Ok,
+            Some(10),
+        ),
+        (
+            Cmd::Put {
+                key: M,
+                term: Term::Atom(N),
+            },
+            Reply::SystemLimit(Limit::Keys),
+            None,
+        ),
+        (
+            Cmd::Put {
+                key: N,
+                term: Term::List(one_term(alloc)?),
+            },
+            Reply::SystemLimit(Limit::Areas),
+            None,
+        ),
+        (Cmd::Erase(M), Reply::True, Some(11)),
+    ];
+    for (cmd, reply, published) in rows {
+        let who = Who::Loader(3);
         entries.push(Entry {
             who,
             cmd,
@@ -290,6 +334,7 @@ fn each_entry_has_its_line(rt: HostRuntime) -> Result<(), Fail> {
     let alloc = rt.alloc();
     let mut journal = EntryList::new(alloc);
     loads(alloc, &mut journal)?;
+    puts(alloc, &mut journal)?;
     purges(&mut journal)?;
     let log = RunLog {
         journal,

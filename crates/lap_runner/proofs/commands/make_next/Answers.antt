@@ -2,13 +2,17 @@ use Rattle.std.proofs.Common.{sym, ap, subst, ◌∙◌, ◌≡◌, slice_set}
 use Rattle.std.proofs.lemmas.List.{with_items_is}
 use Rattle.std.specs.Vec.{with_items}
 use Rattle.lap_runner.specs.Steps.{CanSpawn, SpawnsNext}
-use Rattle.lap_runner.proofs.Enabled.{can_spawn, enabled_at, has_made, loader_read}
+use Rattle.lap_runner.proofs.Enabled.{can_spawn, enabled_at, has_made, loader_read, of_text_at}
 use Rattle.lap_runner.proofs.commands.make_next.Goals as goal
 
 -- the command table has a case for what the command comes to
 pub make-requires-clause-enabled : goal.make-requires-clause-enabled
 make-requires-clause-enabled c =
     enabled_at c.args.script.now c.requires.script c.args.run.now c.requires.run c.args.loader _ c.args.command.now c.requires.next c.in-Some.cmd (sym c.in_ok-cmd.ensures ∙ c.in-Some.is)
+
+-- a term that is put is one that a text can say
+pub make-requires-clause-put : goal.make-requires-clause-put
+make-requires-clause-put c = of_text_at c.args.script.now c.requires.script c.args.run.now c.args.loader _ c.args.command.now c.requires.next c.in-Some.cmd (sym c.in_ok-cmd.ensures ∙ c.in-Some.is)
 
 -- the process that the command spawns is there
 pub advance-requires-clause-known : goal.advance-requires-clause-known
