@@ -2,6 +2,8 @@
 #![tactic(auto)]
 
 mod answer;
+#[cfg(test)]
+mod constant_tests;
 mod fault;
 mod form;
 mod gate;

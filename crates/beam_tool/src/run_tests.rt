@@ -71,7 +71,7 @@ fn calls_reach_new_code_from_old(rt: HostRuntime) -> Result<(), Fail> {
 }
 
 /// Runs one function of one module, and compares the lines of its process.
-fn process_runs_as<R: Threads + Wait + Sync + AllocGlobal>(
+pub fn process_runs_as<R: Threads + Wait + Sync + AllocGlobal>(
     rt: &R,
     code: &str,
     call: &str,

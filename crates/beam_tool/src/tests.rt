@@ -247,7 +247,7 @@ fn other_texts_are_refused(rt: HostRuntime) -> Result<(), Fail> {
             "refused 3 syntax\n",
         ),
         (
-            "beam script 1\nmodule m.1\nend\nloader\nput k 1\ngo\n",
+            "beam script 1\nmodule m.1\nend\nloader\nput k {1]\ngo\n",
             "refused 5 syntax\n",
         ),
         (
