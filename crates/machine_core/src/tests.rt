@@ -1,19 +1,84 @@
-ghost use Rattle.std.specs.Prelude.{◌≡◌, [], IfOk, length};
+ghost use Rattle.std.specs.Prelude.{◌≡◌, ◌<◌, ◌^◌, [], IfOk, IfSome, Some, length};
+ghost use Rattle.mod_core.specs.Module.{IsModule};
+ghost use Rattle.server_core.specs.CommandTable.{AreTexts, IsOfText};
 ghost use Rattle.machine_core.specs.Process.{Words, process_of};
 
 use super::*;
-use server_core::Server;
+use mod_core::{Function, FunctionList, Instr, InstrList, Module, ModuleList, Operand, validate};
+use server_core::{Cmd, ModRef, RefList, Server};
 use std::alloc::Global;
 use std::process::Abort;
 use std::test::Fail;
-use term_core::{AtomId, Mfa, NoMemory, TermList};
+use term_core::{AtomId, Mfa, NoMemory, Term, TermList, read_image};
 
-/// A function that nothing exports.
+/// The module, its function and a name that nothing has.
+const M: AtomId = AtomId(3);
+
+const MAIN: AtomId = AtomId(4);
+
 const OTHER: Mfa = Mfa {
-    module: AtomId(3),
+    module: M,
     name: AtomId(5),
     arity: 0,
 };
+
+/// A persistent term: its key, and the words of its image.
+#[derive(Clone, Copy, Debug)]
+struct Put {
+    key: u32,
+    words: &'static [u64],
+}
+
+/// The image of `{1}`: a tuple of one term, and the integer 1.
+const TUPLE: &[u64] = &[19, 17];
+
+/// The image of 7.
+const SEVEN: &[u64] = &[113];
+
+/// A term of an instruction, of an argument or of a line.
+#[derive(Clone, Copy, Debug)]
+enum Arg {
+    Reg(u32),
+    Int(i64),
+    Ok,
+    /// `{1}`
+    One,
+    /// `{3,{1}}`
+    Nested,
+}
+
+/// An instruction, short enough for a row of a table.
+#[derive(Clone, Copy, Debug)]
+enum Step {
+    Move(Arg, u32),
+    Add(Arg, Arg, u32),
+    Sub(Arg, Arg, u32),
+    Eq(Arg, Arg, u32),
+    Less(Arg, Arg, u32),
+    Jump(u32),
+    /// A call of `main`.
+    Call(u32),
+    /// A call of what no module exports.
+    CallExt(u32),
+    Ret(Arg),
+    Pget(u32, u32),
+    PgetOr(u32, Arg, u32),
+    Elem(Arg, Arg, u32),
+    Print(Arg),
+    Yield,
+}
+
+/// The turns of `m:main`, with these persistent terms, arguments and code.
+#[derive(Clone, Copy)]
+struct Case<'a> {
+    name: &'a str,
+    puts: &'a [Put],
+    args: &'a [Arg],
+    code: &'a [Step],
+    prints: &'a [Arg],
+    turns: u32,
+    end: End,
+}
 
 /// What a process did up to its end.
 #[derive(Drop)]
@@ -23,13 +88,114 @@ struct Finished {
     end: End,
 }
 
-/// A process of that function that has had no turn.
-fn process_of_other(args: TermList, alloc: Global) -> Result<Process, NoMemory>
-    requires { length args ≡ 0 }
+/// The module `m.1` of the function `main`, or nothing where it is no module.
+fn module_of(arity: u32, code: InstrList, alloc: Global) -> Result<Option<Module>, NoMemory>
+    ensures { IfOk result (λ o. IfSome o IsModule) }
+{
+    let mut functions = FunctionList::new(alloc);
+    functions.push(Function {
+        name: MAIN,
+        arity,
+        exported: true,
+        code,
+    })?;
+    let module = Module {
+        name: M,
+        version: 1,
+        functions,
+    };
+    if validate(&module) {
+        Ok(Some(module))
+    } else {
+        Ok(None)
+    }
+}
+
+/// The texts to load from: one module.
+fn one_text(module: Module, alloc: Global) -> Result<ModuleList, NoMemory>
+    requires { IsModule «module» }
+    ensures { IfOk result AreTexts }
+{
+    let mut texts = ModuleList::new(alloc);
+    texts.push(module)?;
+    Ok(texts)
+}
+
+/// A server that has loaded the module.
+fn loaded(module: Module, alloc: Global) -> Result<Option<Server>, NoMemory>
+    requires { IsModule «module» }
+{
+    let texts = one_text(module, alloc)?;
+    let mut refs = RefList::new(alloc);
+    refs.push(ModRef {
+        name: M,
+        version: 1,
+    })?;
+    let mut server = Server::new(alloc)?;
+    match server.apply(&Cmd::Load(refs), &texts) {
+        Ok(_) => Ok(Some(server)),
+        Err(_) => Ok(None),
+    }
+}
+
+/// The command that puts the term.
+fn put_command(put: Put, alloc: Global) -> Result<Cmd, NoMemory>
+    ensures { IfOk result IsOfText }
+{
+    match read_image(alloc, put.words, 0) {
+        Ok(term) => Ok(Cmd::Put {
+            key: AtomId(put.key),
+            term,
+        }),
+        Err(_) => Err(NoMemory),
+    }
+}
+
+/// No modules to load from.
+fn no_texts(alloc: Global) -> ModuleList
+    ensures { AreTexts result }
+{
+    ModuleList::new(alloc)
+}
+
+/// Makes a command. Where it is not made, nothing changes.
+fn make(server: &mut Server, cmd: &Cmd, alloc: Global)
+    requires { IsOfText cmd.now }
+{
+    let _ = server.apply(cmd, &no_texts(alloc));
+}
+
+/// A server whose module `m` has this function `main`, and which keeps these persistent terms.
+fn server_of(
+    puts: &[Put],
+    arity: u32,
+    code: InstrList,
+    alloc: Global,
+) -> Result<Option<Server>, NoMemory> {
+    let Some(module) = module_of(arity, code, alloc)? else {
+        return Ok(None);
+    };
+    let Some(mut server) = loaded(module, alloc)? else {
+        return Ok(None);
+    };
+    for put in puts {
+        make(&mut server, &put_command(*put, alloc)?, alloc);
+    }
+    Ok(Some(server))
+}
+
+/// A process of `m:main` that has had no turn.
+fn process_of_main(args: TermList, alloc: Global) -> Result<Process, NoMemory>
+    requires { length args < 2 ^ 32 }
     ensures frames { IfOk result (λ process. (words : Words) → (process_of words process).frames ≡ []) }
     ensures turns { IfOk result (λ process. (words : Words) → (process_of words process).turns ≡ 0) }
 {
-    Process::new(alloc, 0, OTHER, args)
+    let target = Mfa {
+        module: M,
+        name: MAIN,
+        arity: args.len() as u32,
+    };
+    Process::new(alloc, 0, target, args)
 }
 
 /// What a process does that has had no turn. Nothing comes where it has not ended after four turns.
@@ -54,14 +220,400 @@ fn run_to_end(
     Ok(None)
 }
 
-#[test]
-fn a_process_without_code_ends_at_once(rt: HostRuntime) -> Result<(), Fail> {
+/// `{1}`.
+fn one(alloc: Global) -> Result<Term, NoMemory> {
+    let mut terms = TermList::new(alloc);
+    terms.push(Term::Int(1))?;
+    Ok(Term::Tuple(terms))
+}
+
+/// `{3,{1}}`.
+fn nested(alloc: Global) -> Result<Term, NoMemory> {
+    let mut terms = TermList::new(alloc);
+    terms.push(Term::Int(3))?;
+    terms.push(one(alloc)?)?;
+    Ok(Term::Tuple(terms))
+}
+
+fn term_of(arg: Arg, alloc: Global) -> Result<Term, NoMemory> {
+    match arg {
+        Arg::Int(number) => Ok(Term::Int(number)),
+        Arg::One => one(alloc),
+        Arg::Nested => nested(alloc),
+        Arg::Reg(_) | Arg::Ok => Ok(Term::Atom(AtomId::OK)),
+    }
+}
+
+fn operand_of(arg: Arg, alloc: Global) -> Result<Operand, NoMemory> {
+    match arg {
+        Arg::Reg(register) => Ok(Operand::Reg(register)),
+        _ => Ok(Operand::Const(term_of(arg, alloc)?)),
+    }
+}
+
+/// The instruction of a row that has two sources and a register or a target.
+fn pair_of(step: Step, a: Operand, b: Operand, to: u32) -> Instr {
+    match step {
+        Step::Add(..) => Instr::Add { a, b, to },
+        Step::Sub(..) => Instr::Sub { a, b, to },
+        Step::Eq(..) => Instr::Eq { a, b, target: to },
+        Step::Less(..) => Instr::Less { a, b, target: to },
+        _ => Instr::Elem {
+            index: a,
+            from: b,
+            to,
+        },
+    }
+}
+
+fn instr_of(step: Step, alloc: Global) -> Result<Instr, NoMemory> {
+    match step {
+        Step::Add(a, b, to)
+        | Step::Sub(a, b, to)
+        | Step::Eq(a, b, to)
+        | Step::Less(a, b, to)
+        | Step::Elem(a, b, to) => {
+            let first = operand_of(a, alloc)?;
+            Ok(pair_of(step, first, operand_of(b, alloc)?, to))
+        }
+        Step::Move(from, to) => Ok(Instr::Move {
+            from: operand_of(from, alloc)?,
+            to,
+        }),
+        Step::PgetOr(key, other, to) => Ok(Instr::PgetOr {
+            key: AtomId(key),
+            other: operand_of(other, alloc)?,
+            to,
+        }),
+        Step::Ret(value) => Ok(Instr::Ret {
+            value: operand_of(value, alloc)?,
+        }),
+        Step::Print(value) => Ok(Instr::Print {
+            value: operand_of(value, alloc)?,
+        }),
+        _ => Ok(plain_instr(step)),
+    }
+}
+
+/// The instruction of a row that has no source.
+fn plain_instr(step: Step) -> Instr {
+    match step {
+        Step::Jump(target) => Instr::Jump { target },
+        Step::Call(at) => Instr::Call { function: 0, at },
+        Step::CallExt(at) => Instr::CallExt { to: OTHER, at },
+        Step::Pget(key, to) => Instr::Pget {
+            key: AtomId(key),
+            to,
+        },
+        _ => Instr::Yield,
+    }
+}
+
+fn code_of(steps: &[Step], alloc: Global) -> Result<InstrList, NoMemory> {
+    let mut code = InstrList::new(alloc);
+    for step in steps {
+        code.push(instr_of(*step, alloc)?)?;
+    }
+    Ok(code)
+}
+
+fn args_of(args: &[Arg], alloc: Global) -> Result<TermList, NoMemory> {
+    let mut terms = TermList::new(alloc);
+    for arg in args {
+        terms.push(term_of(*arg, alloc)?)?;
+    }
+    Ok(terms)
+}
+
+fn lines_of(prints: &[Arg], alloc: Global) -> Result<LineList, NoMemory> {
+    let mut lines = LineList::new(alloc);
+    for arg in prints {
+        lines.push(Line::Print(term_of(*arg, alloc)?))?;
+    }
+    Ok(lines)
+}
+
+fn expect(rt: &(impl AllocGlobal + Abort), case: Case) -> Result<(), Fail> {
     let alloc = rt.alloc();
-    let server = Server::new(alloc)?;
-    let process = process_of_other(TermList::new(alloc), alloc)?;
-    let done = run_to_end(&server, process, alloc)?;
+    let name = case.name;
+    let args = args_of(case.args, alloc)?;
+    assert!(rt; args.len() < 16, "{name}");
+    let code = code_of(case.code, alloc)?;
+    let server = server_of(case.puts, args.len() as u32, code, alloc)?;
+    let process = process_of_main(args, alloc)?;
+    let done = run_to_end(&server.ok_or("a server")?, process, alloc)?;
     let done = done.ok_or("an end")?;
-    assert!(rt; done.end == End::Undef(OTHER));
-    assert!(rt; done.turns == 1 && done.lines.as_slice().len() == 0);
+    assert!(rt; done.end == case.end, "{name}");
+    assert!(rt; done.turns == case.turns, "{name}");
+    let lines = lines_of(case.prints, alloc)?;
+    assert!(rt; done.lines.as_slice() == lines.as_slice(), "{name}");
+    Ok(())
+}
+
+/// What has no persistent terms and no arguments, and ends in its first turn.
+const fn plain<'a>(name: &'a str, code: &'a [Step], prints: &'a [Arg], end: End) -> Case<'a> {
+    Case {
+        name,
+        puts: &[],
+        args: &[],
+        code,
+        prints,
+        turns: 1,
+        end,
+    }
+}
+
+#[test]
+fn sums_and_tests_are_of_integers(rt: HostRuntime) -> Result<(), Fail> {
+    let cases = [
+        plain(
+            "the worked example",
+            &[
+                Step::Add(Arg::Int(1), Arg::Int(2), 0),
+                Step::Print(Arg::Reg(0)),
+            ],
+            &[Arg::Int(3)],
+            End::Normal,
+        ),
+        plain(
+            "a difference below the range",
+            &[Step::Sub(Arg::Int(-576_460_752_303_423_488), Arg::Int(1), 0)],
+            &[],
+            End::SystemLimit,
+        ),
+        plain(
+            "a sum with a tuple",
+            &[Step::Add(Arg::One, Arg::Int(1), 0)],
+            &[],
+            End::Badarith,
+        ),
+        plain(
+            "an order of an atom",
+            &[Step::Less(Arg::Int(1), Arg::Ok, 0)],
+            &[],
+            End::Badarg,
+        ),
+    ];
+    for case in cases {
+        expect(&rt, case)?;
+    }
+    Ok(())
+}
+
+/// `main(N)` prints N, calls itself with N - 1, and prints what comes back, which is 7 from 0.
+const COUNTDOWN: &[Step] = &[
+    Step::Less(Arg::Reg(0), Arg::Int(1), 5),
+    Step::Print(Arg::Reg(0)),
+    Step::Sub(Arg::Reg(0), Arg::Int(1), 2),
+    Step::Call(2),
+    Step::Print(Arg::Reg(2)),
+    Step::Ret(Arg::Int(7)),
+];
+
+/// 150 rounds of three instructions, one more and the return are 452 instructions.
+const ROUNDS: &[Step] = &[
+    Step::Less(Arg::Reg(0), Arg::Int(1), 3),
+    Step::Sub(Arg::Reg(0), Arg::Int(1), 0),
+    Step::Jump(0),
+];
+
+#[test]
+fn turns_follow_each_other(rt: HostRuntime) -> Result<(), Fail> {
+    let cases = [
+        Case {
+            name: "local calls and their values",
+            puts: &[],
+            args: &[Arg::Int(2)],
+            code: COUNTDOWN,
+            prints: &[Arg::Int(2), Arg::Int(1), Arg::Int(7), Arg::Int(7)],
+            turns: 1,
+            end: End::Normal,
+        },
+        plain(
+            "an external call of what is not exported",
+            &[
+                Step::Print(Arg::Int(1)),
+                Step::CallExt(0),
+                Step::Print(Arg::Int(2)),
+            ],
+            &[Arg::Int(1)],
+            End::Undef(OTHER),
+        ),
+        Case {
+            name: "a yield",
+            puts: &[],
+            args: &[],
+            code: &[
+                Step::Print(Arg::Int(1)),
+                Step::Yield,
+                Step::Print(Arg::Int(2)),
+            ],
+            prints: &[Arg::Int(1), Arg::Int(2)],
+            turns: 2,
+            end: End::Normal,
+        },
+        Case {
+            name: "a loop over three turns",
+            puts: &[],
+            args: &[Arg::Int(150)],
+            code: ROUNDS,
+            prints: &[],
+            turns: 3,
+            end: End::Normal,
+        },
+    ];
+    for case in cases {
+        expect(&rt, case)?;
+    }
+    Ok(())
+}
+
+#[test]
+fn constants_are_read_where_they_stand(rt: HostRuntime) -> Result<(), Fail> {
+    let cases = [
+        plain(
+            "a constant, and an element of an element",
+            &[
+                Step::Move(Arg::Nested, 0),
+                Step::Print(Arg::Reg(0)),
+                Step::Elem(Arg::Int(2), Arg::Reg(0), 1),
+                Step::Print(Arg::Reg(1)),
+                Step::Elem(Arg::Int(1), Arg::Reg(1), 2),
+                Step::Print(Arg::Reg(2)),
+            ],
+            &[Arg::Nested, Arg::One, Arg::Int(1)],
+            End::Normal,
+        ),
+        Case {
+            name: "elements of an argument up to one that is not there",
+            puts: &[],
+            args: &[Arg::Nested],
+            code: &[
+                Step::Elem(Arg::Int(2), Arg::Reg(0), 1),
+                Step::Print(Arg::Reg(1)),
+                Step::Elem(Arg::Int(3), Arg::Reg(0), 1),
+            ],
+            prints: &[Arg::One],
+            turns: 1,
+            end: End::Badarg,
+        },
+        Case {
+            name: "a constant is equal to an argument, and another is not",
+            puts: &[],
+            args: &[Arg::One],
+            code: &[
+                Step::Eq(Arg::Reg(0), Arg::Nested, 3),
+                Step::Eq(Arg::Reg(0), Arg::One, 3),
+                Step::Print(Arg::Int(1)),
+                Step::Print(Arg::Int(2)),
+            ],
+            prints: &[Arg::Int(2)],
+            turns: 1,
+            end: End::Normal,
+        },
+    ];
+    for case in cases {
+        expect(&rt, case)?;
+    }
+    Ok(())
+}
+
+#[test]
+fn an_element_that_there_is_not_ends_the_process(rt: HostRuntime) -> Result<(), Fail> {
+    let cases = [
+        ("the number 0", Arg::Int(0), Arg::Nested),
+        ("past the end", Arg::Int(3), Arg::Nested),
+        ("before the first", Arg::Int(-1), Arg::Nested),
+        ("no number", Arg::Ok, Arg::Nested),
+        ("of an atom", Arg::Int(1), Arg::Ok),
+    ];
+    for (name, index, from) in cases {
+        expect(
+            &rt,
+            plain(name, &[Step::Elem(index, from, 0)], &[], End::Badarg),
+        )?;
+    }
+    Ok(())
+}
+
+#[test]
+fn keys_are_read(rt: HostRuntime) -> Result<(), Fail> {
+    let cases = [
+        Case {
+            name: "what keys hold, and what others stand for",
+            puts: &[
+                Put {
+                    key: 10,
+                    words: SEVEN,
+                },
+                Put {
+                    key: 11,
+                    words: TUPLE,
+                },
+            ],
+            args: &[],
+            code: &[
+                Step::Pget(10, 0),
+                Step::Print(Arg::Reg(0)),
+                Step::PgetOr(11, Arg::Int(5), 1),
+                Step::Print(Arg::Reg(1)),
+                Step::PgetOr(12, Arg::Int(5), 3),
+                Step::Print(Arg::Reg(3)),
+            ],
+            prints: &[Arg::Int(7), Arg::One, Arg::Int(5)],
+            turns: 1,
+            end: End::Normal,
+        },
+        plain(
+            "a key that holds nothing",
+            &[Step::Pget(10, 0)],
+            &[],
+            End::Badarg,
+        ),
+    ];
+    for case in cases {
+        expect(&rt, case)?;
+    }
+    Ok(())
+}
+
+/// Reads the keys from 100 up to 114. With its own instance the process then holds 16 areas.
+fn fifteen_keys(alloc: Global) -> Result<InstrList, NoMemory> {
+    let mut code = InstrList::new(alloc);
+    for key in 0..15 {
+        code.push(instr_of(Step::Pget(100 + key, key), alloc)?)?;
+    }
+    Ok(code)
+}
+
+fn sixteen_puts(alloc: Global) -> Result<Vec<Put>, NoMemory> {
+    let mut puts = Vec::new(alloc);
+    for key in 100..116 {
+        puts.push(Put { key, words: TUPLE })?;
+    }
+    Ok(puts)
+}
+
+// A constant of its own instance is of no area more, and another key is.
+#[test]
+fn a_seventeenth_area_ends_the_process(rt: HostRuntime) -> Result<(), Fail> {
+    let alloc = rt.alloc();
+    let mut code = fifteen_keys(alloc)?;
+    let last = [
+        Step::Elem(Arg::Int(2), Arg::Nested, 15),
+        Step::Print(Arg::Reg(15)),
+        Step::Pget(115, 15),
+    ];
+    for step in last {
+        code.push(instr_of(step, alloc)?)?;
+    }
+    let puts = sixteen_puts(alloc)?;
+    let server = server_of(puts.as_slice(), 0, code, alloc)?;
+    let process = process_of_main(TermList::new(alloc), alloc)?;
+    let done = run_to_end(&server.ok_or("a server")?, process, alloc)?;
+    let done = done.ok_or("an end")?;
+    assert!(rt; done.end == End::SystemLimit);
+    let lines = lines_of(&[Arg::One], alloc)?;
+    assert!(rt; done.lines.as_slice() == lines.as_slice());
     Ok(())
 }

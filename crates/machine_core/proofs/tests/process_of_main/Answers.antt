@@ -5,7 +5,7 @@ use Rattle.term_core.specs.declared.atom.Mfa.{Mfa}
 use Rattle.term_core.specs.declared.no_memory.NoMemory.{NoMemory}
 use Rattle.machine_core.specs.declared.process.Process.{Process}
 use Rattle.machine_core.specs.Process.{PlainProcess, Words, new_process, process_of}
-use Rattle.machine_core.proofs.tests.process_of_other.Goals as goal
+use Rattle.machine_core.proofs.tests.process_of_main.Goals as goal
 
 frames_none : (r : Result Process NoMemory) (n : ℕ) (m : Mfa) (args : List PlainTerm) → ((words : Words) → IfOk r (λ process. process_of words process ≡ new_process n m args)) → IfOk r (λ process. (words : Words) → (process_of words process).frames ≡ [])
 frames_none (Ok p) n m args h = λ words. ap (λ (x : PlainProcess). x.frames) (h words)
