@@ -1,16 +1,17 @@
--- What the lines of a script name and have, by the lines of its module texts and of its loader blocks.
+-- What the lines of a script name and have, by the lines of its module texts, of its observers and of its loader blocks.
 use Rattle.std.proofs.Common.{◌≡◌, ℕ, ◌+◌, Bool, false, cond, List, [], ◌∷◌, ◌++◌, Some, refl, sym, ap, ◌∙◌, append_assoc, append-nil, arith}
 use Rattle.std.specs.Prelude.{count_by}
 use Rattle.std.specs.List.{AllByRecursion, flat_map}
+use Rattle.std.proofs.lemmas.Grind.{flat_map-append}
 use Rattle.std.proofs.lemmas.List.Sums.{sum_by-cons}
 use Rattle.mod_text.specs.ModuleLine.{LineForm}
 use Rattle.mod_text.specs.LineFaults.{line_atoms}
-use Rattle.script_text.specs.ScriptLine.{ScriptLine, head, code, loader, load, on_atom, put, trace, spawn, go}
-use Rattle.script_text.specs.Counts.{script_line_atoms, FunctionForm, script_line_functions, home_after, functions_named, code_lines, block_lines}
+use Rattle.script_text.specs.ScriptLine.{ScriptLine, head, code, observer, loader, load, on_atom, put, trace, spawn, go}
+use Rattle.script_text.specs.Counts.{script_line_atoms, FunctionForm, script_line_functions, home_after, functions_named, code_lines, line_observers, observers_of, block_lines}
 use Rattle.script_text.specs.Canonical.{code_form}
 use Rattle.script_text.specs.LineFaults.{last_of}
 use Rattle.script_text.proofs.GrownLines.{home_of, last_of-snoc}
-use Rattle.script_text.proofs.InOrder.{assemble}
+use Rattle.script_text.proofs.InOrder.{assemble, observer_lines}
 use Rattle.script_text.proofs.SoundnessGroups.{each_flat}
 
 -- ---- the lines of loader blocks
@@ -18,6 +19,7 @@ use Rattle.script_text.proofs.SoundnessGroups.{each_flat}
 abbrev pub IsBlockLine : ScriptLine → Type 0
 IsBlockLine head = ⊥
 IsBlockLine (code line) = ⊥
+IsBlockLine (observer count) = ⊥
 IsBlockLine loader = Unit {0}
 IsBlockLine (load refs) = Unit {0}
 IsBlockLine (on_atom command name) = Unit {0}
@@ -29,6 +31,7 @@ IsBlockLine go = ⊥
 its_block : (line : ScriptLine) → AllByRecursion IsBlockLine (block_lines line)
 its_block head = tt
 its_block (code line) = tt
+its_block (observer count) = tt
 its_block loader = (tt, tt)
 its_block (load refs) = (tt, tt)
 its_block (on_atom command name) = (tt, tt)
@@ -47,6 +50,7 @@ block_lines_are lines = each_flat IsBlockLine block_lines lines (each_block line
 no_code : (line : ScriptLine) → IsBlockLine line → code_lines line ≡ []
 no_code head h = absurd h
 no_code (code line) h = absurd h
+no_code (observer count) h = absurd h
 no_code loader h = refl
 no_code (load refs) h = refl
 no_code (on_atom command name) h = refl
@@ -58,6 +62,7 @@ no_code go h = absurd h
 own_block : (line : ScriptLine) → IsBlockLine line → block_lines line ≡ line ∷ []
 own_block head h = absurd h
 own_block (code line) h = absurd h
+own_block (observer count) h = absurd h
 own_block loader h = refl
 own_block (load refs) h = refl
 own_block (on_atom command name) h = refl
@@ -68,17 +73,23 @@ own_block go h = absurd h
 
 -- ---- lines of module texts
 
-codes_behind : (blocks : List ScriptLine) → AllByRecursion IsBlockLine blocks → flat_map code_lines (blocks ++ go ∷ []) ≡ []
+codes_behind : (blocks : List ScriptLine) → AllByRecursion IsBlockLine blocks → flat_map code_lines blocks ≡ []
 codes_behind [] h = refl
 codes_behind (line ∷ blocks) h = λ i. no_code line h.0 i ++ codes_behind blocks h.1 i
+
+-- observers and loader blocks have none
+pub no_codes : (observers : List (List ℕ)) (blocks : List ScriptLine) → AllByRecursion IsBlockLine blocks → flat_map code_lines (observer_lines observers ++ blocks) ≡ []
+no_codes [] blocks h = codes_behind blocks h
+no_codes (count ∷ observers) blocks h = no_codes observers blocks h
 
 codes_in : (codes : List LineForm) (more : List ScriptLine) → flat_map code_lines (code_form codes ++ more) ≡ codes ++ flat_map code_lines more
 codes_in [] more = refl
 codes_in (line ∷ codes) more = ap (λ (ls : List LineForm). line ∷ ls) (codes_in codes more)
 
 -- the lines of module texts come back
-pub code_lines-assemble : (codes : List LineForm) (blocks : List ScriptLine) → AllByRecursion IsBlockLine blocks → flat_map code_lines (assemble codes blocks) ≡ codes
-code_lines-assemble codes blocks h = codes_in codes (blocks ++ go ∷ []) ∙ ap (λ (ls : List LineForm). codes ++ ls) (codes_behind blocks h) ∙ append-nil codes
+pub code_lines-assemble : (codes : List LineForm) (others : List ScriptLine) → flat_map code_lines others ≡ [] → flat_map code_lines (assemble codes others) ≡ codes
+code_lines-assemble codes others none =
+    codes_in codes (others ++ go ∷ []) ∙ ap (λ (ls : List LineForm). codes ++ ls) (flat_map-append code_lines others (go ∷ []) ∙ ap (λ (ls : List LineForm). ls ++ []) none) ∙ append-nil codes
 
 -- so do those at the front alone
 pub code_lines-front : (codes : List LineForm) → flat_map code_lines (head ∷ code_form codes) ≡ codes
@@ -94,9 +105,43 @@ blocks_behind : (codes : List LineForm) (more : List ScriptLine) → flat_map bl
 blocks_behind [] more = refl
 blocks_behind (line ∷ codes) more = blocks_behind codes more
 
+blocks_past : (observers : List (List ℕ)) (blocks : List ScriptLine) → flat_map block_lines ((observer_lines observers ++ blocks) ++ go ∷ []) ≡ flat_map block_lines (blocks ++ go ∷ [])
+blocks_past [] blocks = refl
+blocks_past (count ∷ observers) blocks = blocks_past observers blocks
+
 -- and the lines of loader blocks
-pub block_lines-assemble : (codes : List LineForm) (blocks : List ScriptLine) → AllByRecursion IsBlockLine blocks → flat_map block_lines (assemble codes blocks) ≡ blocks
-block_lines-assemble codes blocks h = blocks_behind codes (blocks ++ go ∷ []) ∙ blocks_in blocks h
+pub block_lines-assemble : (codes : List LineForm) (observers : List (List ℕ)) (blocks : List ScriptLine) → AllByRecursion IsBlockLine blocks → flat_map block_lines (assemble codes (observer_lines observers ++ blocks)) ≡ blocks
+block_lines-assemble codes observers blocks h = blocks_behind codes ((observer_lines observers ++ blocks) ++ go ∷ []) ∙ blocks_past observers blocks ∙ blocks_in blocks h
+
+-- ---- observers
+
+no_observer : (line : ScriptLine) → IsBlockLine line → line_observers line ≡ []
+no_observer head h = absurd h
+no_observer (code line) h = absurd h
+no_observer (observer count) h = absurd h
+no_observer loader h = refl
+no_observer (load refs) h = refl
+no_observer (on_atom command name) h = refl
+no_observer (put key term) h = refl
+no_observer (trace f g arity on) h = refl
+no_observer (spawn m f args) h = refl
+no_observer go h = absurd h
+
+observers_behind : (blocks : List ScriptLine) → AllByRecursion IsBlockLine blocks → flat_map line_observers (blocks ++ go ∷ []) ≡ []
+observers_behind [] h = refl
+observers_behind (line ∷ blocks) h = λ i. no_observer line h.0 i ++ observers_behind blocks h.1 i
+
+observers_in : (observers : List (List ℕ)) (blocks : List ScriptLine) → AllByRecursion IsBlockLine blocks → flat_map line_observers ((observer_lines observers ++ blocks) ++ go ∷ []) ≡ observers
+observers_in [] blocks h = observers_behind blocks h
+observers_in (count ∷ observers) blocks h = ap (λ (counts : List (List ℕ)). count ∷ counts) (observers_in observers blocks h)
+
+observers_past : (codes : List LineForm) (more : List ScriptLine) → flat_map line_observers (code_form codes ++ more) ≡ flat_map line_observers more
+observers_past [] more = refl
+observers_past (line ∷ codes) more = observers_past codes more
+
+-- and the observers
+pub observers_of-assemble : (codes : List LineForm) (observers : List (List ℕ)) (blocks : List ScriptLine) → AllByRecursion IsBlockLine blocks → observers_of (assemble codes (observer_lines observers ++ blocks)) ≡ observers
+observers_of-assemble codes observers blocks h = observers_past codes ((observer_lines observers ++ blocks) ++ go ∷ []) ∙ observers_in observers blocks h
 
 -- ---- names and functions
 
@@ -126,7 +171,7 @@ count_other test line lines other = sum_by-cons (λ l. cond (test l) 1 0) line l
     none_more : (n : ℕ) → 0 + n ≡ n
     none_more n = omega arith
 
--- how many lines of loader blocks pass a test that no other line passes
+-- how many lines behind the module texts pass a test that no other line passes
 pub count-assemble : (test : ScriptLine → Bool) (codes : List LineForm) (blocks : List ScriptLine) → test head ≡ false → ((line : LineForm) → test (code line) ≡ false) → count_by test (assemble codes blocks) ≡ count_by test (blocks ++ go ∷ [])
 count-assemble test codes blocks no_head no_line = count_other test head (code_form codes ++ (blocks ++ go ∷ [])) no_head ∙ behind codes
   where
@@ -155,9 +200,14 @@ each_back : (P : ScriptLine → Type 0) (codes : List LineForm) (more : List Scr
 each_back P [] more h = h
 each_back P (line ∷ codes) more h = each_back P codes more h.1
 
--- what each line of a script has, each line of its loader blocks has
-pub each_of_blocks : (P : ScriptLine → Type 0) (codes : List LineForm) (blocks : List ScriptLine) → AllByRecursion P (assemble codes blocks) → AllByRecursion P blocks
-each_of_blocks P codes blocks h = each_front P blocks (go ∷ []) (each_back P codes (blocks ++ go ∷ []) h.1)
+-- what each line of a script has, each line behind its module texts has
+pub each_of_others : (P : ScriptLine → Type 0) (codes : List LineForm) (others : List ScriptLine) → AllByRecursion P (assemble codes others) → AllByRecursion P others
+each_of_others P codes others h = each_front P others (go ∷ []) (each_back P codes (others ++ go ∷ []) h.1)
+
+-- and each line of its loader blocks
+pub each_of_blocks : (P : ScriptLine → Type 0) (observers : List (List ℕ)) (blocks : List ScriptLine) → AllByRecursion P (observer_lines observers ++ blocks) → AllByRecursion P blocks
+each_of_blocks P [] blocks h = h
+each_of_blocks P (count ∷ observers) blocks h = each_of_blocks P observers blocks h.1
 
 last_of-more : (x : ScriptLine) (xs ys : List ScriptLine) → last_of (xs ++ x ∷ ys) ≡ last_of (x ∷ ys)
 last_of-more x [] ys = refl

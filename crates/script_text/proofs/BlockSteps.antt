@@ -12,7 +12,7 @@ use Rattle.script_text.specs.declared.reading.cause.LineCause.TheVariants as cau
 use Rattle.script_text.specs.declared.reading.reader.Place.TheVariants.{Loading}
 use Rattle.script_text.specs.declared.reading.reader.ScriptReader.{ScriptReader}
 use Rattle.script_text.specs.declared.script.ScriptCmd.{ScriptCmd}
-use Rattle.script_text.specs.ScriptLine.{RefForm, AtomCommand, ScriptLine, head, code, loader, load, on_atom, put, trace, spawn, go, IsLine}
+use Rattle.script_text.specs.ScriptLine.{RefForm, AtomCommand, ScriptLine, head, code, observer, loader, load, on_atom, put, trace, spawn, go, IsLine}
 use Rattle.script_text.specs.ScriptValue.{commands_of}
 use Rattle.script_text.specs.LineFaults.{may_stand_loading, may_stand}
 use Rattle.script_text.specs.Reading.{block_step, end_step}
@@ -49,7 +49,8 @@ loader_fault m r closed k stands =
     let names = names_few m.names k.sound in
     let functions = few (length m.functions) 1024 k.few_functions in
     let spawns = few_more m.spawns 64 k.few_processes in
-    λ i. table (not (stands i) || false) false false (names i) false false (functions i) (spawns i) (nat_lt 8 (m.loaders + 1)) false (m.count + 1)
+    let observers = few (length m.observers) 4 k.few_observers in
+    λ i. table (not (stands i) || false) false false (names i) false false (functions i) (spawns i) (nat_lt 8 (m.loaders + 1)) (observers i) false (m.count + 1)
 
 -- a line `loader`
 pub judges_block : (m : Summary) (r : ScriptReader) (closed : List (List LineForm)) (text : List ℕ) → Knows m r closed → may_stand m.last loader ≡ true → r.lines ≡ [] → text ≡ codes "loader" → Judges m text (block_step r)
@@ -74,10 +75,11 @@ judges_end m r closed text k stands none is =
     let functions = few (length m.functions) 1024 k.few_functions in
     let spawns = few_more m.spawns 64 k.few_processes in
     let loaders = few_more m.loaders 8 k.few_loaders in
+    let observers = few (length m.observers) 4 k.few_observers in
     record {
       line = go;
       is_line = record { text_is = is; sound = refl };
-      no_fault = λ i. table (not (stands i) || false) false false (names i) false false (functions i) (spawns i) (loaders i) false (m.count + 1);
+      no_fault = λ i. table (not (stands i) || false) false false (names i) false false (functions i) (spawns i) (loaders i) (observers i) false (m.count + 1);
       holds = holds_go m r closed k none;
     }
 
@@ -87,6 +89,7 @@ judges_end m r closed text k stands none is =
 pub no_command : (m : Summary) (text : List ℕ) → ((line : ScriptLine) → may_stand m.last line ≡ may_stand_loading line) → bytes_eq text (codes "loader") ≡ false → bytes_eq text (codes "go") ≡ false → ((refs : List RefForm) → IsLine text (load refs) → ⊥) → ((n f : List ℕ) (args : List WrittenTerm) → IsLine text (spawn n f args) → ⊥) → ((command : AtomCommand) (name : List ℕ) → IsLine text (on_atom command name) → ⊥) → ((n f arity : List ℕ) (on : Bool) → IsLine text (trace n f arity on) → ⊥) → ((key : List ℕ) (t : WrittenTerm) → IsLine text (put key t) → ⊥) → Judges m text (Err causes.Syntax)
 no_command m text follows no_loader no_go no_load no_spawn no_module no_trace no_put head l = misplaced m head (follows head)
 no_command m text follows no_loader no_go no_load no_spawn no_module no_trace no_put (code line) l = misplaced m (code line) (follows (code line))
+no_command m text follows no_loader no_go no_load no_spawn no_module no_trace no_put (observer count) l = misplaced m (observer count) (follows (observer count))
 no_command m text follows no_loader no_go no_load no_spawn no_module no_trace no_put loader l = absurd (is_other (codes "loader") l.text_is no_loader)
   where
     is_other : (bytes : List ℕ) → text ≡ bytes → bytes_eq text bytes ≡ false → ⊥

@@ -1,5 +1,5 @@
 -- The canonical text of a script that is the value of some text is a text of that script, unless it is too long.
-use Rattle.std.proofs.Common.{◌≡◌, ℕ, ◌+◌, ◌≤◌, ◌<◌, inl, inr, Bool, true, false, cond, nat_lt, List, [], ◌∷◌, ◌++◌, length, map, Some, None, refl, sym, ap, ◌∙◌, subst, arith}
+use Rattle.std.proofs.Common.{◌≡◌, ℕ, ◌+◌, ◌≤◌, ◌<◌, inl, inr, Bool, true, false, cond, nat_lt, List, [], ◌∷◌, ◌++◌, length, map, Some, None, refl, sym, ap, ◌∙◌, subst, arith, append_assoc}
 use Rattle.std.specs.Prelude.{All, IsTrue, count_by}
 use Rattle.std.specs.List.{AllByRecursion, flat_map, list_any}
 use Rattle.std.proofs.lemmas.Bool.{or_parts, false_from_ne_true, cases_lt}
@@ -10,7 +10,7 @@ use Rattle.term_core.specs.Names.{IsNames}
 use Rattle.mod_core.specs.declared.code.Module.{Module}
 use Rattle.mod_text.specs.Canonical.{canonical as module_lines, IsModuleHeld}
 use Rattle.mod_core.specs.Module.{IsModule}
-use Rattle.mod_text.specs.ModuleLine.{LineForm, lines_written, line_bytes, is_line_form, line_written}
+use Rattle.mod_text.specs.ModuleLine.{LineForm, number_value, lines_written, line_bytes, is_line_form, line_written}
 use Rattle.mod_text.specs.ModuleText.{FollowOn}
 use Rattle.mod_text.specs.LineFaults.{names_after}
 use Rattle.mod_text.specs.ModuleValue.{module_of}
@@ -19,21 +19,22 @@ use Rattle.mod_text.proofs.Cuts.{lacks}
 use Rattle.mod_text.proofs.LineAgain.{line_lacks}
 use Rattle.mod_text.proofs.ModuleHeld.{module_held, some_names, sound_lines}
 use Rattle.script_text.specs.declared.script.Script.{Script}
-use Rattle.script_text.specs.ScriptLine.{RefForm, ScriptLine, head, code, go, script_line_written, is_script_line}
+use Rattle.script_text.specs.ScriptLine.{RefForm, ScriptLine, head, code, observer, go, script_line_written, is_snapshots_text, is_script_line}
 use Rattle.script_text.specs.Groups.{groups_of}
-use Rattle.script_text.specs.Counts.{names_of, functions_of, code_lines, is_title, module_texts, line_titles, titles_of, is_loader, is_spawn, block_lines, loader_blocks}
+use Rattle.script_text.specs.Counts.{names_of, functions_of, code_lines, is_title, module_texts, line_titles, titles_of, observers_of, is_loader, is_spawn, block_lines, loader_blocks}
 use Rattle.script_text.specs.LineFaults.{last_of, or_else, lack_in_texts, is_lacking, lack_in_loads, first_lack}
 use Rattle.script_text.specs.ScriptText.{IsShort, HaveNoFault, ScriptText}
 use Rattle.script_text.specs.ScriptValue.{commands_of, script_of}
-use Rattle.script_text.specs.Canonical.{IsOfSomeText, code_form, block_form, canonical_text, script_line_bytes, is_long_line, IsTooLong, IsTooLongToPrint}
-use Rattle.script_text.proofs.InOrder.{assemble, AreInOrder, in_order}
-use Rattle.script_text.proofs.Assembled.{block_lines_are, code_lines-assemble, code_lines-front, block_lines-assemble, count-assemble, each-assemble, each_of_blocks, last_of-assemble}
+use Rattle.script_text.specs.Canonical.{IsOfSomeText, observer_form, code_form, block_form, canonical_text, script_line_bytes, is_long_line, IsTooLong, IsTooLongToPrint}
+use Rattle.script_text.proofs.InOrder.{assemble, observer_lines, AreInOrder, in_order}
+use Rattle.script_text.proofs.Assembled.{block_lines_are, no_codes, code_lines-assemble, code_lines-front, block_lines-assemble, observers_of-assemble, count-assemble, each-assemble, each_of_others, each_of_blocks, last_of-assemble}
 use Rattle.script_text.proofs.Alike.{Alike, names-alike, functions-alike}
 use Rattle.script_text.proofs.CommandsBack.{lines_back, blocks_back}
 use Rattle.script_text.proofs.LinesJoined.{ended_lack, lack_of_forms, lines_of_bytes, modules_written, assembled_bytes}
 use Rattle.script_text.proofs.ReadBack.{Readings, readings, same_modules, none_unsettled, none_lack}
 use Rattle.script_text.proofs.Rooms.{AreWithin, all_within, StandWell, well_append, no_fault}
-use Rattle.script_text.proofs.StandingTexts.{texts_stand, texts_are, blocks_stand}
+use Rattle.script_text.proofs.StandingTexts.{texts_stand, texts_are, others_stand}
+use Rattle.script_text.proofs.HeldModules.{held_modules}
 use Rattle.script_text.proofs.Soundness.{sound_of}
 use Rattle.script_text.proofs.SoundnessGroups.{gathered, each_weaker}
 use Rattle.script_text.proofs.SoundnessRows.{all_narrow, IsNarrow}
@@ -41,6 +42,8 @@ use Rattle.script_text.proofs.SoundnessNames.{names_sound, lines_held}
 use Rattle.script_text.proofs.SoundnessTexts.{AreClosed, texts_closed, none_first}
 use Rattle.script_text.proofs.SoundnessTitles.{title_ref, each_title, AreApart, titles_apart}
 use Rattle.script_text.proofs.SoundnessCommands.{IsLineOf, none_lacking, lines_are}
+use Rattle.script_text.proofs.SoundnessObservers.{observers_sound}
+use Rattle.script_text.proofs.TextsBack.{snapshots_again}
 
 -- ---- lists of texts
 
@@ -101,10 +104,9 @@ each_true : {X : Type 0} (P : X → Type 0) → ((x : X) → P x) → (xs : List
 each_true P h [] = tt
 each_true P h (x ∷ xs) = (h x, each_true P h xs)
 
-held_modules : (names : List (List ℕ)) (texts : List (List LineForm)) → IsNames names → AreClosed names texts → All (IsModuleHeld names) (map (module_of names) texts)
-held_modules names [] sound closed = All-nil (IsModuleHeld names)
-held_modules names (text ∷ texts) sound closed =
-    All-cons (IsModuleHeld names) (module_of names text) (map (module_of names) texts) (module_held names (some_names names sound) text (sound_lines closed.0.before [] text closed.0.follow)) (held_modules names texts sound closed.1)
+observers_back : (observers : List (List ℕ)) → AllByRecursion (λ count. is_snapshots_text count ≡ true) observers → observer_form (map number_value observers) ≡ observer_lines observers
+observers_back [] h = refl
+observers_back (count ∷ observers) h = λ i. observer (snapshots_again count h.0 i) ∷ observers_back observers h.1 i
 
 -- ---- the lines of the canonical text
 
@@ -131,15 +133,22 @@ module _ (lines : List ScriptLine) (k : AreKnown lines) (r : Readings (names_of 
   abbrev blocks : List ScriptLine
   blocks = flat_map block_lines lines
 
+  -- the lines of observers and of loader blocks
+  abbrev others : List ScriptLine
+  others = observer_lines (observers_of lines) ++ blocks
+
   -- the lines of the script's canonical text
   abbrev forms : List ScriptLine
-  forms = assemble own blocks
+  forms = assemble own others
 
   order : AreInOrder lines
   order = in_order lines k.sound k.faultless k.finished
 
+  of_others : (P : ScriptLine → Type 0) → AllByRecursion P lines → AllByRecursion P others
+  of_others P h = each_of_others P codes_of others (subst (λ (ls : List ScriptLine). AllByRecursion P ls) order.whole h)
+
   of_blocks : (P : ScriptLine → Type 0) → AllByRecursion P lines → AllByRecursion P blocks
-  of_blocks P h = each_of_blocks P codes_of blocks (subst (λ (ls : List ScriptLine). AllByRecursion P ls) order.whole h)
+  of_blocks P h = each_of_blocks P (observers_of lines) blocks (of_others P h)
 
   closed : AreClosed (names_of lines) (module_texts lines)
   closed = texts_closed lines k.sound k.faultless k.finished
@@ -155,14 +164,17 @@ module _ (lines : List ScriptLine) (k : AreKnown lines) (r : Readings (names_of 
   -- ---- limits
 
   same_names : names_of forms ≡ names_of lines
-  same_names = names-alike own codes_of blocks alike ∙ ap (λ (ls : List ScriptLine). names_of ls) (sym order.whole)
+  same_names = names-alike own codes_of others alike ∙ ap (λ (ls : List ScriptLine). names_of ls) (sym order.whole)
 
   same_functions : functions_of forms ≡ functions_of lines
-  same_functions = functions-alike own codes_of blocks alike ∙ ap (λ (ls : List ScriptLine). functions_of ls) (sym order.whole)
+  same_functions = functions-alike own codes_of others alike ∙ ap (λ (ls : List ScriptLine). functions_of ls) (sym order.whole)
 
   same_count : (test : ScriptLine → Bool) → test head ≡ false → ((line : LineForm) → test (code line) ≡ false) → count_by test forms ≡ count_by test lines
   same_count test no_head no_line =
-      count-assemble test own blocks no_head no_line ∙ sym (count-assemble test codes_of blocks no_head no_line) ∙ ap (λ (ls : List ScriptLine). count_by test ls) (sym order.whole)
+      count-assemble test own others no_head no_line ∙ sym (count-assemble test codes_of others no_head no_line) ∙ ap (λ (ls : List ScriptLine). count_by test ls) (sym order.whole)
+
+  same_observers : observers_of forms ≡ observers_of lines
+  same_observers = observers_of-assemble own (observers_of lines) blocks (block_lines_are lines)
 
   within : AreWithin forms
   within =
@@ -172,6 +184,7 @@ module _ (lines : List ScriptLine) (k : AreKnown lines) (r : Readings (names_of 
         functions = subst (λ fs. length fs ≤ 1024) (sym same_functions) w.functions;
         processes = subst (λ n. n ≤ 64) (sym (same_count is_spawn refl (λ line. refl))) w.processes;
         loaders = subst (λ n. n ≤ 8) (sym (same_count is_loader refl (λ line. refl))) w.loaders;
+        observers = subst (λ (os : List (List ℕ)). length os ≤ 4) (sym same_observers) w.observers;
       }
 
   -- ---- faults
@@ -185,31 +198,34 @@ module _ (lines : List ScriptLine) (k : AreKnown lines) (r : Readings (names_of 
       let s = texts_stand (names_of lines) r.texts r.closed apart in
       let narrow = of_blocks IsNarrow (all_narrow lines k.faultless) in (
         record { place = refl; low = refl; narrow = refl; brief = refl; few = refl; short = refl; new_title = refl; new_name = refl },
-        well_append (head ∷ []) (code_form own) (blocks ++ go ∷ []) s.well (blocks_stand (head ∷ code_form own) blocks s.may order.opened (block_lines_are lines) narrow),
+        well_append (head ∷ []) (code_form own) (others ++ go ∷ []) s.well (others_stand (head ∷ code_form own) (observers_of lines) blocks s.may order.opened (block_lines_are lines) narrow),
       )
 
   forms_sound : AllByRecursion (λ line. IsTrue (is_script_line line)) forms
   forms_sound =
-      each-assemble (λ line. IsTrue (is_script_line line)) own blocks refl (texts_sound (names_of lines) r.texts r.closed) (of_blocks (λ line. IsTrue (is_script_line line)) k.sound) refl
+      each-assemble (λ line. IsTrue (is_script_line line)) own others refl (texts_sound (names_of lines) r.texts r.closed) (of_others (λ line. IsTrue (is_script_line line)) k.sound) refl
 
   forms_lack : AllByRecursion (λ line. lacks 10 (script_line_written line) ≡ true) forms
   forms_lack =
-      each-assemble (λ line. lacks 10 (script_line_written line) ≡ true) own blocks refl
+      each-assemble (λ line. lacks 10 (script_line_written line) ≡ true) own others refl
       (each_weaker (λ line. is_line_form line ≡ true) (λ line. lacks 10 (line_written line) ≡ true) line_lacks own (texts_sound (names_of lines) r.texts r.closed))
-      (of_blocks (λ line. lacks 10 (script_line_written line) ≡ true) k.lack) refl
+      (of_others (λ line. lacks 10 (script_line_written line) ≡ true) k.lack) refl
 
   -- ---- what is lacking
 
+  no_code : flat_map code_lines others ≡ []
+  no_code = no_codes (observers_of lines) blocks (block_lines_are lines)
+
   same_texts : module_texts forms ≡ r.texts
-  same_texts = ap (groups_of is_title) (code_lines-assemble own blocks (block_lines_are lines) ∙ sym (code_lines-front own)) ∙ texts_are (names_of lines) r.texts r.closed apart
+  same_texts = ap (groups_of is_title) (code_lines-assemble own others no_code ∙ sym (code_lines-front own)) ∙ texts_are (names_of lines) r.texts r.closed apart
 
   same_titles : titles_of forms ≡ titles_of lines
-  same_titles = ap (flat_map line_titles) (code_lines-assemble own blocks (block_lines_are lines)) ∙ alike.titles
+  same_titles = ap (flat_map line_titles) (code_lines-assemble own others no_code) ∙ alike.titles
 
   given : AllByRecursion (λ line. is_lacking (titles_of lines) line ≡ false) forms
   given =
-      each-assemble (λ line. is_lacking (titles_of lines) line ≡ false) own blocks refl (each_true (λ line. is_lacking (titles_of lines) (code line) ≡ false) (λ line. refl) own)
-      (of_blocks (λ line. is_lacking (titles_of lines) line ≡ false) (none_lacking (titles_of lines) 1 lines lacking.1)) refl
+      each-assemble (λ line. is_lacking (titles_of lines) line ≡ false) own others refl (each_true (λ line. is_lacking (titles_of lines) (code line) ≡ false) (λ line. refl) own)
+      (of_others (λ line. is_lacking (titles_of lines) line ≡ false) (none_lacking (titles_of lines) 1 lines lacking.1)) refl
 
   nothing_lacks : first_lack forms ≡ None
   nothing_lacks =
@@ -220,9 +236,9 @@ module _ (lines : List ScriptLine) (k : AreKnown lines) (r : Readings (names_of 
 
   same_script : script_of forms ≡ script_of lines
   same_script =
-      let loading = block_lines-assemble own blocks (block_lines_are lines) in
+      let loading = block_lines-assemble own (observers_of lines) blocks (block_lines_are lines) in
       let modules = (λ i. map (module_of (same_names i)) (same_texts i)) ∙ r.value in
-      λ i. record { names = same_names i; modules = modules i; loaders = map (commands_of (same_names i)) (groups_of is_loader (loading i)) }
+      λ i. record { names = same_names i; modules = modules i; observers = map number_value (same_observers i); loaders = map (commands_of (same_names i)) (groups_of is_loader (loading i)) }
 
   -- ---- the bytes
 
@@ -232,13 +248,17 @@ module _ (lines : List ScriptLine) (k : AreKnown lines) (r : Readings (names_of 
       let own_lines = lines_are (names_of lines) (titles_of lines) lines k.sound (all_narrow lines k.faultless) (lines_held lines) given_refs in
       blocks_back (names_of lines) blocks order.opened (lines_back (names_of lines) (titles_of lines) blocks (block_lines_are lines) (of_blocks (IsLineOf (names_of lines) (titles_of lines)) own_lines))
 
+  observers_written : observer_form (map number_value (observers_of lines)) ≡ observer_lines (observers_of lines)
+  observers_written = observers_back (observers_of lines) (observers_sound lines k.sound)
+
   bytes_are : canonical_text (script_of lines) ≡ flat_map script_line_bytes forms
   bytes_are =
       let written = flat_map (module_lines (names_of lines)) (modules_of lines) in
-      ap (λ (bs : List ScriptLine). flat_map script_line_bytes (assemble written bs)) commands_written
-      ∙ assembled_bytes written blocks
-      ∙ ap (λ (l : List ℕ). script_line_bytes head ++ (l ++ flat_map script_line_bytes (blocks ++ go ∷ []))) (modules_written (names_of lines) (modules_of lines) ∙ r.spelled ∙ sym (texts_written r.texts))
-      ∙ sym (assembled_bytes own blocks)
+      (λ i. flat_map script_line_bytes (head ∷ (code_form written ++ (observers_written i ++ (commands_written i ++ go ∷ [])))))
+      ∙ ap (λ (ls : List ScriptLine). flat_map script_line_bytes (head ∷ (code_form written ++ ls))) (sym (append_assoc (observer_lines (observers_of lines)) blocks (go ∷ [])))
+      ∙ assembled_bytes written others
+      ∙ ap (λ (l : List ℕ). script_line_bytes head ++ (l ++ flat_map script_line_bytes (others ++ go ∷ []))) (modules_written (names_of lines) (modules_of lines) ∙ r.spelled ∙ sym (texts_written r.texts))
+      ∙ sym (assembled_bytes own others)
 
   lines_of_text : lines_of (canonical_text (script_of lines)) ≡ parts_of (map script_line_written forms) []
   lines_of_text = ap lines_of bytes_are ∙ lines_of_bytes forms forms_lack
@@ -258,7 +278,7 @@ module _ (lines : List ScriptLine) (k : AreKnown lines) (r : Readings (names_of 
             faultless = no_fault [] forms within well;
           };
           nothing_more = ap (λ (w : Lines). w.tail) lines_of_text;
-          finished = last_of-assemble own blocks;
+          finished = last_of-assemble own others;
         };
         found = nothing_lacks;
         value = sym same_script;

@@ -69,10 +69,13 @@ Judges m text (Err causes.NoMemory) = ⊥
 
 -- a line that may not stand there
 pub misplaced : (m : Summary) (line : ScriptLine) → may_stand m.last line ≡ false → fault_by m line ≡ Some (faults.Syntax (m.count + 1))
-misplaced m line e = misplaced_table (may_stand m.last line) _ _ _ _ _ _ _ _ _ _ (m.count + 1) e
+misplaced m line e = misplaced_table (may_stand m.last line) _ _ _ _ _ _ _ _ _ _ _ (m.count + 1) e
 
 no_count : (n bound : ℕ) → n ≤ bound → nat_lt bound (n + 0) ≡ false
 no_count n bound h = grind (arith, nat_tests)
+
+no_more : (n bound : ℕ) → n ≤ bound → nat_lt bound n ≡ false
+no_more n bound h = grind (arith, nat_tests)
 
 -- whether the functions are too many after a line
 abbrev pub exports_by : Summary → ScriptLine → Bool
@@ -83,7 +86,8 @@ pub code_fault : (m : Summary) (r : ScriptReader) (closed : List (List LineForm)
 code_fault m r closed line k e =
     let spawns = no_count m.spawns 64 k.few_processes in
     let loaders = no_count m.loaders 8 k.few_loaders in
-    (λ i. table (not (e i) || has_high_register line) (has_wide_integer line) (has_long_term line) (overfills_names m.names line) (is_seventeenth (last_group m.texts) line) (ends_too_long m.names (last_group m.texts) line) (exports_by m (code line)) (spawns i) (loaders i) (is_given_again m.titles line || is_repeated (last_group m.texts) line) (m.count + 1))
+    let observers = no_more (length m.observers) 4 k.few_observers in
+    (λ i. table (not (e i) || has_high_register line) (has_wide_integer line) (has_long_term line) (overfills_names m.names line) (is_seventeenth (last_group m.texts) line) (ends_too_long m.names (last_group m.texts) line) (exports_by m (code line)) (spawns i) (loaders i) (observers i) (is_given_again m.titles line || is_repeated (last_group m.texts) line) (m.count + 1))
     ∙ code_table (has_high_register line) (has_wide_integer line) (has_long_term line) (overfills_names m.names line) (is_seventeenth (last_group m.texts) line) (ends_too_long m.names (last_group m.texts) line) (is_repeated (last_group m.texts) line) (exports_by m (code line)) (is_given_again m.titles line) (m.count + 1)
 
 -- ---- names

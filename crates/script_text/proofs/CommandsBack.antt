@@ -12,7 +12,7 @@ use Rattle.mod_text.specs.ModuleLine.{is_version_text, is_arity_text, is_functio
 use Rattle.mod_text.specs.ModuleValue.{atom_in}
 use Rattle.term_core.specs.Names.{is_atom_text}
 use Rattle.script_text.specs.declared.script.ScriptCmd.{ScriptCmd}
-use Rattle.script_text.specs.ScriptLine.{RefForm, AtomCommand, delete, soft_purge, purge, check_old, erase, ScriptLine, head, code, loader, load, on_atom, put, trace, spawn, go, is_ref_form, is_term_form, is_script_line}
+use Rattle.script_text.specs.ScriptLine.{RefForm, AtomCommand, delete, soft_purge, purge, check_old, erase, ScriptLine, head, code, observer, loader, load, on_atom, put, trace, spawn, go, is_ref_form, is_term_form, is_script_line}
 use Rattle.script_text.specs.Groups.{onto_last, groups_with, groups_of}
 use Rattle.script_text.specs.Counts.{is_loader}
 use Rattle.script_text.specs.LineFaults.{is_wide_term}
@@ -70,6 +70,7 @@ trace_arity f g arity on h = (and_parts (is_atom_text g) (is_arity_text arity) (
 pub line_back : (names : List (List ℕ)) (titles : List RefForm) (line : ScriptLine) → IsBlockLine line → IsLineOf names titles line → IsBack names line
 line_back names titles head is l = absurd is
 line_back names titles (code line) is l = absurd is
+line_back names titles (observer count) is l = absurd is
 line_back names titles loader is l = record { start = λ _. refl; command = λ e. absurd cc }
 line_back names titles (load refs) is l =
     record { start = λ e. absurd cc; command = λ _. ap (λ (rs : List RefForm). load rs ∷ []) (refs_again names refs (some_refs refs l.sound) l.held) }
@@ -147,6 +148,7 @@ module _ (names : List (List ℕ)) where
   all_back [] opened back = refl
   all_back (head ∷ lines) opened back = absurd opened
   all_back (code line ∷ lines) opened back = absurd opened
+  all_back (observer count ∷ lines) opened back = absurd opened
   all_back (loader ∷ lines) opened back = groups_back ((loader ∷ []) ∷ []) lines tt back.1
   all_back (load refs ∷ lines) opened back = absurd opened
   all_back (on_atom command name ∷ lines) opened back = absurd opened

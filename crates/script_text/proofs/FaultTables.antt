@@ -27,7 +27,7 @@ with_counts (Some line_faults.TooLong) exports again number = Some (fault_at num
 with_counts (Some line_faults.NoMemory) exports again number = Some (fault_at number (cause_of_code line_faults.NoMemory))
 
 -- the fault of a line of a module's text that may stand there
-pub code_table : (high wide big names functions long repeated exports again : Bool) (number : ℕ) → table (not true || high) wide big names functions long exports false false (again || repeated) number ≡ with_counts (own_fault high wide big names functions long repeated) exports again number
+pub code_table : (high wide big names functions long repeated exports again : Bool) (number : ℕ) → table (not true || high) wide big names functions long exports false false false (again || repeated) number ≡ with_counts (own_fault high wide big names functions long repeated) exports again number
 code_table true wide big names functions long repeated exports again number = refl
 code_table false true big names functions long repeated exports again number = refl
 code_table false false true names functions long repeated exports again number = refl
@@ -42,5 +42,5 @@ code_table false false false false false false false false true number = refl
 code_table false false false false false false false false false number = refl
 
 -- a line that may not stand there
-pub misplaced_table : (stands high wide big names functions long exports processes loaders again : Bool) (number : ℕ) → stands ≡ false → table (not stands || high) wide big names functions long exports processes loaders again number ≡ Some (faults.Syntax number)
-misplaced_table stands high wide big names functions long exports processes loaders again number e = ap (λ t. table (not t || high) wide big names functions long exports processes loaders again number) e
+pub misplaced_table : (stands high wide big names functions long exports processes loaders observers again : Bool) (number : ℕ) → stands ≡ false → table (not stands || high) wide big names functions long exports processes loaders observers again number ≡ Some (faults.Syntax number)
+misplaced_table stands high wide big names functions long exports processes loaders observers again number e = ap (λ t. table (not t || high) wide big names functions long exports processes loaders observers again number) e

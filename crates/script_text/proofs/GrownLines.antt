@@ -10,7 +10,7 @@ use Rattle.mod_text.specs.ModuleLine.{LineForm}
 use Rattle.mod_text.proofs.LineNames.{names_with_all-append}
 use Rattle.script_text.specs.ScriptLine.{ScriptLine, code}
 use Rattle.script_text.specs.Groups.{groups_with, groups_of}
-use Rattle.script_text.specs.Counts.{script_line_atoms, names_of, FunctionForm, script_line_functions, home_after, functions_named, functions_with, functions_of, code_lines, is_title, module_texts, line_titles, titles_of, is_loader, block_lines, loader_blocks}
+use Rattle.script_text.specs.Counts.{script_line_atoms, names_of, FunctionForm, script_line_functions, home_after, functions_named, functions_with, functions_of, code_lines, is_title, module_texts, line_titles, titles_of, line_observers, observers_of, is_loader, block_lines, loader_blocks}
 use Rattle.script_text.specs.LineFaults.{last_of}
 
 pub flat_map-snoc : {X A : Type 0} (f : X → List A) (xs : List X) (x : X) → flat_map f (xs ++ x ∷ []) ≡ flat_map f xs ++ f x
@@ -50,6 +50,12 @@ titles_of-code lines line = ap (flat_map line_titles) (flat_map-snoc code_lines 
 
 pub titles_of-other : (lines : List ScriptLine) (line : ScriptLine) → code_lines line ≡ [] → titles_of (lines ++ line ∷ []) ≡ titles_of lines
 titles_of-other lines line none = ap (flat_map line_titles) (flat_map-snoc code_lines lines line ∙ ap (λ (l : List _). flat_map code_lines lines ++ l) none ∙ append-nil (flat_map code_lines lines))
+
+pub observers_of-line : (lines : List ScriptLine) (line : ScriptLine) → observers_of (lines ++ line ∷ []) ≡ observers_of lines ++ line_observers line
+observers_of-line lines line = flat_map-snoc line_observers lines line
+
+pub observers_of-other : (lines : List ScriptLine) (line : ScriptLine) → line_observers line ≡ [] → observers_of (lines ++ line ∷ []) ≡ observers_of lines
+observers_of-other lines line none = flat_map-snoc line_observers lines line ∙ ap (λ (l : List _). observers_of lines ++ l) none ∙ append-nil (observers_of lines)
 
 pub blocks-line : (lines : List ScriptLine) (line : ScriptLine) → block_lines line ≡ line ∷ [] → loader_blocks (lines ++ line ∷ []) ≡ groups_with is_loader (loader_blocks lines) line
 blocks-line lines line one =

@@ -4,16 +4,16 @@ use Rattle.std.specs.Prelude.{map}
 use Rattle.std.specs.List.{AllByRecursion}
 use Rattle.term_core.specs.declared.atom.Mfa.{Mfa}
 use Rattle.term_core.specs.Names.{IsNames, Extends}
-use Rattle.mod_text.specs.ModuleLine.{LineForm, title, header, label, instr, end}
+use Rattle.mod_text.specs.ModuleLine.{LineForm, title, header, label, instr, end, number_value}
 use Rattle.mod_text.specs.LineFaults.{last_line, line_atoms}
 use Rattle.mod_text.specs.ModuleValue.{atom_in, title_of, IsTitled, module_of, unsettled_line}
 use Rattle.script_text.specs.declared.reading.reader.Place.{Place}
-use Rattle.script_text.specs.declared.reading.reader.Place.TheVariants.{Unread, Between, Within, Loading, Finished}
+use Rattle.script_text.specs.declared.reading.reader.Place.TheVariants.{Unread, Between, Within, Observing, Loading, Finished}
 use Rattle.script_text.specs.declared.reading.reader.ScriptReader.{ScriptReader}
 use Rattle.script_text.specs.ScriptLine.{RefForm, ScriptLine, head, code, loader, load, spawn, go}
 use Rattle.script_text.specs.Counts.{FunctionForm}
 use Rattle.script_text.specs.ScriptValue.{ref_in, commands_of}
-use Rattle.script_text.specs.LineFaults.{may_stand_between, may_stand_behind, may_stand_loading, may_stand, or_else, lack_in_texts, is_lacking, lack_in_loads}
+use Rattle.script_text.specs.LineFaults.{may_stand_between, may_stand_behind, may_stand_observing, may_stand_loading, may_stand, or_else, lack_in_texts, is_lacking, lack_in_loads}
 use Rattle.script_text.specs.Reading.{is_text_end}
 use Rattle.script_text.proofs.HeldNames.{IsHeldText}
 use Rattle.script_text.proofs.Summaries.{Summary}
@@ -69,6 +69,10 @@ pub record IsWithin (m : Summary) (r : ScriptReader) (closed : List (List LineFo
   pub is_open : IsOpen m r closed
   pub goes_on : is_text_end (last_line r.lines) ≡ false
 
+pub record IsObserving (m : Summary) (r : ScriptReader) : Type 0 where
+  pub follows : (line : ScriptLine) → may_stand m.last line ≡ may_stand_observing line
+  pub none_open : r.lines ≡ []
+
 pub record IsLoading (m : Summary) (r : ScriptReader) : Type 0 where
   pub follows : (line : ScriptLine) → may_stand m.last line ≡ may_stand_loading line
   pub some_block : 1 ≤ m.loaders
@@ -84,6 +88,7 @@ abbrev pub Stands : Summary → ScriptReader → List (List LineForm) → Place 
 Stands m r closed Unread = IsUnread m r closed
 Stands m r closed Between = IsBetween m r closed
 Stands m r closed Within = IsWithin m r closed
+Stands m r closed Observing = IsObserving m r
 Stands m r closed Loading = IsLoading m r
 Stands m r closed Finished = IsFinished m r
 
@@ -101,6 +106,8 @@ pub record Knows (m : Summary) (r : ScriptReader) (closed : List (List LineForm)
   pub loaders : (more : List (List ℕ)) → r.loaders ≡ map (commands_of (m.names ++ more)) m.blocks
   pub blocks : length m.blocks ≡ m.loaders
   pub few_loaders : m.loaders ≤ 8
+  pub observers : r.observers ≡ map number_value m.observers
+  pub few_observers : length m.observers ≤ 4
   pub processes : r.processes ≡ m.spawns
   pub few_processes : m.spawns ≤ 64
   pub unknown : r.unknown ≡ or_else (lack_in_texts 2 closed) (lack_in_loads m.titles 1 m.lines)

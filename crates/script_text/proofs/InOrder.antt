@@ -1,26 +1,31 @@
--- The lines of a script stand in order: the head, the module texts, the loader blocks, and `go`.
-use Rattle.std.proofs.Common.{◌≡◌, true, List, [], ◌∷◌, ◌++◌, Option, Some, None, refl, sym, ap, ◌∙◌, subst, append_assoc, append-nil}
+-- The lines of a script stand in order: the head, the module texts, the observers, the loader blocks, and `go`.
+use Rattle.std.proofs.Common.{◌≡◌, ℕ, true, List, [], ◌∷◌, ◌++◌, map, Option, Some, None, refl, sym, ap, ◌∙◌, subst, append_assoc, append-nil}
 use Rattle.std.specs.Prelude.{IsTrue}
 use Rattle.std.specs.List.{AllByRecursion, flat_map}
 use Rattle.std.proofs.lemmas.List.{map-append}
 use Rattle.mod_text.specs.ModuleLine.{LineForm, title, header, label, instr, end}
-use Rattle.script_text.specs.ScriptLine.{ScriptLine, head, code, loader, load, on_atom, put, trace, spawn, go, is_script_line}
-use Rattle.script_text.specs.Counts.{code_lines, block_lines}
+use Rattle.script_text.specs.ScriptLine.{ScriptLine, head, code, observer, loader, load, on_atom, put, trace, spawn, go, is_script_line}
+use Rattle.script_text.specs.Counts.{code_lines, line_observers, observers_of, block_lines}
 use Rattle.script_text.specs.Canonical.{code_form}
-use Rattle.script_text.specs.LineFaults.{may_stand_between, may_stand_within, may_stand_behind, may_stand_loading, may_stand, last_of}
+use Rattle.script_text.specs.LineFaults.{may_stand_between, may_stand_within, may_stand_behind, may_stand_observing, may_stand_loading, may_stand, last_of}
 use Rattle.script_text.specs.ScriptText.{HaveNoFault}
 use Rattle.script_text.proofs.GrownLines.{flat_map-snoc}
 use Rattle.script_text.proofs.SoundnessRows.{IsKept, kept}
 
--- the lines of a script with these lines of module texts and of loader blocks
+-- the lines of a script with these lines of module texts and these others behind them
 abbrev pub assemble : List LineForm → List ScriptLine → List ScriptLine
-assemble codes blocks = head ∷ (code_form codes ++ (blocks ++ go ∷ []))
+assemble codes others = head ∷ (code_form codes ++ (others ++ go ∷ []))
+
+-- the lines of observers, by the digits of how many snapshots each takes
+abbrev pub observer_lines : List (List ℕ) → List ScriptLine
+observer_lines observers = map (λ count. observer count) observers
 
 -- the first of these lines begins a loader block
 abbrev pub IsOpened : List ScriptLine → Type 0
 IsOpened [] = ⊥
 IsOpened (head ∷ lines) = ⊥
 IsOpened (code line ∷ lines) = ⊥
+IsOpened (observer count ∷ lines) = ⊥
 IsOpened (loader ∷ lines) = Unit {0}
 IsOpened (load refs ∷ lines) = ⊥
 IsOpened (on_atom command name ∷ lines) = ⊥
@@ -34,31 +39,41 @@ abbrev pub AreBlocks : List ScriptLine → Type 0
 AreBlocks [] = Unit {0}
 AreBlocks (line ∷ lines) = IsOpened (line ∷ lines)
 
--- the lines of a script are those of its module texts and of its loader blocks, in order
+-- the lines of a script are those of its module texts, of its observers and of its loader blocks, in order
 pub record AreInOrder (lines : List ScriptLine) : Type 0 where
-  pub whole : lines ≡ assemble (flat_map code_lines lines) (flat_map block_lines lines)
+  pub whole : lines ≡ assemble (flat_map code_lines lines) (observer_lines (observers_of lines) ++ flat_map block_lines lines)
   pub opened : AreBlocks (flat_map block_lines lines)
 
 -- ---- the first lines
 
-before_go : List LineForm → List ScriptLine → List ScriptLine
-before_go codes blocks = head ∷ (code_form codes ++ blocks)
+before_go : List LineForm → List (List ℕ) → List ScriptLine → List ScriptLine
+before_go codes observers blocks = head ∷ (code_form codes ++ (observer_lines observers ++ blocks))
+
+abbrev AreWhole : List ScriptLine → Type 0
+AreWhole lines = lines ≡ before_go (flat_map code_lines lines) (observers_of lines) (flat_map block_lines lines)
+
+-- in front of the observers
+record BeforeObservers (lines : List ScriptLine) : Type 0 where
+  whole : AreWhole lines
+  no_observer : observers_of lines ≡ []
+  none : flat_map block_lines lines ≡ []
 
 -- in front of the loader blocks
 record BeforeBlocks (lines : List ScriptLine) : Type 0 where
-  whole : lines ≡ before_go (flat_map code_lines lines) (flat_map block_lines lines)
+  whole : AreWhole lines
   none : flat_map block_lines lines ≡ []
 
 -- among the loader blocks
 record InBlocks (lines : List ScriptLine) : Type 0 where
-  whole : lines ≡ before_go (flat_map code_lines lines) (flat_map block_lines lines)
+  whole : AreWhole lines
   opened : IsOpened (flat_map block_lines lines)
 
 -- how lines stand of which this is the last
 abbrev Stand : Option ScriptLine → List ScriptLine → Type 0
 Stand None lines = lines ≡ []
-Stand (Some head) lines = BeforeBlocks lines
-Stand (Some (code line)) lines = BeforeBlocks lines
+Stand (Some head) lines = BeforeObservers lines
+Stand (Some (code line)) lines = BeforeObservers lines
+Stand (Some (observer count)) lines = BeforeBlocks lines
 Stand (Some loader) lines = InBlocks lines
 Stand (Some (load refs)) lines = InBlocks lines
 Stand (Some (on_atom command name)) lines = InBlocks lines
@@ -73,6 +88,7 @@ opened_more : (lines : List ScriptLine) (more : List ScriptLine) → IsOpened li
 opened_more [] more h = absurd h
 opened_more (head ∷ lines) more h = absurd h
 opened_more (code line ∷ lines) more h = absurd h
+opened_more (observer count ∷ lines) more h = absurd h
 opened_more (loader ∷ lines) more h = tt
 opened_more (load refs ∷ lines) more h = absurd h
 opened_more (on_atom command name ∷ lines) more h = absurd h
@@ -91,53 +107,81 @@ no_more f xs x none = flat_map-snoc f xs x ∙ ap (λ (l : List _). flat_map f x
 one_more : {X A : Type 0} (f : X → List A) (xs : List X) (x : X) (a : A) → f x ≡ a ∷ [] → flat_map f (xs ++ x ∷ []) ≡ flat_map f xs ++ a ∷ []
 one_more f xs x a one = flat_map-snoc f xs x ∙ ap (λ (l : List _). flat_map f xs ++ l) one
 
--- a line of a loader block
-block_more : (lines : List ScriptLine) (line : ScriptLine) → lines ≡ before_go (flat_map code_lines lines) (flat_map block_lines lines) → code_lines line ≡ [] → block_lines line ≡ line ∷ [] → IsOpened (flat_map block_lines lines ++ line ∷ []) → InBlocks (lines ++ line ∷ [])
+-- what stands behind the lines of loader blocks
+behind_blocks : (codes : List LineForm) (observers : List (List ℕ)) (blocks more : List ScriptLine) → before_go codes observers blocks ++ more ≡ before_go codes observers (blocks ++ more)
 unfolding before_go
-block_more lines line whole no_code own opened =
+behind_blocks codes observers blocks more =
+    ap (λ (ls : List ScriptLine). head ∷ ls)
+    (append_assoc (code_form codes) (observer_lines observers ++ blocks) more ∙ ap (λ (ls : List ScriptLine). code_form codes ++ ls) (append_assoc (observer_lines observers) blocks more))
+
+-- a line of a loader block
+block_more : (lines : List ScriptLine) (line : ScriptLine) → AreWhole lines → code_lines line ≡ [] → line_observers line ≡ [] → block_lines line ≡ line ∷ [] → IsOpened (flat_map block_lines lines ++ line ∷ []) → InBlocks (lines ++ line ∷ [])
+block_more lines line whole no_code no_observer own opened =
     let codes = no_more code_lines lines line no_code in
+    let observers = no_more line_observers lines line no_observer in
     let blocks = one_more block_lines lines line line own in
     record {
       whole =
           ap (λ (ls : List ScriptLine). ls ++ line ∷ []) whole
-          ∙ ap (λ (ls : List ScriptLine). head ∷ ls) (append_assoc (code_form (flat_map code_lines lines)) (flat_map block_lines lines) (line ∷ []))
-          ∙ (λ i. before_go (sym codes i) (sym blocks i));
+          ∙ behind_blocks (flat_map code_lines lines) (observers_of lines) (flat_map block_lines lines) (line ∷ [])
+          ∙ (λ i. before_go (sym codes i) (sym observers i) (sym blocks i));
       opened = subst IsOpened (sym blocks) opened;
     }
 
-loader_more : (lines : List ScriptLine) → BeforeBlocks lines → InBlocks (lines ++ loader ∷ [])
-loader_more lines b = block_more lines loader b.whole refl refl (subst (λ (ls : List ScriptLine). IsOpened (ls ++ loader ∷ [])) (sym b.none) tt)
+loader_more : (lines : List ScriptLine) → AreWhole lines → flat_map block_lines lines ≡ [] → InBlocks (lines ++ loader ∷ [])
+loader_more lines whole none = block_more lines loader whole refl refl refl (subst (λ (ls : List ScriptLine). IsOpened (ls ++ loader ∷ [])) (sym none) tt)
 
-in_block : (lines : List ScriptLine) (line : ScriptLine) → InBlocks lines → code_lines line ≡ [] → block_lines line ≡ line ∷ [] → InBlocks (lines ++ line ∷ [])
-in_block lines line b no_code own = block_more lines line b.whole no_code own (opened_more (flat_map block_lines lines) (line ∷ []) b.opened)
+in_block : (lines : List ScriptLine) (line : ScriptLine) → InBlocks lines → code_lines line ≡ [] → line_observers line ≡ [] → block_lines line ≡ line ∷ [] → InBlocks (lines ++ line ∷ [])
+in_block lines line b no_code no_observer own = block_more lines line b.whole no_code no_observer own (opened_more (flat_map block_lines lines) (line ∷ []) b.opened)
 
 -- a line of a module's text
-code_more : (lines : List ScriptLine) (line : LineForm) → BeforeBlocks lines → BeforeBlocks (lines ++ code line ∷ [])
+code_more : (lines : List ScriptLine) (line : LineForm) → BeforeObservers lines → BeforeObservers (lines ++ code line ∷ [])
 unfolding before_go
 code_more lines line b =
     let codes = one_more code_lines lines (code line) line refl in
+    let observers = no_more line_observers lines (code line) refl ∙ b.no_observer in
     let blocks = no_more block_lines lines (code line) refl ∙ b.none in
-    let known : lines ≡ head ∷ code_form (flat_map code_lines lines) = b.whole ∙ ap (before_go (flat_map code_lines lines)) b.none ∙ ap (λ (ls : List ScriptLine). head ∷ ls) (append-nil (code_form (flat_map code_lines lines))) in
+    let known : lines ≡ head ∷ code_form (flat_map code_lines lines) =
+    b.whole ∙ (λ i. before_go (flat_map code_lines lines) (b.no_observer i) (b.none i)) ∙ ap (λ (ls : List ScriptLine). head ∷ ls) (append-nil (code_form (flat_map code_lines lines))) in
     record {
       whole =
           ap (λ (ls : List ScriptLine). ls ++ code line ∷ []) known
           ∙ ap (λ (ls : List ScriptLine). head ∷ ls) (sym (append-nil (code_form (flat_map code_lines lines) ++ code line ∷ [])))
           ∙ ap (λ (ls : List ScriptLine). head ∷ (ls ++ [])) (sym (map-append (λ l. code l) (flat_map code_lines lines) (line ∷ [])))
-          ∙ (λ i. before_go (sym codes i) (sym blocks i));
+          ∙ (λ i. before_go (sym codes i) (sym observers i) (sym blocks i));
+      no_observer = observers;
+      none = blocks;
+    }
+
+-- a line of an observer
+observer_more : (lines : List ScriptLine) (count : List ℕ) → AreWhole lines → flat_map block_lines lines ≡ [] → BeforeBlocks (lines ++ observer count ∷ [])
+unfolding before_go
+observer_more lines count whole none =
+    let codes = no_more code_lines lines (observer count) refl in
+    let observers = one_more line_observers lines (observer count) count refl in
+    let blocks = no_more block_lines lines (observer count) refl ∙ none in
+    record {
+      whole =
+          ap (λ (ls : List ScriptLine). ls ++ observer count ∷ []) (whole ∙ ap (before_go (flat_map code_lines lines) (observers_of lines)) none)
+          ∙ behind_blocks (flat_map code_lines lines) (observers_of lines) [] (observer count ∷ [])
+          ∙ ap (λ (ls : List ScriptLine). head ∷ (code_form (flat_map code_lines lines) ++ ls)) (sym (append-nil (observer_lines (observers_of lines) ++ observer count ∷ [])))
+          ∙ ap (λ (ls : List ScriptLine). head ∷ (code_form (flat_map code_lines lines) ++ (ls ++ []))) (sym (map-append (λ n. observer n) (observers_of lines) (count ∷ [])))
+          ∙ (λ i. before_go (sym codes i) (sym observers i) (sym blocks i));
       none = blocks;
     }
 
 -- the end
-go_more : (lines : List ScriptLine) → lines ≡ before_go (flat_map code_lines lines) (flat_map block_lines lines) → AreBlocks (flat_map block_lines lines) → AreInOrder (lines ++ go ∷ [])
+go_more : (lines : List ScriptLine) → AreWhole lines → AreBlocks (flat_map block_lines lines) → AreInOrder (lines ++ go ∷ [])
 unfolding before_go
 go_more lines whole opened =
     let codes = no_more code_lines lines go refl in
+    let observers = no_more line_observers lines go refl in
     let blocks = no_more block_lines lines go refl in
     record {
       whole =
           ap (λ (ls : List ScriptLine). ls ++ go ∷ []) whole
-          ∙ ap (λ (ls : List ScriptLine). head ∷ ls) (append_assoc (code_form (flat_map code_lines lines)) (flat_map block_lines lines) (go ∷ []))
-          ∙ (λ i. assemble (sym codes i) (sym blocks i));
+          ∙ ap (λ (ls : List ScriptLine). head ∷ ls) (append_assoc (code_form (flat_map code_lines lines)) (observer_lines (observers_of lines) ++ flat_map block_lines lines) (go ∷ []))
+          ∙ (λ i. assemble (sym codes i) (observer_lines (sym observers i) ++ sym blocks i));
       opened = subst AreBlocks (sym blocks) opened;
     }
 
@@ -145,8 +189,9 @@ go_more lines whole opened =
 
 first_line : (lines : List ScriptLine) (line : ScriptLine) → lines ≡ [] → may_stand None line ≡ true → Stand (Some line) (lines ++ line ∷ [])
 unfolding before_go
-first_line lines head none place = subst (λ (ls : List ScriptLine). BeforeBlocks (ls ++ head ∷ [])) (sym none) (record { whole = refl; none = refl })
+first_line lines head none place = subst (λ (ls : List ScriptLine). BeforeObservers (ls ++ head ∷ [])) (sym none) (record { whole = refl; no_observer = refl; none = refl })
 first_line lines (code line) none place = absurd cc
+first_line lines (observer count) none place = absurd cc
 first_line lines loader none place = absurd cc
 first_line lines (load refs) none place = absurd cc
 first_line lines (on_atom command name) none place = absurd cc
@@ -155,10 +200,11 @@ first_line lines (trace f g arity on) none place = absurd cc
 first_line lines (spawn m f args) none place = absurd cc
 first_line lines go none place = absurd cc
 
-line_between : (lines : List ScriptLine) (line : ScriptLine) → BeforeBlocks lines → may_stand_between line ≡ true → Stand (Some line) (lines ++ line ∷ [])
+line_between : (lines : List ScriptLine) (line : ScriptLine) → BeforeObservers lines → may_stand_between line ≡ true → Stand (Some line) (lines ++ line ∷ [])
 line_between lines head b place = absurd cc
 line_between lines (code line) b place = code_more lines line b
-line_between lines loader b place = loader_more lines b
+line_between lines (observer count) b place = observer_more lines count b.whole b.none
+line_between lines loader b place = loader_more lines b.whole b.none
 line_between lines (load refs) b place = absurd cc
 line_between lines (on_atom command name) b place = absurd cc
 line_between lines (put key term) b place = absurd cc
@@ -166,9 +212,10 @@ line_between lines (trace f g arity on) b place = absurd cc
 line_between lines (spawn m f args) b place = absurd cc
 line_between lines go b place = go_more lines b.whole (subst AreBlocks (sym b.none) tt)
 
-line_within : (lines : List ScriptLine) (last : LineForm) (line : ScriptLine) → BeforeBlocks lines → may_stand_within last line ≡ true → Stand (Some line) (lines ++ line ∷ [])
+line_within : (lines : List ScriptLine) (last : LineForm) (line : ScriptLine) → BeforeObservers lines → may_stand_within last line ≡ true → Stand (Some line) (lines ++ line ∷ [])
 line_within lines last head b place = absurd cc
 line_within lines last (code line) b place = code_more lines line b
+line_within lines last (observer count) b place = absurd cc
 line_within lines last loader b place = absurd cc
 line_within lines last (load refs) b place = absurd cc
 line_within lines last (on_atom command name) b place = absurd cc
@@ -177,28 +224,42 @@ line_within lines last (trace f g arity on) b place = absurd cc
 line_within lines last (spawn m f args) b place = absurd cc
 line_within lines last go b place = absurd cc
 
-line_behind : (lines : List ScriptLine) (last : LineForm) (line : ScriptLine) → BeforeBlocks lines → may_stand_behind last line ≡ true → Stand (Some line) (lines ++ line ∷ [])
+line_behind : (lines : List ScriptLine) (last : LineForm) (line : ScriptLine) → BeforeObservers lines → may_stand_behind last line ≡ true → Stand (Some line) (lines ++ line ∷ [])
 line_behind lines (title name version) line b place = line_within lines (title name version) line b place
 line_behind lines (header exported name arity) line b place = line_within lines (header exported name arity) line b place
 line_behind lines (label name) line b place = line_within lines (label name) line b place
 line_behind lines (instr i) line b place = line_within lines (instr i) line b place
 line_behind lines end line b place = line_between lines line b place
 
+line_observing : (lines : List ScriptLine) (line : ScriptLine) → BeforeBlocks lines → may_stand_observing line ≡ true → Stand (Some line) (lines ++ line ∷ [])
+line_observing lines head b place = absurd cc
+line_observing lines (code line) b place = absurd cc
+line_observing lines (observer count) b place = observer_more lines count b.whole b.none
+line_observing lines loader b place = loader_more lines b.whole b.none
+line_observing lines (load refs) b place = absurd cc
+line_observing lines (on_atom command name) b place = absurd cc
+line_observing lines (put key term) b place = absurd cc
+line_observing lines (trace f g arity on) b place = absurd cc
+line_observing lines (spawn m f args) b place = absurd cc
+line_observing lines go b place = go_more lines b.whole (subst AreBlocks (sym b.none) tt)
+
 line_loading : (lines : List ScriptLine) (line : ScriptLine) → InBlocks lines → may_stand_loading line ≡ true → Stand (Some line) (lines ++ line ∷ [])
 line_loading lines head b place = absurd cc
 line_loading lines (code line) b place = absurd cc
-line_loading lines loader b place = in_block lines loader b refl refl
-line_loading lines (load refs) b place = in_block lines (load refs) b refl refl
-line_loading lines (on_atom command name) b place = in_block lines (on_atom command name) b refl refl
-line_loading lines (put key term) b place = in_block lines (put key term) b refl refl
-line_loading lines (trace f g arity on) b place = in_block lines (trace f g arity on) b refl refl
-line_loading lines (spawn m f args) b place = in_block lines (spawn m f args) b refl refl
+line_loading lines (observer count) b place = absurd cc
+line_loading lines loader b place = in_block lines loader b refl refl refl
+line_loading lines (load refs) b place = in_block lines (load refs) b refl refl refl
+line_loading lines (on_atom command name) b place = in_block lines (on_atom command name) b refl refl refl
+line_loading lines (put key term) b place = in_block lines (put key term) b refl refl refl
+line_loading lines (trace f g arity on) b place = in_block lines (trace f g arity on) b refl refl refl
+line_loading lines (spawn m f args) b place = in_block lines (spawn m f args) b refl refl refl
 line_loading lines go b place = go_more lines b.whole (are_blocks (flat_map block_lines lines) b.opened)
 
 line_more : (lines : List ScriptLine) (last : Option ScriptLine) (line : ScriptLine) → Stand last lines → may_stand last line ≡ true → Stand (Some line) (lines ++ line ∷ [])
 line_more lines None line s place = first_line lines line s place
 line_more lines (Some head) line s place = line_between lines line s place
 line_more lines (Some (code last)) line s place = line_behind lines last line s place
+line_more lines (Some (observer count)) line s place = line_observing lines line s place
 line_more lines (Some loader) line s place = line_loading lines line s place
 line_more lines (Some (load refs)) line s place = line_loading lines line s place
 line_more lines (Some (on_atom command name)) line s place = line_loading lines line s place

@@ -14,6 +14,7 @@ pub mod Findings
 pub mod Functions
 pub mod GroupLaws
 pub mod GrownLines
+pub mod HeldModules
 pub mod HeldNames
 pub mod Holding
 pub mod InOrder
@@ -27,6 +28,8 @@ pub mod NamedLaws
 pub mod NamedSteps
 pub mod NamingLoops
 pub mod Namings
+pub mod ObserverLaws
+pub mod ObserverSteps
 pub mod OneLine
 pub mod OpenText
 pub mod Outcomes
@@ -42,6 +45,7 @@ pub mod Soundness
 pub mod SoundnessCommands
 pub mod SoundnessGroups
 pub mod SoundnessNames
+pub mod SoundnessObservers
 pub mod SoundnessRows
 pub mod SoundnessTexts
 pub mod SoundnessTitles

@@ -7,9 +7,9 @@ use Rattle.mod_text.proofs.Options.{bytes_are}
 use Rattle.script_text.specs.declared.fault.ScriptFault.TheVariants as faults
 use Rattle.script_text.specs.declared.reading.cause.LineCause.TheVariants as causes
 use Rattle.script_text.specs.declared.reading.reader.Place.{Place}
-use Rattle.script_text.specs.declared.reading.reader.Place.TheVariants.{Unread, Between, Within, Loading, Finished}
+use Rattle.script_text.specs.declared.reading.reader.Place.TheVariants.{Unread, Between, Within, Observing, Loading, Finished}
 use Rattle.script_text.specs.declared.reading.reader.ScriptReader.{ScriptReader}
-use Rattle.script_text.specs.ScriptLine.{RefForm, AtomCommand, ScriptLine, head, code, loader, load, on_atom, put, trace, spawn, go, IsLine}
+use Rattle.script_text.specs.ScriptLine.{RefForm, AtomCommand, ScriptLine, head, code, observer, loader, load, on_atom, put, trace, spawn, go, IsLine}
 use Rattle.script_text.specs.LineFaults.{is_head, may_stand}
 use Rattle.script_text.specs.Reading.{head_step, block_step, end_step, keyed_step, command_by, command_step, other_step, load_step, atom_step, put_step, trace_step, spawn_step, line_at, IsCounted}
 use Rattle.script_text.proofs.CommandLaws.{load_cut, spawn_cut}
@@ -25,7 +25,7 @@ use Rattle.script_text.proofs.PutLaws.{put_cut}
 use Rattle.script_text.proofs.PutSteps.{judges_put}
 use Rattle.script_text.proofs.NamedSteps.{judges_atom, judges_trace}
 use Rattle.script_text.proofs.SpawnSteps.{judges_spawn}
-use Rattle.script_text.proofs.TitleSteps.{judges_title}
+use Rattle.script_text.proofs.ObserverSteps.{judges_between, judges_observing}
 
 -- ---- the first line
 
@@ -38,6 +38,7 @@ judges_head m r closed text k u = by_text (bytes_eq text (codes "beam script 1")
     no_head : bytes_eq text (codes "beam script 1") ≡ false → (line : ScriptLine) → IsLine text line → fault_by m line ≡ Some (faults.Syntax (m.count + 1))
     no_head e head l = let yes : bytes_eq text (codes "beam script 1") ≡ true = ap (λ (t : List ℕ). bytes_eq t (codes "beam script 1")) l.text_is in absurd cc
     no_head e (code line) l = misplaced m (code line) (head_follows m r closed u (code line))
+    no_head e (observer count) l = misplaced m (observer count) (head_follows m r closed u (observer count))
     no_head e loader l = misplaced m loader (head_follows m r closed u loader)
     no_head e (load refs) l = misplaced m (load refs) (head_follows m r closed u (load refs))
     no_head e (on_atom command name) l = misplaced m (on_atom command name) (head_follows m r closed u (on_atom command name))
@@ -53,10 +54,11 @@ judges_head m r closed text k u = by_text (bytes_eq text (codes "beam script 1")
         let functions = few (length m.functions) 1024 k.few_functions in
         let spawns = few_more m.spawns 64 k.few_processes in
         let loaders = few_more m.loaders 8 k.few_loaders in
+        let observers = few (length m.observers) 4 k.few_observers in
         record {
           line = head;
           is_line = record { text_is = bytes_are text (codes "beam script 1") e; sound = refl };
-          no_fault = λ i. table (not (stands i) || false) false false (names i) false false (functions i) (spawns i) (loaders i) false (m.count + 1);
+          no_fault = λ i. table (not (stands i) || false) false false (names i) false false (functions i) (spawns i) (loaders i) (observers i) false (m.count + 1);
           holds = holds_head m r closed k u;
         }
     by_text false e = no_head e
@@ -127,8 +129,9 @@ judges_line m r text number h n = by_place r.place refl h.stands
   where
     by_place : (p : Place) → r.place ≡ p → Stands m r h.closed p → Judges m text (line_at r number text p)
     by_place Unread place s = judges_head m r h.closed text h.knows s
-    by_place Between place s = judges_other m r h.closed text number Between place h.knows s.none_open (s.follows loader) (s.follows go) (judges_title m r h.closed text number h.knows s n)
+    by_place Between place s = judges_other m r h.closed text number Between place h.knows s.none_open (s.follows loader) (s.follows go) (judges_between m r h.closed text number h.knows s n)
     by_place Within place s = judges_within m r h.closed text h.knows s place
+    by_place Observing place s = judges_other m r h.closed text number Observing place h.knows s.none_open (s.follows loader) (s.follows go) (judges_observing m r h.closed text h.knows s)
     by_place Loading place s = judges_other m r h.closed text number Loading place h.knows s.none_open (s.follows loader) (s.follows go) (judges_command m r h.closed text number h.knows s place n)
     by_place Finished place s = nothing_more m r text s
 
@@ -140,5 +143,6 @@ is_counted m r number h n = by_place r.place h.stands
     by_place Unread s = tt
     by_place Between s = tt
     by_place Within s = let t = s.is_open.title in let c = s.is_open.counted in (s.is_open.titled, omega (arith, t, c, n))
+    by_place Observing s = tt
     by_place Loading s = tt
     by_place Finished s = tt

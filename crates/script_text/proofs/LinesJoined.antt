@@ -41,7 +41,7 @@ lines_of_bytes (line ∷ forms) h =
     ∙ ap (λ (w : Lines). lines (text ∷ w.ended) w.tail) (lines_of_bytes forms h.1)
 
 -- the bytes of lines of module texts
-codes_bytes : (codes : List LineForm) (more : List ScriptLine) → flat_map script_line_bytes (code_form codes ++ more) ≡ lines_written codes ++ flat_map script_line_bytes more
+pub codes_bytes : (codes : List LineForm) (more : List ScriptLine) → flat_map script_line_bytes (code_form codes ++ more) ≡ lines_written codes ++ flat_map script_line_bytes more
 codes_bytes [] more = refl
 codes_bytes (line ∷ codes) more =
     ap (λ (l : List ℕ). script_line_bytes (code line) ++ l) (codes_bytes codes more) ∙ sym (append_assoc (script_line_bytes (code line)) (lines_written codes) (flat_map script_line_bytes more))

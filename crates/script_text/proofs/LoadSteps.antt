@@ -124,6 +124,8 @@ knows_load m r closed refs unknown k some sound noted_is =
           (λ i. onto_last (before i) (Load (same i))) ∙ sym (commands-onto_last (after ++ more) m.blocks (load refs) (Load (map (ref_in (after ++ more)) refs)) refl);
       blocks = let len = length-onto_last m.blocks (load refs) (omega (arith, k.blocks, some)) in omega (arith, k.blocks, len);
       few_loaders = omega (arith, k.few_loaders);
+      observers = k.observers;
+      few_observers = k.few_observers;
       processes = omega (arith, k.processes);
       few_processes = omega (arith, k.few_processes);
       unknown = noted_is;
@@ -144,7 +146,8 @@ load_fault m r closed refs k stands =
     let functions = few (length m.functions) 1024 k.few_functions in
     let spawns = few_more m.spawns 64 k.few_processes in
     let loaders = few_more m.loaders 8 k.few_loaders in
-    λ i. table (not (stands i) || false) false false (nat_lt 4096 (length (names_loaded m refs))) false false (functions i) (spawns i) (loaders i) false (m.count + 1)
+    let observers = few (length m.observers) 4 k.few_observers in
+    λ i. table (not (stands i) || false) false false (nat_lt 4096 (length (names_loaded m refs))) false false (functions i) (spawns i) (loaders i) (observers i) false (m.count + 1)
 
 -- the load is done
 abbrev loaded : ScriptReader → ℕ → List ModRef × List (List ℕ) → Result ScriptReader LineCause

@@ -55,6 +55,7 @@ plain_with m line atoms = record {
   functions = m.functions;
   texts = m.texts;
   titles = m.titles;
+  observers = m.observers;
   blocks = onto_last m.blocks line;
   spawns = m.spawns + 0;
   loaders = m.loaders + 0;
@@ -65,7 +66,7 @@ plain_with m line atoms = record {
 -- its fault
 abbrev pub plain_fault : Summary → ScriptLine → List (List ℕ) → Option ScriptFault
 plain_fault m line atoms =
-    table (not (may_stand m.last line) || false) false false (nat_lt 4096 (length (names_with_all m.names atoms))) false false (nat_lt 1024 (length m.functions)) (nat_lt 64 (m.spawns + 0)) (nat_lt 8 (m.loaders + 0)) false (m.count + 1)
+    table (not (may_stand m.last line) || false) false false (nat_lt 4096 (length (names_with_all m.names atoms))) false false (nat_lt 1024 (length m.functions)) (nat_lt 64 (m.spawns + 0)) (nat_lt 8 (m.loaders + 0)) (nat_lt 4 (length m.observers)) false (m.count + 1)
 
 -- the line is one of these atoms, and its command is this by the names
 pub record IsPlain (line : ScriptLine) (atoms : List (List ℕ)) (value : List (List ℕ) → ScriptCmd) : Type 0 where
@@ -102,6 +103,8 @@ knows_plain m r closed line atoms value p k some sound =
           (λ i. onto_last (before i) (same i)) ∙ sym (commands-onto_last (after ++ more) m.blocks line (value (after ++ more)) (p.says (after ++ more)));
       blocks = let len = length-onto_last m.blocks line (omega (arith, k.blocks, some)) in omega (arith, k.blocks, len);
       few_loaders = omega (arith, k.few_loaders);
+      observers = k.observers;
+      few_observers = k.few_observers;
       processes = omega (arith, k.processes);
       few_processes = omega (arith, k.few_processes);
       unknown = k.unknown ∙ ap (or_else (lack_in_texts 2 closed)) (sym (same_lack m.titles m.lines line (p.quiet m.titles)));
@@ -113,7 +116,8 @@ fault_is m r closed line atoms value p k stands =
     let functions = few (length m.functions) 1024 k.few_functions in
     let spawns = few_more m.spawns 64 k.few_processes in
     let loaders = few_more m.loaders 8 k.few_loaders in
-    p.faulted m ∙ (λ i. table (not (stands i) || false) false false (nat_lt 4096 (length (names_with_all m.names atoms))) false false (functions i) (spawns i) (loaders i) false (m.count + 1))
+    let observers = few (length m.observers) 4 k.few_observers in
+    p.faulted m ∙ (λ i. table (not (stands i) || false) false false (nat_lt 4096 (length (names_with_all m.names atoms))) false false (functions i) (spawns i) (loaders i) (observers i) false (m.count + 1))
 
 -- the command is done, by what its atoms name
 abbrev pub done : {Y : Type 0} → ScriptReader → (Y → ScriptCmd) → Y × List (List ℕ) → Result ScriptReader LineCause

@@ -5,9 +5,10 @@ use Rattle.mod_text.specs.ModuleLine.{LineForm}
 use Rattle.mod_text.specs.LineReading.{cut_at, tested, parts_reading, line_split, has_sound_terms, sound_reading, line_reading}
 use Rattle.mod_text.proofs.LineAgain.{text_again}
 use Rattle.mod_text.proofs.Options.{some_is, failed, bytes_are, tested_at}
-use Rattle.script_text.specs.ScriptLine.{AtomCommand, delete, soft_purge, purge, check_old, erase, ScriptLine, head, code, loader, load, on_atom, put, trace, spawn, go, command_word, IsLine}
+use Rattle.script_text.specs.ScriptLine.{AtomCommand, delete, soft_purge, purge, check_old, erase, ScriptLine, head, code, observer, loader, load, on_atom, put, trace, spawn, go, command_word, is_snapshots_text, IsLine}
 use Rattle.script_text.specs.LineReading.{CallForm, refs_reading, command_reading, PutForm, put_reading, TraceForm, trace_reading, call_reading}
 use Rattle.script_text.proofs.CommandLaws.{load_cut, spawn_cut}
+use Rattle.script_text.proofs.ObserverLaws.{observer_cut}
 use Rattle.script_text.proofs.PutLaws.{put_cut}
 use Rattle.script_text.proofs.NamedLaws.{word_is, atom_cut, trace_cut}
 
@@ -33,11 +34,19 @@ by_other text parts =
     cond (bytes_eq parts.0 (codes "trace")) (option_map trace_of (trace_reading parts.1))
     (cond (bytes_eq parts.0 (codes "put")) (option_map put_of (put_reading parts.1)) (by_word (command_reading parts.0) parts.1 (option_map (λ l. code l) (line_reading text))))
 
-abbrev by_parts : List ℕ → Option (List ℕ × List ℕ) → Option ScriptLine
-by_parts text None = option_map (λ l. code l) (line_reading text)
-by_parts text (Some parts) =
+-- a line that is no observer's
+abbrev by_command : List ℕ → List ℕ × List ℕ → Option ScriptLine
+by_command text parts =
     cond (bytes_eq parts.0 (codes "load")) (option_map (λ refs. load refs) (refs_reading parts.1))
     (cond (bytes_eq parts.0 (codes "spawn")) (option_map spawn_of (call_reading parts.1)) (by_other text parts))
+
+-- the line of an observer, behind its word
+abbrev pub observer_of : List ℕ → Option ScriptLine
+observer_of rest = option_map (λ count. observer count) (tested is_snapshots_text rest)
+
+abbrev by_parts : List ℕ → Option (List ℕ × List ℕ) → Option ScriptLine
+by_parts text None = option_map (λ l. code l) (line_reading text)
+by_parts text (Some parts) = cond (bytes_eq parts.0 (codes "observer")) (observer_of parts.1) (by_command text parts)
 
 abbrev form_reading : List ℕ → Option ScriptLine
 form_reading text =
@@ -103,15 +112,15 @@ code_parts text line e = by_cut (cut_at 32 text) refl
     no_code word rest erase is read = let none = sym (ap (λ (w : List ℕ). parts_reading text (Some (w, rest))) is) ∙ read in absurd cc
     no_code word rest check_old is read = let none = sym (ap (λ (w : List ℕ). parts_reading text (Some (w, rest))) is) ∙ read in absurd cc
 
-    by_command : (parts : List ℕ × List ℕ) (o : Option AtomCommand) → parts_reading text (Some parts) ≡ Some line → command_reading parts.0 ≡ o → by_word o parts.1 (option_map (λ l. code l) (line_reading text)) ≡ Some (code line)
-    by_command parts None read f = ap (option_map (λ l. code l)) e
-    by_command parts (Some c) read f = absurd (no_code parts.0 parts.1 c (word_is parts.0 c f) read)
+    by_atom : (parts : List ℕ × List ℕ) (o : Option AtomCommand) → parts_reading text (Some parts) ≡ Some line → command_reading parts.0 ≡ o → by_word o parts.1 (option_map (λ l. code l) (line_reading text)) ≡ Some (code line)
+    by_atom parts None read f = ap (option_map (λ l. code l)) e
+    by_atom parts (Some c) read f = absurd (no_code parts.0 parts.1 c (word_is parts.0 c f) read)
 
     by_put : (parts : List ℕ × List ℕ) (t : Bool) → parts_reading text (Some parts) ≡ Some line → bytes_eq parts.0 (codes "put") ≡ t → cond t (option_map put_of (put_reading parts.1)) (by_word (command_reading parts.0) parts.1 (option_map (λ l. code l) (line_reading text))) ≡ Some (code line)
     by_put parts true read f =
         let none : parts_reading text (Some (codes "put", parts.1)) ≡ Some line = ap (λ (w : List ℕ). parts_reading text (Some (w, parts.1))) (sym (bytes_are parts.0 (codes "put") f)) ∙ read in
         absurd cc
-    by_put parts false read f = by_command parts (command_reading parts.0) read refl
+    by_put parts false read f = by_atom parts (command_reading parts.0) read refl
 
     by_trace : (parts : List ℕ × List ℕ) (t : Bool) → parts_reading text (Some parts) ≡ Some line → bytes_eq parts.0 (codes "trace") ≡ t → cond t (option_map trace_of (trace_reading parts.1)) (cond (bytes_eq parts.0 (codes "put")) (option_map put_of (put_reading parts.1)) (by_word (command_reading parts.0) parts.1 (option_map (λ l. code l) (line_reading text)))) ≡ Some (code line)
     by_trace parts true read f =
@@ -131,9 +140,15 @@ code_parts text line e = by_cut (cut_at 32 text) refl
         absurd cc
     by_load parts false read f = by_spawn parts (bytes_eq parts.0 (codes "spawn")) read refl
 
+    by_observer : (parts : List ℕ × List ℕ) (t : Bool) → parts_reading text (Some parts) ≡ Some line → bytes_eq parts.0 (codes "observer") ≡ t → cond t (observer_of parts.1) (by_command text parts) ≡ Some (code line)
+    by_observer parts true read f =
+        let none : parts_reading text (Some (codes "observer", parts.1)) ≡ Some line = ap (λ (w : List ℕ). parts_reading text (Some (w, parts.1))) (sym (bytes_are parts.0 (codes "observer") f)) ∙ read in
+        absurd cc
+    by_observer parts false read f = by_load parts (bytes_eq parts.0 (codes "load")) read refl
+
     by_cut : (o : Option (List ℕ × List ℕ)) → cut_at 32 text ≡ o → by_parts text o ≡ Some (code line)
     by_cut None cut = ap (option_map (λ l. code l)) e
-    by_cut (Some parts) cut = by_load parts (bytes_eq parts.0 (codes "load")) (sym (ap (parts_reading text) cut) ∙ split_is (line_split text) line e) refl
+    by_cut (Some parts) cut = by_observer parts (bytes_eq parts.0 (codes "observer")) (sym (ap (parts_reading text) cut) ∙ split_is (line_split text) line e) refl
 
 -- ---- the one line
 
@@ -144,12 +159,15 @@ reads text go is = ap form_reading is.text_is
 reads text (code line) is =
     let e = text_again text line (record { text_is = is.text_is; sound = is.sound }) in
     by_others text (code_other text line e) ∙ code_parts text line e
+reads text (observer count) is =
+    let cut = observer_cut text count is in
+    by_others text (worded text (codes "observer") count cut refl) ∙ ap (by_parts text) cut ∙ ap (option_map (λ n. observer n)) (tested_at is_snapshots_text count is.sound)
 reads text (load refs) is =
     let c = load_cut text refs is in
     by_others text (worded text (codes "load") c.0 c.1 refl) ∙ ap (by_parts text) c.1 ∙ ap (option_map (λ rs. load rs)) c.2
 reads text (on_atom command name) is =
     let cut = atom_cut text command name is in
-    by_others text (worded text (command_word command) name cut (no_beam command)) ∙ ap (by_parts text) cut ∙ by_command command ∙ ap (option_map (λ n. on_atom command n)) (tested_at is_atom_text name is.sound)
+    by_others text (worded text (command_word command) name cut (no_beam command)) ∙ ap (by_parts text) cut ∙ by_atom command ∙ ap (option_map (λ n. on_atom command n)) (tested_at is_atom_text name is.sound)
   where
     no_beam : (c : AtomCommand) → bytes_eq (codes "beam") (command_word c) ≡ false
     no_beam delete = refl
@@ -158,12 +176,12 @@ reads text (on_atom command name) is =
     no_beam check_old = refl
     no_beam erase = refl
 
-    by_command : (c : AtomCommand) → by_parts text (Some (command_word c, name)) ≡ option_map (λ n. on_atom c n) (tested is_atom_text name)
-    by_command delete = refl
-    by_command soft_purge = refl
-    by_command purge = refl
-    by_command check_old = refl
-    by_command erase = refl
+    by_atom : (c : AtomCommand) → by_parts text (Some (command_word c, name)) ≡ option_map (λ n. on_atom c n) (tested is_atom_text name)
+    by_atom delete = refl
+    by_atom soft_purge = refl
+    by_atom purge = refl
+    by_atom check_old = refl
+    by_atom erase = refl
 reads text (put key term) is =
     let c = put_cut text key term is in
     by_others text (worded text (codes "put") c.0 c.1 refl) ∙ ap (by_parts text) c.1 ∙ ap (option_map put_of) c.2
@@ -173,6 +191,10 @@ reads text (trace n f arity on) is =
 reads text (spawn n f args) is =
     let c = spawn_cut text n f args is in
     by_others text (worded text (codes "spawn") c.0 c.1 refl) ∙ ap (by_parts text) c.1 ∙ ap (option_map spawn_of) c.2
+
+-- the line of a text that begins with the word of an observer is an observer's
+pub observer_alone : (text rest : List ℕ) (line : ScriptLine) → cut_at 32 text ≡ Some (codes "observer", rest) → IsLine text line → observer_of rest ≡ Some line
+observer_alone text rest line cut is = sym (by_others text (worded text (codes "observer") rest cut refl) ∙ ap (by_parts text) cut) ∙ reads text line is
 
 -- two lines with one text are one
 pub one_line : (text : List ℕ) (a b : ScriptLine) → IsLine text a → IsLine text b → a ≡ b

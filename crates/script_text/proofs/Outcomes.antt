@@ -14,7 +14,7 @@ use Rattle.script_text.specs.declared.fault.ScriptFault.TheVariants as faults
 use Rattle.script_text.specs.declared.reading.cause.LineCause.{LineCause}
 use Rattle.script_text.specs.declared.reading.cause.LineCause.TheVariants as causes
 use Rattle.script_text.specs.declared.reading.reader.Place.{Place}
-use Rattle.script_text.specs.declared.reading.reader.Place.TheVariants.{Unread, Between, Within, Loading, Finished}
+use Rattle.script_text.specs.declared.reading.reader.Place.TheVariants.{Unread, Between, Within, Observing, Loading, Finished}
 use Rattle.script_text.specs.declared.reading.reader.ScriptReader.{ScriptReader}
 use Rattle.script_text.specs.ScriptLine.{RefForm, ScriptLine, head, code, loader, load, spawn, go, script_line_written, IsLine}
 use Rattle.script_text.specs.Counts.{names_of, module_texts, titles_of, loader_blocks}
@@ -52,6 +52,7 @@ finished_place m r closed Within s e = absurd (ends_open s.is_open.last (sym (ap
     ends_open (label name) e f = cc
     ends_open (instr i) e f = cc
     ends_open end e f = cc
+finished_place m r closed Observing s e = let no_loader = sym (ap (λ (o : Option ScriptLine). may_stand o loader) e) ∙ s.follows loader in absurd cc
 finished_place m r closed Loading s e = let no_loader = sym (ap (λ (o : Option ScriptLine). may_stand o loader) e) ∙ s.follows loader in absurd cc
 finished_place m r closed Finished s e = refl
 
@@ -68,7 +69,7 @@ or_else_first : {X : Type 0} (o p : Option X) → or_else o p ≡ None → o ≡
 or_else_first None p e = refl
 or_else_first (Some x) p e = absurd cc
 
-pub finished_script : (lines : List ScriptLine) (r : ScriptReader) → Holds (summary_of lines) r → r.place ≡ Finished → first_lack lines ≡ None → (let s : Script = record { names = r.names; modules = r.modules; loaders = r.loaders } in s) ≡ script_of lines
+pub finished_script : (lines : List ScriptLine) (r : ScriptReader) → Holds (summary_of lines) r → r.place ≡ Finished → first_lack lines ≡ None → (let s : Script = record { names = r.names; modules = r.modules; observers = r.observers; loaders = r.loaders } in s) ≡ script_of lines
 finished_script lines r h place none =
     let k = h.knows in
     let closed = finished_closed lines r h place in
@@ -78,7 +79,7 @@ finished_script lines r h place none =
     k.modules [] (ap (lack_in_texts 2) closed ∙ or_else_first (lack_in_texts 2 (module_texts lines)) _ none) ∙ (λ i. map (module_of (all i)) (closed i)) in
     let loaders : r.loaders ≡ map (commands_of (names_of lines)) (loader_blocks lines) =
     k.loaders [] ∙ ap (λ (ns : List (List ℕ)). map (commands_of ns) (loader_blocks lines)) all in
-    λ i. record { names = names i; modules = modules i; loaders = loaders i }
+    λ i. record { names = names i; modules = modules i; observers = k.observers i; loaders = loaders i }
 
 -- ---- the end of a text
 
@@ -109,10 +110,12 @@ nothing_left text before r Finished place p none h (inl empty) =
 nothing_left text before r Unread place p none h (inr last) = let other : Unread ≡ Finished = sym place ∙ finished_place (summary_of before) r h.closed r.place h.stands last in absurd cc
 nothing_left text before r Between place p none h (inr last) = let other : Between ≡ Finished = sym place ∙ finished_place (summary_of before) r h.closed r.place h.stands last in absurd cc
 nothing_left text before r Within place p none h (inr last) = let other : Within ≡ Finished = sym place ∙ finished_place (summary_of before) r h.closed r.place h.stands last in absurd cc
+nothing_left text before r Observing place p none h (inr last) = let other : Observing ≡ Finished = sym place ∙ finished_place (summary_of before) r h.closed r.place h.stands last in absurd cc
 nothing_left text before r Loading place p none h (inr last) = let other : Loading ≡ Finished = sym place ∙ finished_place (summary_of before) r h.closed r.place h.stands last in absurd cc
 nothing_left text before r Unread place p none h (inl empty) = no_text text before p none empty
 nothing_left text before r Between place p none h (inl empty) = no_text text before p none empty
 nothing_left text before r Within place p none h (inl empty) = no_text text before p none empty
+nothing_left text before r Observing place p none h (inl empty) = no_text text before p none empty
 nothing_left text before r Loading place p none h (inl empty) = no_text text before p none empty
 
 -- no line is left that ends with a line feed
@@ -149,7 +152,8 @@ go_fault m r closed k =
     let functions = few (length m.functions) 1024 k.few_functions in
     let spawns = few_more m.spawns 64 k.few_processes in
     let loaders = few_more m.loaders 8 k.few_loaders in
-    λ i. table (not (may_stand m.last go) || false) false false (names i) false false (functions i) (spawns i) (loaders i) false (m.count + 1)
+    let observers = few (length m.observers) 4 k.few_observers in
+    λ i. table (not (may_stand m.last go) || false) false false (names i) false false (functions i) (spawns i) (loaders i) (observers i) false (m.count + 1)
 
 -- not a limit, and nothing given again
 abbrev pub IsLate : ScriptFault → Type 0

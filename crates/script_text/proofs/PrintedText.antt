@@ -1,5 +1,5 @@
 -- How the text of a script is made of its parts, and whether a line of a text is too long.
-use Rattle.std.proofs.Common.{◌≡◌, ℕ, ◌≤◌, false, ◌||◌, List, [], ◌∷◌, ◌++◌, map, length, take, codes, Result, Ok, Err, OnOk, OnErr, Some, None, refl, sym, ap, ◌∙◌, arith, append_assoc}
+use Rattle.std.proofs.Common.{◌≡◌, ℕ, ◌≤◌, false, ◌||◌, List, [], ◌∷◌, ◌++◌, map, length, take, codes, decimal, Result, Ok, Err, OnOk, OnErr, Some, None, refl, sym, ap, ◌∙◌, arith, append_assoc}
 use Rattle.std.specs.Io.{StartsWith}
 use Rattle.std.specs.List.{flat_map, list_any}
 use Rattle.std.proofs.Math.Seq.{take-append_seam, take-length}
@@ -20,9 +20,9 @@ use Rattle.mod_text.proofs.Cuts.{lines_of_cut, lines_of_tail, uncut_is}
 use Rattle.server_core.specs.declared.command.ModRef.{ModRef}
 use Rattle.script_text.specs.declared.script.Script.{Script}
 use Rattle.script_text.specs.declared.script.ScriptCmd.{ScriptCmd}
-use Rattle.script_text.specs.ScriptLine.{load, go, ref_written, script_line_written}
-use Rattle.script_text.specs.Canonical.{ref_form, argument_form, command_line, block_form, block_bytes, script_line_bytes, canonical_text, is_long_line}
-use Rattle.script_text.proofs.LinesJoined.{modules_written, assembled_bytes}
+use Rattle.script_text.specs.ScriptLine.{observer, load, go, ref_written, script_line_written}
+use Rattle.script_text.specs.Canonical.{ref_form, argument_form, command_line, observer_form, block_form, observer_bytes, block_bytes, script_line_bytes, canonical_text, is_long_line}
+use Rattle.script_text.proofs.LinesJoined.{codes_bytes, modules_written}
 
 -- ---- fronts
 
@@ -68,13 +68,20 @@ blocks_bytes : (names : List (List ℕ)) (loaders : List (List ScriptCmd)) → f
 blocks_bytes names [] = refl
 blocks_bytes names (commands ∷ loaders) = flat_map-append script_line_bytes (block_form names commands) (flat_map (block_form names) loaders) ∙ ap (λ (l : List ℕ). block_bytes names commands ++ l) (blocks_bytes names loaders)
 
--- the text of a script: the head, the modules, the loader blocks and the end
-pub script_written : (s : Script) → canonical_text s ≡ codes "beam script 1\n" ++ (flat_map (λ m. lines_written (module_lines s.names m)) s.modules ++ (flat_map (block_bytes s.names) s.loaders ++ codes "go\n"))
+-- the text of observers, of loader blocks and of the end
+others_bytes : (names : List (List ℕ)) (counts : List ℕ) (loaders : List (List ScriptCmd)) → flat_map script_line_bytes (observer_form counts ++ (flat_map (block_form names) loaders ++ go ∷ [])) ≡ flat_map observer_bytes counts ++ (flat_map (block_bytes names) loaders ++ codes "go\n")
+others_bytes names counts loaders =
+    let blocks = flat_map (block_form names) loaders in
+    flat_map-append script_line_bytes (observer_form counts) (blocks ++ go ∷ [])
+    ∙ (λ i. flat_map-map script_line_bytes (λ count. observer (decimal count)) counts i ++ flat_map-append script_line_bytes blocks (go ∷ []) i)
+    ∙ ap (λ (l : List ℕ). flat_map observer_bytes counts ++ (l ++ codes "go\n")) (blocks_bytes names loaders)
+
+-- the text of a script: the head, the modules, the observers, the loader blocks and the end
+pub script_written : (s : Script) → canonical_text s ≡ codes "beam script 1\n" ++ (flat_map (λ m. lines_written (module_lines s.names m)) s.modules ++ (flat_map observer_bytes s.observers ++ (flat_map (block_bytes s.names) s.loaders ++ codes "go\n")))
 script_written s =
     let blocks = flat_map (block_form s.names) s.loaders in
-    assembled_bytes (flat_map (module_lines s.names) s.modules) blocks
-    ∙ (λ i. codes "beam script 1\n" ++ (modules_written s.names s.modules i ++ flat_map-append script_line_bytes blocks (go ∷ []) i))
-    ∙ ap (λ (l : List ℕ). codes "beam script 1\n" ++ (flat_map (λ m. lines_written (module_lines s.names m)) s.modules ++ (l ++ codes "go\n"))) (blocks_bytes s.names s.loaders)
+    ap (λ (l : List ℕ). codes "beam script 1\n" ++ l) (codes_bytes (flat_map (module_lines s.names) s.modules) (observer_form s.observers ++ (blocks ++ go ∷ [])))
+    ∙ (λ i. codes "beam script 1\n" ++ (modules_written s.names s.modules i ++ others_bytes s.names s.observers s.loaders i))
 
 -- ---- long lines
 
@@ -106,19 +113,21 @@ block_at names commands i start out so_far past =
     ∙ append_assoc start (codes "loader\n") (flat_map each commands)
     ∙ ap (λ (t : List ℕ). start ++ t) (sym (block_written names commands))
 
-regroup : (start a b c d : List ℕ) → (((start ++ a) ++ b) ++ c) ++ d ≡ start ++ (a ++ (b ++ (c ++ d)))
-regroup start a b c d = simp append_assoc
+regroup : (start a b c d e : List ℕ) → ((((start ++ a) ++ b) ++ c) ++ d) ++ e ≡ start ++ (a ++ (b ++ (c ++ (d ++ e))))
+regroup start a b c d e = simp append_assoc
 
 -- a script of which all parts are written
-pub script_at : {T E : Type 0} (r : Result T E) (s : Script) (start headed moduled loaded whole : List ℕ) →
+pub script_at : {T E : Type 0} (r : Result T E) (s : Script) (start headed moduled observed loaded whole : List ℕ) →
     headed ≡ start ++ codes "beam script 1\n" →
     moduled ≡ headed ++ flat_map (λ m. lines_written (module_lines s.names m)) s.modules →
-    loaded ≡ moduled ++ flat_map (block_bytes s.names) s.loaders →
+    observed ≡ moduled ++ flat_map observer_bytes s.observers →
+    loaded ≡ observed ++ flat_map (block_bytes s.names) s.loaders →
     OnOk r (whole ≡ loaded ++ codes "go\n") → OnOk r (whole ≡ start ++ canonical_text s)
-script_at r s start headed moduled loaded whole e f g h =
+script_at r s start headed moduled observed loaded whole e f g h k =
     let modules = flat_map (λ m. lines_written (module_lines s.names m)) s.modules in
+    let observers = flat_map observer_bytes s.observers in
     let loaders = flat_map (block_bytes s.names) s.loaders in
-    IfOk-equal r whole (loaded ++ codes "go\n") (start ++ canonical_text s) h
-    (ap (λ (t : List ℕ). t ++ codes "go\n") (g ∙ ap (λ (t : List ℕ). t ++ loaders) (f ∙ ap (λ (t : List ℕ). t ++ modules) e))
-    ∙ regroup start (codes "beam script 1\n") modules loaders (codes "go\n")
+    IfOk-equal r whole (loaded ++ codes "go\n") (start ++ canonical_text s) k
+    (ap (λ (t : List ℕ). t ++ codes "go\n") (h ∙ ap (λ (t : List ℕ). t ++ loaders) (g ∙ ap (λ (t : List ℕ). t ++ observers) (f ∙ ap (λ (t : List ℕ). t ++ modules) e)))
+    ∙ regroup start (codes "beam script 1\n") modules observers loaders (codes "go\n")
     ∙ ap (λ (t : List ℕ). start ++ t) (sym (script_written s)))

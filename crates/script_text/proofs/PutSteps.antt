@@ -56,7 +56,7 @@ command x = Put (record { 0 = x.0 }) (term_of x.1)
 put_plain : (p : PutForm) → is_atom_text p.key ≡ true → is_term_form p.term ≡ true → is_wide_term p.term ≡ false → is_long_term p.term ≡ false → IsPlain (put_line p) (put_atoms p) (λ names. command (kept_in names p))
 put_plain p key_is form narrow brief = record {
   summed = λ m. refl;
-  faulted = λ m. λ i. table (not (may_stand m.last (put_line p)) || false) (narrow i) (brief i) (nat_lt 4096 (length (names_with_all m.names (put_atoms p)))) false false (nat_lt 1024 (length m.functions)) (nat_lt 64 (m.spawns + 0)) (nat_lt 8 (m.loaders + 0)) false (m.count + 1);
+  faulted = λ m. λ i. table (not (may_stand m.last (put_line p)) || false) (narrow i) (brief i) (nat_lt 4096 (length (names_with_all m.names (put_atoms p)))) false false (nat_lt 1024 (length m.functions)) (nat_lt 64 (m.spawns + 0)) (nat_lt 8 (m.loaders + 0)) (nat_lt 4 (length m.observers)) false (m.count + 1);
   atoms_are = let rest = term_atoms_are p.term form in λ i. key_is i && rest i;
   says = λ names. refl;
   stays = λ names more held.
@@ -86,7 +86,8 @@ put_fault m r closed p k stands =
     let functions = few (length m.functions) 1024 k.few_functions in
     let spawns = few_more m.spawns 64 k.few_processes in
     let loaders = few_more m.loaders 8 k.few_loaders in
-    λ i. table (not (stands i) || false) (is_wide_term p.term) (is_long_term p.term) (nat_lt 4096 (length (names_after_put m.names p))) false false (functions i) (spawns i) (loaders i) false (m.count + 1)
+    let observers = few (length m.observers) 4 k.few_observers in
+    λ i. table (not (stands i) || false) (is_wide_term p.term) (is_long_term p.term) (nat_lt 4096 (length (names_after_put m.names p))) false false (functions i) (spawns i) (loaders i) (observers i) false (m.count + 1)
 
 judges_form : (m : Summary) (r : ScriptReader) (closed : List (List LineForm)) (text : List ℕ) (p : PutForm) → Knows m r closed → IsLoading m r → r.place ≡ Loading → is_atom_text p.key ≡ true → is_term_form p.term ≡ true → IsLine text (put_line p) → Judges m text (put_named r.names (put_words p) >>= put_done r)
 judges_form m r closed text p k l place key_is form is =

@@ -11,7 +11,7 @@ use Rattle.term_core.specs.TermText.{names_with_all}
 use Rattle.mod_text.specs.LineFaults.{is_seventeenth, ends_too_long, is_repeated}
 use Rattle.mod_text.proofs.LineNames.{names_with_all-append, more_names_all}
 use Rattle.script_text.specs.ScriptLine.{ScriptLine, is_script_line}
-use Rattle.script_text.specs.Counts.{script_line_atoms, names_of, FunctionForm, is_same_function, functions_named, functions_with, functions_of, titles_of, is_loader, is_spawn}
+use Rattle.script_text.specs.Counts.{script_line_atoms, names_of, FunctionForm, is_same_function, functions_named, functions_with, functions_of, titles_of, line_observers, observers_of, is_loader, is_spawn}
 use Rattle.script_text.specs.LineFaults.{may_stand, is_high, is_wide, is_long, of_code, is_given_again, last_of, last_text, line_fault}
 use Rattle.script_text.specs.ScriptText.{HaveNoFault}
 use Rattle.script_text.proofs.GrownLines.{home_of}
@@ -25,6 +25,7 @@ pub record AreWithin (lines : List ScriptLine) : Type 0 where
   pub functions : length (functions_of lines) ≤ 1024
   pub processes : count_by is_spawn lines ≤ 64
   pub loaders : count_by is_loader lines ≤ 8
+  pub observers : length (observers_of lines) ≤ 4
 
 -- ---- lines without a fault
 
@@ -36,22 +37,24 @@ record IsWithin (m : Summary) : Type 0 where
   functions : length m.functions ≤ 1024
   processes : m.spawns ≤ 64
   loaders : m.loaders ≤ 8
+  observers : length m.observers ≤ 4
 
 within_kept : IsKept IsWithin
 within_kept = record {
-  first = record { names = omega arith; functions = omega arith; processes = omega arith; loaders = omega arith };
+  first = record { names = omega arith; functions = omega arith; processes = omega arith; loaders = omega arith; observers = omega arith };
   more = λ m line within sound p. record {
     names = not_over 4096 (length (summary_with m line).names) p.room;
     functions = not_over 1024 (length (summary_with m line).functions) p.exports;
     processes = not_over 64 (summary_with m line).spawns p.processes;
     loaders = not_over 8 (summary_with m line).loaders p.loaders;
+    observers = not_over 4 (length (summary_with m line).observers) p.observers;
   };
 }
 
 pub all_within : (lines : List ScriptLine) → AllByRecursion (λ line. IsTrue (is_script_line line)) lines → HaveNoFault [] lines → AreWithin lines
 all_within lines sound none =
     let w = kept IsWithin within_kept lines sound none in
-    record { names = w.names; functions = w.functions; processes = w.processes; loaders = w.loaders }
+    record { names = w.names; functions = w.functions; processes = w.processes; loaders = w.loaders; observers = w.observers }
 
 -- ---- the first lines of some
 
@@ -85,13 +88,19 @@ count-front test lines more =
     let whole : count_by test (lines ++ more) ≡ count_by test lines + count_by test more = sum_by-append (λ l. cond (test l) 1 0) lines more in
     omega (arith, whole)
 
+observers-front : (lines more : List ScriptLine) → length (observers_of lines) ≤ length (observers_of (lines ++ more))
+observers-front lines more =
+    let whole : length (observers_of (lines ++ more)) ≡ length (observers_of lines ++ observers_of more) = ap length (flat_map-append line_observers lines more) in
+    omega (arith, whole, length-append (observers_of lines) (observers_of more))
+
 within_front : (lines more : List ScriptLine) → AreWithin (lines ++ more) → AreWithin lines
 within_front lines more w =
     let names = names-front lines more in
     let functions = functions-front lines more in
     let processes = count-front is_spawn lines more in
     let loaders = count-front is_loader lines more in
-    record { names = omega (arith, names, w.names); functions = omega (arith, functions, w.functions); processes = omega (arith, processes, w.processes); loaders = omega (arith, loaders, w.loaders) }
+    let observers = observers-front lines more in
+    record { names = omega (arith, names, w.names); functions = omega (arith, functions, w.functions); processes = omega (arith, processes, w.processes); loaders = omega (arith, loaders, w.loaders); observers = omega (arith, observers, w.observers) }
 
 -- ---- lines that have no fault
 
@@ -115,8 +124,8 @@ pub well_append : (before xs ys : List ScriptLine) → StandWell before xs → S
 well_append before [] ys h k = subst (λ (b : List ScriptLine). StandWell b ys) (append-nil before) k
 well_append before (x ∷ xs) ys h k = (h.0, well_append (before ++ x ∷ []) xs ys h.1 (subst (λ (b : List ScriptLine). StandWell b ys) (sym (append_assoc before (x ∷ []) xs)) k))
 
-all_pass : (a b c d e f g h i j : Bool) (number : ℕ) → a ≡ false → b ≡ false → c ≡ false → d ≡ false → e ≡ false → f ≡ false → g ≡ false → h ≡ false → i ≡ false → j ≡ false → table a b c d e f g h i j number ≡ None
-all_pass a b c d e f g h i j number ea eb ec ed ee ef eg eh ei ej = λ k. table (ea k) (eb k) (ec k) (ed k) (ee k) (ef k) (eg k) (eh k) (ei k) (ej k) number
+all_pass : (a b c d e f g h i j k : Bool) (number : ℕ) → a ≡ false → b ≡ false → c ≡ false → d ≡ false → e ≡ false → f ≡ false → g ≡ false → h ≡ false → i ≡ false → j ≡ false → k ≡ false → table a b c d e f g h i j k number ≡ None
+all_pass a b c d e f g h i j k number ea eb ec ed ee ef eg eh ei ej ek = λ t. table (ea t) (eb t) (ec t) (ed t) (ee t) (ef t) (eg t) (eh t) (ei t) (ej t) (ek t) number
 
 placed : (t : Bool) → t ≡ true → not t ≡ false
 placed true e = refl
@@ -126,7 +135,7 @@ line_passes : (before : List ScriptLine) (line : ScriptLine) → AreWithin (befo
 line_passes before line w s =
     let next = before ++ line ∷ [] in
     all_pass (not (may_stand (last_of before) line) || is_high line) (is_wide line) (is_long line) (nat_lt 4096 (length (names_of next))) (of_code (is_seventeenth (last_text before)) line) (of_code (ends_too_long (names_of before) (last_text before)) line)
-    (nat_lt 1024 (length (functions_of next))) (nat_lt 64 (count_by is_spawn next)) (nat_lt 8 (count_by is_loader next)) (of_code (is_given_again (titles_of before)) line || of_code (is_repeated (last_text before)) line) (length before + 1)
+    (nat_lt 1024 (length (functions_of next))) (nat_lt 64 (count_by is_spawn next)) (nat_lt 8 (count_by is_loader next)) (nat_lt 4 (length (observers_of next))) (of_code (is_given_again (titles_of before)) line || of_code (is_repeated (last_text before)) line) (length before + 1)
     (or_from (not (may_stand (last_of before) line)) (is_high line) (placed (may_stand (last_of before) line) s.place) s.low)
     s.narrow
     s.brief
@@ -136,6 +145,7 @@ line_passes before line w s =
     (le-ltb 1024 (length (functions_of next)) w.functions)
     (le-ltb 64 (count_by is_spawn next) w.processes)
     (le-ltb 8 (count_by is_loader next) w.loaders)
+    (le-ltb 4 (length (observers_of next)) w.observers)
     (or_from (of_code (is_given_again (titles_of before)) line) (of_code (is_repeated (last_text before)) line) s.new_title s.new_name)
 
 -- where a whole script is within the limits, such lines have no fault

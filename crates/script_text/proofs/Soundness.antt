@@ -8,11 +8,13 @@ use Rattle.script_text.specs.Counts.{names_of, module_texts, titles_of}
 use Rattle.script_text.specs.LineFaults.{lack_in_texts, lack_in_loads}
 use Rattle.script_text.specs.ScriptText.{ScriptText}
 use Rattle.script_text.specs.Sound.{IsScript}
+use Rattle.script_text.proofs.HeldModules.{held_modules}
 use Rattle.script_text.proofs.SoundnessRows.{all_narrow}
 use Rattle.script_text.proofs.SoundnessNames.{names_sound, lines_held}
 use Rattle.script_text.proofs.SoundnessTexts.{texts_closed, none_first, all_modules}
 use Rattle.script_text.proofs.SoundnessTitles.{title_ref, titles_are, AreApart, titles_apart, modules_apart}
 use Rattle.script_text.proofs.SoundnessCommands.{all_commands, none_lacking, lines_are, few_loaders, few_processes}
+use Rattle.script_text.proofs.SoundnessObservers.{few_observers, snapshots_sound}
 
 -- what a text says is a script
 pub sound_of : (text : List ℕ) (s : Script) → ScriptText text s → IsScript s
@@ -31,7 +33,10 @@ sound_of text s t =
     subst IsScript (sym t.value) (record {
       names = names_sound lines sound none;
       texts = modules;
+      held = held_modules names texts (names_sound lines sound none) closed;
       commands = all_commands names texts lines (lines_are names (map title_ref texts) lines sound (all_narrow lines none) (lines_held lines) given);
       few_loaders = few_loaders names lines sound none;
       few_processes = few_processes names lines sound none;
+      few_observers = few_observers lines sound none;
+      snapshots = snapshots_sound lines sound;
     })

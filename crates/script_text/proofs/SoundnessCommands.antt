@@ -20,10 +20,10 @@ use Rattle.mod_text.specs.ModuleLine.{LineForm, title, header, label, instr, end
 use Rattle.mod_text.specs.ModuleValue.{atom_in, mfa_in, module_of}
 use Rattle.server_core.specs.CommandTable.{text_of}
 use Rattle.script_text.specs.declared.script.ScriptCmd.TheVariants.{Load, Put, Trace, Spawn}
-use Rattle.script_text.specs.ScriptLine.{RefForm, AtomCommand, delete, soft_purge, purge, check_old, erase, ScriptLine, head, code, loader, load, on_atom, put, trace, spawn, go, is_script_line}
+use Rattle.script_text.specs.ScriptLine.{RefForm, AtomCommand, delete, soft_purge, purge, check_old, erase, ScriptLine, head, code, observer, loader, load, on_atom, put, trace, spawn, go, is_script_line}
 use Rattle.script_text.specs.Groups.{onto_last}
 use Rattle.script_text.specs.Counts.{script_line_atoms, is_given, is_loader, is_spawn, block_lines, loader_blocks}
-use Rattle.script_text.specs.LineFaults.{may_stand_between, may_stand_within, may_stand, is_head, is_wide_term, is_long_term, is_lacking, lack_in_loads}
+use Rattle.script_text.specs.LineFaults.{may_stand_between, may_stand_within, may_stand_observing, may_stand, is_head, is_wide_term, is_long_term, is_lacking, lack_in_loads}
 use Rattle.script_text.specs.ScriptText.{HaveNoFault}
 use Rattle.script_text.specs.ScriptValue.{ref_in, argument_in, command_of, commands_on, commands_of}
 use Rattle.script_text.specs.Sound.{IsTermOf, IsCmdOf, spawns_in}
@@ -99,6 +99,7 @@ named_is names texts erase name held = held_below names name held
 command_is : (names : List (List ℕ)) (texts : List (List LineForm)) (line : ScriptLine) → IsLineOf names (map title_ref texts) line → AllByRecursion (IsCmdOf names (map (module_of names) texts)) (commands_on names line)
 command_is names texts head l = tt
 command_is names texts (code line) l = tt
+command_is names texts (observer count) l = tt
 command_is names texts loader l = tt
 command_is names texts (load refs) l = (
   record {
@@ -141,6 +142,7 @@ command_is names texts go l = tt
 block_line : (P : ScriptLine → Type 0) (line : ScriptLine) → P line → AllByRecursion P (block_lines line)
 block_line P head h = tt
 block_line P (code line) h = tt
+block_line P (observer count) h = tt
 block_line P loader h = (h, tt)
 block_line P (load refs) h = (h, tt)
 block_line P (on_atom command name) h = (h, tt)
@@ -184,6 +186,7 @@ abbrev SomeBehind : Option ScriptLine → ℕ → Type 0
 SomeBehind None n = Unit {0}
 SomeBehind (Some head) n = Unit {0}
 SomeBehind (Some (code line)) n = Unit {0}
+SomeBehind (Some (observer count)) n = Unit {0}
 SomeBehind (Some loader) n = 1 ≤ n
 SomeBehind (Some (load refs)) n = 1 ≤ n
 SomeBehind (Some (on_atom command name)) n = 1 ≤ n
@@ -193,21 +196,22 @@ SomeBehind (Some (spawn m f args)) n = 1 ≤ n
 SomeBehind (Some go) n = Unit {0}
 
 -- a command stands behind a block's start only
-some_block : (last : Option ScriptLine) (line : ScriptLine) (n : ℕ) → SomeBehind last n → may_stand last line ≡ true → is_head line ≡ false → may_stand_between line ≡ false → ((before : LineForm) → may_stand_within before line ≡ false) → 1 ≤ n
-some_block None line n h place first between within = absurd cc
-some_block (Some head) line n h place first between within = absurd cc
-some_block (Some (code (title name version))) line n h place first between within = let no = within (title name version) in absurd cc
-some_block (Some (code (header exported name arity))) line n h place first between within = let no = within (header exported name arity) in absurd cc
-some_block (Some (code (label name))) line n h place first between within = let no = within (label name) in absurd cc
-some_block (Some (code (instr i))) line n h place first between within = let no = within (instr i) in absurd cc
-some_block (Some (code end)) line n h place first between within = absurd cc
-some_block (Some loader) line n h place first between within = h
-some_block (Some (load refs)) line n h place first between within = h
-some_block (Some (on_atom command name)) line n h place first between within = h
-some_block (Some (put key term)) line n h place first between within = h
-some_block (Some (trace f g arity on)) line n h place first between within = h
-some_block (Some (spawn m f args)) line n h place first between within = h
-some_block (Some go) line n h place first between within = absurd cc
+some_block : (last : Option ScriptLine) (line : ScriptLine) (n : ℕ) → SomeBehind last n → may_stand last line ≡ true → is_head line ≡ false → may_stand_between line ≡ false → ((before : LineForm) → may_stand_within before line ≡ false) → may_stand_observing line ≡ false → 1 ≤ n
+some_block None line n h place first between within observing = absurd cc
+some_block (Some head) line n h place first between within observing = absurd cc
+some_block (Some (code (title name version))) line n h place first between within observing = let no = within (title name version) in absurd cc
+some_block (Some (code (header exported name arity))) line n h place first between within observing = let no = within (header exported name arity) in absurd cc
+some_block (Some (code (label name))) line n h place first between within observing = let no = within (label name) in absurd cc
+some_block (Some (code (instr i))) line n h place first between within observing = let no = within (instr i) in absurd cc
+some_block (Some (code end)) line n h place first between within observing = absurd cc
+some_block (Some (observer count)) line n h place first between within observing = absurd cc
+some_block (Some loader) line n h place first between within observing = h
+some_block (Some (load refs)) line n h place first between within observing = h
+some_block (Some (on_atom command name)) line n h place first between within observing = h
+some_block (Some (put key term)) line n h place first between within observing = h
+some_block (Some (trace f g arity on)) line n h place first between within observing = h
+some_block (Some (spawn m f args)) line n h place first between within observing = h
+some_block (Some go) line n h place first between within observing = absurd cc
 
 same_length : {X : Type 0} (groups : List (List X)) (x : X) → 1 ≤ length groups → length (onto_last groups x) ≡ length groups
 same_length [] x h = absurd (omega (arith, h))
@@ -230,25 +234,26 @@ within_processes n h = grind (arith, nat_tests)
 counted_more : (m : Summary) (line : ScriptLine) → AreCounted m → Passes m line → (length (blocks_with m.blocks line) ≡ (summary_with m line).loaders) × SomeBehind (Some line) (length (blocks_with m.blocks line))
 counted_more m head c p = (omega (arith, c.blocks), tt)
 counted_more m (code line) c p = (omega (arith, c.blocks), tt)
+counted_more m (observer count) c p = (omega (arith, c.blocks), tt)
 counted_more m loader c p = (simp length-append (omega (arith, c.blocks)), simp length-append (omega arith))
 counted_more m (load refs) c p =
-    let some = some_block m.last (load refs) (length m.blocks) c.some p.place refl refl (λ before. refl) in
+    let some = some_block m.last (load refs) (length m.blocks) c.some p.place refl refl (λ before. refl) refl in
     let same = same_length m.blocks (load refs) some in
     (omega (arith, same, c.blocks), omega (arith, same, some))
 counted_more m (on_atom command name) c p =
-    let some = some_block m.last (on_atom command name) (length m.blocks) c.some p.place refl refl (λ before. refl) in
+    let some = some_block m.last (on_atom command name) (length m.blocks) c.some p.place refl refl (λ before. refl) refl in
     let same = same_length m.blocks (on_atom command name) some in
     (omega (arith, same, c.blocks), omega (arith, same, some))
 counted_more m (put key term) c p =
-    let some = some_block m.last (put key term) (length m.blocks) c.some p.place refl refl (λ before. refl) in
+    let some = some_block m.last (put key term) (length m.blocks) c.some p.place refl refl (λ before. refl) refl in
     let same = same_length m.blocks (put key term) some in
     (omega (arith, same, c.blocks), omega (arith, same, some))
 counted_more m (trace f g arity on) c p =
-    let some = some_block m.last (trace f g arity on) (length m.blocks) c.some p.place refl refl (λ before. refl) in
+    let some = some_block m.last (trace f g arity on) (length m.blocks) c.some p.place refl refl (λ before. refl) refl in
     let same = same_length m.blocks (trace f g arity on) some in
     (omega (arith, same, c.blocks), omega (arith, same, some))
 counted_more m (spawn f g args) c p =
-    let some = some_block m.last (spawn f g args) (length m.blocks) c.some p.place refl refl (λ before. refl) in
+    let some = some_block m.last (spawn f g args) (length m.blocks) c.some p.place refl refl (λ before. refl) refl in
     let same = same_length m.blocks (spawn f g args) some in
     (omega (arith, same, c.blocks), omega (arith, same, some))
 counted_more m go c p = (omega (arith, c.blocks), tt)
@@ -291,6 +296,7 @@ spawns_counted : (names : List (List ℕ)) (lines : List ScriptLine) → sum_by 
 spawns_counted names [] = refl
 spawns_counted names (head ∷ lines) = spawns_counted names lines ∙ sym (count_cons head lines ∙ plus_none (count_by is_spawn lines))
 spawns_counted names (code line ∷ lines) = spawns_counted names lines ∙ sym (count_cons (code line) lines ∙ plus_none (count_by is_spawn lines))
+spawns_counted names (observer count ∷ lines) = spawns_counted names lines ∙ sym (count_cons (observer count) lines ∙ plus_none (count_by is_spawn lines))
 spawns_counted names (loader ∷ lines) = spawns_counted names lines ∙ sym (count_cons loader lines ∙ plus_none (count_by is_spawn lines))
 spawns_counted names (load refs ∷ lines) =
     sum_by-cons spawns_in (Load (map (ref_in names) refs)) (flat_map (commands_on names) (flat_map block_lines lines)) ∙ ap (λ n. 0 + n) (spawns_counted names lines) ∙ sym (count_cons (load refs) lines)

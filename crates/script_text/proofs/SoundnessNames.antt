@@ -11,7 +11,7 @@ use Rattle.term_core.specs.Written.{WrittenTerm}
 use Rattle.term_core.proofs.NameTables.{given_names-IsNames, names_with-IsNames}
 use Rattle.mod_text.specs.ModuleLine.{is_number_text, number_value, is_arity_text, is_function_form}
 use Rattle.mod_text.proofs.LineNames.{are_atoms, line_atoms_are, more_names_all}
-use Rattle.script_text.specs.ScriptLine.{RefForm, ScriptLine, head, code, loader, load, on_atom, put, trace, spawn, go, is_ref_form, is_term_form, is_script_line}
+use Rattle.script_text.specs.ScriptLine.{RefForm, ScriptLine, head, code, observer, loader, load, on_atom, put, trace, spawn, go, is_ref_form, is_term_form, is_script_line}
 use Rattle.script_text.specs.Counts.{script_line_atoms, names_of}
 use Rattle.script_text.specs.ScriptText.{HaveNoFault}
 use Rattle.script_text.proofs.HeldNames.{IsHeldText, held_all}
@@ -57,6 +57,7 @@ trace_line m f arity on h =
 atoms_are : (line : ScriptLine) → is_script_line line ≡ true → are_atoms (script_line_atoms line) ≡ true
 atoms_are head h = refl
 atoms_are (code line) h = line_atoms_are line h
+atoms_are (observer count) h = refl
 atoms_are loader h = refl
 atoms_are (load []) h = absurd cc
 atoms_are (load (r ∷ refs)) h = refs_atoms (r ∷ refs) h

@@ -12,7 +12,7 @@ use Rattle.script_text.proofs.Summaries.{Summary, summary_of, summary_with, summ
 
 -- ---- the rows of a table
 
-record AllFail (a b c d e f g h i j : Bool) : Type 0 where
+record AllFail (a b c d e f g h i j k : Bool) : Type 0 where
   pub a_fails : a ≡ false
   pub b_fails : b ≡ false
   pub c_fails : c ≡ false
@@ -23,19 +23,21 @@ record AllFail (a b c d e f g h i j : Bool) : Type 0 where
   pub h_fails : h ≡ false
   pub i_fails : i ≡ false
   pub j_fails : j ≡ false
+  pub k_fails : k ≡ false
 
-all_fail : (a b c d e f g h i j : Bool) (number : ℕ) → table a b c d e f g h i j number ≡ None → AllFail a b c d e f g h i j
-all_fail true b c d e f g h i j number none = absurd cc
-all_fail false true c d e f g h i j number none = absurd cc
-all_fail false false true d e f g h i j number none = absurd cc
-all_fail false false false true e f g h i j number none = absurd cc
-all_fail false false false false true f g h i j number none = absurd cc
-all_fail false false false false false true g h i j number none = absurd cc
-all_fail false false false false false false true h i j number none = absurd cc
-all_fail false false false false false false false true i j number none = absurd cc
-all_fail false false false false false false false false true j number none = absurd cc
-all_fail false false false false false false false false false true number none = absurd cc
-all_fail false false false false false false false false false false number none = record { a_fails = refl; b_fails = refl; c_fails = refl; d_fails = refl; e_fails = refl; f_fails = refl; g_fails = refl; h_fails = refl; i_fails = refl; j_fails = refl }
+all_fail : (a b c d e f g h i j k : Bool) (number : ℕ) → table a b c d e f g h i j k number ≡ None → AllFail a b c d e f g h i j k
+all_fail true b c d e f g h i j k number none = absurd cc
+all_fail false true c d e f g h i j k number none = absurd cc
+all_fail false false true d e f g h i j k number none = absurd cc
+all_fail false false false true e f g h i j k number none = absurd cc
+all_fail false false false false true f g h i j k number none = absurd cc
+all_fail false false false false false true g h i j k number none = absurd cc
+all_fail false false false false false false true h i j k number none = absurd cc
+all_fail false false false false false false false true i j k number none = absurd cc
+all_fail false false false false false false false false true j k number none = absurd cc
+all_fail false false false false false false false false false true k number none = absurd cc
+all_fail false false false false false false false false false false true number none = absurd cc
+all_fail false false false false false false false false false false false number none = record { a_fails = refl; b_fails = refl; c_fails = refl; d_fails = refl; e_fails = refl; f_fails = refl; g_fails = refl; h_fails = refl; i_fails = refl; j_fails = refl; k_fails = refl }
 
 pub not_false : (b : Bool) → not b ≡ false → b ≡ true
 not_false true e = refl
@@ -55,6 +57,7 @@ pub record Passes (m : Summary) (line : ScriptLine) : Type 0 where
   pub exports : nat_lt 1024 (length (summary_with m line).functions) ≡ false
   pub processes : nat_lt 64 (summary_with m line).spawns ≡ false
   pub loaders : nat_lt 8 (summary_with m line).loaders ≡ false
+  pub observers : nat_lt 4 (length (summary_with m line).observers) ≡ false
   pub new_title : of_code (is_given_again m.titles) line ≡ false
   pub new_name : of_code (is_repeated (last_group m.texts)) line ≡ false
 
@@ -62,9 +65,9 @@ passes : (m : Summary) (line : ScriptLine) → fault_by m line ≡ None → Pass
 passes m line none =
     let next = summary_with m line in
     let rows = all_fail (not (may_stand m.last line) || is_high line) (is_wide line) (is_long line) (nat_lt 4096 (length next.names)) (of_code (is_seventeenth (last_group m.texts)) line) (of_code (ends_too_long m.names (last_group m.texts)) line)
-    (nat_lt 1024 (length next.functions)) (nat_lt 64 next.spawns) (nat_lt 8 next.loaders) (of_code (is_given_again m.titles) line || of_code (is_repeated (last_group m.texts)) line) (m.count + 1) none in
+    (nat_lt 1024 (length next.functions)) (nat_lt 64 next.spawns) (nat_lt 8 next.loaders) (nat_lt 4 (length next.observers)) (of_code (is_given_again m.titles) line || of_code (is_repeated (last_group m.texts)) line) (m.count + 1) none in
     let first = or_parts (not (may_stand m.last line)) (is_high line) rows.a_fails in
-    let last = or_parts (of_code (is_given_again m.titles) line) (of_code (is_repeated (last_group m.texts)) line) rows.j_fails in
+    let last = or_parts (of_code (is_given_again m.titles) line) (of_code (is_repeated (last_group m.texts)) line) rows.k_fails in
     record {
       place = not_false (may_stand m.last line) first.0;
       low = first.1;
@@ -76,6 +79,7 @@ passes m line none =
       exports = rows.g_fails;
       processes = rows.h_fails;
       loaders = rows.i_fails;
+      observers = rows.j_fails;
       new_title = last.0;
       new_name = last.1;
     }

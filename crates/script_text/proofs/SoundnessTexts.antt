@@ -14,10 +14,10 @@ use Rattle.mod_text.specs.ModuleValue.{IsTitled, module_of, unsettled_line}
 use Rattle.mod_text.specs.ModuleText.{FollowOn, names_behind}
 use Rattle.mod_text.proofs.Keepings.{last_line-push}
 use Rattle.mod_text.proofs.ModuleSound.{module_is_sound}
-use Rattle.script_text.specs.ScriptLine.{ScriptLine, head, code, loader, load, on_atom, put, trace, spawn, go, is_script_line}
+use Rattle.script_text.specs.ScriptLine.{ScriptLine, head, code, observer, loader, load, on_atom, put, trace, spawn, go, is_script_line}
 use Rattle.script_text.specs.Groups.{onto_last, last_group}
 use Rattle.script_text.specs.Counts.{script_line_atoms, is_title, names_of, module_texts}
-use Rattle.script_text.specs.LineFaults.{may_stand_between, may_stand_within, may_stand_behind, may_stand_loading, may_stand, of_code, last_of, or_else, lack_in_texts}
+use Rattle.script_text.specs.LineFaults.{may_stand_between, may_stand_within, may_stand_behind, may_stand_observing, may_stand_loading, may_stand, of_code, last_of, or_else, lack_in_texts}
 use Rattle.script_text.specs.ScriptText.{HaveNoFault}
 use Rattle.script_text.proofs.GroupLaws.{onto_last-snoc}
 use Rattle.script_text.proofs.HeldNames.{Extends-all, held_all, all_held_in}
@@ -61,6 +61,7 @@ abbrev pub TextsBehind : Option ScriptLine → List (List ℕ) → List (List Li
 TextsBehind None names texts = AreClosed names texts
 TextsBehind (Some head) names texts = AreClosed names texts
 TextsBehind (Some (code line)) names texts = HaveOpen names texts line
+TextsBehind (Some (observer count)) names texts = AreClosed names texts
 TextsBehind (Some loader) names texts = AreClosed names texts
 TextsBehind (Some (load refs)) names texts = AreClosed names texts
 TextsBehind (Some (on_atom command name)) names texts = AreClosed names texts
@@ -179,6 +180,7 @@ code_passed m line sound p = record { sound = sound; low = p.low; narrow = p.nar
 begins : (m : Summary) (line : ScriptLine) → length m.names ≤ 4096 → AreClosed m.names m.texts → IsTrue (is_script_line line) → Passes m line → Opens line → TextsBehind (Some line) (summary_with m line).names (summary_with m line).texts
 begins m head room h sound p place = h
 begins m (code line) room h sound p place = starts_text m.names m.texts line room h (code_passed m line sound p) (not_false (may_follow None line) place)
+begins m (observer count) room h sound p place = h
 begins m loader room h sound p place = h
 begins m (load refs) room h sound p place = all_closed_in m.names _ m.texts (Extends-all m.names (script_line_atoms (load refs))) h
 begins m (on_atom command name) room h sound p place = all_closed_in m.names _ m.texts (Extends-all m.names (script_line_atoms (on_atom command name))) h
@@ -190,6 +192,7 @@ begins m go room h sound p place = h
 opens_first : (line : ScriptLine) → may_stand None line ≡ true → Opens line
 opens_first head e = refl
 opens_first (code line) e = absurd cc
+opens_first (observer count) e = refl
 opens_first loader e = refl
 opens_first (load refs) e = refl
 opens_first (on_atom command name) e = refl
@@ -201,6 +204,7 @@ opens_first go e = refl
 opens_between : (line : ScriptLine) → may_stand_between line ≡ true → Opens line
 opens_between head e = refl
 opens_between (code line) e = ap not e
+opens_between (observer count) e = refl
 opens_between loader e = refl
 opens_between (load refs) e = refl
 opens_between (on_atom command name) e = refl
@@ -209,9 +213,22 @@ opens_between (trace f g arity on) e = refl
 opens_between (spawn f g args) e = refl
 opens_between go e = refl
 
+opens_observing : (line : ScriptLine) → may_stand_observing line ≡ true → Opens line
+opens_observing head e = refl
+opens_observing (code line) e = absurd cc
+opens_observing (observer count) e = refl
+opens_observing loader e = refl
+opens_observing (load refs) e = refl
+opens_observing (on_atom command name) e = refl
+opens_observing (put key term) e = refl
+opens_observing (trace f g arity on) e = refl
+opens_observing (spawn f g args) e = refl
+opens_observing go e = refl
+
 opens_loading : (line : ScriptLine) → may_stand_loading line ≡ true → Opens line
 opens_loading head e = refl
 opens_loading (code line) e = absurd cc
+opens_loading (observer count) e = refl
 opens_loading loader e = refl
 opens_loading (load refs) e = refl
 opens_loading (on_atom command name) e = refl
@@ -223,6 +240,7 @@ opens_loading go e = refl
 goes_on : (m : Summary) (last : LineForm) (line : ScriptLine) → HaveOpen m.names m.texts last → IsTrue (is_script_line line) → Passes m line → may_stand_within last line ≡ true → TextsBehind (Some line) (summary_with m line).names (summary_with m line).texts
 goes_on m last head h sound p place = absurd cc
 goes_on m last (code line) h sound p place = open_more m.names m.texts last line h (code_passed m line sound p) place
+goes_on m last (observer count) h sound p place = absurd cc
 goes_on m last loader h sound p place = absurd cc
 goes_on m last (load refs) h sound p place = absurd cc
 goes_on m last (on_atom command name) h sound p place = absurd cc
@@ -242,6 +260,7 @@ texts_more : (m : Summary) (last : Option ScriptLine) (line : ScriptLine) → le
 texts_more m None line room h sound p place = begins m line room h sound p (opens_first line place)
 texts_more m (Some head) line room h sound p place = begins m line room h sound p (opens_between line place)
 texts_more m (Some (code last)) line room h sound p place = behind_code m last line room h sound p place
+texts_more m (Some (observer count)) line room h sound p place = begins m line room h sound p (opens_observing line place)
 texts_more m (Some loader) line room h sound p place = begins m line room h sound p (opens_loading line place)
 texts_more m (Some (load refs)) line room h sound p place = begins m line room h sound p (opens_loading line place)
 texts_more m (Some (on_atom command name)) line room h sound p place = begins m line room h sound p (opens_loading line place)

@@ -15,7 +15,7 @@ use Rattle.mod_text.specs.ModuleText.{FollowOn, names_behind}
 use Rattle.mod_text.proofs.Keepings.{last_line-push}
 use Rattle.mod_text.proofs.Options.{some_is, bytes_are}
 use Rattle.server_core.specs.CommandTable.{text_of}
-use Rattle.script_text.specs.ScriptLine.{RefForm, ScriptLine, head, code, loader, load, on_atom, put, trace, spawn, go, is_script_line}
+use Rattle.script_text.specs.ScriptLine.{RefForm, ScriptLine, head, code, observer, loader, load, on_atom, put, trace, spawn, go, is_script_line}
 use Rattle.script_text.specs.Counts.{code_lines, is_title, module_texts, line_titles, titles_of, is_same_ref, is_given}
 use Rattle.script_text.specs.LineFaults.{of_code, is_given_again}
 use Rattle.script_text.specs.ScriptText.{HaveNoFault}
@@ -92,6 +92,7 @@ apart_line titles end h new = subst AreApart (sym (append-nil titles)) h
 apart_with : (titles : List RefForm) (line : ScriptLine) → AreApart titles → of_code (is_given_again titles) line ≡ false → AreApart (titles_with titles line)
 apart_with titles head h new = h
 apart_with titles (code line) h new = apart_line titles line h new
+apart_with titles (observer count) h new = h
 apart_with titles loader h new = h
 apart_with titles (load refs) h new = h
 apart_with titles (on_atom command name) h new = h

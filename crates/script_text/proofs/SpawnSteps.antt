@@ -45,7 +45,7 @@ use Rattle.script_text.proofs.Holding.{function_in, Stands, Knows, IsLoading, gr
 use Rattle.script_text.proofs.Steps.{more_lines, commands-onto_last, length-onto_last}
 use Rattle.script_text.proofs.Functions.{or_exports, one, added_line, functions_more, functions_held_in, held_line}
 use Rattle.script_text.proofs.CodeSteps.{Judges, names_all-IsNames, at_after, titles_held_in}
-use Rattle.script_text.proofs.BlockSteps.{few_more, full_more, no_command}
+use Rattle.script_text.proofs.BlockSteps.{few, few_more, full_more, no_command}
 use Rattle.script_text.proofs.LoadSteps.{no_load_text}
 
 -- ---- the names of a call
@@ -111,6 +111,8 @@ knows_spawn m r closed c k form some sound few_fs room =
           ∙ sym (commands-onto_last (after ++ more) m.blocks (spawned c) (Spawn (target_in (after ++ more) c) (map (argument_in (after ++ more)) c.args)) refl);
       blocks = let len = length-onto_last m.blocks (spawned c) (omega (arith, k.blocks, some)) in omega (arith, k.blocks, len);
       few_loaders = omega (arith, k.few_loaders);
+      observers = k.observers;
+      few_observers = k.few_observers;
       processes = omega (arith, k.processes);
       few_processes = omega (arith, room);
       unknown = k.unknown ∙ ap (or_else (lack_in_texts 2 closed)) (sym (same_lack m.titles m.lines (spawned c) refl));
@@ -130,7 +132,8 @@ exports_after m c = nat_lt 1024 (length (summary_with m (spawned c)).functions)
 spawn_fault : (m : Summary) (r : ScriptReader) (closed : List (List LineForm)) (c : CallForm) → Knows m r closed → may_stand m.last (spawned c) ≡ true → fault_by m (spawned c) ≡ spawn_table (list_any is_wide_term c.args) (list_any is_long_term c.args) (nat_lt 4096 (length (names_after_call m.names c))) (exports_after m c) (nat_lt 64 (m.spawns + 1)) (m.count + 1)
 spawn_fault m r closed c k stands =
     let loaders = few_more m.loaders 8 k.few_loaders in
-    λ i. table (not (stands i) || false) (list_any is_wide_term c.args) (list_any is_long_term c.args) (nat_lt 4096 (length (names_after_call m.names c))) false false (exports_after m c) (nat_lt 64 (m.spawns + 1)) (loaders i) false (m.count + 1)
+    let observers = few (length m.observers) 4 k.few_observers in
+    λ i. table (not (stands i) || false) (list_any is_wide_term c.args) (list_any is_long_term c.args) (nat_lt 4096 (length (names_after_call m.names c))) false false (exports_after m c) (nat_lt 64 (m.spawns + 1)) (loaders i) (observers i) false (m.count + 1)
 
 abbrev Call : Type 0
 Call = Mfa × List PlainTerm × List (List ℕ)

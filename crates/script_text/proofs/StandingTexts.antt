@@ -16,16 +16,16 @@ use Rattle.mod_text.proofs.Constants.{IsSound}
 use Rattle.mod_text.proofs.LineWords.{too_long_is}
 use Rattle.mod_text.proofs.Keepings.{last_line-push}
 use Rattle.mod_text.proofs.Options.{some_is}
-use Rattle.script_text.specs.ScriptLine.{RefForm, ScriptLine, head, code, loader, load, on_atom, put, trace, spawn, go}
+use Rattle.script_text.specs.ScriptLine.{RefForm, ScriptLine, head, code, observer, loader, load, on_atom, put, trace, spawn, go}
 use Rattle.script_text.specs.Groups.{onto_last, last_group}
 use Rattle.script_text.specs.Counts.{names_of, code_lines, module_texts, line_titles, titles_of, is_same_ref, is_given}
-use Rattle.script_text.specs.LineFaults.{may_stand_between, may_stand_loading, may_stand, last_of}
+use Rattle.script_text.specs.LineFaults.{may_stand_between, may_stand_observing, may_stand_loading, may_stand, last_of}
 use Rattle.script_text.specs.Canonical.{code_form}
 use Rattle.script_text.proofs.GrownLines.{module_texts-code, last_of-snoc}
 use Rattle.script_text.proofs.GroupLaws.{onto_last-snoc}
 use Rattle.script_text.proofs.SoundnessTexts.{IsClosed, AreClosed, titled, no_title, last_group-snoc}
 use Rattle.script_text.proofs.SoundnessTitles.{title_ref, one_title, AreApart}
-use Rattle.script_text.proofs.InOrder.{AreBlocks}
+use Rattle.script_text.proofs.InOrder.{observer_lines, AreBlocks}
 use Rattle.script_text.proofs.Assembled.{IsBlockLine, code_lines-front}
 use Rattle.script_text.proofs.SoundnessRows.{IsNarrow}
 use Rattle.script_text.proofs.Rooms.{StandsWell, StandWell, well_append}
@@ -269,6 +269,7 @@ texts_are names texts closed apart = (all_stand names (head ∷ []) [] texts at_
 block_stands : (before : List ScriptLine) (line : ScriptLine) → IsBlockLine line → may_stand (last_of before) line ≡ true → IsNarrow line → StandsWell before line
 block_stands before head is place narrow = absurd is
 block_stands before (code line) is place narrow = absurd is
+block_stands before (observer count) is place narrow = absurd is
 block_stands before loader is place narrow = record { place = place; low = refl; narrow = narrow.narrow; brief = narrow.brief; few = refl; short = refl; new_title = refl; new_name = refl }
 block_stands before (load refs) is place narrow = record { place = place; low = refl; narrow = narrow.narrow; brief = narrow.brief; few = refl; short = refl; new_title = refl; new_name = refl }
 block_stands before (on_atom command name) is place narrow = record { place = place; low = refl; narrow = narrow.narrow; brief = narrow.brief; few = refl; short = refl; new_title = refl; new_name = refl }
@@ -283,6 +284,7 @@ go_stands before place = record { place = place; low = refl; narrow = refl; brie
 behind_block : (last line : ScriptLine) → IsBlockLine last → may_stand (Some last) line ≡ may_stand_loading line
 behind_block head line is = absurd is
 behind_block (code l) line is = absurd is
+behind_block (observer count) line is = absurd is
 behind_block loader line is = refl
 behind_block (load refs) line is = refl
 behind_block (on_atom command name) line is = refl
@@ -294,6 +296,7 @@ behind_block go line is = absurd is
 may_load : (line : ScriptLine) → IsBlockLine line → may_stand_loading line ≡ true
 may_load head is = absurd is
 may_load (code l) is = absurd is
+may_load (observer count) is = absurd is
 may_load loader is = refl
 may_load (load refs) is = refl
 may_load (on_atom command name) is = refl
@@ -309,19 +312,48 @@ loading_stand before last (line ∷ blocks) is own are narrow = (
   loading_stand (before ++ line ∷ []) line blocks (last_of-snoc before line) are.0 are.1 narrow.1,
 )
 
-opens_between : (line : ScriptLine) (lines : List ScriptLine) → AreBlocks (line ∷ lines) → may_stand_between line ≡ true
-opens_between head lines opened = absurd opened
-opens_between (code line) lines opened = absurd opened
-opens_between loader lines opened = refl
-opens_between (load refs) lines opened = absurd opened
-opens_between (on_atom command name) lines opened = absurd opened
-opens_between (put key term) lines opened = absurd opened
-opens_between (trace f g arity on) lines opened = absurd opened
-opens_between (spawn m f args) lines opened = absurd opened
-opens_between go lines opened = absurd opened
+opening_stands : (before : List ScriptLine) (line : ScriptLine) (lines : List ScriptLine) → AreBlocks (line ∷ lines) → may_stand (last_of before) loader ≡ true → may_stand (last_of before) line ≡ true
+opening_stands before head lines opened may = absurd opened
+opening_stands before (code line) lines opened may = absurd opened
+opening_stands before (observer count) lines opened may = absurd opened
+opening_stands before loader lines opened may = may
+opening_stands before (load refs) lines opened may = absurd opened
+opening_stands before (on_atom command name) lines opened may = absurd opened
+opening_stands before (put key term) lines opened may = absurd opened
+opening_stands before (trace f g arity on) lines opened may = absurd opened
+opening_stands before (spawn m f args) lines opened may = absurd opened
+opening_stands before go lines opened may = absurd opened
 
--- loader blocks and `go` stand well behind module texts
-pub blocks_stand : (before : List ScriptLine) (blocks : List ScriptLine) → ((line : ScriptLine) → may_stand (last_of before) line ≡ may_stand_between line) → AreBlocks blocks → AllByRecursion IsBlockLine blocks → AllByRecursion IsNarrow blocks → StandWell before (blocks ++ go ∷ [])
-blocks_stand before [] may opened are narrow = (go_stands before (may go), tt)
-blocks_stand before (line ∷ blocks) may opened are narrow =
-    (block_stands before line are.0 (may line ∙ opens_between line blocks opened) narrow.0, loading_stand (before ++ line ∷ []) line blocks (last_of-snoc before line) are.0 are.1 narrow.1)
+-- loader blocks and `go` stand well where one of them may stand
+blocks_stand : (before : List ScriptLine) (blocks : List ScriptLine) → may_stand (last_of before) loader ≡ true → may_stand (last_of before) go ≡ true → AreBlocks blocks → AllByRecursion IsBlockLine blocks → AllByRecursion IsNarrow blocks → StandWell before (blocks ++ go ∷ [])
+blocks_stand before [] may_open may_end opened are narrow = (go_stands before may_end, tt)
+blocks_stand before (line ∷ blocks) may_open may_end opened are narrow =
+    (block_stands before line are.0 (opening_stands before line blocks opened may_open) narrow.0, loading_stand (before ++ line ∷ []) line blocks (last_of-snoc before line) are.0 are.1 narrow.1)
+
+-- ---- observers
+
+observer_stands : (before : List ScriptLine) (count : List ℕ) → may_stand (last_of before) (observer count) ≡ true → StandsWell before (observer count)
+observer_stands before count place = record { place = place; low = refl; narrow = refl; brief = refl; few = refl; short = refl; new_title = refl; new_name = refl }
+
+observing_stand : (before : List ScriptLine) (observers : List (List ℕ)) (blocks : List ScriptLine) → ((line : ScriptLine) → may_stand_observing line ≡ true → may_stand (last_of before) line ≡ true) → AreBlocks blocks → AllByRecursion IsBlockLine blocks → AllByRecursion IsNarrow blocks → StandWell before ((observer_lines observers ++ blocks) ++ go ∷ [])
+observing_stand before [] blocks may opened are narrow = blocks_stand before blocks (may loader refl) (may go refl) opened are narrow
+observing_stand before (count ∷ observers) blocks may opened are narrow = (
+  observer_stands before count (may (observer count) refl),
+  observing_stand (before ++ observer count ∷ []) observers blocks (λ line stands. ap (λ (o : Option ScriptLine). may_stand o line) (last_of-snoc before (observer count)) ∙ stands) opened are narrow,
+)
+
+between_too : (line : ScriptLine) → may_stand_observing line ≡ true → may_stand_between line ≡ true
+between_too head stands = absurd cc
+between_too (code line) stands = absurd cc
+between_too (observer count) stands = refl
+between_too loader stands = refl
+between_too (load refs) stands = absurd cc
+between_too (on_atom command name) stands = absurd cc
+between_too (put key term) stands = absurd cc
+between_too (trace f g arity on) stands = absurd cc
+between_too (spawn m f args) stands = absurd cc
+between_too go stands = refl
+
+-- observers, loader blocks and `go` stand well behind module texts
+pub others_stand : (before : List ScriptLine) (observers : List (List ℕ)) (blocks : List ScriptLine) → ((line : ScriptLine) → may_stand (last_of before) line ≡ may_stand_between line) → AreBlocks blocks → AllByRecursion IsBlockLine blocks → AllByRecursion IsNarrow blocks → StandWell before ((observer_lines observers ++ blocks) ++ go ∷ [])
+others_stand before observers blocks may opened are narrow = observing_stand before observers blocks (λ line stands. may line ∙ between_too line stands) opened are narrow

@@ -5,14 +5,14 @@ use Rattle.std.specs.List.{AllByRecursion, flat_map}
 use Rattle.std.proofs.lemmas.List.{map-append}
 use Rattle.term_core.specs.Names.{IsNames, Extends}
 use Rattle.mod_core.specs.declared.code.Module.{Module}
-use Rattle.mod_text.specs.ModuleLine.{LineForm, title, header, label, instr, end}
+use Rattle.mod_text.specs.ModuleLine.{LineForm, title, header, label, instr, end, number_value}
 use Rattle.mod_text.specs.LineFaults.{last_line}
 use Rattle.mod_text.specs.ModuleValue.{IsTitled, module_of, unsettled_line}
 use Rattle.script_text.specs.declared.reading.reader.Place.{Place}
-use Rattle.script_text.specs.declared.reading.reader.Place.TheVariants.{Unread, Between, Within, Loading, Finished}
+use Rattle.script_text.specs.declared.reading.reader.Place.TheVariants.{Unread, Between, Within, Observing, Loading, Finished}
 use Rattle.script_text.specs.declared.reading.reader.ScriptReader.{ScriptReader}
 use Rattle.script_text.specs.declared.script.ScriptCmd.{ScriptCmd}
-use Rattle.script_text.specs.ScriptLine.{ScriptLine, head, code, loader, load, spawn, go}
+use Rattle.script_text.specs.ScriptLine.{ScriptLine, head, code, observer, loader, load, spawn, go}
 use Rattle.script_text.specs.Groups.{onto_last}
 use Rattle.script_text.specs.ScriptValue.{commands_on, commands_of}
 use Rattle.script_text.specs.LineFaults.{may_stand_between, may_stand_behind, may_stand, or_else, lack_in_texts, lack_in_loads}
@@ -41,6 +41,8 @@ knows_head m r closed place k = record {
   loaders = k.loaders;
   blocks = omega (arith, k.blocks);
   few_loaders = omega (arith, k.few_loaders);
+  observers = k.observers;
+  few_observers = k.few_observers;
   processes = omega (arith, k.processes);
   few_processes = omega (arith, k.few_processes);
   unknown = k.unknown ∙ ap (or_else (lack_in_texts 2 closed)) (sym (same_lack m.titles m.lines head refl));
@@ -61,6 +63,8 @@ knows_go m r closed place k = record {
   loaders = k.loaders;
   blocks = omega (arith, k.blocks);
   few_loaders = omega (arith, k.few_loaders);
+  observers = k.observers;
+  few_observers = k.few_observers;
   processes = omega (arith, k.processes);
   few_processes = omega (arith, k.few_processes);
   unknown = k.unknown ∙ ap (or_else (lack_in_texts 2 closed)) (sym (same_lack m.titles m.lines go refl));
@@ -86,6 +90,34 @@ holds_go m r closed k none = record {
   stands = record { follows = λ line. refl; last = refl; none_open = none };
 }
 
+-- ---- observers
+
+pub holds_observer : (m : Summary) (r : ScriptReader) (closed : List (List LineForm)) (count : List ℕ) → Knows m r closed → r.lines ≡ [] → length m.observers < 4 → Holds (summary_with m (observer count)) (record r { observers = r.observers ++ number_value count ∷ []; place = Observing })
+holds_observer m r closed count k none room = record {
+  closed = closed;
+  knows = record {
+    names = k.names;
+    sound = k.sound;
+    texts = k.texts;
+    modules = k.modules;
+    titles = k.titles;
+    titles_held = k.titles_held;
+    functions = k.functions;
+    functions_held = k.functions_held;
+    few_functions = k.few_functions;
+    loaders = k.loaders;
+    blocks = omega (arith, k.blocks);
+    few_loaders = omega (arith, k.few_loaders);
+    observers = ap (λ (counts : List ℕ). counts ++ number_value count ∷ []) k.observers ∙ sym (map-append number_value m.observers (count ∷ []));
+    few_observers = omega (arith, room, length-append m.observers (count ∷ []));
+    processes = omega (arith, k.processes);
+    few_processes = omega (arith, k.few_processes);
+    unknown = k.unknown ∙ ap (or_else (lack_in_texts 2 closed)) (sym (same_lack m.titles m.lines (observer count) refl));
+    count = more_lines m (observer count) k.count;
+  };
+  stands = record { follows = λ line. refl; none_open = none };
+}
+
 -- ---- loader blocks
 
 pub holds_loader : (m : Summary) (r : ScriptReader) (closed : List (List LineForm)) → Knows m r closed → r.lines ≡ [] → m.loaders < 8 → Holds (summary_with m loader) (record r { loaders = r.loaders ++ [] ∷ []; place = Loading })
@@ -104,6 +136,8 @@ holds_loader m r closed k none room = record {
     loaders = λ more. ap (λ (ls : List (List ScriptCmd)). ls ++ [] ∷ []) (k.loaders more) ∙ sym (map-append (commands_of (m.names ++ more)) m.blocks ((loader ∷ []) ∷ []));
     blocks = simp length-append (omega (arith, k.blocks));
     few_loaders = omega (arith, room);
+    observers = k.observers;
+    few_observers = k.few_observers;
     processes = omega (arith, k.processes);
     few_processes = omega (arith, k.few_processes);
     unknown = k.unknown ∙ ap (or_else (lack_in_texts 2 closed)) (sym (same_lack m.titles m.lines loader refl));
@@ -164,6 +198,8 @@ closed_none m r closed k o settled =
       loaders = k.loaders;
       blocks = k.blocks;
       few_loaders = k.few_loaders;
+      observers = k.observers;
+      few_observers = k.few_observers;
       processes = k.processes;
       few_processes = k.few_processes;
       unknown = k.unknown ∙ ap (λ (p : Option ℕ). or_else p (lack_in_loads m.titles 1 m.lines)) (sym lack);
@@ -188,6 +224,8 @@ closed_some m r closed place k o missing =
       loaders = k.loaders;
       blocks = k.blocks;
       few_loaders = k.few_loaders;
+      observers = k.observers;
+      few_observers = k.few_observers;
       processes = k.processes;
       few_processes = k.few_processes;
       unknown =

@@ -7,11 +7,11 @@ use Rattle.mod_text.specs.LineFaults.{is_seventeenth, ends_too_long, is_repeated
 use Rattle.script_text.specs.declared.fault.Which.TheVariants as which
 use Rattle.script_text.specs.declared.fault.ScriptFault.{ScriptFault}
 use Rattle.script_text.specs.declared.fault.ScriptFault.TheVariants as faults
-use Rattle.script_text.specs.ScriptLine.{RefForm, ScriptLine, head, code, loader, load, on_atom, put, trace, spawn, go}
+use Rattle.script_text.specs.ScriptLine.{RefForm, ScriptLine, head, code, observer, loader, load, on_atom, put, trace, spawn, go}
 use Rattle.script_text.specs.Groups.{groups_with, last_group}
-use Rattle.script_text.specs.Counts.{script_line_atoms, names_of, FunctionForm, script_line_functions, home_after, functions_with, functions_of, is_title, module_texts, line_titles, titles_of, is_loader, is_spawn, loader_blocks}
+use Rattle.script_text.specs.Counts.{script_line_atoms, names_of, FunctionForm, script_line_functions, home_after, functions_with, functions_of, is_title, module_texts, line_titles, titles_of, observers_of, is_loader, is_spawn, loader_blocks}
 use Rattle.script_text.specs.LineFaults.{last_of, may_stand, is_high, is_wide, is_long, of_code, is_given_again, first_fault, line_fault}
-use Rattle.script_text.proofs.GrownLines.{names_of-snoc, home_of, home_of-snoc, functions_of-snoc, module_texts-code, module_texts-other, titles_of-code, titles_of-other, blocks-line, blocks-other, last_of-snoc, count-snoc, length-snoc}
+use Rattle.script_text.proofs.GrownLines.{names_of-snoc, home_of, home_of-snoc, functions_of-snoc, module_texts-code, module_texts-other, titles_of-code, titles_of-other, observers_of-line, observers_of-other, blocks-line, blocks-other, last_of-snoc, count-snoc, length-snoc}
 
 pub record Summary : Type 0 where
   pub lines : List ScriptLine
@@ -20,6 +20,7 @@ pub record Summary : Type 0 where
   pub functions : List FunctionForm
   pub texts : List (List LineForm)
   pub titles : List RefForm
+  pub observers : List (List ℕ)
   pub blocks : List (List ScriptLine)
   pub spawns : ℕ
   pub loaders : ℕ
@@ -34,6 +35,7 @@ summary_of lines = record {
   functions = functions_of lines;
   texts = module_texts lines;
   titles = titles_of lines;
+  observers = observers_of lines;
   blocks = loader_blocks lines;
   spawns = count_by is_spawn lines;
   loaders = count_by is_loader lines;
@@ -44,6 +46,7 @@ summary_of lines = record {
 abbrev pub texts_with : List (List LineForm) → ScriptLine → List (List LineForm)
 texts_with texts head = texts
 texts_with texts (code line) = groups_with is_title texts line
+texts_with texts (observer count) = texts
 texts_with texts loader = texts
 texts_with texts (load refs) = texts
 texts_with texts (on_atom command name) = texts
@@ -55,6 +58,7 @@ texts_with texts go = texts
 abbrev pub titles_with : List RefForm → ScriptLine → List RefForm
 titles_with titles head = titles
 titles_with titles (code line) = titles ++ line_titles line
+titles_with titles (observer count) = titles
 titles_with titles loader = titles
 titles_with titles (load refs) = titles
 titles_with titles (on_atom command name) = titles
@@ -63,9 +67,22 @@ titles_with titles (trace f g arity on) = titles
 titles_with titles (spawn m f args) = titles
 titles_with titles go = titles
 
+abbrev pub observers_with : List (List ℕ) → ScriptLine → List (List ℕ)
+observers_with observers head = observers
+observers_with observers (code line) = observers
+observers_with observers (observer count) = observers ++ count ∷ []
+observers_with observers loader = observers
+observers_with observers (load refs) = observers
+observers_with observers (on_atom command name) = observers
+observers_with observers (put key term) = observers
+observers_with observers (trace f g arity on) = observers
+observers_with observers (spawn m f args) = observers
+observers_with observers go = observers
+
 abbrev pub blocks_with : List (List ScriptLine) → ScriptLine → List (List ScriptLine)
 blocks_with blocks head = blocks
 blocks_with blocks (code line) = blocks
+blocks_with blocks (observer count) = blocks
 blocks_with blocks loader = groups_with is_loader blocks loader
 blocks_with blocks (load refs) = groups_with is_loader blocks (load refs)
 blocks_with blocks (on_atom command name) = groups_with is_loader blocks (on_atom command name)
@@ -83,6 +100,7 @@ summary_with m line = record {
   functions = fold functions_with m.functions (script_line_functions m.home line);
   texts = texts_with m.texts line;
   titles = titles_with m.titles line;
+  observers = observers_with m.observers line;
   blocks = blocks_with m.blocks line;
   spawns = m.spawns + cond (is_spawn line) 1 0;
   loaders = m.loaders + cond (is_loader line) 1 0;
@@ -93,6 +111,7 @@ summary_with m line = record {
 texts-snoc : (lines : List ScriptLine) (line : ScriptLine) → module_texts (lines ++ line ∷ []) ≡ texts_with (module_texts lines) line
 texts-snoc lines head = module_texts-other lines head refl
 texts-snoc lines (code line) = module_texts-code lines line
+texts-snoc lines (observer count) = module_texts-other lines (observer count) refl
 texts-snoc lines loader = module_texts-other lines loader refl
 texts-snoc lines (load refs) = module_texts-other lines (load refs) refl
 texts-snoc lines (on_atom command name) = module_texts-other lines (on_atom command name) refl
@@ -104,6 +123,7 @@ texts-snoc lines go = module_texts-other lines go refl
 titles-snoc : (lines : List ScriptLine) (line : ScriptLine) → titles_of (lines ++ line ∷ []) ≡ titles_with (titles_of lines) line
 titles-snoc lines head = titles_of-other lines head refl
 titles-snoc lines (code line) = titles_of-code lines line
+titles-snoc lines (observer count) = titles_of-other lines (observer count) refl
 titles-snoc lines loader = titles_of-other lines loader refl
 titles-snoc lines (load refs) = titles_of-other lines (load refs) refl
 titles-snoc lines (on_atom command name) = titles_of-other lines (on_atom command name) refl
@@ -112,9 +132,22 @@ titles-snoc lines (trace f g arity on) = titles_of-other lines (trace f g arity 
 titles-snoc lines (spawn m f args) = titles_of-other lines (spawn m f args) refl
 titles-snoc lines go = titles_of-other lines go refl
 
+observers-snoc : (lines : List ScriptLine) (line : ScriptLine) → observers_of (lines ++ line ∷ []) ≡ observers_with (observers_of lines) line
+observers-snoc lines head = observers_of-other lines head refl
+observers-snoc lines (code line) = observers_of-other lines (code line) refl
+observers-snoc lines (observer count) = observers_of-line lines (observer count)
+observers-snoc lines loader = observers_of-other lines loader refl
+observers-snoc lines (load refs) = observers_of-other lines (load refs) refl
+observers-snoc lines (on_atom command name) = observers_of-other lines (on_atom command name) refl
+observers-snoc lines (put key term) = observers_of-other lines (put key term) refl
+observers-snoc lines (trace f g arity on) = observers_of-other lines (trace f g arity on) refl
+observers-snoc lines (spawn m f args) = observers_of-other lines (spawn m f args) refl
+observers-snoc lines go = observers_of-other lines go refl
+
 blocks-snoc : (lines : List ScriptLine) (line : ScriptLine) → loader_blocks (lines ++ line ∷ []) ≡ blocks_with (loader_blocks lines) line
 blocks-snoc lines head = blocks-other lines head refl
 blocks-snoc lines (code line) = blocks-other lines (code line) refl
+blocks-snoc lines (observer count) = blocks-other lines (observer count) refl
 blocks-snoc lines loader = blocks-line lines loader refl
 blocks-snoc lines (load refs) = blocks-line lines (load refs) refl
 blocks-snoc lines (on_atom command name) = blocks-line lines (on_atom command name) refl
@@ -132,6 +165,7 @@ summary_of-snoc lines line = λ i. record {
   functions = functions_of-snoc lines line i;
   texts = texts-snoc lines line i;
   titles = titles-snoc lines line i;
+  observers = observers-snoc lines line i;
   blocks = blocks-snoc lines line i;
   spawns = count-snoc is_spawn lines line i;
   loaders = count-snoc is_loader lines line i;
@@ -141,18 +175,18 @@ summary_of-snoc lines line = λ i. record {
 
 -- ---- the fault of a line
 
-abbrev pub table : Bool → Bool → Bool → Bool → Bool → Bool → Bool → Bool → Bool → Bool → ℕ → Option ScriptFault
-table misplaced wide big names functions long exports processes loaders again number =
-    first_fault ((misplaced, faults.Syntax number) ∷ (wide, faults.Limit number which.Integer) ∷ (big, faults.Limit number which.Term) ∷ (names, faults.Limit number which.Names) ∷ (functions, faults.Limit number which.Functions) ∷ (long, faults.Limit number which.Module) ∷ (exports, faults.Limit number which.Exports) ∷ (processes, faults.Limit number which.Processes) ∷ (loaders, faults.Limit number which.Loaders) ∷ (again, faults.Duplicate number) ∷ [])
+abbrev pub table : Bool → Bool → Bool → Bool → Bool → Bool → Bool → Bool → Bool → Bool → Bool → ℕ → Option ScriptFault
+table misplaced wide big names functions long exports processes loaders observers again number =
+    first_fault ((misplaced, faults.Syntax number) ∷ (wide, faults.Limit number which.Integer) ∷ (big, faults.Limit number which.Term) ∷ (names, faults.Limit number which.Names) ∷ (functions, faults.Limit number which.Functions) ∷ (long, faults.Limit number which.Module) ∷ (exports, faults.Limit number which.Exports) ∷ (processes, faults.Limit number which.Processes) ∷ (loaders, faults.Limit number which.Loaders) ∷ (observers, faults.Limit number which.Observers) ∷ (again, faults.Duplicate number) ∷ [])
 
 -- the fault of a line by a summary of the lines before
 abbrev pub fault_by : Summary → ScriptLine → Option ScriptFault
 fault_by m line =
     let next = summary_with m line in
     table (not (may_stand m.last line) || is_high line) (is_wide line) (is_long line) (nat_lt 4096 (length next.names)) (of_code (is_seventeenth (last_group m.texts)) line) (of_code (ends_too_long m.names (last_group m.texts)) line)
-    (nat_lt 1024 (length next.functions)) (nat_lt 64 next.spawns) (nat_lt 8 next.loaders) (of_code (is_given_again m.titles) line || of_code (is_repeated (last_group m.texts)) line) (m.count + 1)
+    (nat_lt 1024 (length next.functions)) (nat_lt 64 next.spawns) (nat_lt 8 next.loaders) (nat_lt 4 (length next.observers)) (of_code (is_given_again m.titles) line || of_code (is_repeated (last_group m.texts)) line) (m.count + 1)
 
 pub line_fault-by : (lines : List ScriptLine) (line : ScriptLine) → line_fault lines line ≡ fault_by (summary_of lines) line
 line_fault-by lines line = λ i. let next = summary_of-snoc lines line i in
     table (not (may_stand (last_of lines) line) || is_high line) (is_wide line) (is_long line) (nat_lt 4096 (length next.names)) (of_code (is_seventeenth (last_group (module_texts lines))) line) (of_code (ends_too_long (names_of lines) (last_group (module_texts lines))) line)
-    (nat_lt 1024 (length next.functions)) (nat_lt 64 next.spawns) (nat_lt 8 next.loaders) (of_code (is_given_again (titles_of lines)) line || of_code (is_repeated (last_group (module_texts lines))) line) (length lines + 1)
+    (nat_lt 1024 (length next.functions)) (nat_lt 64 next.spawns) (nat_lt 8 next.loaders) (nat_lt 4 (length next.observers)) (of_code (is_given_again (titles_of lines)) line || of_code (is_repeated (last_group (module_texts lines))) line) (length lines + 1)

@@ -14,7 +14,7 @@ use Rattle.script_text.specs.declared.fault.ScriptFault.{ScriptFault}
 use Rattle.script_text.specs.declared.fault.ScriptFault.TheVariants as faults
 use Rattle.script_text.specs.declared.reading.cause.LineCause.{LineCause}
 use Rattle.script_text.specs.declared.reading.reader.ScriptReader.{ScriptReader}
-use Rattle.script_text.specs.ScriptLine.{RefForm, ScriptLine, head, code, loader, load, on_atom, put, trace, spawn, go, IsLine}
+use Rattle.script_text.specs.ScriptLine.{RefForm, ScriptLine, head, code, observer, loader, load, on_atom, put, trace, spawn, go, IsLine}
 use Rattle.script_text.specs.Groups.{onto_last, groups_with}
 use Rattle.script_text.specs.Counts.{code_lines, is_title, module_texts}
 use Rattle.script_text.specs.LineFaults.{or_else, lack_in_texts, is_lacking, lack_in_loads, line_fault}
@@ -46,6 +46,8 @@ holds_opening = record {
     loaders = λ more. refl;
     blocks = refl;
     few_loaders = omega arith;
+    observers = refl;
+    few_observers = omega arith;
     processes = refl;
     few_processes = omega arith;
     unknown = refl;
@@ -216,6 +218,7 @@ few_code : (lines : List ScriptLine) → length (flat_map code_lines lines) ≤ 
 few_code [] = omega arith
 few_code (head ∷ lines) = let rest = few_code lines in omega (arith, rest)
 few_code (code line ∷ lines) = let rest = few_code lines in omega (arith, rest)
+few_code (observer count ∷ lines) = let rest = few_code lines in omega (arith, rest)
 few_code (loader ∷ lines) = let rest = few_code lines in omega (arith, rest)
 few_code (load refs ∷ lines) = let rest = few_code lines in omega (arith, rest)
 few_code (on_atom command name ∷ lines) = let rest = few_code lines in omega (arith, rest)

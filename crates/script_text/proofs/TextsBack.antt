@@ -10,6 +10,7 @@ use Rattle.term_core.proofs.IntegerTexts.{own, Positive-from}
 use Rattle.term_core.proofs.NameTables.{slice_get-number_of}
 use Rattle.mod_text.specs.ModuleLine.{number_value, is_number_text, is_version_text, is_arity_text}
 use Rattle.mod_text.proofs.Options.{bytes_are}
+use Rattle.script_text.specs.ScriptLine.{is_snapshots_text}
 use Rattle.script_text.proofs.HeldNames.{IsHeldText, number_is}
 
 -- the text of a held atom's number is the atom's
@@ -37,6 +38,19 @@ version_again text h =
     let p = and_parts (is_number_text text) (nat_le 1 (number_value text) && nat_le (number_value text) 999999) h in
     let q = and_parts (nat_le 1 (number_value text)) (nat_le (number_value text) 999999) p.1 in
     number_again text p.0 (omega (arith, at_most (number_value text) 999999 q.1))
+
+snapshots_number : (text : List ℕ) → is_snapshots_text text ≡ true → (is_number_text text ≡ true) × (1 ≤ number_value text) × (number_value text ≤ 16)
+snapshots_number text h =
+    let p = and_parts (is_number_text text) (nat_le 1 (number_value text) && nat_le (number_value text) 16) h in
+    let q = and_parts (nat_le 1 (number_value text)) (nat_le (number_value text) 16) p.1 in
+    (p.0, at_most 1 (number_value text) q.0, at_most (number_value text) 16 q.1)
+
+-- a number of snapshots is from 1 to 16
+pub snapshots_bounds : (text : List ℕ) → is_snapshots_text text ≡ true → (0 < number_value text) × (number_value text ≤ 16)
+snapshots_bounds text h = let p = snapshots_number text h in let some = p.1 in (omega (arith, some), p.2)
+
+pub snapshots_again : (text : List ℕ) → is_snapshots_text text ≡ true → decimal (number_value text) ≡ text
+snapshots_again text h = let p = snapshots_number text h in let few = p.2 in number_again text p.0 (omega (arith, few))
 
 few_arguments : (text : List ℕ) → is_arity_text text ≡ true → number_value text ≤ 15
 few_arguments text h = at_most (number_value text) 15 (and_parts (is_number_text text) (nat_le (number_value text) 15) h).1

@@ -22,7 +22,7 @@ use Rattle.script_text.specs.declared.reading.cause.LineCause.{LineCause}
 use Rattle.script_text.specs.declared.reading.cause.LineCause.TheVariants as causes
 use Rattle.script_text.specs.declared.reading.reader.Place.TheVariants.{Within}
 use Rattle.script_text.specs.declared.reading.reader.ScriptReader.{ScriptReader}
-use Rattle.script_text.specs.ScriptLine.{RefForm, ScriptLine, head, code, loader, load, on_atom, put, trace, spawn, go, IsLine}
+use Rattle.script_text.specs.ScriptLine.{RefForm, ScriptLine, head, code, observer, loader, load, on_atom, put, trace, spawn, go, IsLine}
 use Rattle.script_text.specs.Counts.{is_given}
 use Rattle.script_text.specs.ScriptValue.{ref_in, commands_of}
 use Rattle.script_text.specs.LineFaults.{may_stand_between, may_stand, or_else, lack_in_texts}
@@ -66,20 +66,21 @@ title_again text t is = ap titled (ap (cut_at 32) is.text_is ∙ cut_here 32 (co
 
 -- ---- lines of no form
 
-no_title : (m : Summary) (text : List ℕ) → ((line : ScriptLine) → may_stand m.last line ≡ may_stand_between line) → bytes_eq text (codes "loader") ≡ false → bytes_eq text (codes "go") ≡ false → title_reading text ≡ None → Judges m text (Err causes.Syntax)
-no_title m text follows no_loader no_go none head l = misplaced m head (follows head)
-no_title m text follows no_loader no_go none (code (title name version)) l = let again = title_again text (record { name = name; version = version }) l in absurd cc
-no_title m text follows no_loader no_go none (code (header exported name arity)) l = misplaced m (code (header exported name arity)) (follows (code (header exported name arity)))
-no_title m text follows no_loader no_go none (code (label name)) l = misplaced m (code (label name)) (follows (code (label name)))
-no_title m text follows no_loader no_go none (code (instr i)) l = misplaced m (code (instr i)) (follows (code (instr i)))
-no_title m text follows no_loader no_go none (code end) l = misplaced m (code end) (follows (code end))
-no_title m text follows no_loader no_go none loader l = let yes : bytes_eq text (codes "loader") ≡ true = ap (λ (t : List ℕ). bytes_eq t (codes "loader")) l.text_is in absurd cc
-no_title m text follows no_loader no_go none (load refs) l = misplaced m (load refs) (follows (load refs))
-no_title m text follows no_loader no_go none (on_atom command name) l = misplaced m (on_atom command name) (follows (on_atom command name))
-no_title m text follows no_loader no_go none (put key term) l = misplaced m (put key term) (follows (put key term))
-no_title m text follows no_loader no_go none (trace f g arity on) l = misplaced m (trace f g arity on) (follows (trace f g arity on))
-no_title m text follows no_loader no_go none (spawn n f args) l = misplaced m (spawn n f args) (follows (spawn n f args))
-no_title m text follows no_loader no_go none go l = let yes : bytes_eq text (codes "go") ≡ true = ap (λ (t : List ℕ). bytes_eq t (codes "go")) l.text_is in absurd cc
+no_title : (m : Summary) (text : List ℕ) → ((line : ScriptLine) → may_stand m.last line ≡ may_stand_between line) → bytes_eq text (codes "loader") ≡ false → bytes_eq text (codes "go") ≡ false → title_reading text ≡ None → ((count : List ℕ) → IsLine text (observer count) → ⊥) → Judges m text (Err causes.Syntax)
+no_title m text follows no_loader no_go none no_observer head l = misplaced m head (follows head)
+no_title m text follows no_loader no_go none no_observer (code (title name version)) l = let again = title_again text (record { name = name; version = version }) l in absurd cc
+no_title m text follows no_loader no_go none no_observer (code (header exported name arity)) l = misplaced m (code (header exported name arity)) (follows (code (header exported name arity)))
+no_title m text follows no_loader no_go none no_observer (code (label name)) l = misplaced m (code (label name)) (follows (code (label name)))
+no_title m text follows no_loader no_go none no_observer (code (instr i)) l = misplaced m (code (instr i)) (follows (code (instr i)))
+no_title m text follows no_loader no_go none no_observer (code end) l = misplaced m (code end) (follows (code end))
+no_title m text follows no_loader no_go none no_observer (observer count) l = absurd (no_observer count l)
+no_title m text follows no_loader no_go none no_observer loader l = let yes : bytes_eq text (codes "loader") ≡ true = ap (λ (t : List ℕ). bytes_eq t (codes "loader")) l.text_is in absurd cc
+no_title m text follows no_loader no_go none no_observer (load refs) l = misplaced m (load refs) (follows (load refs))
+no_title m text follows no_loader no_go none no_observer (on_atom command name) l = misplaced m (on_atom command name) (follows (on_atom command name))
+no_title m text follows no_loader no_go none no_observer (put key term) l = misplaced m (put key term) (follows (put key term))
+no_title m text follows no_loader no_go none no_observer (trace f g arity on) l = misplaced m (trace f g arity on) (follows (trace f g arity on))
+no_title m text follows no_loader no_go none no_observer (spawn n f args) l = misplaced m (spawn n f args) (follows (spawn n f args))
+no_title m text follows no_loader no_go none no_observer go l = let yes : bytes_eq text (codes "go") ≡ true = ap (λ (t : List ℕ). bytes_eq t (codes "go")) l.text_is in absurd cc
 
 -- ---- what is known after a title
 
@@ -111,6 +112,8 @@ knows_title m r closed t number k b sound =
       loaders = λ more. grown (λ (ns : List (List ℕ)). r.loaders ≡ map (commands_of ns) m.blocks) m.names after ext k.loaders more;
       blocks = omega (arith, k.blocks);
       few_loaders = omega (arith, k.few_loaders);
+      observers = k.observers;
+      few_observers = k.few_observers;
       processes = omega (arith, k.processes);
       few_processes = omega (arith, k.few_processes);
       unknown = k.unknown ∙ ap (or_else (lack_in_texts 2 closed)) (b.no_load m.titles 1 ∙ sym (quiet (m.titles ++ t ∷ [])));
@@ -216,11 +219,11 @@ judges_form m r closed text number t k b n is =
         subst (λ (s : Result ℕ LineCause). Judges m text (s >>= with_name r t number (after, title_line t ∷ []))) (sym named)
         (subst (λ (again : Bool). Judges m text (cond again (Err causes.Duplicate) (Ok (r.titles ++ ref_in after t ∷ [])) >>= with_titles r number (after, title_line t ∷ []))) (sym among) (by_given (is_given m.titles t) full e))
 
--- a line where a module's text may begin
-pub judges_title : (m : Summary) (r : ScriptReader) (closed : List (List LineForm)) (text : List ℕ) (number : ℕ) → Knows m r closed → IsBetween m r closed → number ≡ m.count + 1 → bytes_eq text (codes "loader") ≡ false → bytes_eq text (codes "go") ≡ false → Judges m text (title_step r number text)
+-- a line where a module's text may begin, and no observer stands
+pub judges_title : (m : Summary) (r : ScriptReader) (closed : List (List LineForm)) (text : List ℕ) (number : ℕ) → Knows m r closed → IsBetween m r closed → number ≡ m.count + 1 → bytes_eq text (codes "loader") ≡ false → bytes_eq text (codes "go") ≡ false → ((count : List ℕ) → IsLine text (observer count) → ⊥) → Judges m text (title_step r number text)
 unfolding title_step
-judges_title m r closed text number k b n no_loader no_go = by_form (title_reading text) refl
+judges_title m r closed text number k b n no_loader no_go no_observer = by_form (title_reading text) refl
   where
     by_form : (o : Option RefForm) → title_reading text ≡ o → Judges m text (or_syntax (option_map ref_words o) >>= λ t. by_code (judged r.names r.lines (line_reading text)) >>= λ x. or_syntax (number_of x.0 t.0) >>= λ name. ref_added r.titles (record { name = record { 0 = name }; version = t.1 }) >>= with_titles r number x)
-    by_form None e = no_title m text b.follows no_loader no_go e
+    by_form None e = no_title m text b.follows no_loader no_go e no_observer
     by_form (Some t) e = judges_form m r closed text number t k b n (title_is text t e)

@@ -24,7 +24,7 @@ use Rattle.script_text.specs.declared.reading.cause.LineCause.{LineCause}
 use Rattle.script_text.specs.declared.reading.cause.LineCause.TheVariants as causes
 use Rattle.script_text.specs.declared.reading.reader.Place.TheVariants.{Within}
 use Rattle.script_text.specs.declared.reading.reader.ScriptReader.{ScriptReader}
-use Rattle.script_text.specs.ScriptLine.{RefForm, ScriptLine, head, code, loader, load, on_atom, put, trace, spawn, go, IsLine}
+use Rattle.script_text.specs.ScriptLine.{RefForm, ScriptLine, head, code, observer, loader, load, on_atom, put, trace, spawn, go, IsLine}
 use Rattle.script_text.specs.Groups.{onto_last, last_group}
 use Rattle.script_text.specs.Counts.{line_functions, line_titles, is_title, home_after_line}
 use Rattle.script_text.specs.ScriptValue.{ref_in, commands_of}
@@ -62,6 +62,7 @@ code_of text line l = text_again text line (record { text_is = l.text_is; sound 
 only_syntax : (m : Summary) (before : LineForm) (text : List ℕ) → ((line : ScriptLine) → may_stand m.last line ≡ may_stand_within before line) → ((l : LineForm) → line_reading text ≡ Some l → fault_by m (code l) ≡ Some (faults.Syntax (m.count + 1))) → (line : ScriptLine) → IsLine text line → fault_by m line ≡ Some (faults.Syntax (m.count + 1))
 only_syntax m before text follows none head l = misplaced m head (follows head)
 only_syntax m before text follows none (code line) l = none line (code_of text line l)
+only_syntax m before text follows none (observer count) l = misplaced m (observer count) (follows (observer count))
 only_syntax m before text follows none loader l = misplaced m loader (follows loader)
 only_syntax m before text follows none (load refs) l = misplaced m (load refs) (follows (load refs))
 only_syntax m before text follows none (on_atom command name) l = misplaced m (on_atom command name) (follows (on_atom command name))
@@ -140,6 +141,8 @@ knows_line m r closed line fs k titled i sound same held few =
       loaders = λ more. grown (λ (ns : List (List ℕ)). r.loaders ≡ map (commands_of ns) m.blocks) m.names after ext k.loaders more;
       blocks = omega (arith, k.blocks);
       few_loaders = omega (arith, k.few_loaders);
+      observers = k.observers;
+      few_observers = k.few_observers;
       processes = omega (arith, k.processes);
       few_processes = omega (arith, k.few_processes);
       unknown = k.unknown ∙ ap (or_else (lack_in_texts 2 closed)) (sym (same_lack m.titles m.lines (code line) refl) ∙ sym (ap (λ (ts : List RefForm). lack_in_loads ts 1 (m.lines ++ code line ∷ [])) titles));
@@ -166,18 +169,19 @@ open_line m r closed line fs o i =
 
 -- ---- what the line comes to
 
-never_memory : (misplaced wide big names functions long exports processes loaders again : Bool) (number : ℕ) → table misplaced wide big names functions long exports processes loaders again number ≡ Some faults.NoMemory → ⊥
-never_memory true wide big names functions long exports processes loaders again number e = cc
-never_memory false true big names functions long exports processes loaders again number e = cc
-never_memory false false true names functions long exports processes loaders again number e = cc
-never_memory false false false true functions long exports processes loaders again number e = cc
-never_memory false false false false true long exports processes loaders again number e = cc
-never_memory false false false false false true exports processes loaders again number e = cc
-never_memory false false false false false false true processes loaders again number e = cc
-never_memory false false false false false false false true loaders again number e = cc
-never_memory false false false false false false false false true again number e = cc
-never_memory false false false false false false false false false true number e = cc
-never_memory false false false false false false false false false false number e = cc
+never_memory : (misplaced wide big names functions long exports processes loaders observers again : Bool) (number : ℕ) → table misplaced wide big names functions long exports processes loaders observers again number ≡ Some faults.NoMemory → ⊥
+never_memory true wide big names functions long exports processes loaders observers again number e = cc
+never_memory false true big names functions long exports processes loaders observers again number e = cc
+never_memory false false true names functions long exports processes loaders observers again number e = cc
+never_memory false false false true functions long exports processes loaders observers again number e = cc
+never_memory false false false false true long exports processes loaders observers again number e = cc
+never_memory false false false false false true exports processes loaders observers again number e = cc
+never_memory false false false false false false true processes loaders observers again number e = cc
+never_memory false false false false false false false true loaders observers again number e = cc
+never_memory false false false false false false false false true observers again number e = cc
+never_memory false false false false false false false false false true again number e = cc
+never_memory false false false false false false false false false false true number e = cc
+never_memory false false false false false false false false false false false number e = cc
 
 -- a fault of the line itself
 refused : (m : Summary) (r : ScriptReader) (text : List ℕ) (line : LineForm) (before : Option Mfa) (fault : LineFault) (exports : Bool) → IsLine text (code line) → ((next : ScriptLine) → fault_by m (code line) ≡ Some (faults.Syntax (m.count + 1)) → IsLine text next → fault_by m next ≡ Some (faults.Syntax (m.count + 1))) → (fault ≡ line_faults.Duplicate → passes_counted r.functions before ≡ exports) → fault_by m (code line) ≡ with_counts (Some fault) exports false (m.count + 1) → Judges m text (line_added r text before (Err fault))
@@ -193,7 +197,7 @@ refused m r text line before line_faults.Duplicate exports is only passes e = by
     by_exports : (t : Bool) → passes_counted r.functions before ≡ t → fault_by m (code line) ≡ with_counts (Some line_faults.Duplicate) t false (m.count + 1) → Judges m text (Err (repeat_cause r.functions before))
     by_exports true p e = subst (λ (c : LineCause). Judges m text (Err c)) (sym (passed (passes_counted r.functions before) (causes.Limit which.Exports) causes.Duplicate p)) (record { line = code line; is_line = is; fault_is = e })
     by_exports false p e = subst (λ (c : LineCause). Judges m text (Err c)) (sym (failed (passes_counted r.functions before) (causes.Limit which.Exports) causes.Duplicate p)) (record { line = code line; is_line = is; fault_is = e })
-refused m r text line before line_faults.NoMemory exports is only passes e = never_memory _ _ _ _ _ _ _ _ _ _ (m.count + 1) e
+refused m r text line before line_faults.NoMemory exports is only passes e = never_memory _ _ _ _ _ _ _ _ _ _ _ (m.count + 1) e
 
 names_fit : (high wide big names functions long repeated : Bool) → own_fault high wide big names functions long repeated ≡ None → names ≡ false
 names_fit true wide big names functions long repeated e = absurd cc

@@ -1,5 +1,5 @@
--- The canonical text of a script: its head, its modules by their canonical texts, its loader blocks, and `go`. A label is `lN` by
--- the place that it names, and stands only where some instruction goes; nothing else of the script's text is changed.
+-- The canonical text of a script: its head, its modules by their canonical texts, its observers, its loader blocks, and `go`. A
+-- label is `lN` by the place that it names, and stands only where some instruction goes; nothing else of the script's text is changed.
 -- Source: this project's script text. The code appends to a buffer, and tries the limits on what it has written.
 use Rattle.std.specs.Prelude.{ℕ, ◌<◌, ◌⊎◌, nat_lt, Bool, List, [], ◌∷◌, ◌++◌, map, length, IsTrue}
 use Rattle.std.specs.Fmt.{decimal, signed_decimal}
@@ -15,7 +15,7 @@ use Rattle.script_text.specs.declared.script.TheConstants.{LONGEST_SCRIPT, LONGE
 use Rattle.script_text.specs.declared.script.ScriptCmd.{ScriptCmd}
 use Rattle.script_text.specs.declared.script.ScriptCmd.TheVariants.{Load, Delete, SoftPurge, Purge, CheckOld, Put, Erase, Trace, Spawn}
 use Rattle.script_text.specs.declared.script.Script.{Script}
-use Rattle.script_text.specs.ScriptLine.{RefForm, delete, soft_purge, purge, check_old, erase, ScriptLine, head, code, loader, load, on_atom, put, trace, spawn, go, script_line_written}
+use Rattle.script_text.specs.ScriptLine.{RefForm, delete, soft_purge, purge, check_old, erase, ScriptLine, head, code, observer, loader, load, on_atom, put, trace, spawn, go, script_line_written}
 use Rattle.script_text.specs.ScriptText.{ScriptText}
 use Rattle.script_text.specs.TextLines.{lines_of}
 
@@ -50,6 +50,10 @@ command_line names (Spawn target args) = spawn (atom_text names target.«module�
 abbrev pub block_form : List (List ℕ) → List ScriptCmd → List ScriptLine
 block_form names commands = loader ∷ map (command_line names) commands
 
+-- the lines of observers, by how many snapshots each takes
+abbrev pub observer_form : List ℕ → List ScriptLine
+observer_form counts = map (λ count. observer (decimal count)) counts
+
 -- lines of module texts, as lines of a script
 abbrev pub code_form : List LineForm → List ScriptLine
 code_form lines = map (λ line. code line) lines
@@ -59,14 +63,19 @@ abbrev pub canonical : Script → List ScriptLine
 canonical s =
     head
     ∷ (code_form (flat_map (module_lines s.names) s.modules)
+    ++ (observer_form s.observers
     ++ (flat_map (block_form s.names) s.loaders
-    ++ go ∷ []))
+    ++ go ∷ [])))
 
 -- ---- text
 
 -- the bytes of a line with its line feed
 abbrev pub script_line_bytes : ScriptLine → List ℕ
 script_line_bytes line = script_line_written line ++ 10 ∷ []
+
+-- the bytes of the line of an observer that takes so many snapshots
+abbrev pub observer_bytes : ℕ → List ℕ
+observer_bytes count = script_line_bytes (observer (decimal count))
 
 -- the bytes of a loader block
 abbrev pub block_bytes : List (List ℕ) → List ScriptCmd → List ℕ

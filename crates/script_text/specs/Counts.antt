@@ -1,4 +1,4 @@
--- What the lines of a script name and have, counted over the lines: names, function names, titles, processes, loaders.
+-- What the lines of a script name and have, counted over the lines: names, function names, titles, observers, processes, loaders.
 -- Source: this project's script text. Plain lists in the order of first appearance; the code has hash tables.
 use Rattle.std.specs.Prelude.{ℕ, ◌==◌, ◌&&◌, Bool, true, false, List, [], ◌∷◌, ◌++◌, map, length, fold, bytes_eq, if◌then◌else◌}
 use Rattle.std.specs.List.{flat_map, list_any}
@@ -7,7 +7,7 @@ use Rattle.term_core.specs.PlainTerm.{atoms_of}
 use Rattle.term_core.specs.TermText.{names_with_all}
 use Rattle.mod_text.specs.ModuleLine.{LineForm, InstrForm, move, add, sub, eq, less, jump, call, call_ext, ret, pget, pget_or, elem, print, yield, title, header, label, instr, end, number_value}
 use Rattle.mod_text.specs.LineFaults.{line_atoms}
-use Rattle.script_text.specs.ScriptLine.{RefForm, ScriptLine, head, code, loader, load, on_atom, put, trace, spawn, go}
+use Rattle.script_text.specs.ScriptLine.{RefForm, ScriptLine, head, code, observer, loader, load, on_atom, put, trace, spawn, go}
 use Rattle.script_text.specs.Groups.{groups_of}
 
 -- ---- names
@@ -16,6 +16,7 @@ use Rattle.script_text.specs.Groups.{groups_of}
 abbrev pub script_line_atoms : ScriptLine → List (List ℕ)
 script_line_atoms head = []
 script_line_atoms (code line) = line_atoms line
+script_line_atoms (observer count) = []
 script_line_atoms loader = []
 script_line_atoms (load refs) = map (λ r. r.name) refs
 script_line_atoms (on_atom command name) = name ∷ []
@@ -68,6 +69,7 @@ line_functions home end = []
 abbrev pub script_line_functions : List ℕ → ScriptLine → List FunctionForm
 script_line_functions home head = []
 script_line_functions home (code line) = line_functions home line
+script_line_functions home (observer count) = []
 script_line_functions home loader = []
 script_line_functions home (load refs) = []
 script_line_functions home (on_atom command name) = []
@@ -88,6 +90,7 @@ home_after_line home end = home
 abbrev pub home_after : List ℕ → ScriptLine → List ℕ
 home_after home head = home
 home_after home (code line) = home_after_line home line
+home_after home (observer count) = home
 home_after home loader = home
 home_after home (load refs) = home
 home_after home (on_atom command name) = home
@@ -115,6 +118,7 @@ functions_of lines = fold functions_with [] (functions_named [] lines)
 abbrev pub code_lines : ScriptLine → List LineForm
 code_lines head = []
 code_lines (code line) = line ∷ []
+code_lines (observer count) = []
 code_lines loader = []
 code_lines (load refs) = []
 code_lines (on_atom command name) = []
@@ -153,11 +157,31 @@ is_same_ref r s = bytes_eq r.name s.name && number_value r.version == number_val
 abbrev pub is_given : List RefForm → RefForm → Bool
 is_given titles r = list_any (is_same_ref r) titles
 
+-- ---- observers
+
+-- the observer of a line, if it has one, by the digits of how many snapshots it takes
+abbrev pub line_observers : ScriptLine → List (List ℕ)
+line_observers head = []
+line_observers (code line) = []
+line_observers (observer count) = count ∷ []
+line_observers loader = []
+line_observers (load refs) = []
+line_observers (on_atom command name) = []
+line_observers (put key term) = []
+line_observers (trace «module» name arity on) = []
+line_observers (spawn «module» name args) = []
+line_observers go = []
+
+-- the observers, in order
+abbrev pub observers_of : List ScriptLine → List (List ℕ)
+observers_of lines = flat_map line_observers lines
+
 -- ---- loader blocks
 
 abbrev pub is_loader : ScriptLine → Bool
 is_loader head = false
 is_loader (code line) = false
+is_loader (observer count) = false
 is_loader loader = true
 is_loader (load refs) = false
 is_loader (on_atom command name) = false
@@ -169,6 +193,7 @@ is_loader go = false
 abbrev pub is_spawn : ScriptLine → Bool
 is_spawn head = false
 is_spawn (code line) = false
+is_spawn (observer count) = false
 is_spawn loader = false
 is_spawn (load refs) = false
 is_spawn (on_atom command name) = false
@@ -181,6 +206,7 @@ is_spawn go = false
 abbrev pub block_lines : ScriptLine → List ScriptLine
 block_lines head = []
 block_lines (code line) = []
+block_lines (observer count) = []
 block_lines loader = loader ∷ []
 block_lines (load refs) = load refs ∷ []
 block_lines (on_atom command name) = on_atom command name ∷ []

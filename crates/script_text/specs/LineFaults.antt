@@ -10,20 +10,21 @@ use Rattle.term_core.specs.Written.{WrittenTerm, outside_of}
 use Rattle.mod_text.specs.ModuleLine.{LineForm, title, header, label, instr, end}
 use Rattle.mod_text.specs.ModuleValue.{unsettled_line}
 use Rattle.mod_text.specs.LineFaults.{may_follow, has_high_register, has_wide_integer, has_long_term, is_seventeenth, ends_too_long, is_repeated}
-use Rattle.script_text.specs.declared.script.TheConstants.{MOST_FUNCTION_NAMES, MOST_LOADERS, MOST_PROCESSES}
+use Rattle.script_text.specs.declared.script.TheConstants.{MOST_FUNCTION_NAMES, MOST_LOADERS, MOST_PROCESSES, MOST_OBSERVERS}
 use Rattle.script_text.specs.declared.fault.Which.TheVariants as which
 use Rattle.script_text.specs.declared.fault.ScriptFault.{ScriptFault}
 use Rattle.script_text.specs.declared.fault.ScriptFault.TheVariants as faults
-use Rattle.script_text.specs.ScriptLine.{RefForm, ScriptLine, head, code, loader, load, on_atom, put, trace, spawn, go}
+use Rattle.script_text.specs.ScriptLine.{RefForm, ScriptLine, head, code, observer, loader, load, on_atom, put, trace, spawn, go}
 use Rattle.script_text.specs.Groups.{last_group}
-use Rattle.script_text.specs.Counts.{names_of, functions_of, module_texts, titles_of, line_titles, is_given, is_loader, is_spawn}
+use Rattle.script_text.specs.Counts.{names_of, functions_of, module_texts, titles_of, line_titles, is_given, observers_of, is_loader, is_spawn}
 
 -- ---- where a line may stand
 
--- whether a line may stand where a module's text may begin: a title, the first loader block, or the end
+-- whether a line may stand where a module's text may begin: a title, the first observer, the first loader block, or the end
 abbrev pub may_stand_between : ScriptLine → Bool
 may_stand_between head = false
 may_stand_between (code line) = may_follow None line
+may_stand_between (observer count) = true
 may_stand_between loader = true
 may_stand_between (load refs) = false
 may_stand_between (on_atom command name) = false
@@ -36,6 +37,7 @@ may_stand_between go = true
 abbrev pub may_stand_within : LineForm → ScriptLine → Bool
 may_stand_within before head = false
 may_stand_within before (code line) = may_follow (Some before) line
+may_stand_within before (observer count) = false
 may_stand_within before loader = false
 may_stand_within before (load refs) = false
 may_stand_within before (on_atom command name) = false
@@ -52,10 +54,24 @@ may_stand_behind (label name) line = may_stand_within (label name) line
 may_stand_behind (instr i) line = may_stand_within (instr i) line
 may_stand_behind end line = may_stand_between line
 
+-- whether a line may stand behind an observer
+abbrev pub may_stand_observing : ScriptLine → Bool
+may_stand_observing head = false
+may_stand_observing (code line) = false
+may_stand_observing (observer count) = true
+may_stand_observing loader = true
+may_stand_observing (load refs) = false
+may_stand_observing (on_atom command name) = false
+may_stand_observing (put key term) = false
+may_stand_observing (trace «module» name arity on) = false
+may_stand_observing (spawn «module» name args) = false
+may_stand_observing go = true
+
 -- whether a line may stand in the loader blocks
 abbrev pub may_stand_loading : ScriptLine → Bool
 may_stand_loading head = false
 may_stand_loading (code line) = false
+may_stand_loading (observer count) = false
 may_stand_loading loader = true
 may_stand_loading (load refs) = true
 may_stand_loading (on_atom command name) = true
@@ -67,6 +83,7 @@ may_stand_loading go = true
 abbrev pub is_head : ScriptLine → Bool
 is_head head = true
 is_head (code line) = false
+is_head (observer count) = false
 is_head loader = false
 is_head (load refs) = false
 is_head (on_atom command name) = false
@@ -76,11 +93,12 @@ is_head (spawn «module» name args) = false
 is_head go = false
 
 -- whether a line may stand behind this one, or in front of a text where there is none: the head first, then module texts, then
--- loader blocks, then `go`, and nothing more
+-- observers, then loader blocks, then `go`, and nothing more
 abbrev pub may_stand : Option ScriptLine → ScriptLine → Bool
 may_stand None line = is_head line
 may_stand (Some head) line = may_stand_between line
 may_stand (Some (code before)) line = may_stand_behind before line
+may_stand (Some (observer count)) line = may_stand_observing line
 may_stand (Some loader) line = may_stand_loading line
 may_stand (Some (load refs)) line = may_stand_loading line
 may_stand (Some (on_atom command name)) line = may_stand_loading line
@@ -99,6 +117,7 @@ last_of (line ∷ next ∷ lines) = last_of (next ∷ lines)
 abbrev pub is_high : ScriptLine → Bool
 is_high head = false
 is_high (code line) = has_high_register line
+is_high (observer count) = false
 is_high loader = false
 is_high (load refs) = false
 is_high (on_atom command name) = false
@@ -121,6 +140,7 @@ is_long_term term = nat_lt MOST_WORDS (term_words term)
 abbrev pub is_wide : ScriptLine → Bool
 is_wide head = false
 is_wide (code line) = has_wide_integer line
+is_wide (observer count) = false
 is_wide loader = false
 is_wide (load refs) = false
 is_wide (on_atom command name) = false
@@ -133,6 +153,7 @@ is_wide go = false
 abbrev pub is_long : ScriptLine → Bool
 is_long head = false
 is_long (code line) = has_long_term line
+is_long (observer count) = false
 is_long loader = false
 is_long (load refs) = false
 is_long (on_atom command name) = false
@@ -145,6 +166,7 @@ is_long go = false
 abbrev pub of_code : (LineForm → Bool) → ScriptLine → Bool
 of_code test head = false
 of_code test (code line) = test line
+of_code test (observer count) = false
 of_code test loader = false
 of_code test (load refs) = false
 of_code test (on_atom command name) = false
@@ -180,6 +202,7 @@ line_faults before line number =
     ∷ (nat_lt MOST_FUNCTION_NAMES (length (functions_of (before ++ line ∷ []))), faults.Limit number which.Exports)
     ∷ (nat_lt MOST_PROCESSES (count_by is_spawn (before ++ line ∷ [])), faults.Limit number which.Processes)
     ∷ (nat_lt MOST_LOADERS (count_by is_loader (before ++ line ∷ [])), faults.Limit number which.Loaders)
+    ∷ (nat_lt MOST_OBSERVERS (length (observers_of (before ++ line ∷ []))), faults.Limit number which.Observers)
     ∷ (of_code (is_given_again (titles_of before)) line || of_code (is_repeated (last_text before)) line, faults.Duplicate number)
     ∷ []
 
@@ -202,6 +225,7 @@ lack_in_texts number (text ∷ texts) = or_else (option_map (λ place. number + 
 abbrev pub is_lacking : List RefForm → ScriptLine → Bool
 is_lacking titles head = false
 is_lacking titles (code line) = false
+is_lacking titles (observer count) = false
 is_lacking titles loader = false
 is_lacking titles (load refs) = not (list_all (is_given titles) refs)
 is_lacking titles (on_atom command name) = false

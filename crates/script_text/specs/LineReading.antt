@@ -10,7 +10,7 @@ use Rattle.term_core.specs.Written.{WrittenTerm, is_integer_text}
 use Rattle.mod_core.specs.declared.code.TheConstants.{MOST_ARGUMENTS}
 use Rattle.mod_text.specs.ModuleLine.{number_value, is_version_text, is_arity_text}
 use Rattle.mod_text.specs.LineReading.{◌>>=◌, cut_at, tested, numbered_reading}
-use Rattle.script_text.specs.ScriptLine.{RefForm, AtomCommand, delete, soft_purge, purge, check_old, erase}
+use Rattle.script_text.specs.ScriptLine.{RefForm, AtomCommand, delete, soft_purge, purge, check_old, erase, is_snapshots_text}
 
 -- the parts between such bytes
 abbrev pub parts_of : ℕ → List ℕ → List (List ℕ)
@@ -19,6 +19,10 @@ parts_of byte text = slice_split (λ b. b == byte) text
 -- the version that digits write
 abbrev pub version_reading : List ℕ → Option ℕ
 version_reading text = if is_version_text text then Some (number_value text) else None
+
+-- the number of snapshots that digits write
+abbrev pub snapshots_reading : List ℕ → Option ℕ
+snapshots_reading text = if is_snapshots_text text then Some (number_value text) else None
 
 -- a module and a version with a dot between them
 abbrev pub ref_reading : List ℕ → Option RefForm

@@ -12,7 +12,7 @@ use Rattle.mod_text.specs.LineReading.{cut_at}
 use Rattle.mod_text.specs.ModuleValue.{IsTitled, module_of, unsettled_line}
 use Rattle.mod_text.specs.Reading.{Step, line_step, is_end}
 use Rattle.server_core.specs.declared.command.ModRef.{ModRef}
-use Rattle.script_text.specs.declared.script.TheConstants.{LONGEST_SCRIPT, LONGEST_LINE, MOST_LOADERS, MOST_PROCESSES}
+use Rattle.script_text.specs.declared.script.TheConstants.{LONGEST_SCRIPT, LONGEST_LINE, MOST_LOADERS, MOST_PROCESSES, MOST_OBSERVERS}
 use Rattle.script_text.specs.declared.script.ScriptCmd.{ScriptCmd}
 use Rattle.script_text.specs.declared.script.ScriptCmd.TheVariants.{Load, Put, Trace, Spawn}
 use Rattle.script_text.specs.declared.script.Script.{Script}
@@ -22,12 +22,12 @@ use Rattle.script_text.specs.declared.fault.ScriptFault.TheVariants as faults
 use Rattle.script_text.specs.declared.reading.cause.LineCause.{LineCause}
 use Rattle.script_text.specs.declared.reading.cause.LineCause.TheVariants as causes
 use Rattle.script_text.specs.declared.reading.reader.Place.{Place}
-use Rattle.script_text.specs.declared.reading.reader.Place.TheVariants.{Unread, Between, Within, Loading, Finished}
+use Rattle.script_text.specs.declared.reading.reader.Place.TheVariants.{Unread, Between, Within, Observing, Loading, Finished}
 use Rattle.script_text.specs.declared.reading.reader.ScriptReader.{ScriptReader}
 use Rattle.script_text.specs.Groups.{onto_last}
 use Rattle.script_text.specs.ScriptValue.{command_of}
 use Rattle.script_text.specs.LineFaults.{or_else}
-use Rattle.script_text.specs.LineReading.{refs_reading, command_reading, put_reading, trace_reading, call_reading, title_reading}
+use Rattle.script_text.specs.LineReading.{snapshots_reading, refs_reading, command_reading, put_reading, trace_reading, call_reading, title_reading}
 use Rattle.script_text.specs.WrittenLine.{ref_words, put_words, trace_words, call_words}
 use Rattle.script_text.specs.Naming.{or_syntax, atom_named, refs_named, put_named, trace_named, call_named}
 use Rattle.script_text.specs.Causes.{◌>>=◌, fault_at, cause_of_code}
@@ -98,6 +98,24 @@ line_added s text before (Err line_faults.NoMemory) = Err causes.NoMemory
 
 abbrev pub within_step : ScriptReader → List ℕ → Result ScriptReader LineCause
 within_step s text = line_added s text (counted_of s.names s.lines text) (line_step s.names s.lines text)
+
+-- ---- the observers
+
+-- one observer more, behind the word of its line
+unfoldable pub observer_step : ScriptReader → List ℕ → Result ScriptReader LineCause
+observer_step s text = do
+  count ← or_syntax (snapshots_reading text)
+  if nat_le MOST_OBSERVERS (length s.observers) then Err (causes.Limit which.Observers) else Ok (record s { observers = s.observers ++ count ∷ []; place = Observing })
+
+-- a line where a module's text may begin, or an observer stand
+abbrev pub between_by : ScriptReader → ℕ → List ℕ → Option (List ℕ × List ℕ) → Result ScriptReader LineCause
+between_by s number text None = title_step s number text
+between_by s number text (Some parts) = if bytes_eq parts.0 (codes "observer") then observer_step s parts.1 else title_step s number text
+
+-- a line behind an observer that begins no loader block and is not the end
+abbrev pub observing_by : ScriptReader → Option (List ℕ × List ℕ) → Result ScriptReader LineCause
+observing_by s None = Err causes.Syntax
+observing_by s (Some parts) = if bytes_eq parts.0 (codes "observer") then observer_step s parts.1 else Err causes.Syntax
 
 -- ---- the loader blocks
 
@@ -170,15 +188,16 @@ command_by s number (Some parts) =
 abbrev pub command_step : ScriptReader → ℕ → List ℕ → Result ScriptReader LineCause
 command_step s number text = command_by s number (cut_at 32 text)
 
--- a line that begins a module's text, or is a command
+-- a line that begins a module's text, or is an observer or a command
 abbrev pub keyed_step : ScriptReader → ℕ → List ℕ → Place → Result ScriptReader LineCause
-keyed_step s number text Between = title_step s number text
+keyed_step s number text Between = between_by s number text (cut_at 32 text)
 keyed_step s number text Unread = command_step s number text
 keyed_step s number text Within = command_step s number text
+keyed_step s number text Observing = observing_by s (cut_at 32 text)
 keyed_step s number text Loading = command_step s number text
 keyed_step s number text Finished = command_step s number text
 
--- a line between module texts, or of the loader blocks
+-- a line between module texts, or behind them
 abbrev pub other_step : ScriptReader → ℕ → List ℕ → Result ScriptReader LineCause
 other_step s number text =
     if bytes_eq text (codes "loader") then block_step s
@@ -191,6 +210,7 @@ abbrev pub line_at : ScriptReader → ℕ → List ℕ → Place → Result Scri
 line_at s number text Unread = head_step s text
 line_at s number text Between = other_step s number text
 line_at s number text Within = within_step s text
+line_at s number text Observing = other_step s number text
 line_at s number text Loading = other_step s number text
 line_at s number text Finished = Err causes.Syntax
 
@@ -200,6 +220,7 @@ abbrev pub IsCounted : ScriptReader → ℕ → Place → Type 0
 IsCounted s number Unread = Unit {0}
 IsCounted s number Between = Unit {0}
 IsCounted s number Within = IsTitled s.lines × (s.title + length s.lines ≡ number)
+IsCounted s number Observing = Unit {0}
 IsCounted s number Loading = Unit {0}
 IsCounted s number Finished = Unit {0}
 
@@ -218,7 +239,7 @@ line_judged s number last text =
 
 -- the script, where nothing that is named is lacking
 abbrev pub script_known : ScriptReader → Option ℕ → Result Script ScriptFault
-script_known s None = Ok (record { names = s.names; modules = s.modules; loaders = s.loaders })
+script_known s None = Ok (record { names = s.names; modules = s.modules; observers = s.observers; loaders = s.loaders })
 script_known s (Some line) = Err (faults.UnknownName line)
 
 -- the end of the text, by the place of the next line, which would have this number
@@ -226,6 +247,7 @@ abbrev pub ended_at : ScriptReader → ℕ → Place → Result Script ScriptFau
 ended_at s number Unread = Err (faults.Syntax number)
 ended_at s number Between = Err (faults.Syntax number)
 ended_at s number Within = Err (faults.Syntax number)
+ended_at s number Observing = Err (faults.Syntax number)
 ended_at s number Loading = Err (faults.Syntax number)
 ended_at s number Finished = script_known s s.unknown
 
@@ -257,6 +279,7 @@ opening =
       modules = [];
       titles = [];
       functions = [];
+      observers = [];
       loaders = [];
       processes = 0;
       lines = [];

@@ -6,7 +6,8 @@ use Rattle.term_core.specs.Names.{is_atom_text}
 use Rattle.term_core.specs.PlainTerm.{TermOf, RowOf, integer_leaf, atom_leaf, tuple_of, list_of, no_terms, term_then, row_of}
 use Rattle.term_core.specs.Written.{WrittenTerm, written, parted, is_integer_text}
 use Rattle.mod_core.specs.declared.code.TheConstants.{MOST_ARGUMENTS}
-use Rattle.mod_text.specs.ModuleLine.{LineForm, parted_by, spaced, function_written, line_written, is_line_form, is_function_form, is_version_text}
+use Rattle.mod_text.specs.ModuleLine.{LineForm, parted_by, spaced, function_written, line_written, is_line_form, is_function_form, is_number_text, is_version_text, number_value}
+use Rattle.script_text.specs.declared.script.TheConstants.{MOST_SNAPSHOTS}
 
 -- a version of a module, as it is written: its name, and the digits of the version
 pub record RefForm : Type 0 where
@@ -22,11 +23,13 @@ pub data AtomCommand : Type 0 where
   check_old : AtomCommand
   erase : AtomCommand
 
--- a line: the head, a line of a module's text, the start of a loader block, a load of modules at once, a command of one atom, a put
--- of a term under a key, a breakpoint of a function that is set or taken away, a spawn of a call, the end
+-- a line: the head, a line of a module's text, an observer by the digits of how many snapshots it takes, the start of a loader block,
+-- a load of modules at once, a command of one atom, a put of a term under a key, a breakpoint of a function that is set or taken
+-- away, a spawn of a call, the end
 pub data ScriptLine : Type 0 where
   head : ScriptLine
   code : LineForm → ScriptLine
+  observer : List ℕ → ScriptLine
   loader : ScriptLine
   load : List RefForm → ScriptLine
   on_atom : AtomCommand → List ℕ → ScriptLine
@@ -64,6 +67,7 @@ call_written «module» name args = «module» ++ 58 ∷ (name ++ 40 ∷ (parted
 abbrev pub script_line_written : ScriptLine → List ℕ
 script_line_written head = codes "beam script 1"
 script_line_written (code line) = line_written line
+script_line_written (observer count) = spaced (codes "observer") count
 script_line_written loader = codes "loader"
 script_line_written (load refs) = codes "load" ++ flat_map (λ r. 32 ∷ ref_written r) refs
 script_line_written (on_atom command name) = spaced (command_word command) name
@@ -94,10 +98,15 @@ abbrev mutual
   is_row_form no_terms = true
   is_row_form (term_then t row) = is_term_form t && is_row_form row
 
+-- a number from 1 to 16
+abbrev pub is_snapshots_text : List ℕ → Bool
+is_snapshots_text text = is_number_text text && (nat_le 1 (number_value text) && nat_le (number_value text) MOST_SNAPSHOTS)
+
 -- a line, each part of which has its text: a load of at least one module, an arity of at most 15, a call of at most 15 arguments
 abbrev pub is_script_line : ScriptLine → Bool
 is_script_line head = true
 is_script_line (code line) = is_line_form line
+is_script_line (observer count) = is_snapshots_text count
 is_script_line loader = true
 is_script_line (load refs) = are_some_refs refs
 is_script_line (on_atom command name) = is_atom_text name

@@ -1,5 +1,5 @@
--- The script that lines say: its names in the order of their first appearance, the module of each module text, the commands of
--- each loader block.
+-- The script that lines say: its names in the order of their first appearance, the module of each module text, how many snapshots
+-- each observer takes, the commands of each loader block.
 use Rattle.std.specs.Prelude.{ℕ, List, [], ◌∷◌, map, length}
 use Rattle.std.specs.List.{flat_map}
 use Rattle.term_core.specs.declared.atom.AtomId.{AtomId}
@@ -13,8 +13,8 @@ use Rattle.server_core.specs.declared.command.ModRef.{ModRef}
 use Rattle.script_text.specs.declared.script.ScriptCmd.{ScriptCmd}
 use Rattle.script_text.specs.declared.script.ScriptCmd.TheVariants.{Load, Delete, SoftPurge, Purge, CheckOld, Put, Erase, Trace, Spawn}
 use Rattle.script_text.specs.declared.script.Script.{Script}
-use Rattle.script_text.specs.ScriptLine.{RefForm, AtomCommand, delete, soft_purge, purge, check_old, erase, ScriptLine, head, code, loader, load, on_atom, put, trace, spawn, go}
-use Rattle.script_text.specs.Counts.{names_of, module_texts, loader_blocks}
+use Rattle.script_text.specs.ScriptLine.{RefForm, AtomCommand, delete, soft_purge, purge, check_old, erase, ScriptLine, head, code, observer, loader, load, on_atom, put, trace, spawn, go}
+use Rattle.script_text.specs.Counts.{names_of, module_texts, observers_of, loader_blocks}
 
 -- the version of a module that is written so
 abbrev pub ref_in : List (List ℕ) → RefForm → ModRef
@@ -36,6 +36,7 @@ command_of erase key = Erase key
 abbrev pub commands_on : List (List ℕ) → ScriptLine → List ScriptCmd
 commands_on names head = []
 commands_on names (code line) = []
+commands_on names (observer count) = []
 commands_on names loader = []
 commands_on names (load refs) = Load (map (ref_in names) refs) ∷ []
 commands_on names (on_atom command name) = command_of command (atom_in names name) ∷ []
@@ -54,5 +55,6 @@ script_of lines =
     record {
       names = names_of lines;
       modules = map (module_of (names_of lines)) (module_texts lines);
+      observers = map number_value (observers_of lines);
       loaders = map (commands_of (names_of lines)) (loader_blocks lines);
     }

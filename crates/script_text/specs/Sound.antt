@@ -1,6 +1,6 @@
 -- What every script has that is the value of some text.
 -- Source: this project's limits of a script.
-use Rattle.std.specs.Prelude.{◌≡◌, ℕ, ◌<◌, ◌≤◌, List, length, IsTrue, is_some, sum_by}
+use Rattle.std.specs.Prelude.{◌≡◌, ℕ, ◌<◌, ◌≤◌, List, length, All, IsTrue, is_some, sum_by}
 use Rattle.std.specs.List.{AllByRecursion}
 use Rattle.term_core.specs.Names.{IsNames}
 use Rattle.term_core.specs.declared.term_text.TheConstants.{MOST_WORDS}
@@ -8,9 +8,10 @@ use Rattle.term_core.specs.Plain.{plain}
 use Rattle.term_core.specs.PlainTerm.{PlainTerm, EachLeaf, term_words}
 use Rattle.term_core.specs.Written.{IsTermInteger}
 use Rattle.mod_core.specs.declared.code.Module.{Module}
+use Rattle.mod_text.specs.Canonical.{IsModuleHeld}
 use Rattle.server_core.specs.declared.command.ModRef.{ModRef}
 use Rattle.server_core.specs.CommandTable.{AreTexts, text_of}
-use Rattle.script_text.specs.declared.script.TheConstants.{MOST_LOADERS, MOST_PROCESSES}
+use Rattle.script_text.specs.declared.script.TheConstants.{MOST_LOADERS, MOST_PROCESSES, MOST_OBSERVERS, MOST_SNAPSHOTS}
 use Rattle.script_text.specs.declared.script.ScriptCmd.{ScriptCmd}
 use Rattle.script_text.specs.declared.script.ScriptCmd.TheVariants.{Load, Delete, SoftPurge, Purge, CheckOld, Put, Erase, Trace, Spawn}
 use Rattle.script_text.specs.declared.script.Script.{Script}
@@ -71,11 +72,14 @@ spawns_in (Spawn target args) = 1
 abbrev pub processes_of : Script → ℕ
 processes_of s = sum_by (λ commands. sum_by spawns_in commands) s.loaders
 
--- a script that is the value of some text: its modules can be loaded, each load and each spawn can be made, and it is within
--- the limits of loaders and processes
+-- a script that is the value of some text: its modules can be loaded, their atoms have names, each load and each spawn can be made, and it is within
+-- the limits of loaders, processes and observers
 pub record IsScript (s : Script) : Type 0 where
   pub names : IsNames s.names
   pub texts : AreTexts s.modules
+  pub held : All (IsModuleHeld s.names) s.modules
   pub commands : AllByRecursion (λ commands. AllByRecursion (IsCmdOf s.names s.modules) commands) s.loaders
   pub few_loaders : length s.loaders ≤ MOST_LOADERS
   pub few_processes : processes_of s ≤ MOST_PROCESSES
+  pub few_observers : length s.observers ≤ MOST_OBSERVERS
+  pub snapshots : AllByRecursion (λ n. (0 < n) × (n ≤ MOST_SNAPSHOTS)) s.observers

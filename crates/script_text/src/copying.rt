@@ -6,7 +6,7 @@ use crate::script::{CommandList, LoaderList, Script, ScriptCmd};
 use mod_core::{Module, ModuleList};
 use server_core::RefList;
 use std::alloc::Global;
-use term_core::{AtomId, Names, NoMemory};
+use term_core::{AtomId, CountList, Names, NoMemory};
 
 /// How many names each table begins with.
 const GIVEN_NAMES: u32 = 3;
@@ -89,6 +89,7 @@ impl Script {
         Ok(Script {
             names: copy_names(alloc, &self.names)?,
             modules: copy_modules(alloc, self.modules.as_slice())?,
+            observers: CountList::from_slice(alloc, self.observers.as_slice())?,
             loaders: copy_loaders(alloc, self.loaders.as_slice())?,
         })
     }

@@ -18,5 +18,5 @@ pub use printing::{canonical_script_reads_back, print_script};
 pub use reading::read_script;
 pub use script::{
     CommandList, LONGEST_LINE, LONGEST_SCRIPT, LoaderList, MOST_FUNCTION_NAMES, MOST_LOADERS,
-    MOST_PROCESSES, Script, ScriptCmd,
+    MOST_OBSERVERS, MOST_PROCESSES, MOST_SNAPSHOTS, Script, ScriptCmd,
 };

@@ -15,7 +15,7 @@ ghost use Rattle.script_text.specs.declared.script.Script.{Script as ScriptValue
 ghost use Rattle.script_text.specs.ScriptLine.{ref_written, switch_word, trace_written, call_written, script_line_written, load};
 ghost use Rattle.script_text.specs.ScriptText.{ScriptText};
 ghost use Rattle.script_text.specs.TextLines.{lines_of};
-ghost use Rattle.script_text.specs.Canonical.{IsOfSomeText, ref_form, argument_form, command_line, block_bytes, script_line_bytes, canonical_text, is_long_line, IsTooLong, IsTooLongToPrint};
+ghost use Rattle.script_text.specs.Canonical.{IsOfSomeText, ref_form, argument_form, command_line, observer_bytes, block_bytes, script_line_bytes, canonical_text, is_long_line, IsTooLong, IsTooLongToPrint};
 
 use crate::fault::PrintFault;
 use crate::reading::words::cut_at;
@@ -104,6 +104,7 @@ fn write_script(script: &Script, out: &mut ByteList) -> Result<(), NoMemory>
 {
     out.extend_from_slice(b"beam script 1\n")?;
     write_modules(&script.names, script.modules.as_slice(), out)?;
+    write_observers(script.observers.as_slice(), out)?;
     write_loaders(&script.names, script.loaders.as_slice(), out)?;
     out.extend_from_slice(b"go\n")
 }
@@ -118,6 +119,26 @@ fn write_modules(names: &Names, modules: &[Module], out: &mut ByteList) -> Resul
         print_module(names, module, out)?;
     }
     Ok(())
+}
+
+fn write_observers(counts: &[u64], out: &mut ByteList) -> Result<(), NoMemory>
+    ensures ok { OnOk result (out.new ≡ out.old ++ flat_map observer_bytes counts.now) }
+    ensures kept { StartsWith out.new out.old }
+{
+    for count in counts {
+        write_observer(*count, out)?;
+    }
+    Ok(())
+}
+
+/// The line of an observer, as `observer 3`.
+fn write_observer(count: u64, out: &mut ByteList) -> Result<(), NoMemory>
+    ensures ok { OnOk result (out.new ≡ out.old ++ observer_bytes count) }
+    ensures kept { StartsWith out.new out.old }
+{
+    out.extend_from_slice(b"observer ")?;
+    print_number(count, out)?;
+    out.push(b'\n')
 }
 
 fn write_loaders(names: &Names, loaders: &[CommandList], out: &mut ByteList) -> Result<(), NoMemory>

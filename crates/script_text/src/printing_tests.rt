@@ -21,15 +21,16 @@ fn printed(alloc: Global, text: &str) -> Result<ByteList, Fail> {
     Ok(out)
 }
 
-/// Whether two scripts have the same names, modules and commands.
+/// Whether two scripts have the same names, modules, observers and commands.
 fn are_same(alloc: Global, first: &Script, second: &Script) -> Result<bool, Fail> {
     let mut same = true;
     for number in 0..4097u32 {
         same = same && first.names.text(AtomId(number)) == second.names.text(AtomId(number));
     }
+    let observers = first.observers.as_slice() == second.observers.as_slice();
     let shown = format!(in alloc; "{:?} {:?}", first.modules, first.loaders)?;
     let other = format!(in alloc; "{:?} {:?}", second.modules, second.loaders)?;
-    Ok(same && shown == other)
+    Ok(same && observers && shown == other)
 }
 
 /// Whether the script is printed so, and what is printed reads as an equal script.
@@ -56,6 +57,8 @@ pget k $1
 pget_or k {none,[k]} $2
 elem 1 $2 $3
 end
+observer 16
+observer 3
 loader
 load m.1
 put k {1,[ok,-2]}
@@ -117,6 +120,10 @@ go
 fn scripts_are_printed(rt: HostRuntime) -> Result<(), Fail> {
     let cases = [
         ("beam script 1\ngo\n", "beam script 1\ngo\n"),
+        (
+            "beam script 1\nobserver 1\ngo\n",
+            "beam script 1\nobserver 1\ngo\n",
+        ),
         (COMMANDS, COMMANDS),
         (COUNTDOWN, COUNTDOWN_PRINTED),
     ];

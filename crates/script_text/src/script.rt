@@ -1,6 +1,6 @@
 use mod_core::ModuleList;
 use server_core::RefList;
-use term_core::{AtomId, Items, Mfa, Names, Term, TermList};
+use term_core::{AtomId, CountList, Items, Mfa, Names, Term, TermList};
 
 /// How many bytes a script has at most.
 pub const LONGEST_SCRIPT: usize = 1_048_576;
@@ -16,6 +16,12 @@ pub const MOST_LOADERS: usize = 8;
 
 /// How many processes a script spawns at most.
 pub const MOST_PROCESSES: usize = 64;
+
+/// How many observers a script has at most.
+pub const MOST_OBSERVERS: usize = 4;
+
+/// How many snapshots an observer takes at most.
+pub const MOST_SNAPSHOTS: u64 = 16;
 
 /// A command of a loader block.
 #[derive(Debug, Drop)]
@@ -46,13 +52,15 @@ pub type CommandList = Items<ScriptCmd>;
 /// The loader blocks of a script, in order.
 pub type LoaderList = Items<CommandList>;
 
-/// What a script says: its atoms, its module texts and its loaders' commands.
+/// What a script says: its atoms, its module texts, its observers and its loaders' commands.
 #[derive(Drop)]
 pub struct Script {
     /// The atoms in the order of their first appearance.
     pub names: Names,
     /// The modules in the order of their texts.
     pub modules: ModuleList,
+    /// How many snapshots each observer takes. Observers are numbered from 0 in this order.
+    pub observers: CountList,
     /// Loaders are numbered from 0 in this order, and processes by their spawns.
     pub loaders: LoaderList,
 }

@@ -38,6 +38,7 @@ fn texts_of_no_form(rt: HostRuntime) {
         ("go\n", 1),
         ("beam script 1\nbeam script 1\ngo\n", 2),
         ("beam script 1\nloader\n", 2),
+        ("beam script 1\nobserver 1\n", 2),
         ("beam script 1\ngo", 2),
         ("beam script 1\ngo\nloader", 3),
         ("beam script 1\nend\ngo\n", 2),
@@ -49,6 +50,60 @@ fn texts_of_no_form(rt: HostRuntime) {
     for (text, line) in cases {
         assert_eq!(rt; fault(rt.alloc(), text), syntax(line), "at {text}");
     }
+}
+
+#[test]
+fn observers_have_their_place(rt: HostRuntime) -> Result<(), Fail> {
+    let four = "observer 1\nobserver 9\nobserver 1\nobserver 16\n";
+    let module = "module m.1\nend\n";
+    let cases = [
+        (format!(in rt.alloc(); "{four}")?, None),
+        (format!(in rt.alloc(); "{module}{four}loader\n")?, None),
+        (
+            format!(in rt.alloc(); "{four}observer 1\n")?,
+            limit(6, Which::Observers),
+        ),
+        (format!(in rt.alloc(); "{four}observer 17\n")?, syntax(6)),
+        (format!(in rt.alloc(); "observer 2\n{module}")?, syntax(3)),
+        (format!(in rt.alloc(); "observer 2\nerase k\n")?, syntax(3)),
+        (format!(in rt.alloc(); "loader\nobserver 2\n")?, syntax(3)),
+        (
+            format!(in rt.alloc(); "module m.1\nobserver 2\nend\n")?,
+            syntax(3),
+        ),
+    ];
+    for (lines, wanted) in &cases {
+        let text = format!(in rt.alloc(); "beam script 1\n{lines}go\n")?;
+        assert_eq!(rt; fault(rt.alloc(), text.as_str()), *wanted, "at {lines}");
+    }
+    Ok(())
+}
+
+#[test]
+fn observers_of_no_form(rt: HostRuntime) -> Result<(), Fail> {
+    let lines = [
+        "observer",
+        "observer ",
+        "observer 0",
+        "observer 01",
+        "observer +1",
+        "observer 1 1",
+        "observer 17",
+        "observer 4294967297",
+        "observers 1",
+    ];
+    for line in lines {
+        for front in ["", "observer 1\n"] {
+            let text = format!(in rt.alloc(); "beam script 1\n{front}{line}\ngo\n")?;
+            let number = if front.is_empty() { 2 } else { 3 };
+            assert_eq!(rt;
+                fault(rt.alloc(), text.as_str()),
+                syntax(number),
+                "at {line}"
+            );
+        }
+    }
+    Ok(())
 }
 
 #[test]
@@ -264,11 +319,12 @@ fn functions_are_few(rt: HostRuntime) -> Result<(), Fail> {
 }
 
 #[test]
-fn a_script_has_its_commands(rt: HostRuntime) -> Result<(), Fail> {
+fn a_script_has_its_observers_and_commands(rt: HostRuntime) -> Result<(), Fail> {
     // Atoms are numbered as they appear, from 3 on; `ok` is 2.
     let text =
-        "beam script 1\nmodule m.1\nend\nloader\nload m.1\ndelete n\nput k {1,[ok,-2,x]}\nerase k\nloader\ntrace m:f/15 off\nspawn m:f({1,2},[],{y,[x]},-7)\ngo\n";
+        "beam script 1\nmodule m.1\nend\nobserver 16\nobserver 1\nloader\nload m.1\ndelete n\nput k {1,[ok,-2,x]}\nerase k\nloader\ntrace m:f/15 off\nspawn m:f({1,2},[],{y,[x]},-7)\ngo\n";
     let script = read_script(rt.alloc(), text.as_bytes())?;
+    assert!(rt; script.observers.as_slice() == [16, 1].as_slice());
     let blocks = script.loaders.as_slice();
     assert_eq!(rt; blocks.len(), 2);
     let cases = [
@@ -324,6 +380,7 @@ fn faults_have_lines(rt: HostRuntime) -> Result<(), Fail> {
         (at(Which::Names), "refused 10 limit names"),
         (at(Which::Exports), "refused 10 limit exports"),
         (at(Which::Loaders), "refused 10 limit loaders"),
+        (at(Which::Observers), "refused 10 limit observers"),
         (ScriptFault::NoMemory, ""),
     ];
     for (cause, line) in cases {

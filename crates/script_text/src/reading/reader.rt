@@ -6,16 +6,17 @@ use crate::reading::cause::LineCause;
 use crate::reading::line::{read_call, read_put, read_refs, read_title, read_trace, read_word};
 use crate::reading::naming::{name_atom, name_call, name_put, name_refs, name_trace};
 use crate::reading::sets::{FunctionSet, RefSet};
-use crate::reading::words::cut_at;
+use crate::reading::words::{cut_at, snapshots_of};
 use crate::script::{
-    CommandList, LONGEST_LINE, LoaderList, MOST_LOADERS, MOST_PROCESSES, Script, ScriptCmd,
+    CommandList, LONGEST_LINE, LoaderList, MOST_LOADERS, MOST_OBSERVERS, MOST_PROCESSES, Script,
+    ScriptCmd,
 };
 use mod_core::ModuleList;
 use mod_text::{FinishFault, LineFault, ModuleReader};
 use server_core::ModRef;
 use std::alloc::Global;
 use std::mem;
-use term_core::{Mfa, Names, NoMemory};
+use term_core::{CountList, Mfa, Names, NoMemory};
 
 /// Where the next line stands.
 #[derive(Clone, Copy, Debug, PartialEq, Eq)]
@@ -26,6 +27,8 @@ pub enum Place {
     Between,
     /// In a module's text.
     Within,
+    /// Behind an observer.
+    Observing,
     /// In the loader blocks.
     Loading,
     /// Behind `go`.
@@ -41,6 +44,8 @@ pub struct ScriptReader<'a> {
     pub titles: RefSet,
     /// The functions of exports, external calls and spawns.
     pub functions: FunctionSet,
+    /// How many snapshots each observer takes.
+    pub observers: CountList,
     pub loaders: LoaderList,
     pub processes: usize,
     /// The lines of the module's text that is not closed.
@@ -55,11 +60,12 @@ pub struct ScriptReader<'a> {
 impl<'a> ScriptReader<'a> {
     ghost use Rattle.std.specs.Prelude.{◌≡◌, ◌+◌, ◌<◌, ◌^◌, length, IfOk, IfSome, OnOk};
     ghost use Rattle.std.specs.List.{list_all};
+    ghost use Rattle.mod_text.specs.LineReading.{cut_at};
     ghost use Rattle.mod_text.specs.ModuleValue.{IsTitled, unsettled_line};
     ghost use Rattle.script_text.specs.LineFaults.{or_else};
     ghost use Rattle.script_text.specs.Causes.{Gives, GivesText};
     ghost use Rattle.script_text.specs.Sets.{is_among};
-    ghost use Rattle.script_text.specs.Reading.{opening, head_step, title_step, counted_step, within_step, text_closed, closed_by, block_step, load_step, atom_step, put_step, trace_step, spawn_step, command_step, other_step, line_at, line_judged, text_ended, IsCounted, repeat_cause, script_known};
+    ghost use Rattle.script_text.specs.Reading.{opening, head_step, title_step, counted_step, within_step, text_closed, closed_by, observer_step, between_by, observing_by, block_step, load_step, atom_step, put_step, trace_step, spawn_step, command_step, other_step, line_at, line_judged, text_ended, IsCounted, repeat_cause, script_known};
 
     /// What is known before the first line.
     pub fn new(alloc: Global) -> Result<ScriptReader<'a>, NoMemory>
@@ -70,6 +76,7 @@ impl<'a> ScriptReader<'a> {
             modules: ModuleList::new(alloc),
             titles: RefSet::new(alloc),
             functions: FunctionSet::new(alloc),
+            observers: CountList::new(alloc),
             loaders: LoaderList::new(alloc),
             processes: 0,
             lines: ModuleReader::new(alloc),
@@ -182,6 +189,40 @@ impl<'a> ScriptReader<'a> {
         }
     }
 
+    /// An observer, behind the word of its line.
+    #[tactic(auto, unfolding(crate::specs::Reading::observer_step))]
+    fn take_observer(&mut self, text: &[u8]) -> Result<(), LineCause>
+        ensures { Gives (λ _. self.new) result (observer_step self.old text.now) }
+    {
+        let count = snapshots_of(text).ok_or(LineCause::Syntax)?;
+        if self.observers.len() >= MOST_OBSERVERS {
+            return Err(LineCause::Limit(Which::Observers));
+        }
+        self.observers.push(count)?;
+        self.place = Place::Observing;
+        Ok(())
+    }
+
+    /// A title or an observer, as the line of this number.
+    fn take_between(&mut self, text: &'a [u8], number: usize) -> Result<(), LineCause>
+        ensures { Gives (λ _. self.new) result (between_by self.old number text.now (cut_at 32 text.now)) }
+    {
+        match cut_at(text, b' ') {
+            Some((word, rest)) if word == b"observer".as_slice() => self.take_observer(rest),
+            _ => self.take_title(text, number),
+        }
+    }
+
+    /// A line behind an observer.
+    fn take_observing(&mut self, text: &[u8]) -> Result<(), LineCause>
+        ensures { Gives (λ _. self.new) result (observing_by self.old (cut_at 32 text.now)) }
+    {
+        match cut_at(text, b' ') {
+            Some((word, rest)) if word == b"observer".as_slice() => self.take_observer(rest),
+            _ => Err(LineCause::Syntax),
+        }
+    }
+
     fn start_block(&mut self, alloc: Global) -> Result<(), LineCause>
         ensures { Gives (λ _. self.new) result (block_step self.old) }
     {
@@ -284,7 +325,7 @@ impl<'a> ScriptReader<'a> {
         }
     }
 
-    /// A line between module texts, or of the loader blocks.
+    /// A line between module texts, or behind them.
     fn take_other(&mut self, alloc: Global, text: &'a [u8], number: usize) -> Result<(), LineCause>
         ensures { Gives (λ _. self.new) result (other_step self.old number text.now) }
     {
@@ -295,7 +336,8 @@ impl<'a> ScriptReader<'a> {
             Ok(())
         } else {
             match self.place {
-                Place::Between => self.take_title(text, number),
+                Place::Between => self.take_between(text, number),
+                Place::Observing => self.take_observing(text),
                 _ => self.take_command(alloc, text, number),
             }
         }
@@ -309,7 +351,9 @@ impl<'a> ScriptReader<'a> {
     {
         match self.place {
             Place::Unread => self.take_head(text),
-            Place::Between | Place::Loading => self.take_other(alloc, text, number),
+            Place::Between | Place::Observing | Place::Loading => {
+                self.take_other(alloc, text, number)
+            }
             Place::Within => self.take_code(alloc, text),
             Place::Finished => Err(LineCause::Syntax),
         }
@@ -350,6 +394,7 @@ impl<'a> ScriptReader<'a> {
             None => Ok(Script {
                 names: self.names,
                 modules: self.modules,
+                observers: self.observers,
                 loaders: self.loaders,
             }),
         }

@@ -6,9 +6,10 @@ ghost use Rattle.std.specs.List.{list_all};
 ghost use Rattle.term_core.specs.Written.{IsTermInteger, is_positive_text, is_integer_text, integer_of};
 ghost use Rattle.mod_text.specs.LineReading.{cut_at};
 ghost use Rattle.mod_text.specs.ModuleLine.{is_number_text, small_number};
-ghost use Rattle.script_text.specs.LineReading.{version_reading, arity_reading};
+ghost use Rattle.script_text.specs.LineReading.{version_reading, snapshots_reading, arity_reading};
 ghost use Rattle.script_text.specs.WrittenLine.{term_integer};
 
+use crate::script::MOST_SNAPSHOTS;
 use mod_core::{GREATEST_VERSION, MOST_ARGUMENTS};
 use std::str;
 use term_core::{GREATEST_INTEGER, LEAST_INTEGER};
@@ -90,6 +91,19 @@ pub fn version_of(text: &[u8]) -> Option<u32>
     }
     match parsed_number(text) {
         Some(version) if 1 <= version && version <= GREATEST_VERSION => Some(version),
+        _ => None,
+    }
+}
+
+/// The number of snapshots that digits write, from 1 to 16.
+pub fn snapshots_of(text: &[u8]) -> Option<u64>
+    ensures { result ≡ snapshots_reading text.now }
+{
+    if !is_number_text(text) {
+        return None;
+    }
+    match parsed_number(text) {
+        Some(count) if 1 <= count && u64::from(count) <= MOST_SNAPSHOTS => Some(u64::from(count)),
         _ => None,
     }
 }

@@ -1,11 +1,11 @@
-use Rattle.std.proofs.Common.{◌++◌, ◌∙◌, ap, subst, sym, All, List}
+use Rattle.std.proofs.Common.{◌++◌, ◌∙◌, ℕ, ap, subst, sym, All, List}
 use Rattle.std.specs.List.{flat_map}
 use Rattle.mod_core.specs.declared.code.Module.{Module}
 use Rattle.mod_text.specs.Canonical.{canonical, IsModuleHeld}
 use Rattle.mod_core.specs.Module.{IsModule}
 use Rattle.mod_text.specs.ModuleLine.{lines_written}
 use Rattle.script_text.specs.declared.script.ScriptCmd.{ScriptCmd}
-use Rattle.script_text.specs.Canonical.{block_bytes}
+use Rattle.script_text.specs.Canonical.{observer_bytes, block_bytes}
 use Rattle.script_text.proofs.CanonicalScripts.{modules_sound, modules_held}
 use Rattle.script_text.proofs.PrintedText.{starts_own, starts_more, script_at}
 use Rattle.script_text.proofs.printing.write_script.Goals as goal
@@ -23,14 +23,21 @@ pub returns-in_err-write_modules-clause-kept : goal.returns-in_err-write_modules
 returns-in_err-write_modules-clause-kept c = starts_more _ _ _ (starts_own _ _ _ c.in_ok-extend_from_slice.ensures.ok) c.in_err-write_modules.ensures.kept
 
 -- what was appended before and the part of the last call
+pub returns-in_err-write_observers-clause-kept : goal.returns-in_err-write_observers-clause-kept
+returns-in_err-write_observers-clause-kept c =
+    starts_more _ _ _ (starts_own _ _ _ c.in_ok-extend_from_slice.ensures.ok) (starts_more _ _ _ (starts_own _ _ _ c.in_ok-write_modules.ensures.ok) c.in_err-write_observers.ensures.kept)
+
+-- what was appended before and the part of the last call
 pub returns-in_err-write_loaders-clause-kept : goal.returns-in_err-write_loaders-clause-kept
 returns-in_err-write_loaders-clause-kept c =
-    starts_more _ _ _ (starts_own _ _ _ c.in_ok-extend_from_slice.ensures.ok) (starts_more _ _ _ (starts_own _ _ _ c.in_ok-write_modules.ensures.ok) c.in_err-write_loaders.ensures.kept)
+    starts_more _ _ _ (starts_own _ _ _ c.in_ok-extend_from_slice.ensures.ok)
+    (starts_more _ _ _ (starts_own _ _ _ c.in_ok-write_modules.ensures.ok) (starts_more _ _ _ (starts_own _ _ _ c.in_ok-write_observers.ensures.ok) c.in_err-write_loaders.ensures.kept))
 
 -- the text of the script
 pub returns-clause-ok : goal.returns-clause-ok
 returns-clause-ok c =
     let modules = ap (λ (ms : List Module). c.extend_from_slice.new.self ++ flat_map (λ m. lines_written (canonical c.args.script.now.names m)) ms) c.as_slice.ensures in
-    let loaders = ap (λ (ls : List (List ScriptCmd)). c.write_modules.new.out ++ flat_map (block_bytes c.args.script.now.names) ls) c.as_slice-2.ensures in
-    script_at c.extend_from_slice-2.result c.args.script.now c.args.out.now c.extend_from_slice.new.self c.write_modules.new.out c.write_loaders.new.out c.extend_from_slice-2.new.self
-    c.in_ok-extend_from_slice.ensures.ok (c.in_ok-write_modules.ensures.ok ∙ modules) (c.in_ok-write_loaders.ensures.ok ∙ loaders) c.extend_from_slice-2.ensures.ok
+    let observers = ap (λ (counts : List ℕ). c.write_modules.new.out ++ flat_map observer_bytes counts) c.as_slice-2.ensures in
+    let loaders = ap (λ (ls : List (List ScriptCmd)). c.write_observers.new.out ++ flat_map (block_bytes c.args.script.now.names) ls) c.as_slice-3.ensures in
+    script_at c.extend_from_slice-2.result c.args.script.now c.args.out.now c.extend_from_slice.new.self c.write_modules.new.out c.write_observers.new.out c.write_loaders.new.out c.extend_from_slice-2.new.self
+    c.in_ok-extend_from_slice.ensures.ok (c.in_ok-write_modules.ensures.ok ∙ modules) (c.in_ok-write_observers.ensures.ok ∙ observers) (c.in_ok-write_loaders.ensures.ok ∙ loaders) c.extend_from_slice-2.ensures.ok
