@@ -8,8 +8,9 @@ use Rattle.machine_core.specs.Turn.{run_of}
 use Rattle.run_log.specs.declared.logs.Span.{Span}
 use Rattle.run_log.specs.FirstRun.{m_atom}
 use Rattle.run_log.specs.Legal.{Complete, Legal, LingersTold, LoadersInOrder, PurgedUnnamed, ReleasedUnnamed, Replays, SpawnBeforeTurns, TurnsFollow, after_turns, commands_in, commands_of, marks_in, turns_in_log, turns_of}
-use Rattle.run_log.specs.Examples.{Clause, InComplete, InLingers, InOrder, InPurges, InReleases, InReplay, InRetired, InSpawns, InTurns, Meets, BreaksAlone, gone_before, linger_journal, linger_script, lingers_log, log_of, no_turn, other_process, other_turn, process_of, turns, unpublished_turn}
+use Rattle.run_log.specs.Examples.{Clause, InComplete, InLingers, InOrder, InPurges, InReleases, InReplay, InRetired, InSnapshots, InSpawns, InTurns, Meets, BreaksAlone, gone_before, linger_journal, linger_script, lingers_log, log_of, no_turn, other_process, other_turn, process_of, turns, unpublished_turn}
 use Rattle.run_log.proofs.Clauses.{lingers_by, purged_by, released_by, spawns_by, turns_by}
+use Rattle.run_log.proofs.Snapshots.{unobserved}
 use Rattle.run_log.proofs.ExampleParts.{complete_by, lingers_here, lingers_next, three_two, two_one}
 
 -- what every log with the journal of the soft purge meets
@@ -37,7 +38,7 @@ unfolding turns_of run_of marks_in after_turns
 linger_turns process turn = turns_by linger_script (log_of (linger_journal process turn) (turns 1 1 ∷ turns 2 1 ∷ []) Normal) ((omega arith, (refl, refl, (refl, refl))), tt)
 
 linger_complete : (process turn : ℕ) → Complete linger_script (log_of (linger_journal process turn) (turns 1 1 ∷ turns 2 1 ∷ []) Normal)
-linger_complete process turn = complete_by linger_script (linger_journal process turn) (turns 1 1) (turns 2 1 ∷ []) Normal (record { target = refl; args = refl }, tt) (omega arith, (omega arith, tt))
+linger_complete process turn = complete_by linger_script (linger_journal process turn) (turns 1 1) (turns 2 1 ∷ []) Normal (record { target = refl; args = refl }, tt) (omega arith, (omega arith, tt)) refl
 
 lingers_so : LingersTold linger_script lingers_log
 unfolding turns_of run_of marks_in after_turns
@@ -53,6 +54,7 @@ lingers_legal = record {
   released_unnamed = linger_releases 0 1 (turns 1 1 ∷ turns 2 1 ∷ []);
   lingers_told = lingers_so;
   purged_unnamed = linger_drops 0 1 (turns 1 1 ∷ turns 2 1 ∷ []);
+  snapshots_true = unobserved linger_script lingers_log refl;
   nothing_retired = refl;
   complete = linger_complete 0 1;
 }
@@ -69,6 +71,7 @@ other_turn_others InTurns n = linger_turns 0 2
 other_turn_others InReleases n = linger_releases 0 2 (turns 1 1 ∷ turns 2 1 ∷ [])
 other_turn_others InLingers n = absurd (n refl)
 other_turn_others InPurges n = linger_drops 0 2 (turns 1 1 ∷ turns 2 1 ∷ [])
+other_turn_others InSnapshots n = unobserved linger_script other_turn refl
 other_turn_others InRetired n = refl
 other_turn_others InComplete n = linger_complete 0 2
 
@@ -90,6 +93,7 @@ no_turn_others InTurns n = linger_turns 0 0
 no_turn_others InReleases n = linger_releases 0 0 (turns 1 1 ∷ turns 2 1 ∷ [])
 no_turn_others InLingers n = absurd (n refl)
 no_turn_others InPurges n = linger_drops 0 0 (turns 1 1 ∷ turns 2 1 ∷ [])
+no_turn_others InSnapshots n = unobserved linger_script no_turn refl
 no_turn_others InRetired n = refl
 no_turn_others InComplete n = linger_complete 0 0
 
@@ -108,6 +112,7 @@ other_process_others InTurns n = linger_turns 1 1
 other_process_others InReleases n = linger_releases 1 1 (turns 1 1 ∷ turns 2 1 ∷ [])
 other_process_others InLingers n = absurd (n refl)
 other_process_others InPurges n = linger_drops 1 1 (turns 1 1 ∷ turns 2 1 ∷ [])
+other_process_others InSnapshots n = unobserved linger_script other_process refl
 other_process_others InRetired n = refl
 other_process_others InComplete n = linger_complete 1 1
 
@@ -131,8 +136,9 @@ gone_before_others InTurns n = gone_turns
 gone_before_others InReleases n = linger_releases 0 1 (turns 1 2 ∷ [])
 gone_before_others InLingers n = absurd (n refl)
 gone_before_others InPurges n = linger_drops 0 1 (turns 1 2 ∷ [])
+gone_before_others InSnapshots n = unobserved linger_script gone_before refl
 gone_before_others InRetired n = refl
-gone_before_others InComplete n = complete_by linger_script (linger_journal 0 1) (turns 1 2) [] Normal (record { target = refl; args = refl }, tt) (omega arith, tt)
+gone_before_others InComplete n = complete_by linger_script (linger_journal 0 1) (turns 1 2) [] Normal (record { target = refl; args = refl }, tt) (omega arith, tt) refl
 
 -- a next turn before the soft purge breaks its clause alone
 pub gone_before_alone : BreaksAlone InLingers linger_script gone_before
@@ -157,6 +163,7 @@ unpublished_turn_others InTurns n = unpublished_turns
 unpublished_turn_others InReleases n = linger_releases 0 1 (turns 1 1 ∷ turns 3 1 ∷ [])
 unpublished_turn_others InLingers n = unpublished_lingers
 unpublished_turn_others InPurges n = linger_drops 0 1 (turns 1 1 ∷ turns 3 1 ∷ [])
+unpublished_turn_others InSnapshots n = unobserved linger_script unpublished_turn refl
 unpublished_turn_others InRetired n = refl
 unpublished_turn_others InComplete n = absurd (n refl)
 

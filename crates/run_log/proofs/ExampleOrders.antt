@@ -6,8 +6,9 @@ use Rattle.server_core.specs.CommandTable.{Outcome}
 use Rattle.run_log.specs.declared.logs.Who.{Who}
 use Rattle.run_log.specs.declared.logs.Who.TheVariants.{Loader, Runtime}
 use Rattle.run_log.specs.Legal.{Legal, LoadersInOrder, Replays, commands_in, commands_of}
-use Rattle.run_log.specs.Examples.{Clause, InComplete, InLingers, InOrder, InPurges, InReleases, InReplay, InRetired, InSpawns, InTurns, Meets, BreaksAlone, again_script, each_its_own, load_after, load_between, look_between, look_first, look_script, purge_of_other, rivals_script}
+use Rattle.run_log.specs.Examples.{Clause, InComplete, InLingers, InOrder, InPurges, InReleases, InReplay, InRetired, InSnapshots, InSpawns, InTurns, Meets, BreaksAlone, again_script, each_its_own, load_after, load_between, look_between, look_first, look_script, purge_of_other, rivals_script}
 use Rattle.run_log.proofs.Clauses.{lingers_by, purged_by, released_by, spawns_by, turns_by}
+use Rattle.run_log.proofs.Snapshots.{unobserved}
 use Rattle.run_log.proofs.ExampleParts.{complete_alone, one_other}
 
 abbrev number_in : Who → ℕ
@@ -35,8 +36,9 @@ each_its_own_legal = record {
   released_unnamed = released_by rivals_script each_its_own (tt, (tt, (tt, (tt, (tt, (tt, tt))))));
   lingers_told = lingers_by rivals_script each_its_own (tt, (tt, (tt, (tt, (tt, (tt, tt))))));
   purged_unnamed = purged_by rivals_script each_its_own (tt, (tt, (tt, (tt, (tt, (tt, tt)))))) (tt, (tt, (tt, (refl, (tt, (tt, tt))))));
+  snapshots_true = unobserved rivals_script each_its_own refl;
   nothing_retired = refl;
-  complete = complete_alone rivals_script each_its_own.journal tt;
+  complete = complete_alone rivals_script each_its_own.journal tt refl;
 }
 
 purge_of_other_commands : (loader : ℕ) → commands_in loader purge_of_other.journal ≡ commands_of rivals_script loader
@@ -55,8 +57,9 @@ purge_of_other_others InTurns n = turns_by rivals_script purge_of_other tt
 purge_of_other_others InReleases n = released_by rivals_script purge_of_other (tt, (tt, (tt, (tt, (tt, (tt, tt))))))
 purge_of_other_others InLingers n = lingers_by rivals_script purge_of_other (tt, (tt, (tt, (tt, (tt, (tt, tt))))))
 purge_of_other_others InPurges n = purged_by rivals_script purge_of_other (tt, (tt, (tt, (tt, (tt, (tt, tt)))))) (tt, (tt, (tt, (refl, (tt, (tt, tt))))))
+purge_of_other_others InSnapshots n = unobserved rivals_script purge_of_other refl
 purge_of_other_others InRetired n = refl
-purge_of_other_others InComplete n = complete_alone rivals_script purge_of_other.journal tt
+purge_of_other_others InComplete n = complete_alone rivals_script purge_of_other.journal tt refl
 
 -- a purge of what another doomed breaks its clause alone
 pub purge_of_other_alone : BreaksAlone InOrder rivals_script purge_of_other
@@ -76,8 +79,9 @@ look_first_legal = record {
   released_unnamed = released_by look_script look_first (tt, (tt, (tt, (tt, (tt, (tt, tt))))));
   lingers_told = lingers_by look_script look_first (tt, (tt, (tt, (tt, (tt, (tt, tt))))));
   purged_unnamed = purged_by look_script look_first (tt, (tt, (tt, (tt, (tt, (tt, tt)))))) (tt, (tt, (tt, (tt, (refl, (tt, tt))))));
+  snapshots_true = unobserved look_script look_first refl;
   nothing_retired = refl;
-  complete = complete_alone look_script look_first.journal tt;
+  complete = complete_alone look_script look_first.journal tt refl;
 }
 
 look_between_commands : (loader : ℕ) → commands_in loader look_between.journal ≡ commands_of look_script loader
@@ -95,8 +99,9 @@ look_between_others InTurns n = turns_by look_script look_between tt
 look_between_others InReleases n = released_by look_script look_between (tt, (tt, (tt, (tt, (tt, (tt, tt))))))
 look_between_others InLingers n = lingers_by look_script look_between (tt, (tt, (tt, (tt, (tt, (tt, tt))))))
 look_between_others InPurges n = purged_by look_script look_between (tt, (tt, (tt, (tt, (tt, (tt, tt)))))) (tt, (tt, (tt, (tt, (refl, (tt, tt))))))
+look_between_others InSnapshots n = unobserved look_script look_between refl
 look_between_others InRetired n = refl
-look_between_others InComplete n = complete_alone look_script look_between.journal tt
+look_between_others InComplete n = complete_alone look_script look_between.journal tt refl
 
 -- a look between the two halves breaks its clause alone
 pub look_between_alone : BreaksAlone InOrder look_script look_between
@@ -117,8 +122,9 @@ load_after_legal = record {
   released_unnamed = released_by again_script load_after (tt, (tt, (tt, (tt, (tt, (tt, tt))))));
   lingers_told = lingers_by again_script load_after (tt, (tt, (tt, (tt, (tt, (tt, tt))))));
   purged_unnamed = purged_by again_script load_after (tt, (tt, (tt, (tt, (tt, (tt, tt)))))) (tt, (tt, (tt, (refl, (tt, (tt, tt))))));
+  snapshots_true = unobserved again_script load_after refl;
   nothing_retired = refl;
-  complete = complete_alone again_script load_after.journal tt;
+  complete = complete_alone again_script load_after.journal tt refl;
 }
 
 -- a load between the two halves breaks the order

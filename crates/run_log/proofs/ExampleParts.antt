@@ -18,22 +18,26 @@ use Rattle.run_log.proofs.Clauses.{all_by}
 some_spans : (first : Span) (more : List Span) → length (first ∷ more) ≢ 0
 some_spans first more e = absurd (omega (arith, e))
 
--- a log of one process with spans is complete where the process is that of the spawn line, and no generation is above the newest
+-- a log of one process with spans is complete where the process is that of the spawn line, no generation is above the newest, and the script has no observer
 pub complete_by : (s : Script) (journal : List Entry) (first : Span) (more : List Span) (fin : End) → LogsMatch (spawns_of 0 s.loaders) (process_of (first ∷ more) fin ∷ [])
-    → AllByRecursion (λ span. span.generation ≤ published_count journal) (first ∷ more) → Complete s (log_of journal (first ∷ more) fin)
-complete_by s journal first more fin same known = record {
+    → AllByRecursion (λ span. span.generation ≤ published_count journal) (first ∷ more) → 0 ≡ length s.observers → Complete s (log_of journal (first ∷ more) fin)
+complete_by s journal first more fin same known no_observers = record {
   processes = same;
   turns = all_by (λ (p : ProcessLog). length p.spans ≢ 0) (process_of (first ∷ more) fin ∷ []) (some_spans first more, tt);
   generations = all_by (λ (p : ProcessLog). All (λ span. span.generation ≤ published_count journal) p.spans) (process_of (first ∷ more) fin ∷ [])
       (all_by (λ (span : Span). span.generation ≤ published_count journal) (first ∷ more) known, tt);
+  observers = no_observers;
+  snapshots = tt;
 }
 
--- so is a log without processes for a script without spawns
-pub complete_alone : (s : Script) (journal : List Entry) → LogsMatch (spawns_of 0 s.loaders) [] → Complete s (log_alone journal)
-complete_alone s journal none = record {
+-- so is a log without processes for a script without spawns and observers
+pub complete_alone : (s : Script) (journal : List Entry) → LogsMatch (spawns_of 0 s.loaders) [] → 0 ≡ length s.observers → Complete s (log_alone journal)
+complete_alone s journal none no_observers = record {
   processes = none;
   turns = all_by (λ (p : ProcessLog). length p.spans ≢ 0) [] tt;
   generations = all_by (λ (p : ProcessLog). All (λ span. span.generation ≤ published_count journal) p.spans) [] tt;
+  observers = no_observers;
+  snapshots = tt;
 }
 
 -- what a lingering answer says of its turn and of the next

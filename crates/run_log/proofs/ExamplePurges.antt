@@ -14,8 +14,9 @@ use Rattle.machine_core.specs.Turn.{run_of}
 use Rattle.run_log.specs.declared.logs.Span.{Span}
 use Rattle.run_log.specs.FirstRun.{m_atom}
 use Rattle.run_log.specs.Legal.{Complete, Legal, LingersTold, LoadersInOrder, PurgedUnnamed, ReleasedUnnamed, Replays, SpawnBeforeTurns, TurnsFollow, after_turns, commands_in, commands_of, is_killed_by, marks_in, turns_of}
-use Rattle.run_log.specs.Examples.{Clause, InComplete, InLingers, InOrder, InPurges, InReleases, InReplay, InRetired, InSpawns, InTurns, Meets, BreaksAlone, back_by_loader, dropped_beneath, goes_on_doomed, kept_retired, killed_log, log_of, other_reply, purge_journal, purge_script, said_no_kill, spared_log, to_purge, turns, unsaid_kill, untold_process}
+use Rattle.run_log.specs.Examples.{Clause, InComplete, InLingers, InOrder, InPurges, InReleases, InReplay, InRetired, InSnapshots, InSpawns, InTurns, Meets, BreaksAlone, back_by_loader, dropped_beneath, goes_on_doomed, kept_retired, killed_log, log_of, other_reply, purge_journal, purge_script, said_no_kill, spared_log, to_purge, turns, unsaid_kill, untold_process}
 use Rattle.run_log.proofs.Clauses.{lingers_by, purged_by, released_by, spawns_by, turns_by}
+use Rattle.run_log.proofs.Snapshots.{unobserved}
 use Rattle.run_log.proofs.ExampleParts.{any_one, complete_by}
 
 abbrev reply_in : Option Outcome → Reply
@@ -40,7 +41,7 @@ purge_lingers : (killed : Bool) (spans : List Span) (fin : End) → LingersTold 
 purge_lingers killed spans fin = lingers_by purge_script (log_of (purge_journal killed) spans fin) (tt, (tt, (tt, (tt, (tt, (tt, tt))))))
 
 purge_complete : (killed : Bool) (first : Span) (more : List Span) (fin : End) → AllByRecursion (λ span. span.generation ≤ 4) (first ∷ more) → Complete purge_script (log_of (purge_journal killed) (first ∷ more) fin)
-purge_complete killed first more fin known = complete_by purge_script (purge_journal killed) first more fin (record { target = refl; args = refl }, tt) known
+purge_complete killed first more fin known = complete_by purge_script (purge_journal killed) first more fin (record { target = refl; args = refl }, tt) known refl
 
 killed_turns : (killed : Bool) → TurnsFollow purge_script (log_of (purge_journal killed) (turns 1 1 ∷ turns 3 1 ∷ []) (Killed 1))
 unfolding turns_of run_of marks_in after_turns
@@ -64,6 +65,7 @@ killed_legal = record {
   released_unnamed = killed_releases true (Killed 1);
   lingers_told = purge_lingers true (turns 1 1 ∷ turns 3 1 ∷ []) (Killed 1);
   purged_unnamed = killed_drops true (Killed 1) refl;
+  snapshots_true = unobserved purge_script killed_log refl;
   nothing_retired = refl;
   complete = purge_complete true (turns 1 1) (turns 3 1 ∷ []) (Killed 1) (omega arith, (omega arith, tt));
 }
@@ -90,6 +92,7 @@ spared_legal = record {
   released_unnamed = spared_releases false;
   lingers_told = purge_lingers false (turns 1 2 ∷ []) Normal;
   purged_unnamed = spared_drops;
+  snapshots_true = unobserved purge_script spared_log refl;
   nothing_retired = refl;
   complete = purge_complete false (turns 1 2) [] Normal (omega arith, tt);
 }
@@ -105,6 +108,7 @@ unsaid_kill_others InTurns n = killed_turns false
 unsaid_kill_others InReleases n = killed_releases false (Killed 1)
 unsaid_kill_others InLingers n = purge_lingers false (turns 1 1 ∷ turns 3 1 ∷ []) (Killed 1)
 unsaid_kill_others InPurges n = absurd (n refl)
+unsaid_kill_others InSnapshots n = unobserved purge_script unsaid_kill refl
 unsaid_kill_others InRetired n = refl
 unsaid_kill_others InComplete n = purge_complete false (turns 1 1) (turns 3 1 ∷ []) (Killed 1) (omega arith, (omega arith, tt))
 
@@ -123,6 +127,7 @@ said_no_kill_others InTurns n = spared_turns true
 said_no_kill_others InReleases n = spared_releases true
 said_no_kill_others InLingers n = purge_lingers true (turns 1 2 ∷ []) Normal
 said_no_kill_others InPurges n = absurd (n refl)
+said_no_kill_others InSnapshots n = unobserved purge_script said_no_kill refl
 said_no_kill_others InRetired n = refl
 said_no_kill_others InComplete n = purge_complete true (turns 1 2) [] Normal (omega arith, tt)
 
@@ -150,6 +155,7 @@ dropped_beneath_others InTurns n = beneath_turns
 dropped_beneath_others InReleases n = beneath_releases
 dropped_beneath_others InLingers n = purge_lingers false (turns 1 1 ∷ turns 4 1 ∷ []) Normal
 dropped_beneath_others InPurges n = absurd (n refl)
+dropped_beneath_others InSnapshots n = unobserved purge_script dropped_beneath refl
 dropped_beneath_others InRetired n = refl
 dropped_beneath_others InComplete n = purge_complete false (turns 1 1) (turns 4 1 ∷ []) Normal (omega arith, (omega arith, tt))
 
@@ -172,6 +178,7 @@ goes_on_doomed_others InTurns n = absurd (n refl)
 goes_on_doomed_others InReleases n = killed_releases false Normal
 goes_on_doomed_others InLingers n = purge_lingers false (turns 1 1 ∷ turns 3 1 ∷ []) Normal
 goes_on_doomed_others InPurges n = killed_drops false Normal refl
+goes_on_doomed_others InSnapshots n = unobserved purge_script goes_on_doomed refl
 goes_on_doomed_others InRetired n = refl
 goes_on_doomed_others InComplete n = purge_complete false (turns 1 1) (turns 3 1 ∷ []) Normal (omega arith, (omega arith, tt))
 
@@ -205,8 +212,9 @@ kept_retired_others InTurns n = kept_turns
 kept_retired_others InReleases n = released_by purge_script kept_retired (tt, (tt, (tt, (tt, (tt, tt)))))
 kept_retired_others InLingers n = lingers_by purge_script kept_retired (tt, (tt, (tt, (tt, (tt, tt)))))
 kept_retired_others InPurges n = kept_drops
+kept_retired_others InSnapshots n = unobserved purge_script kept_retired refl
 kept_retired_others InRetired n = absurd (n refl)
-kept_retired_others InComplete n = complete_by purge_script (to_purge true) (turns 1 1) (turns 3 1 ∷ []) (Killed 1) (record { target = refl; args = refl }, tt) (omega arith, (omega arith, tt))
+kept_retired_others InComplete n = complete_by purge_script (to_purge true) (turns 1 1) (turns 3 1 ∷ []) (Killed 1) (record { target = refl; args = refl }, tt) (omega arith, (omega arith, tt)) refl
 
 -- an instance that is never given back breaks its clause alone
 pub kept_retired_alone : BreaksAlone InRetired purge_script kept_retired
@@ -239,8 +247,9 @@ back_by_loader_others InTurns n = back_by_loader_turns
 back_by_loader_others InReleases n = back_by_loader_releases
 back_by_loader_others InLingers n = lingers_by purge_script back_by_loader (tt, (tt, (tt, (tt, (tt, (tt, tt))))))
 back_by_loader_others InPurges n = back_by_loader_drops
+back_by_loader_others InSnapshots n = unobserved purge_script back_by_loader refl
 back_by_loader_others InRetired n = refl
-back_by_loader_others InComplete n = complete_by purge_script back_by_loader.journal (turns 1 1) (turns 3 1 ∷ []) (Killed 1) (record { target = refl; args = refl }, tt) (omega arith, (omega arith, tt))
+back_by_loader_others InComplete n = complete_by purge_script back_by_loader.journal (turns 1 1) (turns 3 1 ∷ []) (Killed 1) (record { target = refl; args = refl }, tt) (omega arith, (omega arith, tt)) refl
 
 -- a release by a loader breaks its clause alone
 pub back_by_loader_alone : BreaksAlone InReplay purge_script back_by_loader
@@ -276,8 +285,9 @@ other_reply_others InTurns n = other_reply_turns
 other_reply_others InReleases n = other_reply_releases
 other_reply_others InLingers n = lingers_by purge_script other_reply (tt, (tt, (tt, (tt, (tt, (tt, tt))))))
 other_reply_others InPurges n = other_reply_drops
+other_reply_others InSnapshots n = unobserved purge_script other_reply refl
 other_reply_others InRetired n = refl
-other_reply_others InComplete n = complete_by purge_script other_reply.journal (turns 1 1) (turns 3 1 ∷ []) (Killed 1) (record { target = refl; args = refl }, tt) (omega arith, (omega arith, tt))
+other_reply_others InComplete n = complete_by purge_script other_reply.journal (turns 1 1) (turns 3 1 ∷ []) (Killed 1) (record { target = refl; args = refl }, tt) (omega arith, (omega arith, tt)) refl
 
 -- a reply that the table does not give breaks its clause alone
 pub other_reply_alone : BreaksAlone InReplay purge_script other_reply
@@ -294,6 +304,7 @@ untold_process_others InTurns n = turns_by purge_script untold_process tt
 untold_process_others InReleases n = released_by purge_script untold_process (tt, (tt, (tt, (tt, (tt, (tt, tt))))))
 untold_process_others InLingers n = lingers_by purge_script untold_process (tt, (tt, (tt, (tt, (tt, (tt, tt))))))
 untold_process_others InPurges n = purged_by purge_script untold_process (tt, (tt, (tt, (tt, (tt, (tt, tt)))))) (tt, (tt, (tt, (tt, (refl, (tt, tt))))))
+untold_process_others InSnapshots n = unobserved purge_script untold_process refl
 untold_process_others InRetired n = refl
 untold_process_others InComplete n = absurd (n refl)
 

@@ -6,8 +6,9 @@ use Rattle.server_core.specs.ServerState.{empty_state}
 use Rattle.machine_core.specs.declared.process.End.TheVariants.{Normal}
 use Rattle.machine_core.specs.Turn.{run_of}
 use Rattle.run_log.specs.Legal.{Legal, ReleasedUnnamed, Replays, TurnsFollow, after_turns, commands_in, commands_of, marks_in, turns_of}
-use Rattle.run_log.specs.Examples.{Clause, InComplete, InLingers, InOrder, InPurges, InReleases, InReplay, InRetired, InSpawns, InTurns, Meets, BreaksAlone, literal_script, released_beneath, released_early, released_late, reload_script, turns}
+use Rattle.run_log.specs.Examples.{Clause, InComplete, InLingers, InOrder, InPurges, InReleases, InReplay, InRetired, InSnapshots, InSpawns, InTurns, Meets, BreaksAlone, literal_script, released_beneath, released_early, released_late, reload_script, turns}
 use Rattle.run_log.proofs.Clauses.{lingers_by, purged_by, released_by, spawns_by, turns_by}
+use Rattle.run_log.proofs.Snapshots.{unobserved}
 use Rattle.run_log.proofs.ExampleParts.{complete_by}
 
 late_replays : Replays literal_script.modules empty_state released_late.journal
@@ -35,8 +36,9 @@ late_legal = record {
   released_unnamed = late_releases;
   lingers_told = lingers_by literal_script released_late (tt, (tt, (tt, (tt, (tt, (tt, tt))))));
   purged_unnamed = purged_by literal_script released_late (tt, (tt, (tt, (tt, (tt, (tt, tt)))))) (tt, (tt, (tt, (tt, (tt, (tt, tt))))));
+  snapshots_true = unobserved literal_script released_late refl;
   nothing_retired = refl;
-  complete = complete_by literal_script released_late.journal (turns 2 1) _ Normal (record { target = refl; args = refl }, tt) (omega arith, (omega arith, tt));
+  complete = complete_by literal_script released_late.journal (turns 2 1) _ Normal (record { target = refl; args = refl }, tt) (omega arith, (omega arith, tt)) refl;
 }
 
 early_replays : Replays literal_script.modules empty_state released_early.journal
@@ -62,8 +64,9 @@ released_early_others InTurns n = early_turns
 released_early_others InReleases n = absurd (n refl)
 released_early_others InLingers n = lingers_by literal_script released_early (tt, (tt, (tt, (tt, (tt, (tt, tt))))))
 released_early_others InPurges n = purged_by literal_script released_early (tt, (tt, (tt, (tt, (tt, (tt, tt)))))) (tt, (tt, (tt, (tt, (tt, (tt, tt))))))
+released_early_others InSnapshots n = unobserved literal_script released_early refl
 released_early_others InRetired n = refl
-released_early_others InComplete n = complete_by literal_script released_early.journal (turns 2 1) _ Normal (record { target = refl; args = refl }, tt) (omega arith, (omega arith, tt))
+released_early_others InComplete n = complete_by literal_script released_early.journal (turns 2 1) _ Normal (record { target = refl; args = refl }, tt) (omega arith, (omega arith, tt)) refl
 
 -- a release while a process names the area breaks its clause alone
 pub released_early_alone : BreaksAlone InReleases literal_script released_early

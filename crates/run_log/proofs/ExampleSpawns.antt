@@ -8,8 +8,9 @@ use Rattle.machine_core.specs.declared.process.End.TheVariants.{Normal}
 use Rattle.machine_core.specs.Turn.{run_of}
 use Rattle.run_log.specs.FirstRun.{first_target}
 use Rattle.run_log.specs.Legal.{Complete, Legal, LingersTold, LoadersInOrder, PurgedUnnamed, ReleasedUnnamed, Replays, SpawnBeforeTurns, TurnsFollow, after_turns, commands_in, commands_of, marks_in, turns_of}
-use Rattle.run_log.specs.Examples.{Clause, InComplete, InLingers, InOrder, InPurges, InReleases, InReplay, InRetired, InSpawns, InTurns, Meets, BreaksAlone, early_turn, trace_journal, trace_log, trace_script, traced_log, untold_call}
+use Rattle.run_log.specs.Examples.{Clause, InComplete, InLingers, InOrder, InPurges, InReleases, InReplay, InRetired, InSnapshots, InSpawns, InTurns, Meets, BreaksAlone, early_turn, trace_journal, trace_log, trace_script, traced_log, untold_call}
 use Rattle.run_log.proofs.Clauses.{lingers_by, purged_by, released_by, spawns_by, turns_by}
+use Rattle.run_log.proofs.Snapshots.{unobserved}
 use Rattle.run_log.proofs.ExampleParts.{complete_by, two_one}
 
 -- what every log with the journal of the breakpoint meets
@@ -33,7 +34,7 @@ trace_drops : (generation : ℕ) (shown : List Line) → PurgedUnnamed trace_scr
 trace_drops generation shown = purged_by trace_script (trace_log generation shown) (tt, (tt, (tt, tt))) (tt, (tt, (tt, tt)))
 
 trace_complete : (generation : ℕ) (shown : List Line) → generation ≤ 2 → Complete trace_script (trace_log generation shown)
-trace_complete generation shown low = complete_by trace_script trace_journal (record { generation = generation; turns = 1; lines = shown }) [] Normal (record { target = refl; args = refl }, tt) (low, tt)
+trace_complete generation shown low = complete_by trace_script trace_journal (record { generation = generation; turns = 1; lines = shown }) [] Normal (record { target = refl; args = refl }, tt) (low, tt) refl
 
 trace_spawns : (shown : List Line) → SpawnBeforeTurns trace_script (trace_log 2 shown)
 trace_spawns shown = spawns_by trace_script (trace_log 2 shown) (omega arith, tt)
@@ -56,6 +57,7 @@ traced_legal = record {
   released_unnamed = trace_releases 2 (lines.Trace first_target [] ∷ []);
   lingers_told = trace_lingers 2 (lines.Trace first_target [] ∷ []);
   purged_unnamed = trace_drops 2 (lines.Trace first_target [] ∷ []);
+  snapshots_true = unobserved trace_script traced_log refl;
   nothing_retired = refl;
   complete = trace_complete 2 (lines.Trace first_target [] ∷ []) (omega arith);
 }
@@ -71,6 +73,7 @@ early_turn_others InTurns n = early_turns
 early_turn_others InReleases n = trace_releases 1 []
 early_turn_others InLingers n = trace_lingers 1 []
 early_turn_others InPurges n = trace_drops 1 []
+early_turn_others InSnapshots n = unobserved trace_script early_turn refl
 early_turn_others InRetired n = refl
 early_turn_others InComplete n = trace_complete 1 [] (omega arith)
 
@@ -93,6 +96,7 @@ untold_call_others InTurns n = absurd (n refl)
 untold_call_others InReleases n = trace_releases 2 []
 untold_call_others InLingers n = trace_lingers 2 []
 untold_call_others InPurges n = trace_drops 2 []
+untold_call_others InSnapshots n = unobserved trace_script untold_call refl
 untold_call_others InRetired n = refl
 untold_call_others InComplete n = trace_complete 2 [] (omega arith)
 

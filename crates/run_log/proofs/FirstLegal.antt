@@ -1,5 +1,5 @@
--- A log of one load, one spawn and one process with one span is lawful where its turns follow.
-use Rattle.std.proofs.Common.{◌≡◌, ◌≢◌, ℕ, zero, suc, ◌≤◌, List, [], ◌∷◌, length, slice_get, Some, None, IfSome, All, refl, ap, subst, arith}
+-- A log of one load, one spawn and one process with one span, and no observer, is lawful where its turns follow.
+use Rattle.std.proofs.Common.{◌≡◌, ◌≢◌, ℕ, zero, suc, ◌≤◌, List, [], ◌∷◌, length, slice_get, Some, None, IfSome, All, pos, refl, ap, subst, arith}
 use Rattle.std.proofs.Math.Dec.{eqb-zero-suc}
 use Rattle.std.proofs.lemmas.Bool.{eq-eqb}
 use Rattle.std.proofs.lemmas.Option.{same_Some}
@@ -12,7 +12,9 @@ use Rattle.server_core.specs.declared.command.Reply.TheVariants as replies
 use Rattle.server_core.specs.ServerState.{ServerState, empty_state}
 use Rattle.server_core.specs.CommandTable.{apply_of, published, with_loaded}
 use Rattle.machine_core.specs.declared.process.End.{End}
+use Rattle.machine_core.specs.declared.process.End.TheVariants.{Normal}
 use Rattle.machine_core.specs.Process.{new_process}
+use Rattle.machine_core.specs.Turn.{run_of}
 use Rattle.script_text.specs.declared.script.Script.{Script}
 use Rattle.script_text.specs.declared.script.ScriptCmd.{ScriptCmd}
 use Rattle.script_text.specs.declared.script.ScriptCmd.TheVariants as script
@@ -21,9 +23,11 @@ use Rattle.run_log.specs.declared.logs.Entry.{Entry}
 use Rattle.run_log.specs.declared.logs.Span.{Span}
 use Rattle.run_log.specs.declared.logs.ProcessLog.{ProcessLog}
 use Rattle.run_log.specs.declared.logs.RunLog.{RunLog}
+use Rattle.run_log.specs.FirstRun.{first_log, first_module, first_names, first_script, first_target, printed}
 use Rattle.run_log.specs.Journal.{state_after, next_state, state_at, published_before}
-use Rattle.run_log.specs.Legal.{Legal, Complete, LingersTold, LoadersInOrder, NothingRetired, PurgedUnnamed, ReleasedUnnamed, Replays, SpawnBeforeTurns, TurnsFollow, SpansFollow, SpawnLine, commands_in, commands_of, dropped_by, first_generation, state_before}
+use Rattle.run_log.specs.Legal.{Legal, Complete, LingersTold, LoadersInOrder, NothingRetired, PurgedUnnamed, ReleasedUnnamed, Replays, SpawnBeforeTurns, TurnsFollow, SpansFollow, SpawnLine, commands_in, commands_of, dropped_by, first_generation, state_before, turns_of}
 use Rattle.run_log.proofs.Journals.{entry_follows}
+use Rattle.run_log.proofs.Snapshots.{unobserved}
 
 -- the reference to a module
 abbrev pub ref_of : Module → ModRef
@@ -53,10 +57,10 @@ process_log target args span fin = record { target = target; args = args; spans 
 
 -- the script, and its log
 abbrev pub script_of : List (List ℕ) → Module → Mfa → List PlainTerm → Script
-script_of names code target args = record { names = names; modules = code ∷ []; loaders = commands code target args ∷ [] }
+script_of names code target args = record { names = names; modules = code ∷ []; observers = []; loaders = commands code target args ∷ [] }
 
 abbrev pub log_of : Module → Mfa → List PlainTerm → Span → End → RunLog
-log_of code target args span fin = record { journal = journal_of code target args; processes = process_log target args span fin ∷ [] }
+log_of code target args span fin = record { journal = journal_of code target args; processes = process_log target args span fin ∷ []; observers = [] }
 
 -- the first load of the one text comes in
 pub first_load : (code : Module) → apply_of (code ∷ []) empty_state (cmds.Load (ref_of code ∷ [])) ≡ Some (published (with_loaded empty_state code) replies.Ok)
@@ -110,7 +114,13 @@ one_span : (span : Span) → length (span ∷ []) ≢ 0
 one_span span e = absurd (omega (arith, e))
 
 complete : (names : List (List ℕ)) (code : Module) (target : Mfa) (args : List PlainTerm) (span : Span) (fin : End) → span.generation ≡ 1 → Complete (script_of names code target args) (log_of code target args span fin)
-complete names code target args span fin g = record { processes = (record { target = refl; args = refl }, tt); turns = all_one (λ (p : ProcessLog). length p.spans ≢ 0) (process_log target args span fin) (one_span span); generations = all_one (λ (p : ProcessLog). All (λ x. x.generation ≤ 1) p.spans) (process_log target args span fin) (all_one (λ (x : Span). x.generation ≤ 1) span (omega (arith, g))) }
+complete names code target args span fin g = record {
+  processes = (record { target = refl; args = refl }, tt);
+  turns = all_one (λ (p : ProcessLog). length p.spans ≢ 0) (process_log target args span fin) (one_span span);
+  generations = all_one (λ (p : ProcessLog). All (λ x. x.generation ≤ 1) p.spans) (process_log target args span fin) (all_one (λ (x : Span). x.generation ≤ 1) span (omega (arith, g)));
+  observers = refl;
+  snapshots = tt;
+}
 
 -- what holds of both entries holds of each in the journal
 each_entry : (P : ℕ → Entry → Type 0) (x y : Entry) → P 0 x → P 1 y → (place : ℕ) (e : Entry) → slice_get (x ∷ y ∷ []) place ≡ Some e → P place e
@@ -151,6 +161,12 @@ legal_log names code target args span fin g h =
       released_unnamed = released_unnamed names code target args span fin;
       lingers_told = lingers_told names code target args span fin;
       purged_unnamed = purged_unnamed names code target args span fin;
+      snapshots_true = unobserved (script_of names code target args) (log_of code target args span fin) refl;
       nothing_retired = nothing_retired names code target args span fin;
       complete = complete names code target args span fin g;
     }
+
+-- so is the run of the first script: its one turn computes
+pub first_lawful : Legal first_script first_log
+unfolding turns_of run_of
+first_lawful = legal_log first_names first_module first_target [] (printed 1 (pos 3)) Normal refl (refl, refl)

@@ -1,4 +1,5 @@
 pub mod RenderingText
+pub mod Snapshots
 pub mod StatesForTurns
 pub mod Steps
 pub mod Journals
@@ -9,6 +10,7 @@ pub mod SpanRuns
 pub mod Marks
 pub mod ApartSpans
 pub mod FirstLegal
+pub mod FirstWellFormed
 pub mod Clauses
 pub mod ExampleParts
 pub mod ExamplePurges
@@ -16,3 +18,4 @@ pub mod ExampleReleases
 pub mod ExampleLingers
 pub mod ExampleSpawns
 pub mod ExampleOrders
+pub mod ExampleSnapshots

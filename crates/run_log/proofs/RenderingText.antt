@@ -12,7 +12,8 @@ use Rattle.term_core.specs.Plain.{plain}
 use Rattle.term_core.specs.PlainTerm.{PlainTerm}
 use Rattle.term_core.specs.TermText.{term_text}
 use Rattle.run_log.specs.declared.logs.ProcessLog.{ProcessLog}
-use Rattle.run_log.specs.Report.{plain_text, process_text, processes_text}
+use Rattle.run_log.specs.declared.logs.Snapshot.{Snapshot}
+use Rattle.run_log.specs.Report.{observer_text, observers_text, plain_text, process_text, processes_text}
 
 -- a text begins with itself
 pub starts_own : (a t b : List ℕ) → b ≡ a ++ t → StartsWith b a
@@ -63,6 +64,21 @@ processes_more_at names logs i log h e =
     let n : i ≡ 0 + length (take i logs) = omega (arith, length-take i logs) in
     ap (processes_text names 0) (take_more logs i log h) ∙ processes_more names 0 i (take i logs) (get_or logs i log) n
     ∙ ap (λ x. processes_text names 0 (take i logs) ++ process_text names i x) (sym e)
+
+-- the text of one more observer
+pub observers_more : (names : List (List ℕ)) (n m : ℕ) (observers : List (List Snapshot)) (shots : List Snapshot) → m ≡ n + length observers
+    → observers_text names n (observers ++ shots ∷ []) ≡ observers_text names n observers ++ observer_text names m shots
+observers_more names n m [] shots e = let same : m ≡ n = omega arith in rw same grind (arith, common_steps)
+observers_more names n m (o ∷ os) shots e =
+    ap (λ t. observer_text names n o ++ t) (observers_more names (n + 1) m os shots (omega arith)) ∙ sym (append_assoc (observer_text names n o) (observers_text names (n + 1) os) (observer_text names m shots))
+
+-- the text of the observers before a place, and of the one there
+pub observers_more_at : (names : List (List ℕ)) (observers : List (List Snapshot)) (i : ℕ) (shots : List Snapshot) → i < length observers → shots ≡ get_or observers i shots
+    → observers_text names 0 (take (i + 1) observers) ≡ observers_text names 0 (take i observers) ++ observer_text names i shots
+observers_more_at names observers i shots h e =
+    let n : i ≡ 0 + length (take i observers) = omega (arith, length-take i observers) in
+    ap (observers_text names 0) (take_more observers i shots h) ∙ observers_more names 0 i (take i observers) (get_or observers i shots) n
+    ∙ ap (λ x. observers_text names 0 (take i observers) ++ observer_text names i x) (sym e)
 
 texts_of : (names : List (List ℕ)) (terms : List Term) → map (plain_text names) (map plain terms) ≡ map (term_text names) terms
 texts_of names [] = refl

@@ -3,6 +3,7 @@
 -- Areas are numbered from 1 in the order in which they come in.
 use Rattle.std.specs.Prelude.{◌≡◌, ℕ, pos, Bool, true, false, List, [], ◌∷◌, ◌++◌, Some, None, codes}
 use Rattle.term_core.specs.declared.atom.AtomId.{AtomId}
+use Rattle.term_core.specs.declared.atom.Mfa.{Mfa}
 use Rattle.term_core.specs.declared.term.Term.{Term}
 use Rattle.term_core.specs.declared.term.Term.TheVariants.{Int, Tuple}
 use Rattle.term_core.specs.PlainTerm.{integer_leaf}
@@ -30,8 +31,9 @@ use Rattle.run_log.specs.declared.logs.Entry.{Entry}
 use Rattle.run_log.specs.declared.logs.Span.{Span}
 use Rattle.run_log.specs.declared.logs.ProcessLog.{ProcessLog}
 use Rattle.run_log.specs.declared.logs.RunLog.{RunLog}
-use Rattle.run_log.specs.FirstRun.{m_atom, main_atom, first_names, first_target}
-use Rattle.run_log.specs.Legal.{Complete, LingersTold, LoadersInOrder, NothingRetired, PurgedUnnamed, ReleasedUnnamed, Replays, SpawnBeforeTurns, TurnsFollow}
+use Rattle.run_log.specs.declared.logs.Snapshot.{Snapshot}
+use Rattle.run_log.specs.FirstRun.{first_log, first_names, first_script, first_target, m_atom, main_atom}
+use Rattle.run_log.specs.Legal.{Complete, LingersTold, LoadersInOrder, NothingRetired, PurgedUnnamed, ReleasedUnnamed, Replays, SnapshotsTrue, SpawnBeforeTurns, TurnsFollow}
 
 -- the clauses of a lawful log
 pub data Clause : Type 0 where
@@ -42,6 +44,7 @@ pub data Clause : Type 0 where
   InReleases : Clause
   InLingers : Clause
   InPurges : Clause
+  InSnapshots : Clause
   InRetired : Clause
   InComplete : Clause
 
@@ -54,6 +57,7 @@ Meets InTurns s log = TurnsFollow s log
 Meets InReleases s log = ReleasedUnnamed s log
 Meets InLingers s log = LingersTold s log
 Meets InPurges s log = PurgedUnnamed s log
+Meets InSnapshots s log = SnapshotsTrue s log
 Meets InRetired s log = NothingRetired s log
 Meets InComplete s log = Complete s log
 
@@ -68,7 +72,7 @@ module_of code = record { name = m_atom; version = 1; functions = record { name 
 
 -- a script of that module whose loaders have these commands
 abbrev pub script_of : List Instr → List (List ScriptCmd) → Script
-script_of code loaders = record { names = first_names; modules = module_of code ∷ []; loaders = loaders }
+script_of code loaders = record { names = first_names; modules = module_of code ∷ []; observers = []; loaders = loaders }
 
 -- the commands of the scripts
 abbrev pub m_1 : List ModRef
@@ -127,11 +131,11 @@ process_of spans fin = record { target = first_target; args = []; spans = spans;
 
 -- a log with that process
 abbrev pub log_of : List Entry → List Span → End → RunLog
-log_of journal spans fin = record { journal = journal; processes = process_of spans fin ∷ [] }
+log_of journal spans fin = record { journal = journal; processes = process_of spans fin ∷ []; observers = [] }
 
 -- a log without processes
 abbrev pub log_alone : List Entry → RunLog
-log_alone journal = record { journal = journal; processes = [] }
+log_alone journal = record { journal = journal; processes = []; observers = [] }
 
 -- A purge beneath a process: m is loaded, its process spawned, m deleted and purged.
 abbrev pub purge_script : Script
@@ -207,6 +211,7 @@ abbrev pub literal_script : Script
 literal_script = record {
   names = first_names ++ codes "k" ∷ codes "z" ∷ [];
   modules = module_of (Pget k_atom 0 ∷ Yield ∷ Print (Reg 0) ∷ []) ∷ [];
+  observers = [];
   loaders = (script.Put k_atom pair ∷ load_line ∷ spawn_line ∷ script.Erase k_atom ∷ script.Put z_atom (Int (pos 1)) ∷ []) ∷ [];
 }
 
@@ -324,3 +329,114 @@ load_between = log_alone (load_made 1 ∷ deleted 2 ∷ doomed 0 3 ∷ made 1 (c
 -- loader 1 loads after it: lawful
 abbrev pub load_after : RunLog
 load_after = log_alone (load_made 1 ∷ deleted 2 ∷ doomed 0 3 ∷ purged 0 false 4 ∷ given_back ∷ made 1 (cmds.Load m_1) replies.Ok 5 ∷ [])
+
+-- Observers: the first script with lines that say how many snapshots each observer takes. Its load makes generation 1, which exports m:main/0 of area 1.
+abbrev pub observed_script : List ℕ → Script
+observed_script counts = record first_script { observers = counts }
+
+-- its run, with what the observers saw
+abbrev pub observed_log : List (List Snapshot) → RunLog
+observed_log observers = record first_log { observers = observers }
+
+-- a snapshot of a generation
+abbrev pub shot : ℕ → List (Mfa × ℕ) → Snapshot
+shot generation exports = record { generation = generation; exports = exports }
+
+-- one observer with one snapshot, and one with two
+abbrev pub one_shot : Script
+one_shot = observed_script (1 ∷ [])
+
+abbrev pub two_shots : Script
+two_shots = observed_script (2 ∷ [])
+
+-- all that the load exports
+abbrev pub main_export : List (Mfa × ℕ)
+main_export = (first_target, 1) ∷ []
+
+-- the observer saw what the load made: lawful
+abbrev pub saw_load : RunLog
+saw_load = observed_log ((shot 1 main_export ∷ []) ∷ [])
+
+-- it looked before the load, and saw nothing: lawful
+abbrev pub saw_nothing : RunLog
+saw_nothing = observed_log ((shot 0 [] ∷ []) ∷ [])
+
+-- it looked before and after the load: lawful
+abbrev pub saw_both : RunLog
+saw_both = observed_log ((shot 0 [] ∷ shot 1 main_export ∷ []) ∷ [])
+
+-- it saw the export before the load made it
+abbrev pub saw_early : RunLog
+saw_early = observed_log ((shot 0 main_export ∷ []) ∷ [])
+
+-- it saw an export of an area that was never given out
+abbrev pub saw_other_area : RunLog
+saw_other_area = observed_log ((shot 1 ((first_target, 2) ∷ []) ∷ []) ∷ [])
+
+-- it missed the export
+abbrev pub missed_export : RunLog
+missed_export = observed_log ((shot 1 [] ∷ []) ∷ [])
+
+-- each of its snapshots is true, but the later one is of an older generation
+abbrev pub saw_fall : RunLog
+saw_fall = observed_log ((shot 1 main_export ∷ shot 0 [] ∷ []) ∷ [])
+
+-- it was to take two snapshots, and took one
+abbrev pub one_of_two : RunLog
+one_of_two = observed_log ((shot 1 main_export ∷ []) ∷ [])
+
+-- it saw a generation that was not published
+abbrev pub saw_unpublished : RunLog
+saw_unpublished = observed_log ((shot 2 main_export ∷ []) ∷ [])
+
+-- what it saw is not told
+abbrev pub untold_observer : RunLog
+untold_observer = observed_log []
+
+-- an observer is told of that the script has not
+abbrev pub unknown_observer : RunLog
+unknown_observer = observed_log ((shot 1 main_export ∷ []) ∷ [] ∷ [])
+
+-- Two exports: m exports aux/0 beside main/0. By bytes aux comes before main, though it has the later number.
+abbrev pub aux_atom : AtomId
+aux_atom = record { 0 = 5 }
+
+abbrev pub aux_target : Mfa
+aux_target = record { «module» = m_atom; name = aux_atom; arity = 0 }
+
+abbrev pub two_functions : Module
+two_functions = record {
+  name = m_atom;
+  version = 1;
+  functions = record { name = main_atom; arity = 0; exported = true; code = [] } ∷ record { name = aux_atom; arity = 0; exported = true; code = [] } ∷ [];
+}
+
+abbrev pub exports_script : Script
+exports_script = record {
+  names = first_names ++ codes "aux" ∷ [];
+  modules = two_functions ∷ [];
+  observers = 1 ∷ [];
+  loaders = (load_line ∷ spawn_line ∷ []) ∷ [];
+}
+
+-- its run, with what the observer saw of generation 1
+abbrev pub exports_log : List (Mfa × ℕ) → RunLog
+exports_log exports = record { journal = load_made 1 ∷ spawned ∷ []; processes = process_of (turns 1 1 ∷ []) Normal ∷ []; observers = (shot 1 exports ∷ []) ∷ [] }
+
+-- in order of the bytes of their names: lawful
+abbrev pub names_in_order : RunLog
+names_in_order = exports_log ((aux_target, 1) ∷ (first_target, 1) ∷ [])
+
+-- its report
+abbrev pub exports_report : List ℕ
+exports_report =
+    codes "beam report 1\ngenerations 1\n" ++ codes "entry L0 load m.1 = ok @1\nentry L0 spawn m:main() = ok -\n"
+    ++ codes "process 0 m:main()\nspan 1 1\nend normal\nobserver 0\nsnapshot 1\nexport m:aux/0 1\nexport m:main/0 1\nend report\n"
+
+-- in order of the numbers of their names
+abbrev pub numbers_in_order : RunLog
+numbers_in_order = exports_log ((first_target, 1) ∷ (aux_target, 1) ∷ [])
+
+-- one export twice
+abbrev pub told_twice : RunLog
+told_twice = exports_log ((aux_target, 1) ∷ (aux_target, 1) ∷ (first_target, 1) ∷ [])

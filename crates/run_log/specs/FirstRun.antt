@@ -47,6 +47,7 @@ abbrev pub first_script : Script
 first_script = record {
   names = first_names;
   modules = first_module ∷ [];
+  observers = [];
   loaders = (commands.Load (record { name = m_atom; version = 1 } ∷ []) ∷ commands.Spawn first_target [] ∷ []) ∷ [];
 }
 
@@ -64,7 +65,7 @@ printed turns number = record { generation = 1; turns = turns; lines = lines.Pri
 
 -- the log of these entries and of a process with this one span
 abbrev pub log_with : List Entry → Span → RunLog
-log_with journal span = record { journal = journal; processes = (record { target = first_target; args = []; spans = span ∷ []; fin = ends.Normal }) ∷ [] }
+log_with journal span = record { journal = journal; processes = (record { target = first_target; args = []; spans = span ∷ []; fin = ends.Normal }) ∷ []; observers = [] }
 
 -- the log of the run
 abbrev pub first_log : RunLog

@@ -2,7 +2,7 @@
 -- Source: this project's profile, as the sequential reading of erts internal documentation, CodeLoading, and of the manual page `persistent_term`.
 -- The definition replays the journal and the turns; the run keeps one server and its processes.
 use Rattle.std.specs.Prelude.{◌≡◌, ◌≢◌, ℕ, zero, suc, ◌+◌, ◌≤◌, ◌==◌, nat_le, Bool, true, false, List, [], ◌∷◌, ◌++◌, length, take, slice_get, Option, Some, None, is_some, IfSome, IsSomeAnd, unwrap_or, All, if◌then◌else◌}
-use Rattle.std.specs.List.{flat_map, list_any}
+use Rattle.std.specs.List.{AllByRecursion, flat_map, list_any}
 use Rattle.term_core.specs.declared.atom.AtomId.{AtomId}
 use Rattle.term_core.specs.declared.atom.Mfa.{Mfa}
 use Rattle.term_core.specs.PlainTerm.{PlainTerm}
@@ -29,6 +29,8 @@ use Rattle.run_log.specs.declared.logs.Entry.{Entry}
 use Rattle.run_log.specs.declared.logs.Span.{Span}
 use Rattle.run_log.specs.declared.logs.ProcessLog.{ProcessLog}
 use Rattle.run_log.specs.declared.logs.RunLog.{RunLog}
+use Rattle.run_log.specs.declared.logs.Snapshot.{Snapshot}
+use Rattle.run_log.specs.Snapshots.{AreExports}
 use Rattle.run_log.specs.Journal.{next_state, newest_state, state_at, published_count, entries_of, published_before}
 
 -- whether an entry is the runtime's
@@ -321,6 +323,18 @@ pub record PurgedUnnamed (s : Script) (log : RunLog) : Type 0 where
   pub told : (place serial : ℕ) (e : Entry) (name : AtomId) (killed : Bool) → slice_get log.journal place ≡ Some e → e.cmd ≡ cmds.Purge name killed
       → old_of (state_before s.modules place log.journal) name.0 ≡ Some serial → killed ≡ list_any (λ process. is_killed_by serial process.fin) log.processes
 
+-- the generations of an observer's snapshots never fall
+abbrev pub AreRising : List Snapshot → Type 0
+AreRising [] = Unit {0}
+AreRising (shot ∷ []) = Unit {0}
+AreRising (shot ∷ next ∷ shots) = (shot.generation ≤ next.generation) × AreRising (next ∷ shots)
+
+-- each observer has as many snapshots as its line says; each is of the exports of its generation, and no generation is older than that of the snapshot before
+pub record SnapshotsTrue (s : Script) (log : RunLog) : Type 0 where
+  pub counts : (observer count : ℕ) (shots : List Snapshot) → slice_get s.observers observer ≡ Some count → slice_get log.observers observer ≡ Some shots → length shots ≡ count
+  pub exports : AllByRecursion (λ shots. AllByRecursion (λ shot. AreExports s.names (state_at s.modules empty_state log.journal shot.generation) shot.exports) shots) log.observers
+  pub rising : AllByRecursion AreRising log.observers
+
 -- after the last entry no area waits for its release
 abbrev pub NothingRetired : Script → RunLog → Type 0
 NothingRetired s log = (newest_state s.modules empty_state log.journal).retired ≡ []
@@ -337,11 +351,14 @@ LogsMatch [] (process ∷ processes) = ⊥
 LogsMatch (line ∷ lines) [] = ⊥
 LogsMatch (line ∷ lines) (process ∷ processes) = IsLogOf line process × LogsMatch lines processes
 
--- nothing is missing: each process of the script has its log and at least one turn, and no turn is under a generation that was not published
+-- nothing is missing: each process of the script has its log and at least one turn, each observer has its snapshots, and no turn and no snapshot is of a
+-- generation that was not published
 pub record Complete (s : Script) (log : RunLog) : Type 0 where
   pub processes : LogsMatch (spawns_of 0 s.loaders) log.processes
   pub turns : All (λ process. length process.spans ≢ 0) log.processes
   pub generations : All (λ process. All (λ span. span.generation ≤ published_count log.journal) process.spans) log.processes
+  pub observers : length log.observers ≡ length s.observers
+  pub snapshots : AllByRecursion (λ shots. AllByRecursion (λ shot. shot.generation ≤ published_count log.journal) shots) log.observers
 
 -- the log is a history of one code server for this script
 pub record Legal (s : Script) (log : RunLog) : Type 0 where
@@ -352,5 +369,6 @@ pub record Legal (s : Script) (log : RunLog) : Type 0 where
   pub released_unnamed : ReleasedUnnamed s log
   pub lingers_told : LingersTold s log
   pub purged_unnamed : PurgedUnnamed s log
+  pub snapshots_true : SnapshotsTrue s log
   pub nothing_retired : NothingRetired s log
   pub complete : Complete s log

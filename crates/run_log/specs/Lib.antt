@@ -1,6 +1,8 @@
 pub mod Journal
+pub mod Snapshots
 pub mod Legal
 pub mod Report
 pub mod WholeSpans
+pub mod WellFormed
 pub mod FirstRun
 pub mod Examples

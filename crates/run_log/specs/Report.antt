@@ -23,6 +23,7 @@ use Rattle.run_log.specs.declared.logs.Who.TheVariants.{Loader, Runtime}
 use Rattle.run_log.specs.declared.logs.Entry.{Entry}
 use Rattle.run_log.specs.declared.logs.Span.{Span}
 use Rattle.run_log.specs.declared.logs.ProcessLog.{ProcessLog}
+use Rattle.run_log.specs.declared.logs.Snapshot.{Snapshot}
 use Rattle.run_log.specs.declared.logs.RunLog.{RunLog}
 use Rattle.run_log.specs.Journal.{published_count}
 
@@ -123,7 +124,24 @@ abbrev pub processes_text : List (List ℕ) → ℕ → List ProcessLog → List
 processes_text names number [] = []
 processes_text names number (log ∷ logs) = process_text names number log ++ processes_text names (number + 1) logs
 
+-- the line of an exported function
+abbrev pub export_text : List (List ℕ) → Mfa × ℕ → List ℕ
+export_text names export = line_of (codes "export " ++ mfa_text names export.0 ++ 32 ∷ decimal export.1)
+
+-- the lines of a snapshot
+abbrev pub snapshot_text : List (List ℕ) → Snapshot → List ℕ
+snapshot_text names shot = line_of (codes "snapshot " ++ decimal shot.generation) ++ flat_map (export_text names) shot.exports
+
+-- the lines of an observer
+abbrev pub observer_text : List (List ℕ) → ℕ → List Snapshot → List ℕ
+observer_text names number shots = line_of (codes "observer " ++ decimal number) ++ flat_map (snapshot_text names) shots
+
+-- the lines of observers that are numbered from here on
+abbrev pub observers_text : List (List ℕ) → ℕ → List (List Snapshot) → List ℕ
+observers_text names number [] = []
+observers_text names number (shots ∷ observers) = observer_text names number shots ++ observers_text names (number + 1) observers
+
 -- the report of a log
 abbrev pub rendering_of : List (List ℕ) → RunLog → List ℕ
 rendering_of names log =
-    line_of (codes "beam report 1") ++ line_of (codes "generations " ++ decimal (published_count log.journal)) ++ flat_map (entry_text names) log.journal ++ processes_text names 0 log.processes ++ line_of (codes "end report")
+    line_of (codes "beam report 1") ++ line_of (codes "generations " ++ decimal (published_count log.journal)) ++ flat_map (entry_text names) log.journal ++ processes_text names 0 log.processes ++ observers_text names 0 log.observers ++ line_of (codes "end report")

@@ -1,6 +1,9 @@
+ghost use Rattle.std.specs.Prelude.{◌≡◌};
 ghost use Rattle.server_core.specs.ServerState.{empty_state};
 ghost use Rattle.run_log.specs.Legal.{Legal, LoadersInOrder, ReleasedUnnamed, Replays};
-ghost use Rattle.run_log.specs.Examples.{BreaksAlone, InComplete, InLingers, InOrder, InPurges, InReleases, InReplay, InRetired, InSpawns, InTurns, again_script, back_by_loader, dropped_beneath, each_its_own, early_turn, goes_on_doomed, gone_before, kept_retired, killed_log, linger_script, lingers_log, literal_script, load_after, load_between, look_between, look_first, look_script, no_turn, other_process, other_reply, other_turn, purge_of_other, purge_script, released_beneath, released_early, released_late, reload_script, rivals_script, said_no_kill, spared_log, trace_script, traced_log, unpublished_turn, unsaid_kill, untold_call, untold_process};
+ghost use Rattle.run_log.specs.Examples.{BreaksAlone, InComplete, InLingers, InOrder, InPurges, InReleases, InReplay, InRetired, InSnapshots, InSpawns, InTurns, again_script, back_by_loader, dropped_beneath, each_its_own, early_turn, exports_report, exports_script, goes_on_doomed, gone_before, kept_retired, killed_log, linger_script, lingers_log, literal_script, load_after, load_between, look_between, look_first, look_script, missed_export, names_in_order, no_turn, numbers_in_order, one_of_two, one_shot, other_process, other_reply, other_turn, purge_of_other, purge_script, released_beneath, released_early, released_late, reload_script, rivals_script, said_no_kill, saw_both, saw_early, saw_fall, saw_load, saw_nothing, saw_other_area, saw_unpublished, spared_log, told_twice, trace_script, traced_log, two_shots, unknown_observer, unpublished_turn, unsaid_kill, untold_call, untold_observer, untold_process};
+ghost use Rattle.run_log.specs.Report.{rendering_of};
+ghost use Rattle.run_log.specs.WellFormed.{IsWellFormed};
 
 /// A purge tells whether it killed, drops code beneath no process, and is followed by a release.
 pub fn purges_tell_and_drop()
@@ -51,4 +54,24 @@ pub fn purges_stand_in_halves()
     ensures load_after { Legal again_script load_after }
     ensures load_between { LoadersInOrder again_script load_between.journal → ⊥ }
     ensures load_not_enabled { Replays again_script.modules empty_state load_between.journal → ⊥ }
+{}
+
+/// A snapshot has the exports of its generation and no others, in order of the bytes of their names, and an observer's snapshots follow the generations.
+pub fn snapshots_are_true()
+    ensures saw_load { Legal one_shot saw_load }
+    ensures saw_nothing { Legal one_shot saw_nothing }
+    ensures saw_both { Legal two_shots saw_both }
+    ensures saw_early { BreaksAlone InSnapshots one_shot saw_early }
+    ensures saw_other_area { BreaksAlone InSnapshots one_shot saw_other_area }
+    ensures missed_export { BreaksAlone InSnapshots one_shot missed_export }
+    ensures saw_fall { BreaksAlone InSnapshots two_shots saw_fall }
+    ensures one_of_two { BreaksAlone InSnapshots two_shots one_of_two }
+    ensures saw_unpublished { BreaksAlone InComplete one_shot saw_unpublished }
+    ensures untold_observer { BreaksAlone InComplete one_shot untold_observer }
+    ensures unknown_observer { BreaksAlone InComplete one_shot unknown_observer }
+    ensures names_in_order { Legal exports_script names_in_order }
+    ensures report { rendering_of exports_script.names names_in_order ≡ exports_report }
+    ensures well_formed { IsWellFormed exports_script.names names_in_order }
+    ensures numbers_in_order { BreaksAlone InSnapshots exports_script numbers_in_order }
+    ensures told_twice { BreaksAlone InSnapshots exports_script told_twice }
 {}

@@ -2,6 +2,7 @@
 #![tactic(auto)]
 
 mod examples;
+mod exports;
 mod first_run;
 mod journal;
 mod logs;
@@ -11,8 +12,12 @@ mod tests;
 
 pub use examples::{
     lingering_is_told, purges_stand_in_halves, purges_tell_and_drop, releases_wait,
-    spawns_have_seen,
+    snapshots_are_true, spawns_have_seen,
 };
+pub use exports::exports_are_one;
 pub use first_run::first_run_is_as_told;
-pub use logs::{Entry, EntryList, ProcessLog, ProcessLogList, RunLog, Span, SpanList, Who};
+pub use logs::{
+    Entry, EntryList, ExportList, ObserverList, ProcessLog, ProcessLogList, RunLog, Snapshot,
+    SnapshotList, Span, SpanList, Who,
+};
 pub use rendering::render;

@@ -47,9 +47,29 @@ pub struct ProcessLog {
 /// The logs of the processes, by number.
 pub type ProcessLogList = Items<ProcessLog>;
 
-/// What a run did: the journal of its commands, and its processes.
+/// Exported functions, each with the serial of its instance.
+pub type ExportList = Items<(Mfa, u64)>;
+
+/// What an observer saw of a generation: the exported functions of its current instances.
+///
+/// They are in order of the names of their modules, then of their own names, then of their arities; names are compared
+/// by their bytes.
+#[derive(Debug, Drop)]
+pub struct Snapshot {
+    pub generation: u64,
+    pub exports: ExportList,
+}
+
+/// The snapshots of an observer, in order.
+pub type SnapshotList = Items<Snapshot>;
+
+/// The snapshots of each observer, by number.
+pub type ObserverList = Items<SnapshotList>;
+
+/// What a run did: the journal of its commands, its processes, and what its observers saw.
 #[derive(Debug, Drop)]
 pub struct RunLog {
     pub journal: EntryList,
     pub processes: ProcessLogList,
+    pub observers: ObserverList,
 }

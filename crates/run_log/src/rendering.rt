@@ -3,10 +3,13 @@ ghost use Rattle.std.specs.List.{flat_map, join_with_byte};
 ghost use Rattle.std.specs.Fmt.{decimal};
 ghost use Rattle.std.specs.Io.{StartsWith};
 ghost use Rattle.term_core.specs.TermText.{atom_text, term_text};
-ghost use Rattle.run_log.specs.Report.{line_of, mfa_text, call_text, who_text, reference_text, switch_text, cmd_text, limit_text, reply_text, published_text, entry_text, shown_text, span_text, end_text, process_text, processes_text, rendering_of};
+ghost use Rattle.run_log.specs.Report.{line_of, mfa_text, call_text, who_text, reference_text, switch_text, cmd_text, limit_text, reply_text, published_text, entry_text, shown_text, span_text, end_text, process_text, processes_text, export_text, snapshot_text, observer_text, observers_text, rendering_of};
 
 use crate::journal::published_count;
-use crate::logs::{Entry, EntryList, ProcessLog, ProcessLogList, RunLog, Span, SpanList, Who};
+use crate::logs::{
+    Entry, EntryList, ObserverList, ProcessLog, ProcessLogList, RunLog, Snapshot, SnapshotList,
+    Span, SpanList, Who,
+};
 use machine_core::{End, Line, LineList};
 use server_core::{Cmd, Limit, Linger, ModRef, RefList, Reply};
 use term_core::{
@@ -40,6 +43,7 @@ fn write_report(names: &Names, log: &RunLog, out: &mut ByteList) -> Result<(), N
     out.push(b'\n')?;
     write_entries(names, &log.journal, out)?;
     write_processes(names, &log.processes, out)?;
+    write_observers(names, &log.observers, out)?;
     out.extend_from_slice(b"end report\n")
 }
 
@@ -439,4 +443,60 @@ fn write_end(names: &Names, end: End, out: &mut ByteList) -> Result<(), NoMemory
             print_number(serial, out)
         }
     }
+}
+
+fn write_observers(
+    names: &Names,
+    observers: &ObserverList,
+    out: &mut ByteList,
+) -> Result<(), NoMemory>
+    ensures ok { OnOk result (out.new ≡ out.old ++ observers_text names.now 0 observers.now) }
+    ensures kept { StartsWith out.new out.old }
+{
+    for (number, shots) in observers.as_slice().iter().enumerate() {
+        write_observer(names, number as u64, shots, out)?;
+    }
+    Ok(())
+}
+
+fn write_observer(
+    names: &Names,
+    number: u64,
+    shots: &SnapshotList,
+    out: &mut ByteList,
+) -> Result<(), NoMemory>
+    ensures ok { OnOk result (out.new ≡ out.old ++ observer_text names.now number shots.now) }
+    ensures kept { StartsWith out.new out.old }
+{
+    out.extend_from_slice(b"observer ")?;
+    print_number(number, out)?;
+    out.push(b'\n')?;
+    for shot in shots.as_slice() {
+        write_snapshot(names, shot, out)?;
+    }
+    Ok(())
+}
+
+fn write_snapshot(names: &Names, shot: &Snapshot, out: &mut ByteList) -> Result<(), NoMemory>
+    ensures ok { OnOk result (out.new ≡ out.old ++ snapshot_text names.now shot.now) }
+    ensures kept { StartsWith out.new out.old }
+{
+    out.extend_from_slice(b"snapshot ")?;
+    print_number(shot.generation, out)?;
+    out.push(b'\n')?;
+    for export in shot.exports.as_slice() {
+        write_export(names, export.0, export.1, out)?;
+    }
+    Ok(())
+}
+
+fn write_export(names: &Names, to: Mfa, serial: u64, out: &mut ByteList) -> Result<(), NoMemory>
+    ensures ok { OnOk result (out.new ≡ out.old ++ export_text names.now (to, serial)) }
+    ensures kept { StartsWith out.new out.old }
+{
+    out.extend_from_slice(b"export ")?;
+    write_mfa(names, to, out)?;
+    out.push(b' ')?;
+    print_number(serial, out)?;
+    out.push(b'\n')
 }

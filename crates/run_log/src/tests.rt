@@ -69,6 +69,29 @@ end system_limit
 end report
 ";
 
+/// Observers behind a process; the lines are written by hand.
+const OBSERVERS: &str = "beam report 1
+generations 0
+process 0 n:m()
+end normal
+observer 0
+snapshot 0
+snapshot 12
+export m:n/2 1
+export n:m/0 18446744073709551615
+observer 1
+snapshot 3
+export n:m/0 40
+end report
+";
+
+/// The function that is named the other way round.
+const OTHER: Mfa = Mfa {
+    module: N,
+    name: M,
+    arity: 0,
+};
+
 fn two_names(alloc: Global) -> Result<Names, NameFault> {
     let mut names = Names::new(alloc)?;
     names.add(b"m")?;
@@ -300,11 +323,6 @@ fn second_spans(alloc: Global, to: Mfa) -> Result<SpanList, NoMemory> {
 }
 
 fn processes(alloc: Global) -> Result<ProcessLogList, NoMemory> {
-    let other = Mfa {
-        module: N,
-        name: M,
-        arity: 0,
-    };
     let mut logs = ProcessLogList::new(alloc);
     logs.push(ProcessLog {
         target: MAIN,
@@ -313,9 +331,9 @@ fn processes(alloc: Global) -> Result<ProcessLogList, NoMemory> {
         fin: End::Undef(MAIN),
     })?;
     logs.push(ProcessLog {
-        target: other,
+        target: OTHER,
         args: TermList::new(alloc),
-        spans: second_spans(alloc, other)?,
+        spans: second_spans(alloc, OTHER)?,
         fin: End::Killed(3),
     })?;
     for fin in [End::Normal, End::Badarg, End::Badarith, End::SystemLimit] {
@@ -329,6 +347,26 @@ fn processes(alloc: Global) -> Result<ProcessLogList, NoMemory> {
     Ok(logs)
 }
 
+fn snapshot(alloc: Global, generation: u64, seen: &[(Mfa, u64)]) -> Result<Snapshot, NoMemory> {
+    let exports = ExportList::from_slice(alloc, seen)?;
+    Ok(Snapshot {
+        generation,
+        exports,
+    })
+}
+
+fn observers(alloc: Global) -> Result<ObserverList, NoMemory> {
+    let mut first = SnapshotList::new(alloc);
+    first.push(snapshot(alloc, 0, &[])?)?;
+    first.push(snapshot(alloc, 12, &[(MAIN, 1), (OTHER, u64::MAX)])?)?;
+    let mut second = SnapshotList::new(alloc);
+    second.push(snapshot(alloc, 3, &[(OTHER, 40)])?)?;
+    let mut observers = ObserverList::new(alloc);
+    observers.push(first)?;
+    observers.push(second)?;
+    Ok(observers)
+}
+
 #[test]
 fn each_entry_has_its_line(rt: HostRuntime) -> Result<(), Fail> {
     let alloc = rt.alloc();
@@ -339,6 +377,7 @@ fn each_entry_has_its_line(rt: HostRuntime) -> Result<(), Fail> {
     let log = RunLog {
         journal,
         processes: ProcessLogList::new(alloc),
+        observers: ObserverList::new(alloc),
     };
     let mut report = ByteList::new(alloc);
     render(&two_names(alloc)?, &log, &mut report)?;
@@ -352,9 +391,31 @@ fn each_line_and_each_end_is_written(rt: HostRuntime) -> Result<(), Fail> {
     let log = RunLog {
         journal: EntryList::new(alloc),
         processes: processes(alloc)?,
+        observers: ObserverList::new(alloc),
     };
     let mut report = ByteList::new(alloc);
     render(&two_names(alloc)?, &log, &mut report)?;
     assert_eq!(rt; report.as_slice(), PROCESSES.as_bytes());
+    Ok(())
+}
+
+#[test]
+fn each_snapshot_is_written(rt: HostRuntime) -> Result<(), Fail> {
+    let alloc = rt.alloc();
+    let mut processes = ProcessLogList::new(alloc);
+    processes.push(ProcessLog {
+        target: OTHER,
+        args: TermList::new(alloc),
+        spans: SpanList::new(alloc),
+        fin: End::Normal,
+    })?;
+    let log = RunLog {
+        journal: EntryList::new(alloc),
+        processes,
+        observers: observers(alloc)?,
+    };
+    let mut report = ByteList::new(alloc);
+    render(&two_names(alloc)?, &log, &mut report)?;
+    assert_eq!(rt; report.as_slice(), OBSERVERS.as_bytes());
     Ok(())
 }

@@ -1,5 +1,5 @@
 -- The log of the first script computes, and so does what is wrong with the logs beside it.
-use Rattle.std.proofs.Common.{◌≡◌, ℕ, Some, None, [], ◌∷◌, refl, ap, pos, Option, List, arith}
+use Rattle.std.proofs.Common.{◌≡◌, ℕ, Some, None, ◌∷◌, refl, ap, pos, Option, List, arith}
 use Rattle.std.specs.Fmt.{digits}
 use Rattle.term_core.specs.declared.term.Term.TheVariants.{Int}
 use Rattle.script_text.specs.declared.script.ScriptCmd.{ScriptCmd}
@@ -7,11 +7,10 @@ use Rattle.script_text.specs.declared.script.ScriptCmd.TheVariants as script
 use Rattle.server_core.specs.CommandTable.{Outcome}
 use Rattle.machine_core.specs.declared.process.Line.{Line}
 use Rattle.machine_core.specs.declared.process.Line.TheVariants as lines
-use Rattle.machine_core.specs.declared.process.End.TheVariants as ends
 use Rattle.machine_core.specs.Turn.{run_of}
 use Rattle.run_log.specs.Legal.{turns_of}
-use Rattle.run_log.specs.FirstRun.{first_names, first_module, first_target, printed}
-use Rattle.run_log.proofs.FirstLegal.{legal_log}
+use Rattle.run_log.proofs.FirstLegal.{first_lawful}
+use Rattle.run_log.proofs.FirstWellFormed.{first_unnamed, first_well_formed}
 use Rattle.run_log.proofs.first_run.first_run_is_as_told.Goals as goal
 
 -- the first number of these lines
@@ -33,15 +32,22 @@ abbrev generation_of : Option Outcome → ℕ
 generation_of None = 0
 generation_of (Some outcome) = published_in outcome.answer.published
 
--- its one turn computes
+-- as the law of that log says
 pub returns-clause-lawful : goal.returns-clause-lawful
-unfolding turns_of run_of
-returns-clause-lawful c = legal_log first_names first_module first_target [] (printed 1 (pos 3)) ends.Normal refl (refl, refl)
+returns-clause-lawful c = first_lawful
 
 -- the text computes
 pub returns-clause-report : goal.returns-clause-report
 unfolding digits
 returns-clause-report c = refl
+
+-- as the law of that log says
+pub returns-clause-well_formed : goal.returns-clause-well_formed
+returns-clause-well_formed c = first_well_formed
+
+-- m has no name there
+pub returns-clause-unnamed : goal.returns-clause-unnamed
+returns-clause-unnamed c = first_unnamed
 
 -- the turn prints 3
 pub returns-clause-other_number : goal.returns-clause-other_number
