@@ -18,12 +18,15 @@ use Rattle.lap_runner.specs.declared.process_run.Phase.{Phase}
 use Rattle.lap_runner.specs.declared.process_run.Phase.TheVariants.{Waiting, Going, Ended}
 use Rattle.lap_runner.specs.declared.process_run.ProcessRun.{ProcessRun}
 use Rattle.lap_runner.specs.declared.run.Run.{Run}
+use Rattle.lap_runner.specs.declared.observers.ObserverRun.{ObserverRun}
 use Rattle.lap_runner.specs.Answers.{AreHistoriesOf, History}
+use Rattle.lap_runner.specs.Observers.{HaveObserved, shots_of}
 use Rattle.lap_runner.specs.Runs.{HasNoWork, IsEnd, IsOver, IsRun, Rests, StandsIn, done_of, end_of, fin_in, half_of, histories_of, history_of, log_of}
 use Rattle.lap_runner.specs.Steps.{stand_in}
 use Rattle.lap_runner.proofs.AnswersEnd.{lingers_told, purged_unnamed, released_unnamed}
 use Rattle.lap_runner.proofs.Joining.{generations_counted, line_for}
 use Rattle.lap_runner.proofs.Making.{line_text}
+use Rattle.lap_runner.proofs.Observing.{seen_published, seen_true}
 
 -- a process that rests has ended, where its loader is past its spawn
 over_in : (journal : List Entry) (states : ℕ → ServerState) (newest : ServerState) (done number : ℕ) (line : SpawnLine) (p : ProcessRun) (phase : Phase) → line.place < done → Rests phase → StandsIn journal states newest done number line p phase
@@ -82,21 +85,11 @@ module _ (s : Script) (run : Run) (known : IsRun s run) (over : HasNoWork s run)
   process_of_log : (number : ℕ) (log : ProcessLog) → slice_get logs number ≡ Some log → (p : ProcessRun) × ((slice_get run.processes.items number ≡ Some p) × (log_of p ≡ log))
   process_of_log number log h = mapped log_of (slice_get run.processes.items number) log (sym (slice_get-map log_of run.processes.items number) ∙ h)
 
-  spawn_before : SpawnBeforeTurns s (record { journal = run.journal; processes = logs })
-  spawn_before number line log line_is log_is =
-      let p = process_of_log number log log_is in
-      subst (λ (x : ProcessLog). IfSome (first_generation x.spans) (λ g. published_before line.loader line.place run.journal ≤ g)) p.1.1 (over_at number line p.0 line_is p.1.0).was.started
-
   follow_at : (number : ℕ) (p : ProcessRun) → slice_get run.processes.items number ≡ Some p → SpansFollow states (new_process number p.process.target p.process.args) p.spans (end_of p.phase)
   follow_at number p h =
       let line = line_for s run known number p h in
       let o = over_at number line.0 p line.1 h in
       subst (λ x. SpansFollow states x p.spans (end_of p.phase)) (same_start number line.0 (stand_in run.server p).process o.was.target o.was.args) o.follow
-
-  turns_follow : TurnsFollow s (record { journal = run.journal; processes = logs })
-  turns_follow number log log_is =
-      let p = process_of_log number log log_is in
-      subst (λ (x : ProcessLog). SpansFollow states (new_process number x.target x.args) x.spans x.fin) p.1.1 (follow_at number p.0 p.1.0)
 
   known_at : (number : ℕ) (log : ProcessLog) → slice_get logs number ≡ Some log → All (λ span. span.generation ≤ published_count run.journal) log.spans
   known_at number log h =
@@ -106,19 +99,9 @@ module _ (s : Script) (run : Run) (known : IsRun s run) (over : HasNoWork s run)
       subst (λ (x : ProcessLog). All (λ span. span.generation ≤ published_count run.journal) x.spans) p.1.1
       (subst (λ g. All (λ (span : Span). span.generation ≤ g) (p.0).spans) (sym (generations_counted s run known)) (All-from_recursion (λ (span : Span). span.generation ≤ run.server.generation) (p.0).spans o.was.known))
 
-  complete : Complete s (record { journal = run.journal; processes = logs })
-  complete = record {
-    processes = logs_match (spawns_of 0 s.loaders) run.processes.items known.processes (λ n line p a b. let o = over_at n line p a b in record { target = o.was.target; args = o.was.args });
-    turns = all_logs (λ log. length log.spans ≢ 0) logs (λ number log h. let p = process_of_log number log h in subst (λ (x : ProcessLog). length x.spans ≢ 0) p.1.1 (some_spans states (new_process number (p.0).process.target (p.0).process.args) (p.0).spans (end_of (p.0).phase) (follow_at number p.0 p.1.0)));
-    generations = all_logs (λ log. All (λ span. span.generation ≤ published_count run.journal) log.spans) logs known_at;
-  }
-
   -- turns in a row under one generation are one span
   pub all_whole : All (λ log. AreWhole log.spans) logs
   all_whole = all_logs (λ log. AreWhole log.spans) logs (λ number log h. let p = process_of_log number log h in let line = line_for s run known number p.0 p.1.0 in subst (λ (x : ProcessLog). AreWhole x.spans) p.1.1 (over_at number line.0 p.0 line.1 p.1.0).was.whole)
-
-  abbrev the_log : RunLog
-  the_log = record { journal = run.journal; processes = logs }
 
   abbrev histories : List History
   histories = histories_of states run.server run.processes.items
@@ -134,38 +117,63 @@ module _ (s : Script) (run : Run) (known : IsRun s run) (over : HasNoWork s run)
   same_fin Going h = absurd h
   same_fin (Ended fin) h = refl
 
-  -- the history of a process and its log
-  are_histories : AreHistoriesOf s the_log histories
-  are_histories = record {
-    many = length-map run.processes.items (λ p. history_of states (stand_in run.server p)) ∙ sym (length-map run.processes.items log_of);
-    marks = λ number h log h_is log_is.
-        let p = process_of_history number h h_is in
-        let q = process_of_log number log log_is in
-        let same : p.0 ≡ q.0 = same_Some p.0 q.0 (sym p.1.0 ∙ q.1.0) in
-        ap (λ (x : History). x.marks) (sym p.1.1)
-        ∙ same_marks number p.0 p.1.0
-        ∙ ap (λ (x : ProcessRun). marks_of states (new_process number x.process.target x.process.args) x.spans) same
-        ∙ ap (λ (x : ProcessLog). marks_of states (new_process number x.target x.args) x.spans) q.1.1;
-    fin = λ number h log h_is log_is.
-        let p = process_of_history number h h_is in
-        let q = process_of_log number log log_is in
-        let same : p.0 ≡ q.0 = same_Some p.0 q.0 (sym p.1.0 ∙ q.1.0) in
-        ap (λ (x : History). x.fin) (sym p.1.1) ∙ same_fin p.0.phase (all_ended number p.0 p.1.0) ∙ ap (λ (x : ProcessRun). Some (end_of x.phase)) same ∙ ap (λ (x : ProcessLog). Some x.fin) q.1.1;
-  }
+  -- with what the observers saw after the last look
+  module _ (observers : List ObserverRun) (observed : HaveObserved s run.journal observers) (all_taken : (k : ℕ) (o : ObserverRun) → slice_get observers k ≡ Some o → o.left ≡ 0) where
+    abbrev the_log : RunLog
+    the_log = record { journal = run.journal; processes = logs; observers = map shots_of observers }
 
-  -- what was done is lawful
-  pub run_legal : Legal s (record { journal = run.journal; processes = logs })
-  run_legal = record {
-    replays = known.replays;
-    loaders_in_order = record {
-      commands = λ loader. known.in_order loader ∙ take_all (done_of run.loaders.items loader) (commands_of s loader) (omega (arith, over.loaders loader));
-      purges = subst (λ p. PurgesGo s.modules empty_state None run.journal (option_map half_of p)) over.purging known.purges;
-    };
-    spawn_before_turns = spawn_before;
-    turns_follow = turns_follow;
-    released_unnamed = released_unnamed s the_log histories known.answers.stand are_histories;
-    lingers_told = lingers_told s the_log histories known.answers.stand are_histories;
-    purged_unnamed = purged_unnamed s the_log histories known.answers.stand are_histories;
-    nothing_retired = ap (λ (x : ServerState). x.retired) (sym known.server) ∙ over.retired;
-    complete = complete;
-  }
+    spawn_before : SpawnBeforeTurns s the_log
+    spawn_before number line log line_is log_is =
+        let p = process_of_log number log log_is in
+        subst (λ (x : ProcessLog). IfSome (first_generation x.spans) (λ g. published_before line.loader line.place run.journal ≤ g)) p.1.1 (over_at number line p.0 line_is p.1.0).was.started
+
+    turns_follow : TurnsFollow s the_log
+    turns_follow number log log_is =
+        let p = process_of_log number log log_is in
+        subst (λ (x : ProcessLog). SpansFollow states (new_process number x.target x.args) x.spans x.fin) p.1.1 (follow_at number p.0 p.1.0)
+
+    complete : Complete s the_log
+    complete = record {
+      processes = logs_match (spawns_of 0 s.loaders) run.processes.items known.processes (λ n line p a b. let o = over_at n line p a b in record { target = o.was.target; args = o.was.args });
+      turns = all_logs (λ log. length log.spans ≢ 0) logs (λ number log h. let p = process_of_log number log h in subst (λ (x : ProcessLog). length x.spans ≢ 0) p.1.1 (some_spans states (new_process number (p.0).process.target (p.0).process.args) (p.0).spans (end_of (p.0).phase) (follow_at number p.0 p.1.0)));
+      generations = all_logs (λ log. All (λ span. span.generation ≤ published_count run.journal) log.spans) logs known_at;
+      observers = length-map observers shots_of ∙ observed.many;
+      snapshots = seen_published s run.journal observers observed (published_count run.journal) (omega (arith, generations_counted s run known, ap (λ (x : ServerState). x.generation) known.server));
+    }
+
+    -- the history of a process and its log
+    are_histories : AreHistoriesOf s the_log histories
+    are_histories = record {
+      many = length-map run.processes.items (λ p. history_of states (stand_in run.server p)) ∙ sym (length-map run.processes.items log_of);
+      marks = λ number h log h_is log_is.
+          let p = process_of_history number h h_is in
+          let q = process_of_log number log log_is in
+          let same : p.0 ≡ q.0 = same_Some p.0 q.0 (sym p.1.0 ∙ q.1.0) in
+          ap (λ (x : History). x.marks) (sym p.1.1)
+          ∙ same_marks number p.0 p.1.0
+          ∙ ap (λ (x : ProcessRun). marks_of states (new_process number x.process.target x.process.args) x.spans) same
+          ∙ ap (λ (x : ProcessLog). marks_of states (new_process number x.target x.args) x.spans) q.1.1;
+      fin = λ number h log h_is log_is.
+          let p = process_of_history number h h_is in
+          let q = process_of_log number log log_is in
+          let same : p.0 ≡ q.0 = same_Some p.0 q.0 (sym p.1.0 ∙ q.1.0) in
+          ap (λ (x : History). x.fin) (sym p.1.1) ∙ same_fin p.0.phase (all_ended number p.0 p.1.0) ∙ ap (λ (x : ProcessRun). Some (end_of x.phase)) same ∙ ap (λ (x : ProcessLog). Some x.fin) q.1.1;
+    }
+
+    -- what was done is lawful
+    pub run_legal : Legal s the_log
+    run_legal = record {
+      replays = known.replays;
+      loaders_in_order = record {
+        commands = λ loader. known.in_order loader ∙ take_all (done_of run.loaders.items loader) (commands_of s loader) (omega (arith, over.loaders loader));
+        purges = subst (λ p. PurgesGo s.modules empty_state None run.journal (option_map half_of p)) over.purging known.purges;
+      };
+      spawn_before_turns = spawn_before;
+      turns_follow = turns_follow;
+      released_unnamed = released_unnamed s the_log histories known.answers.stand are_histories;
+      lingers_told = lingers_told s the_log histories known.answers.stand are_histories;
+      purged_unnamed = purged_unnamed s the_log histories known.answers.stand are_histories;
+      snapshots_true = seen_true s run.journal observers observed logs all_taken;
+      nothing_retired = ap (λ (x : ServerState). x.retired) (sym known.server) ∙ over.retired;
+      complete = complete;
+    }

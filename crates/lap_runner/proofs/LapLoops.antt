@@ -20,10 +20,12 @@ use Rattle.lap_runner.specs.declared.process_run.ProcessRun.{ProcessRun}
 use Rattle.lap_runner.specs.declared.run.LoaderRun.{LoaderRun}
 use Rattle.lap_runner.specs.declared.run.Purging.{Purging}
 use Rattle.lap_runner.specs.declared.run.Run.{Run}
+use Rattle.lap_runner.specs.Observers.{KeepsGenerations}
 use Rattle.lap_runner.specs.Looks.{closing, goes_meanwhile, next_cmd, opening, some_killed, some_stands, stands_in, unread}
 use Rattle.lap_runner.specs.Runs.{AreIdle, all_made, one_goes, DoomsJust, IsReady, IsReadyIn, IsRun, PurgeWaits, Rests, StandsIn, done_of, fin_in, one_if, turns_left, work_left}
 use Rattle.lap_runner.specs.Steps.{HadItsTurn, HasMade, HasWaited, LapOf, stand_in}
 use Rattle.lap_runner.proofs.Enabled.{loader_there}
+use Rattle.lap_runner.proofs.Generations.{generations_more, generations_same}
 use Rattle.lap_runner.proofs.Frames.{stands_unread}
 use Rattle.lap_runner.proofs.Joining.{frames_over, line_for, stands_at}
 use Rattle.lap_runner.proofs.Lists.{SetAt, get_within, here, set_at, set_there, there}
@@ -130,9 +132,10 @@ pub record LoadersSoFar (s : Script) (before now : Run) (count : ℕ) (made : Bo
   pub run : IsRun s now
   pub less : work_left s now + one_if made ≤ work_left s before
   pub done : made ≡ false → (loader : ℕ) → loader < count → IsDone s now loader
+  pub kept : KeepsGenerations s.modules before.journal now.journal
 
 pub loaders_begin : (s : Script) (before : Run) → IsRun s before → LoadersSoFar s before before 0 false
-loaders_begin s before known = record { run = known; less = omega arith; done = λ e k h. absurd (omega (arith, h)) }
+loaders_begin s before known = record { run = known; less = omega arith; done = λ e k h. absurd (omega (arith, h)); kept = generations_same s.modules before.journal }
 
 or_false : (a : Bool) → (a || false) ≡ a
 or_false true = refl
@@ -151,7 +154,7 @@ module _ (s : Script) (before now : Run) (count : ℕ) (made : Bool) (so_far : L
 
   -- a loader with nothing to make had its part
   pub loader_idle : IsDone s now count → LoadersSoFar s before now (count + 1) made
-  loader_idle none = record { run = so_far.run; less = so_far.less; done = λ e k h. idle_at none e k (cases_lt k count) h }
+  loader_idle none = record { run = so_far.run; less = so_far.less; done = λ e k h. idle_at none e k (cases_lt k count) h; kept = so_far.kept }
 
   -- a loader made what its next command comes to
   pub loader_made : (cmd : ScriptCmd) (after : Run) → slice_get (commands_of s count) (done_of now.loaders.items count) ≡ Some cmd → HasMade s count cmd now after → LoadersSoFar s before after (count + 1) (made || true)
@@ -161,6 +164,7 @@ module _ (s : Script) (before now : Run) (count : ℕ) (made : Bool) (so_far : L
         run = made_keeps s count cmd now after so_far.run next has;
         less = one_more made (work_left s before) (work_left s now) (work_left s after) so_far.less (made_less s count cmd now after so_far.run next l.0 l.1 has);
         done = λ e. absurd (true≢false (sym (or_right made true refl) ∙ e));
+        kept = generations_more s.modules before.journal now.journal after.journal has.joined.entry so_far.kept has.joined.journal;
       }
 
   -- a loader waited

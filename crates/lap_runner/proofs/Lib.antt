@@ -1,4 +1,6 @@
 mod Lists
+mod Generations
+mod Observing
 mod AnswersLists
 mod AnswersTable
 mod AnswersMarks

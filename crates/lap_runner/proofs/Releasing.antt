@@ -17,6 +17,7 @@ use Rattle.lap_runner.specs.Looks.{AreNamed, AreNamedBelow, IsLeastFree, some_na
 use Rattle.lap_runner.specs.Runs.{DoomsJust, HasReleased, IsRun, half_of}
 use Rattle.lap_runner.specs.Steps.{HasJoined}
 use Rattle.lap_runner.proofs.Dooms.{doomed_kept, versions_kept}
+use Rattle.lap_runner.proofs.Generations.{generations_more, generations_same}
 use Rattle.lap_runner.proofs.Making.{meanwhile_dooms, meanwhile_stands, stayed_keeps}
 
 few_or : (b : Bool) (x : ℕ) (xs ys : List ℕ) → length ys ≤ length xs → length (cond (not b) (x ∷ ys) ys) ≤ length (x ∷ xs)
@@ -86,6 +87,7 @@ module _ (s : Script) (before now : Run) (so_far : HasReleased s before now) (se
     purging = so_far.purging;
     loaders = so_far.loaders;
     processes = so_far.processes;
+    kept = generations_more s.modules before.journal now.journal journal joined.entry so_far.kept joined.journal;
   }
 
   left_are : t.retired ≡ without_number serial now.server.retired
@@ -103,7 +105,7 @@ module _ (s : Script) (before now : Run) (so_far : HasReleased s before now) (se
 
 -- before the first release
 pub released_none : (s : Script) (run : Run) → IsRun s run → HasReleased s run run
-released_none s run known = record { run = known; purging = refl; loaders = refl; processes = refl }
+released_none s run known = record { run = known; purging = refl; loaders = refl; processes = refl; kept = generations_same s.modules run.journal }
 
 -- before the first release none is below the first
 pub below_none : (serials : List ℕ) (ps : List ProcessRun) → AreNamedBelow 0 serials ps

@@ -31,6 +31,7 @@ use Rattle.lap_runner.specs.declared.run.LoaderRun.{LoaderRun}
 use Rattle.lap_runner.specs.declared.run.Purging.{Purging}
 use Rattle.lap_runner.specs.declared.run.Run.{Run}
 use Rattle.lap_runner.specs.Answers.{AreKnown, History}
+use Rattle.lap_runner.specs.Observers.{KeepsGenerations}
 use Rattle.lap_runner.specs.Steps.{Stand, stand_in}
 
 -- how many spawns stand among these commands
@@ -179,6 +180,7 @@ pub record HasReleased (s : Script) (before after : Run) : Type 0 where
   pub purging : after.purging ≡ before.purging
   pub loaders : after.loaders.items ≡ before.loaders.items
   pub processes : after.processes.items ≡ before.processes.items
+  pub kept : KeepsGenerations s.modules before.journal after.journal
 
 -- each loader has made all its commands, no purge waits, no process goes on, and nothing waits for its release
 pub record HasNoWork (s : Script) (run : Run) : Type 0 where

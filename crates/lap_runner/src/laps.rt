@@ -1,17 +1,20 @@
-ghost use Rattle.std.specs.Prelude.{All, ◌≡◌, ◌+◌, ◌≤◌, ◌<◌, ℕ, length, map, slice_get, Some, sum_by, IfOk, IfSome, IsSomeAnd, IsTrue, true, false};
+ghost use Rattle.std.specs.Prelude.{All, ◌≡◌, ◌+◌, ◌≤◌, ◌<◌, ℕ, length, map, slice_get, Some, sum_by, IfOk, OnOk, IfSome, IsSomeAnd, IsTrue, true, false};
 ghost use Rattle.script_text.specs.Sound.{IsScript};
 ghost use Rattle.run_log.specs.Legal.{Legal};
 ghost use Rattle.run_log.specs.WholeSpans.{AreWhole};
+ghost use Rattle.lap_runner.specs.Observers.{KeepsGenerations};
 ghost use Rattle.lap_runner.specs.Runs.{AreIdle, HasNoWork, IsEnd, IsReadyIn, IsRun, Rests, log_of, one_if, turns_left, work_left};
 ghost use Rattle.lap_runner.specs.Steps.{LapOf};
 
 use crate::commands::make_next;
+use crate::observers::{observe, observe_rest, observer_logs, waiting_observers};
 use crate::process_run::{Phase, ProcessRun, log_of, take_turn};
 use crate::releases::release_areas;
 use crate::run::{Run, begin};
 use run_log::{ProcessLogList, RunLog};
 use script_text::Script;
 use server_core::Server;
+use snapshots::exported_functions;
 use std::alloc::Global;
 use term_core::NoMemory;
 
@@ -21,8 +24,9 @@ use term_core::NoMemory;
 /// spawned and has not ended has one turn under the newest generation, and then each area that was dropped and that no process
 /// names is released. A purge is a doom in one lap, and goes on in the first later lap at whose beginning no process stands in
 /// what is purged; meanwhile the other loaders do only `spawn` and `check_old`. A process is numbered by the place of its spawn in
-/// the text. The run ends with a lap in which no command was made and no process had a turn. It takes memory for the server, the
-/// processes and the log.
+/// the text. The run ends with a lap in which no command was made and no process had a turn. After each lap before it, each
+/// observer that lacks snapshots takes one of the newest generation, and after it all that it lacks. It takes memory for the
+/// server, the processes and the log.
 ///
 /// Rule: the manual page `erlang`, on `purge_module`; laps are this project's own.
 pub fn run_laps(alloc: Global, script: &Script) -> Result<RunLog, NoMemory>
@@ -33,19 +37,28 @@ pub fn run_laps(alloc: Global, script: &Script) -> Result<RunLog, NoMemory>
     // Turns of a process in a row under one generation are one span.
     ensures whole { IfOk result (λ log. All (λ process. AreWhole process.spans) log.processes) }
 {
+    let functions = exported_functions(alloc, script)?;
+    let mut observers = waiting_observers(alloc, script.observers.as_slice())?;
     let mut run = begin(alloc, script)?;
     'laps: loop {
         if !lap(alloc, script, &mut run)? {
             break;
         }
+        observe(alloc, &run.server, &functions, &mut observers)?;
     }
+    observe_rest(alloc, &run.server, &functions, &mut observers)?;
     let Run {
         journal,
         processes,
         ..
     } = run;
     let processes = process_logs(alloc, processes)?;
-    Ok(RunLog { journal, processes })
+    let observers = observer_logs(alloc, observers)?;
+    Ok(RunLog {
+        journal,
+        processes,
+        observers,
+    })
 }
 
 /// One lap. Answers whether something was done in it.
@@ -55,6 +68,7 @@ fn lap(alloc: Global, script: &Script, run: &mut Run) -> Result<bool, NoMemory>
     ensures run { IfOk result (λ _. IsRun script.now run.new) }
     ensures less { IfOk result (λ busy. work_left script.now run.new + one_if busy ≤ work_left script.now run.old) }
     ensures over { IfOk result (λ busy. busy ≡ false → HasNoWork script.now run.new) }
+    ensures kept { OnOk result (KeepsGenerations script.now.modules run.old.journal run.new.journal) }
 {
     let made = loaders_lap(alloc, script, run)?;
     let turned = processes_lap(alloc, &run.server, &mut run.processes)?;
@@ -69,6 +83,7 @@ fn loaders_lap(alloc: Global, script: &Script, run: &mut Run) -> Result<bool, No
     ensures run { IfOk result (λ _. IsRun script.now run.new) }
     ensures less { IfOk result (λ made. work_left script.now run.new + one_if made ≤ work_left script.now run.old) }
     ensures idle { IfOk result (λ made. made ≡ false → AreIdle script.now run.new) }
+    ensures kept { OnOk result (KeepsGenerations script.now.modules run.old.journal run.new.journal) }
 {
     let mut made = false;
     for (number, commands) in script.loaders.as_slice().iter().enumerate() {

@@ -4,6 +4,7 @@
 mod commands;
 mod entries;
 mod laps;
+mod observers;
 mod process_run;
 mod purges;
 mod releases;

@@ -206,6 +206,63 @@ end normal
 end report
 ";
 
+/// Two observers look on at two loads: one takes one snapshot, the other one three.
+const TWO_OBSERVERS: &str = "beam script 1
+module m.1
+export main/0
+print 1
+local help/0
+end
+module m.2
+export main/1
+export main/0
+export also/0
+end
+observer 1
+observer 3
+loader
+load m.1
+load m.2
+go
+";
+
+/// There is a lap for each load, and a third one in which nothing is done: the second observer takes its last snapshot after
+/// it. The first observer has its one snapshot after the first lap.
+const TWO_OBSERVERS_REPORT: &str = "beam report 1
+generations 2
+entry L0 load m.1 = ok @1
+entry L0 load m.2 = ok @2
+observer 0
+snapshot 1
+export m:main/0 1
+observer 1
+snapshot 1
+export m:main/0 1
+snapshot 2
+export m:also/0 2
+export m:main/0 2
+export m:main/1 2
+snapshot 2
+export m:also/0 2
+export m:main/0 2
+export m:main/1 2
+end report
+";
+
+/// An observer of a run without commands sees generation 0, which exports nothing.
+const NOTHING_DONE: &str = "beam script 1
+observer 2
+go
+";
+
+const NOTHING_DONE_REPORT: &str = "beam report 1
+generations 0
+observer 0
+snapshot 0
+snapshot 0
+end report
+";
+
 #[test]
 fn runs_have_these_reports(rt: HostRuntime) -> Result<(), Fail> {
     let alloc = rt.alloc();
@@ -214,6 +271,8 @@ fn runs_have_these_reports(rt: HostRuntime) -> Result<(), Fail> {
         (KEY_ERASED, KEY_ERASED_REPORT),
         (ONE_LINGERS, ONE_LINGERS_REPORT),
         (ONE_WAITS, ONE_WAITS_REPORT),
+        (TWO_OBSERVERS, TWO_OBSERVERS_REPORT),
+        (NOTHING_DONE, NOTHING_DONE_REPORT),
     ];
     for (script, report) in cases {
         let script = read_script(alloc, script.as_bytes())?;
