@@ -1,0 +1,17 @@
+pub mod Pairs
+pub mod WordLaws
+pub mod Items
+pub mod TermLaws
+pub mod CommandLaws
+pub mod ReplyLaws
+pub mod LineBytes
+pub mod EntryLaws
+pub mod LineLaws
+pub mod RenderedLines
+pub mod WholeLogs
+pub mod Parsed
+pub mod LastCuts
+pub mod ReadingLoops
+pub mod SoFar
+pub mod Wholes
+pub mod BytesOn

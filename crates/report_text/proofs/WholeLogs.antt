@@ -1,0 +1,201 @@
+-- The lines of a log are taken, one after another, and leave that log.
+use Rattle.std.proofs.Common.{◌≡◌, ◌≢◌, ℕ, ◌+◌, ◌-◌, ◌<◌, ◌≤◌, Bool, true, false, cond, ◌==◌, ◌&&◌, not, nat_lt, List, [], ◌∷◌, ◌++◌, length, Option, Some, None, is_some, IfSome, refl, sym, ap, ◌∙◌, subst, arith, append_assoc, append-nil, length-append}
+use Rattle.std.specs.Prelude.{map}
+use Rattle.std.specs.List.{AllByRecursion, flat_map}
+use Rattle.std.proofs.lemmas.Bool.{and_from}
+use Rattle.std.proofs.lemmas.Bool.Decides.{nat_tests, Decides-eqb}
+use Rattle.std.proofs.lemmas.List.Sums.{sum-map, sum_by-cons}
+use Rattle.term_core.specs.declared.atom.Mfa.{Mfa}
+use Rattle.machine_core.specs.declared.process.Line.{Line}
+use Rattle.machine_core.specs.declared.process.End.{End}
+use Rattle.machine_core.specs.declared.process.End.TheVariants.{Normal}
+use Rattle.mod_text.specs.LineReading.{◌>>=◌}
+use Rattle.mod_text.proofs.Options.{some, some_is, bind_some, bind_at, passed, failed}
+use Rattle.run_log.specs.declared.logs.Entry.{Entry}
+use Rattle.run_log.specs.declared.logs.Span.{Span}
+use Rattle.run_log.specs.declared.logs.ProcessLog.{ProcessLog}
+use Rattle.run_log.specs.declared.logs.Snapshot.{Snapshot}
+use Rattle.run_log.specs.declared.logs.RunLog.{RunLog}
+use Rattle.run_log.specs.Journal.{publishes, published_count}
+use Rattle.run_log.specs.WholeSpans.{AreApart, AreWhole}
+use Rattle.report_text.specs.declared.line.ReportLine.{ReportLine}
+use Rattle.report_text.specs.declared.line.ReportLine.TheVariants as lines
+use Rattle.report_text.specs.declared.state.Stage.{Stage}
+use Rattle.report_text.specs.declared.state.Stage.TheVariants.{Head, Count, Entries, Processes, Process, Observer, Done}
+use Rattle.report_text.specs.declared.state.ReportState.{ReportState}
+use Rattle.report_text.specs.ReportLine.{span_lines, process_lines, processes_lines, export_line, snapshot_lines, observer_lines, observers_lines, log_lines}
+use Rattle.report_text.specs.Taking.{at, empty_log, opening, count_after, with_entry, may_begin, begun, spans_with, spans_closed, may_follow, with_line, ended, with_process, shots_with, with_observer, observers_closed, with_export, taken, all_taken}
+
+first_step : (o : Option ReportState) (xs ys : List ReportLine) → ((next : ReportState) → all_taken next (xs ++ ys) ≡ (all_taken next xs >>= λ t. all_taken t ys)) → (o >>= λ next. all_taken next (xs ++ ys)) ≡ ((o >>= λ next. all_taken next xs) >>= λ t. all_taken t ys)
+first_step None xs ys more = refl
+first_step (Some next) xs ys more = more next
+
+pub all_taken-append : (s : ReportState) (xs ys : List ReportLine) → all_taken s (xs ++ ys) ≡ (all_taken s xs >>= λ t. all_taken t ys)
+all_taken-append s [] ys = refl
+all_taken-append s (x ∷ xs) ys = first_step (taken s x) xs ys (λ next. all_taken-append next xs ys)
+
+-- ---- entries
+
+pub count-cons : (e : Entry) (es : List Entry) → published_count (e ∷ es) ≡ publishes e + published_count es
+count-cons e es = sum-map publishes (e ∷ es) ∙ sum_by-cons publishes e es ∙ ap (λ n. publishes e + n) (sym (sum-map publishes es))
+
+-- how many generations an entry with this publishes
+abbrev if_published : Option ℕ → ℕ
+if_published p = cond (is_some p) 1 0
+
+no_zero : (left more : ℕ) → left ≡ 1 + more → (left == 0) ≡ false
+no_zero left more e = grind (arith, nat_tests)
+
+count_at : (left : ℕ) (p : Option ℕ) (more : ℕ) → left ≡ if_published p + more → count_after left p ≡ Some more
+count_at left None more e = ap (λ n. some n) (omega (arith, e))
+count_at left (Some g) more e = failed (left == 0) None (some (left - 1)) (no_zero left more e) ∙ ap (λ n. some n) (omega (arith, e))
+
+entry_taken_at : (log : RunLog) (left more : ℕ) (e : Entry) → left ≡ publishes e + more → taken (at log (Entries left)) (lines.Entry e) ≡ Some (at (with_entry log e) (Entries more))
+entry_taken_at log left more e h = bind_at (count_after left e.published) (λ n. Some (at (with_entry log e) (Entries n))) more (some (at (with_entry log e) (Entries more))) (count_at left e.published more h) refl
+
+-- a log with these entries too
+abbrev with_entries : RunLog → List Entry → RunLog
+with_entries log es = record log { journal = log.journal ++ es }
+
+entries_are : (log : RunLog) (left more : ℕ) (es : List Entry) (rest : List ReportLine) → left ≡ published_count es + more → all_taken (at log (Entries left)) (map (λ e. lines.Entry e) es ++ rest) ≡ all_taken (at (with_entries log es) (Entries more)) rest
+entries_are log left more [] rest h =
+    let none : published_count [] ≡ 0 = refl in
+    let same : left ≡ more = omega (arith, h, none) in
+    ap (λ n. all_taken (at log (Entries n)) rest) same ∙ ap (λ es. all_taken (at (record log { journal = es }) (Entries more)) rest) (sym (append-nil log.journal))
+entries_are log left more (e ∷ es) rest h =
+    let count = count-cons e es in
+    bind_at (taken (at log (Entries left)) (lines.Entry e)) (λ next. all_taken next (map (λ e. lines.Entry e) es ++ rest)) (at (with_entry log e) (Entries (published_count es + more))) (all_taken (at (with_entries log (e ∷ es)) (Entries more)) rest)
+    (entry_taken_at log left (published_count es + more) e (omega (arith, h, count)))
+    (entries_are (with_entry log e) (published_count es + more) more es rest refl
+    ∙ ap (λ js. all_taken (at (record log { journal = js }) (Entries more)) rest) (append_assoc log.journal (e ∷ []) es))
+
+-- ---- processes
+
+lines_are : (log : RunLog) (process : ProcessLog) (span : Span) (made : List Line) (rest : List ReportLine) → all_taken (at log (Process process (Some span))) (map (λ l. lines.Shown l) made ++ rest) ≡ all_taken (at log (Process process (Some (record span { lines = span.lines ++ made })))) rest
+lines_are log process span [] rest = ap (λ ls. all_taken (at log (Process process (Some (record span { lines = ls })))) rest) (sym (append-nil span.lines))
+lines_are log process span (l ∷ made) rest =
+    lines_are log process (with_line span l) made rest ∙ ap (λ ls. all_taken (at log (Process process (Some (record span { lines = ls })))) rest) (append_assoc span.lines (l ∷ []) made)
+
+-- spans behind the one that went on
+abbrev AreBehind : Option Span → List Span → Type 0
+AreBehind None spans = AreApart spans
+AreBehind (Some span) spans = AreApart (span ∷ spans)
+
+positive : (n : ℕ) → 0 < n → nat_lt 0 n ≡ true
+positive n h = grind (arith, nat_tests)
+
+differs : (a b : ℕ) → a ≢ b → not (a == b) ≡ true
+differs a b h = grind (arith, nat_tests)
+
+follows : (going : Option Span) (span : Span) (spans : List Span) → 0 < span.turns → AreBehind going (span ∷ spans) → may_follow going span.generation span.turns ≡ true
+follows None span spans h apart = positive span.turns h
+follows (Some before) span spans h apart = and_from (nat_lt 0 span.turns) (not (before.generation == span.generation)) (positive span.turns h) (differs before.generation span.generation apart.0)
+
+behind_it : (going : Option Span) (span : Span) (spans : List Span) → AreBehind going (span ∷ spans) → AreApart (span ∷ spans)
+behind_it None span spans apart = apart
+behind_it (Some before) span spans apart = apart.1
+
+span_begins : (log : RunLog) (process : ProcessLog) (going : Option Span) (span : Span) → may_follow going span.generation span.turns ≡ true → taken (at log (Process process going)) (lines.Span span.generation span.turns) ≡ Some (at log (Process (spans_closed process going) (Some (record { generation = span.generation; turns = span.turns; lines = [] }))))
+span_begins log process going span h = passed (may_follow going span.generation span.turns) (some (at log (Process (spans_closed process going) (Some (record { generation = span.generation; turns = span.turns; lines = [] }))))) None h
+
+regroup : {X : Type 0} (a b c : List X) → (a ++ b) ++ c ≡ a ++ (b ++ c)
+regroup a b c = append_assoc a b c
+
+-- the process with these spans too, ended so
+abbrev all_spans : ProcessLog → Option Span → List Span → End → ProcessLog
+all_spans process going spans fin = record process { spans = spans_with process.spans going ++ spans; fin = fin }
+
+spans_are : (log : RunLog) (process : ProcessLog) (going : Option Span) (spans : List Span) (fin : End) (rest : List ReportLine) → AllByRecursion (λ span. 0 < span.turns) spans → AreBehind going spans → all_taken (at log (Process process going)) (flat_map span_lines spans ++ lines.End fin ∷ rest) ≡ all_taken (at (with_process log (all_spans process going spans fin)) Processes) rest
+spans_are log process going [] fin rest turns apart = ap (λ ss. all_taken (at (with_process log (record process { spans = ss; fin = fin })) Processes) rest) (sym (append-nil (spans_with process.spans going)))
+spans_are log process going (span ∷ spans) fin rest turns apart =
+    let more = flat_map span_lines spans ++ lines.End fin ∷ rest in
+    let shown = map (λ l. lines.Shown l) span.lines in
+    let bare : Span = record { generation = span.generation; turns = span.turns; lines = [] } in
+    ap (λ ls. all_taken (at log (Process process going)) (lines.Span span.generation span.turns ∷ ls)) (regroup shown (flat_map span_lines spans) (lines.End fin ∷ rest))
+    ∙ bind_at (taken (at log (Process process going)) (lines.Span span.generation span.turns)) (λ next. all_taken next (shown ++ more)) (at log (Process (spans_closed process going) (Some bare))) (all_taken (at log (Process (spans_closed process going) (Some span))) more)
+    (span_begins log process going span (follows going span spans turns.0 apart))
+    (lines_are log (spans_closed process going) bare span.lines more)
+    ∙ spans_are log (spans_closed process going) (Some span) spans fin rest turns.1 (behind_it going span spans apart)
+    ∙ ap (λ ss. all_taken (at (with_process log (record process { spans = ss; fin = fin })) Processes) rest) (append_assoc (spans_with process.spans going) (span ∷ []) spans)
+
+begins : (log : RunLog) (stage : Stage) (number : ℕ) (process : ProcessLog) → may_begin stage ≡ true → number ≡ length log.processes → taken (at log stage) (lines.Process number process.target process.args) ≡ Some (at log (Process (begun process.target process.args) None))
+begins log stage number process h e =
+    passed (may_begin stage) _ None h ∙ passed (number == length log.processes) (some (at log (Process (begun process.target process.args) None))) None ((Decides-eqb number (length log.processes)).1 e)
+
+process_is : (log : RunLog) (stage : Stage) (number : ℕ) (process : ProcessLog) (rest : List ReportLine) → may_begin stage ≡ true → number ≡ length log.processes → AreWhole process.spans → all_taken (at log stage) (process_lines number process ++ rest) ≡ all_taken (at (with_process log process) Processes) rest
+process_is log stage number process rest h e whole =
+    bind_at (taken (at log stage) (lines.Process number process.target process.args)) (λ next. all_taken next ((flat_map span_lines process.spans ++ lines.End process.fin ∷ []) ++ rest)) (at log (Process (begun process.target process.args) None)) (all_taken (at (with_process log process) Processes) rest)
+    (begins log stage number process h e)
+    (ap (all_taken (at log (Process (begun process.target process.args) None))) (regroup (flat_map span_lines process.spans) (lines.End process.fin ∷ []) rest)
+    ∙ spans_are log (begun process.target process.args) None process.spans process.fin rest whole.turns whole.apart)
+
+abbrev with_processes : RunLog → List ProcessLog → RunLog
+with_processes log ps = record log { processes = log.processes ++ ps }
+
+processes_are : (log : RunLog) (stage : Stage) (number : ℕ) (ps : List ProcessLog) (rest : List ReportLine) (r : Option ReportState) → may_begin stage ≡ true → number ≡ length log.processes → AllByRecursion (λ p. AreWhole p.spans) ps → ((last : Stage) → may_begin last ≡ true → all_taken (at (with_processes log ps) last) rest ≡ r) → all_taken (at log stage) (processes_lines number ps ++ rest) ≡ r
+processes_are log stage number [] rest r h e whole more = ap (λ ps. all_taken (at (record log { processes = ps }) stage) rest) (sym (append-nil log.processes)) ∙ more stage h
+processes_are log stage number (p ∷ ps) rest r h e whole more =
+    let longer = length-append log.processes (p ∷ []) in
+    ap (all_taken (at log stage)) (regroup (process_lines number p) (processes_lines (number + 1) ps) rest)
+    ∙ process_is log stage number p (processes_lines (number + 1) ps ++ rest) h e whole.0
+    ∙ processes_are (with_process log p) Processes (number + 1) ps rest r refl (omega (arith, e, longer)) whole.1
+    (λ last k. ap (λ qs. all_taken (at (record log { processes = qs }) last) rest) (append_assoc log.processes (p ∷ []) ps) ∙ more last k)
+
+-- ---- observers
+
+exports_are : (log : RunLog) (shots : List Snapshot) (shot : Snapshot) (exports : List (Mfa × ℕ)) (rest : List ReportLine) → all_taken (at log (Observer shots (Some shot))) (map export_line exports ++ rest) ≡ all_taken (at log (Observer shots (Some (record shot { exports = shot.exports ++ exports })))) rest
+exports_are log shots shot [] rest = ap (λ es. all_taken (at log (Observer shots (Some (record shot { exports = es })))) rest) (sym (append-nil shot.exports))
+exports_are log shots shot (x ∷ exports) rest =
+    exports_are log shots (with_export shot x.0 x.1) exports rest ∙ ap (λ es. all_taken (at log (Observer shots (Some (record shot { exports = es })))) rest) (append_assoc shot.exports (x ∷ []) exports)
+
+shots_are : (log : RunLog) (shots : List Snapshot) (going : Option Snapshot) (more : List Snapshot) (rest : List ReportLine) (r : Option ReportState) → ((ss : List Snapshot) (g : Option Snapshot) → shots_with ss g ≡ shots_with shots going ++ more → all_taken (at log (Observer ss g)) rest ≡ r) → all_taken (at log (Observer shots going)) (flat_map snapshot_lines more ++ rest) ≡ r
+shots_are log shots going [] rest r k = k shots going (sym (append-nil (shots_with shots going)))
+shots_are log shots going (shot ∷ more) rest r k =
+    let later = flat_map snapshot_lines more ++ rest in
+    ap (λ ls. all_taken (at log (Observer shots going)) (lines.Snapshot shot.generation ∷ ls)) (regroup (map export_line shot.exports) (flat_map snapshot_lines more) rest)
+    ∙ exports_are log (shots_with shots going) (record { generation = shot.generation; exports = [] }) shot.exports later
+    ∙ shots_are log (shots_with shots going) (Some shot) more rest r (λ ss g e. k ss g (e ∙ append_assoc (shots_with shots going) (shot ∷ []) more))
+
+abbrev with_observers : RunLog → List (List Snapshot) → RunLog
+with_observers log obs = record log { observers = log.observers ++ obs }
+
+closes : (log : RunLog) (stage : Stage) (closed : RunLog) → observers_closed log stage ≡ Some closed → all_taken (at log stage) (lines.Close ∷ []) ≡ Some (at closed Done)
+closes log stage closed h =
+    bind_at (taken (at log stage) lines.Close) (λ next. all_taken next []) (at closed Done) (some (at closed Done))
+    (bind_at (observers_closed log stage) (λ c. Some (at c Done)) closed (some (at closed Done)) h refl) refl
+
+observer_begins : (log : RunLog) (stage : Stage) (closed : RunLog) (number : ℕ) → observers_closed log stage ≡ Some closed → number ≡ length closed.observers → taken (at log stage) (lines.Observer number) ≡ Some (at closed (Observer [] None))
+observer_begins log stage closed number h e =
+    bind_at (observers_closed log stage) (λ c. cond (number == length c.observers) (Some (at c (Observer [] None))) None) closed (some (at closed (Observer [] None))) h
+    (passed (number == length closed.observers) (some (at closed (Observer [] None))) None ((Decides-eqb number (length closed.observers)).1 e))
+
+observers_are : (log : RunLog) (stage : Stage) (closed : RunLog) (number : ℕ) (obs : List (List Snapshot)) → observers_closed log stage ≡ Some closed → number ≡ length closed.observers → all_taken (at log stage) (observers_lines number obs ++ lines.Close ∷ []) ≡ Some (at (with_observers closed obs) Done)
+observers_are log stage closed number [] h e = closes log stage closed h ∙ ap (λ os. some (at (record closed { observers = os }) Done)) (sym (append-nil closed.observers))
+observers_are log stage closed number (shots ∷ obs) h e =
+    let later = observers_lines (number + 1) obs ++ lines.Close ∷ [] in
+    let longer = length-append closed.observers (shots ∷ []) in
+    ap (λ ls. all_taken (at log stage) (lines.Observer number ∷ ls)) (regroup (flat_map snapshot_lines shots) (observers_lines (number + 1) obs) (lines.Close ∷ []))
+    ∙ bind_at (taken (at log stage) (lines.Observer number)) (λ next. all_taken next (flat_map snapshot_lines shots ++ later)) (at closed (Observer [] None)) (some (at (with_observers closed (shots ∷ obs)) Done))
+    (observer_begins log stage closed number h e)
+    (shots_are closed [] None shots later (some (at (with_observers closed (shots ∷ obs)) Done))
+    (λ ss g same. observers_are closed (Observer ss g) (with_observer closed shots) (number + 1) obs (ap (λ x. some (with_observer closed x)) same) (omega (arith, e, longer))
+    ∙ ap (λ os. some (at (record closed { observers = os }) Done)) (append_assoc closed.observers (shots ∷ []) obs)))
+
+-- ---- a whole log
+
+begun_closed : (log : RunLog) (stage : Stage) → may_begin stage ≡ true → observers_closed log stage ≡ Some log
+begun_closed log Head h = absurd cc
+begun_closed log Count h = absurd cc
+begun_closed log (Entries left) h = passed (left == 0) (some log) None h
+begun_closed log Processes h = refl
+begun_closed log (Process p g) h = absurd cc
+begun_closed log (Observer s g) h = absurd cc
+begun_closed log Done h = absurd cc
+
+-- the lines of a log leave it
+pub log_taken : (log : RunLog) → AllByRecursion (λ p. AreWhole p.spans) log.processes → all_taken opening (log_lines log) ≡ Some (at log Done)
+log_taken log whole =
+    let rest = observers_lines 0 log.observers ++ lines.Close ∷ [] in
+    entries_are empty_log (published_count log.journal) 0 log.journal (processes_lines 0 log.processes ++ rest) (omega arith)
+    ∙ processes_are (with_entries empty_log log.journal) (Entries 0) 0 log.processes rest (some (at log Done)) refl refl whole
+    (λ last h. observers_are (with_processes (with_entries empty_log log.journal) log.processes) last (with_processes (with_entries empty_log log.journal) log.processes) 0 log.observers (begun_closed (with_processes (with_entries empty_log log.journal) log.processes) last h) refl)

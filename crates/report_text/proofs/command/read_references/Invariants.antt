@@ -1,0 +1,15 @@
+use Rattle.std.proofs.Common.{◌≡◌}
+use Rattle.std.specs.Prelude.{option_map}
+use Rattle.script_text.specs.LineReading.{parts_of, each_reading}
+use Rattle.script_text.proofs.ReadingLoops.{with_read}
+use Rattle.report_text.specs.CommandReading.{reference_reading}
+use Rattle.report_text.proofs.ReadingLoops.{byte_parts, left_of}
+use Rattle.report_text.proofs.command.read_references.Given as goal
+
+-- what was read, in front of what is left, is the whole
+abbrev pub invariant-references : goal.invariant-references
+invariant-references l = with_read l.refs (each_reading (reference_reading l.names) (byte_parts 32 (option_map (λ rest. rest.now) l.rest))) ≡ each_reading (reference_reading l.names) (parts_of 32 l.fn.text)
+
+-- the bytes that are left
+abbrev pub decreases-references : goal.decreases-references
+decreases-references l = left_of (option_map (λ rest. rest.now) l.rest)

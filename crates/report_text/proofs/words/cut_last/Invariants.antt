@@ -1,0 +1,14 @@
+use Rattle.std.proofs.Common.{◌≡◌, ◌≤◌, true, length, drop}
+use Rattle.mod_text.proofs.Cuts.{lacks}
+use Rattle.report_text.proofs.words.cut_last.Given as goal
+
+-- the byte is not among those that were passed
+abbrev pub invariant-loop-end : goal.invariant-loop-end
+invariant-loop-end l = record {
+  within : l.end ≤ length l.text;
+  passed : lacks l.byte (drop l.end l.text) ≡ true;
+}
+
+-- the bytes that are left
+abbrev pub decreases-loop-end : goal.decreases-loop-end
+decreases-loop-end l = l.end

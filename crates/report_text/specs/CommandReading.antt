@@ -1,0 +1,76 @@
+-- How the commands of a report's entries are read. What processes did is in the reply: until it is read, none lingers and none was killed.
+-- Source: this project's report text. The texts stand in run_log; laws say that both agree.
+use Rattle.std.specs.Prelude.{ℕ, Bool, true, false, List, Option, Some, None, option_map, bytes_eq, codes, if◌then◌else◌}
+use Rattle.term_core.specs.declared.atom.AtomId.{AtomId}
+use Rattle.term_core.specs.declared.atom.Mfa.{Mfa}
+use Rattle.term_core.specs.Plain.{term_of}
+use Rattle.server_core.specs.declared.command.ModRef.{ModRef}
+use Rattle.server_core.specs.declared.command.Cmd.{Cmd}
+use Rattle.server_core.specs.declared.command.Cmd.TheVariants.{Load, Delete, SoftPurge, Doom, Purge, CheckOld, Put, Erase, Trace, Spawn, Release}
+use Rattle.mod_text.specs.LineReading.{◌>>=◌, cut_at}
+use Rattle.script_text.specs.LineReading.{parts_of, each_reading, switch_reading}
+use Rattle.report_text.specs.WordReading.{atom_reading, version_reading, number_reading}
+use Rattle.report_text.specs.TermReading.{plain_reading, function_reading, call_reading}
+
+-- a version of a module
+abbrev pub reference_reading : List (List ℕ) → List ℕ → Option ModRef
+reference_reading names text = do
+  sides ← cut_at 46 text
+  name ← atom_reading names sides.0
+  version ← version_reading sides.1
+  Some (record { name = name; version = version })
+
+-- a load, of modules with spaces between them
+abbrev pub load_reading : List (List ℕ) → List ℕ → Option Cmd
+load_reading names text = each_reading (reference_reading names) (parts_of 32 text) >>= λ refs. Some (Load refs)
+
+-- a put
+abbrev pub put_reading : List (List ℕ) → List ℕ → Option Cmd
+put_reading names text = do
+  sides ← cut_at 32 text
+  key ← atom_reading names sides.0
+  term ← plain_reading names sides.1
+  Some (Put key (term_of term))
+
+-- a breakpoint
+abbrev pub trace_reading : List (List ℕ) → List ℕ → Option Cmd
+trace_reading names text = do
+  sides ← cut_at 32 text
+  target ← function_reading names sides.0
+  on ← switch_reading sides.1
+  Some (Trace target on)
+
+-- a spawn
+abbrev pub spawn_reading : List (List ℕ) → List ℕ → Option Cmd
+spawn_reading names text = call_reading names text >>= λ call. Some (Spawn call.target call.args)
+
+-- a release
+abbrev pub release_reading : List ℕ → Option Cmd
+release_reading text = number_reading text >>= λ serial. Some (Release serial)
+
+-- the command of one atom with this word
+abbrev pub atom_command : List ℕ → AtomId → Option Cmd
+atom_command word name =
+    if bytes_eq word (codes "delete") then Some (Delete name)
+    else (if bytes_eq word (codes "soft_purge") then Some (SoftPurge name None)
+    else (if bytes_eq word (codes "doom") then Some (Doom name)
+    else (if bytes_eq word (codes "purge") then Some (Purge name false)
+    else (if bytes_eq word (codes "check_old") then Some (CheckOld name)
+    else (if bytes_eq word (codes "erase") then Some (Erase name) else None)))))
+
+-- a command of one atom
+abbrev pub on_atom_reading : List (List ℕ) → List ℕ → List ℕ → Option Cmd
+on_atom_reading names word text = atom_reading names text >>= λ name. atom_command word name
+
+-- the command with this word
+abbrev pub worded_command : List (List ℕ) → List ℕ → List ℕ → Option Cmd
+worded_command names word text =
+    if bytes_eq word (codes "load") then load_reading names text
+    else (if bytes_eq word (codes "put") then put_reading names text
+    else (if bytes_eq word (codes "trace") then trace_reading names text
+    else (if bytes_eq word (codes "spawn") then spawn_reading names text
+    else (if bytes_eq word (codes "release") then release_reading text else on_atom_reading names word text))))
+
+-- a command
+abbrev pub command_reading : List (List ℕ) → List ℕ → Option Cmd
+command_reading names text = cut_at 32 text >>= λ sides. worded_command names sides.0 sides.1

@@ -1,0 +1,10 @@
+pub mod WordReading
+pub mod TermReading
+pub mod CommandReading
+pub mod ReplyReading
+pub mod EntryReading
+pub mod LineReading
+pub mod ReportLine
+pub mod Taking
+pub mod Reading
+pub mod ReportText

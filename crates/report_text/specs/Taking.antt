@@ -1,0 +1,240 @@
+-- A report line by line: what is read of its log so far, which lines may follow, and what each adds.
+-- Source: this project's report text. The lines of a whole log stand in ReportLine; laws say that just those are taken.
+use Rattle.std.specs.Prelude.{ℕ, ◌-◌, ◌<◌, ◌==◌, ◌&&◌, not, nat_lt, Bool, true, false, List, [], ◌∷◌, ◌++◌, length, Option, Some, None, if◌then◌else◌}
+use Rattle.term_core.specs.declared.atom.Mfa.{Mfa}
+use Rattle.term_core.specs.PlainTerm.{PlainTerm}
+use Rattle.machine_core.specs.declared.process.Line.{Line}
+use Rattle.machine_core.specs.declared.process.End.{End}
+use Rattle.machine_core.specs.declared.process.End.TheVariants.{Normal}
+use Rattle.mod_text.specs.LineReading.{◌>>=◌}
+use Rattle.run_log.specs.declared.logs.Entry.{Entry}
+use Rattle.run_log.specs.declared.logs.Span.{Span}
+use Rattle.run_log.specs.declared.logs.ProcessLog.{ProcessLog}
+use Rattle.run_log.specs.declared.logs.Snapshot.{Snapshot}
+use Rattle.run_log.specs.declared.logs.RunLog.{RunLog}
+use Rattle.report_text.specs.declared.line.ReportLine.{ReportLine}
+use Rattle.report_text.specs.declared.line.ReportLine.TheVariants as lines
+use Rattle.report_text.specs.declared.state.Stage.{Stage}
+use Rattle.report_text.specs.declared.state.Stage.TheVariants.{Head, Count, Entries, Processes, Process, Observer, Done}
+use Rattle.report_text.specs.declared.state.ReportState.{ReportState}
+
+-- a log and a place in it
+abbrev pub at : RunLog → Stage → ReportState
+at log stage = record { log = log; stage = stage }
+
+-- the log of nothing
+abbrev pub empty_log : RunLog
+empty_log = record { journal = []; processes = []; observers = [] }
+
+-- nothing is read yet
+abbrev pub opening : ReportState
+opening = at empty_log Head
+
+abbrev pub head_taken : RunLog → Stage → Option ReportState
+head_taken log Head = Some (at log Count)
+head_taken log Count = None
+head_taken log (Entries left) = None
+head_taken log Processes = None
+head_taken log (Process process going) = None
+head_taken log (Observer shots going) = None
+head_taken log Done = None
+
+abbrev pub count_taken : RunLog → Stage → ℕ → Option ReportState
+count_taken log Head count = None
+count_taken log Count count = Some (at log (Entries count))
+count_taken log (Entries left) count = None
+count_taken log Processes count = None
+count_taken log (Process process going) count = None
+count_taken log (Observer shots going) count = None
+count_taken log Done count = None
+
+-- ---- entries
+
+-- how many entries are still to publish behind one
+abbrev pub count_after : ℕ → Option ℕ → Option ℕ
+count_after left None = Some left
+count_after left (Some generation) = if left == 0 then None else Some (left - 1)
+
+abbrev pub with_entry : RunLog → Entry → RunLog
+with_entry log e = record log { journal = log.journal ++ e ∷ [] }
+
+abbrev pub entry_behind : RunLog → ℕ → Entry → Option ReportState
+entry_behind log left e = count_after left e.published >>= λ more. Some (at (with_entry log e) (Entries more))
+
+abbrev pub entry_taken : RunLog → Stage → Entry → Option ReportState
+entry_taken log Head e = None
+entry_taken log Count e = None
+entry_taken log (Entries left) e = entry_behind log left e
+entry_taken log Processes e = None
+entry_taken log (Process process going) e = None
+entry_taken log (Observer shots going) e = None
+entry_taken log Done e = None
+
+-- ---- processes
+
+-- whether a process may begin: all entries that publish are there, and no process goes on
+abbrev pub may_begin : Stage → Bool
+may_begin Head = false
+may_begin Count = false
+may_begin (Entries left) = left == 0
+may_begin Processes = true
+may_begin (Process process going) = false
+may_begin (Observer shots going) = false
+may_begin Done = false
+
+-- a process without a span, as if it ended here
+abbrev pub begun : Mfa → List PlainTerm → ProcessLog
+begun target args = record { target = target; args = args; spans = []; fin = Normal }
+
+abbrev pub process_behind : RunLog → ℕ → Mfa → List PlainTerm → Option ReportState
+process_behind log number target args = if number == length log.processes then Some (at log (Process (begun target args) None)) else None
+
+abbrev pub process_taken : RunLog → Stage → ℕ → Mfa → List PlainTerm → Option ReportState
+process_taken log stage number target args = if may_begin stage then process_behind log number target args else None
+
+-- the spans with the one that went on
+abbrev pub spans_with : List Span → Option Span → List Span
+spans_with spans None = spans
+spans_with spans (Some span) = spans ++ span ∷ []
+
+abbrev pub spans_closed : ProcessLog → Option Span → ProcessLog
+spans_closed process going = record process { spans = spans_with process.spans going }
+
+-- whether a span has a turn, and another generation than the one before it
+abbrev pub may_follow : Option Span → ℕ → ℕ → Bool
+may_follow None generation turns = nat_lt 0 turns
+may_follow (Some span) generation turns = nat_lt 0 turns && not (span.generation == generation)
+
+abbrev pub span_behind : RunLog → ProcessLog → Option Span → ℕ → ℕ → Option ReportState
+span_behind log process going generation turns =
+    if may_follow going generation turns then Some (at log (Process (spans_closed process going) (Some (record { generation = generation; turns = turns; lines = [] })))) else None
+
+abbrev pub span_taken : RunLog → Stage → ℕ → ℕ → Option ReportState
+span_taken log Head generation turns = None
+span_taken log Count generation turns = None
+span_taken log (Entries left) generation turns = None
+span_taken log Processes generation turns = None
+span_taken log (Process process going) generation turns = span_behind log process going generation turns
+span_taken log (Observer shots going) generation turns = None
+span_taken log Done generation turns = None
+
+abbrev pub with_line : Span → Line → Span
+with_line span line = record span { lines = span.lines ++ line ∷ [] }
+
+abbrev pub shown_behind : RunLog → ProcessLog → Span → Line → Option ReportState
+shown_behind log process span line = Some (at log (Process process (Some (with_line span line))))
+
+abbrev pub shown_in : RunLog → ProcessLog → Option Span → Line → Option ReportState
+shown_in log process None line = None
+shown_in log process (Some span) line = shown_behind log process span line
+
+abbrev pub shown_taken : RunLog → Stage → Line → Option ReportState
+shown_taken log Head line = None
+shown_taken log Count line = None
+shown_taken log (Entries left) line = None
+shown_taken log Processes line = None
+shown_taken log (Process process going) line = shown_in log process going line
+shown_taken log (Observer shots going) line = None
+shown_taken log Done line = None
+
+abbrev pub ended : ProcessLog → End → ProcessLog
+ended process fin = record process { fin = fin }
+
+abbrev pub with_process : RunLog → ProcessLog → RunLog
+with_process log process = record log { processes = log.processes ++ process ∷ [] }
+
+abbrev pub end_behind : RunLog → ProcessLog → Option Span → End → Option ReportState
+end_behind log process going fin = Some (at (with_process log (ended (spans_closed process going) fin)) Processes)
+
+abbrev pub end_taken : RunLog → Stage → End → Option ReportState
+end_taken log Head fin = None
+end_taken log Count fin = None
+end_taken log (Entries left) fin = None
+end_taken log Processes fin = None
+end_taken log (Process process going) fin = end_behind log process going fin
+end_taken log (Observer shots going) fin = None
+end_taken log Done fin = None
+
+-- ---- observers
+
+-- the snapshots with the one that went on
+abbrev pub shots_with : List Snapshot → Option Snapshot → List Snapshot
+shots_with shots None = shots
+shots_with shots (Some shot) = shots ++ shot ∷ []
+
+abbrev pub with_observer : RunLog → List Snapshot → RunLog
+with_observer log shots = record log { observers = log.observers ++ shots ∷ [] }
+
+abbrev pub shots_closed : RunLog → List Snapshot → Option Snapshot → RunLog
+shots_closed log shots going = with_observer log (shots_with shots going)
+
+-- the log where an observer may begin, or the report end: with the observer that went on, if there is one
+abbrev pub observers_closed : RunLog → Stage → Option RunLog
+observers_closed log Head = None
+observers_closed log Count = None
+observers_closed log (Entries left) = if left == 0 then Some log else None
+observers_closed log Processes = Some log
+observers_closed log (Process process going) = None
+observers_closed log (Observer shots going) = Some (shots_closed log shots going)
+observers_closed log Done = None
+
+abbrev pub observer_behind : RunLog → ℕ → Option ReportState
+observer_behind log number = if number == length log.observers then Some (at log (Observer [] None)) else None
+
+abbrev pub observer_taken : RunLog → Stage → ℕ → Option ReportState
+observer_taken log stage number = observers_closed log stage >>= λ closed. observer_behind closed number
+
+abbrev pub snapshot_behind : RunLog → List Snapshot → Option Snapshot → ℕ → Option ReportState
+snapshot_behind log shots going generation = Some (at log (Observer (shots_with shots going) (Some (record { generation = generation; exports = [] }))))
+
+abbrev pub snapshot_taken : RunLog → Stage → ℕ → Option ReportState
+snapshot_taken log Head generation = None
+snapshot_taken log Count generation = None
+snapshot_taken log (Entries left) generation = None
+snapshot_taken log Processes generation = None
+snapshot_taken log (Process process going) generation = None
+snapshot_taken log (Observer shots going) generation = snapshot_behind log shots going generation
+snapshot_taken log Done generation = None
+
+abbrev pub with_export : Snapshot → Mfa → ℕ → Snapshot
+with_export shot function serial = record shot { exports = shot.exports ++ (function, serial) ∷ [] }
+
+abbrev pub export_behind : RunLog → List Snapshot → Snapshot → Mfa → ℕ → Option ReportState
+export_behind log shots shot function serial = Some (at log (Observer shots (Some (with_export shot function serial))))
+
+abbrev pub export_in : RunLog → List Snapshot → Option Snapshot → Mfa → ℕ → Option ReportState
+export_in log shots None function serial = None
+export_in log shots (Some shot) function serial = export_behind log shots shot function serial
+
+abbrev pub export_taken : RunLog → Stage → Mfa → ℕ → Option ReportState
+export_taken log Head function serial = None
+export_taken log Count function serial = None
+export_taken log (Entries left) function serial = None
+export_taken log Processes function serial = None
+export_taken log (Process process going) function serial = None
+export_taken log (Observer shots going) function serial = export_in log shots going function serial
+export_taken log Done function serial = None
+
+abbrev pub close_taken : RunLog → Stage → Option ReportState
+close_taken log stage = observers_closed log stage >>= λ closed. Some (at closed Done)
+
+-- ---- any line
+
+-- the state behind a line, if it may stand there
+abbrev pub taken : ReportState → ReportLine → Option ReportState
+taken s lines.Head = head_taken s.log s.stage
+taken s (lines.Generations count) = count_taken s.log s.stage count
+taken s (lines.Entry e) = entry_taken s.log s.stage e
+taken s (lines.Process number target args) = process_taken s.log s.stage number target args
+taken s (lines.Span generation turns) = span_taken s.log s.stage generation turns
+taken s (lines.Shown line) = shown_taken s.log s.stage line
+taken s (lines.End fin) = end_taken s.log s.stage fin
+taken s (lines.Observer number) = observer_taken s.log s.stage number
+taken s (lines.Snapshot generation) = snapshot_taken s.log s.stage generation
+taken s (lines.Export function serial) = export_taken s.log s.stage function serial
+taken s lines.Close = close_taken s.log s.stage
+
+-- the state behind lines
+abbrev pub all_taken : ReportState → List ReportLine → Option ReportState
+all_taken s [] = Some s
+all_taken s (line ∷ more) = taken s line >>= λ next. all_taken next more
