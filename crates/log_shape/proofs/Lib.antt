@@ -1,0 +1,8 @@
+pub mod Equivalences
+pub mod RisingNumbers
+pub mod SameParts
+pub mod ListPlaces
+pub mod CommandPlaces
+pub mod SpawnLines
+pub mod SpawnSteps
+pub mod LogsMatching

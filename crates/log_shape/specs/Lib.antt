@@ -1,0 +1,4 @@
+pub mod RisingSpans
+pub mod SnapshotShape
+pub mod Places
+pub mod SpawnNumbers

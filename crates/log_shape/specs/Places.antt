@@ -1,0 +1,18 @@
+-- How many commands of each loader the entries so far have ended, as a list of counts; and what is left to be ended by those behind.
+-- Source: this project's profile. Private contracts alone cite it.
+use Rattle.std.specs.Prelude.{◌≡◌, ℕ, List, [], drop, slice_get, slice_index, unwrap_or}
+use Rattle.script_text.specs.declared.script.ScriptCmd.{ScriptCmd}
+use Rattle.run_log.specs.declared.logs.Entry.{Entry}
+use Rattle.run_log.specs.Legal.{commands_in}
+
+-- the commands of a loader, or none where there is no such loader
+abbrev pub commands_at : List (List ScriptCmd) → ℕ → List ScriptCmd
+commands_at loaders loader = unwrap_or (slice_get loaders loader) []
+
+-- how many commands of a loader were ended
+abbrev pub place_of : List ℕ → ℕ → ℕ
+place_of places loader = slice_index places loader
+
+-- the entries end just the commands that are left of each loader, in order
+abbrev pub AreLeft : List (List ScriptCmd) → List ℕ → List Entry → Type 0
+AreLeft loaders places journal = (loader : ℕ) → commands_in loader journal ≡ drop (place_of places loader) (commands_at loaders loader)
