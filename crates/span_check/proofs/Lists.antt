@@ -1,0 +1,113 @@
+-- Lists by their places, and what holds of each element.
+use Rattle.std.proofs.Common.{◌≡◌, ◌≤◌, ◌<◌, ◌+◌, ◌-◌, ◌∙◌, ℕ, zero, suc, refl, sym, ap, subst, arith, add-one, List, [], ◌∷◌, ◌++◌, length, take, drop, get_or, slice_get, Option, Some, None, IfSome}
+use Rattle.std.proofs.lemmas.List.{take_all}
+use Rattle.std.proofs.lemmas.Option.{none-some, same_Some, slice_get_read}
+use Rattle.std.specs.List.{AllByRecursion}
+
+-- what holds of each of two lists holds of each of both
+pub all_join : {X : Type 0} (P : X → Type 0) (xs ys : List X) → AllByRecursion P xs → AllByRecursion P ys → AllByRecursion P (xs ++ ys)
+all_join P [] ys h k = k
+all_join P (x ∷ xs) ys h k = (h.0, all_join P xs ys h.1 k)
+
+pub all_front : {X : Type 0} (P : X → Type 0) (xs ys : List X) → AllByRecursion P (xs ++ ys) → AllByRecursion P xs
+all_front P [] ys h = tt
+all_front P (x ∷ xs) ys h = (h.0, all_front P xs ys h.1)
+
+pub all_behind : {X : Type 0} (P : X → Type 0) (xs ys : List X) → AllByRecursion P (xs ++ ys) → AllByRecursion P ys
+all_behind P [] ys h = h
+all_behind P (x ∷ xs) ys h = all_behind P xs ys h.1
+
+pub all_map : {X : Type 0} (P Q : X → Type 0) (xs : List X) → ((x : X) → P x → Q x) → AllByRecursion P xs → AllByRecursion Q xs
+all_map P Q [] f h = tt
+all_map P Q (x ∷ xs) f h = (f x h.0, all_map P Q xs f h.1)
+
+-- what holds of each in two ways holds so together
+pub all_both : {X : Type 0} (P Q R : X → Type 0) (xs : List X) → ((x : X) → P x → Q x → R x) → AllByRecursion P xs → AllByRecursion Q xs → AllByRecursion R xs
+all_both P Q R [] f h k = tt
+all_both P Q R (x ∷ xs) f h k = (f x h.0 k.0, all_both P Q R xs f h.1 k.1)
+
+pub get_within : {X : Type 0} (xs : List X) (i : ℕ) → i < length xs → (x : X) × (slice_get xs i ≡ Some x)
+get_within [] i h = absurd (omega (arith, h))
+get_within (x ∷ xs) zero h = (x, refl)
+get_within (x ∷ xs) (suc i) h = get_within xs i (omega (arith, h))
+
+-- behind a front
+pub get_behind : {X : Type 0} (xs ys : List X) (k : ℕ) → slice_get (xs ++ ys) (length xs + k) ≡ slice_get ys k
+get_behind [] ys k = ap (slice_get ys) (omega arith)
+get_behind (x ∷ xs) ys k = let e : length (x ∷ xs) + k ≡ suc (length xs + k) = omega arith in ap (slice_get (x ∷ xs ++ ys)) e ∙ get_behind xs ys k
+
+pub get_front : {X : Type 0} (xs ys : List X) (k : ℕ) (x : X) → slice_get xs k ≡ Some x → slice_get (xs ++ ys) k ≡ Some x
+get_front [] ys k x h = absurd (none-some x h)
+get_front (z ∷ xs) ys zero x h = h
+get_front (z ∷ xs) ys (suc k) x h = get_front xs ys k x h
+
+-- a place in two lists joined: in the front, or behind it
+pub data JoinedAt {X : Type 0} (xs ys : List X) (k : ℕ) (x : X) : Type 0 where
+  in_front : slice_get xs k ≡ Some x → JoinedAt xs ys k x
+  behind : (n : ℕ) → k ≡ length xs + n → slice_get ys n ≡ Some x → JoinedAt xs ys k x
+
+one_further : {X : Type 0} (z : X) (xs ys : List X) (k : ℕ) (x : X) → JoinedAt xs ys k x → JoinedAt (z ∷ xs) ys (suc k) x
+one_further z xs ys k x (in_front h) = in_front h
+one_further z xs ys k x (behind n e h) = behind n (omega (arith, e)) h
+
+pub joined_at : {X : Type 0} (xs ys : List X) (k : ℕ) (x : X) → slice_get (xs ++ ys) k ≡ Some x → JoinedAt xs ys k x
+joined_at [] ys k x h = behind k (omega arith) h
+joined_at (z ∷ xs) ys zero x h = in_front h
+joined_at (z ∷ xs) ys (suc k) x h = one_further z xs ys k x (joined_at xs ys k x h)
+
+-- what holds of each holds of the one at a place
+pub all_get : {X : Type 0} (P : X → Type 0) (xs : List X) (k : ℕ) (x : X) → AllByRecursion P xs → slice_get xs k ≡ Some x → P x
+all_get P [] k x h e = absurd (none-some x e)
+all_get P (y ∷ xs) zero x h e = subst P (same_Some y x e) h.0
+all_get P (y ∷ xs) (suc k) x h e = all_get P xs k x h.1 e
+
+pub all_at : {X : Type 0} (P : X → Type 0) (xs : List X) (k : ℕ) → AllByRecursion P xs → IfSome (slice_get xs k) P
+all_at P [] k h = tt
+all_at P (x ∷ xs) zero h = h.0
+all_at P (x ∷ xs) (suc k) h = all_at P xs k h.1
+
+-- a front that grows by the element at its end
+pub take_next : {X : Type 0} (xs : List X) (i : ℕ) (x : X) → slice_get xs i ≡ Some x → take (i + 1) xs ≡ take i xs ++ x ∷ []
+take_next [] i x h = absurd (none-some x h)
+take_next (y ∷ xs) zero x h = ap (λ z. z ∷ []) (same_Some y x h)
+take_next (y ∷ xs) (suc i) x h = rw add-one (ap (λ t. y ∷ t) (rw add-one at (take_next xs i x h)))
+
+-- the element at a place stands between those before it and those behind
+pub split_here : {X : Type 0} (xs : List X) (i : ℕ) (x : X) → slice_get xs i ≡ Some x → xs ≡ take i xs ++ x ∷ drop (i + 1) xs
+split_here [] i x h = absurd (none-some x h)
+split_here (y ∷ xs) zero x h = ap (λ z. z ∷ xs) (same_Some y x h)
+split_here (y ∷ xs) (suc i) x h = rw add-one (ap (λ t. y ∷ t) (rw add-one at (split_here xs i x h)))
+
+-- an element that was read at a place below the length stands there
+pub read_at : {X : Type 0} (xs : List X) (i : ℕ) (x : X) → i < length xs → x ≡ get_or xs i x → slice_get xs i ≡ Some x
+read_at xs i x within is = slice_get_read xs (length xs) i x refl within is
+
+none_dropped : {X : Type 0} (n : ℕ) → drop {A = X} n [] ≡ []
+none_dropped zero = refl
+none_dropped (suc n) = refl
+
+-- what is left of a list when more of it is dropped
+pub drop_more : {X : Type 0} (a b : ℕ) (xs : List X) → drop (a + b) xs ≡ drop b (drop a xs)
+drop_more zero b xs = let e : zero + b ≡ b = omega arith in ap (λ n. drop n xs) e
+drop_more (suc a) b [] = none_dropped (suc a + b) ∙ sym (none_dropped b)
+drop_more (suc a) b (x ∷ xs) = let e : suc a + b ≡ suc (a + b) = omega arith in ap (λ n. drop n (x ∷ xs)) e ∙ drop_more a b xs
+
+-- what holds of each holds of each of a front, and of what is left
+pub all_take : {X : Type 0} (P : X → Type 0) (n : ℕ) (xs : List X) → AllByRecursion P xs → AllByRecursion P (take n xs)
+all_take P zero xs h = tt
+all_take P (suc n) [] h = tt
+all_take P (suc n) (x ∷ xs) h = (h.0, all_take P n xs h.1)
+
+pub all_drop : {X : Type 0} (P : X → Type 0) (n : ℕ) (xs : List X) → AllByRecursion P xs → AllByRecursion P (drop n xs)
+all_drop P zero xs h = h
+all_drop P (suc n) [] h = tt
+all_drop P (suc n) (x ∷ xs) h = all_drop P n xs h.1
+
+-- the last element stands behind the others
+pub last_at : {X : Type 0} (xs : List X) (x : X) → 0 < length xs → slice_get xs (length xs - 1) ≡ Some x → xs ≡ take (length xs - 1) xs ++ x ∷ []
+last_at xs x some at =
+    let n : length xs ≤ length xs - 1 + 1 = omega (arith, some) in
+    sym (take_all (length xs - 1 + 1) xs n) ∙ take_next xs (length xs - 1) x at
+
+pub last_split : {X : Type 0} (xs : List X) → 0 < length xs → (x : X) × (xs ≡ take (length xs - 1) xs ++ x ∷ [])
+last_split xs some = let at = get_within xs (length xs - 1) (omega (arith, some)) in (at.0, last_at xs at.0 some at.1)

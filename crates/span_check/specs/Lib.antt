@@ -1,0 +1,4 @@
+pub mod Watches
+pub mod Standings
+pub mod Steps
+pub mod Sweeps
