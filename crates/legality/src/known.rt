@@ -1,0 +1,11 @@
+use snapshots::MfaList;
+use term_core::CountList;
+
+/// What is looked up of a script and a log, and made once.
+#[derive(Drop)]
+pub struct Known {
+    /// The functions that the module texts export.
+    pub functions: MfaList,
+    /// The serials of the instances for which processes were killed.
+    pub killed: CountList,
+}
