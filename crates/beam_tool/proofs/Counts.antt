@@ -1,5 +1,5 @@
 -- The least count from a number on that passes a test.
-use Rattle.std.proofs.Common.{◌≡◌, ℕ, suc, ◌+◌, ◌-◌, ◌<◌, Bool, true, false, Some, None, refl, sym, ◌∙◌, ap, arith}
+use Rattle.std.proofs.Common.{◌≡◌, ℕ, suc, ◌+◌, ◌-◌, ◌<◌, Bool, true, false, Some, None, refl, ◌∙◌, ap, arith}
 use Rattle.std.specs.List.{find, range_with_len}
 
 -- the first of these counts

@@ -1,4 +1,5 @@
 pub mod Taken
 pub mod Written
+pub mod ScriptParts
 pub mod TopCalls
 pub mod Counts

@@ -1,5 +1,5 @@
 -- What each status of the top call says, from how the call ended.
-use Rattle.std.proofs.Common.{◌≡◌, ◌≢◌, ℕ, ◌≤◌, ◌<◌, List, length, Option, Some, None, Result, Ok, Err, refl, sym, ap, subst, arith, inl, inr, ◌⊎◌, ◌∙◌, zero, suc, ◌-◌, [], ◌∷◌, take, slice_get}
+use Rattle.std.proofs.Common.{◌≡◌, ◌≢◌, ℕ, ◌≤◌, ◌<◌, ◌++◌, Bool, true, false, List, length, Option, Some, None, Result, Ok, Err, refl, sym, ap, subst, arith, inl, inr, ◌⊎◌, ◌∙◌, zero, suc, ◌-◌, [], ◌∷◌, take, slice_get}
 use Rattle.std.specs.Prelude.{IfOk, IsSomeAnd}
 use Rattle.std.specs.Option.{option_and_then}
 use Rattle.std.specs.Io.KnownBytes.{Appends}
@@ -12,14 +12,23 @@ use Rattle.prgr_core.specs.Step.{after, after_all, opening, StopsAt}
 use Rattle.prgr_core.proofs.Grammars.{reading_complete}
 use Rattle.beam_tool.specs.declared.form.Form.{Form}
 use Rattle.beam_tool.specs.declared.form.Form.TheVariants as forms
+use Rattle.beam_tool.specs.declared.check_form.TheConstants.{LONGEST_CHECK}
 use Rattle.script_text.specs.declared.script.TheConstants.{LONGEST_SCRIPT}
 use Rattle.script_text.specs.declared.script.Script.{Script}
 use Rattle.script_text.specs.declared.fault.ScriptFault.{ScriptFault}
 use Rattle.script_text.specs.declared.fault.ScriptFault.TheVariants as faults
 use Rattle.script_text.specs.ScriptText.{ScriptText, FaultOf}
 use Rattle.run_log.specs.declared.logs.RunLog.{RunLog}
+use Rattle.run_log.specs.Legal.{Legal}
+use Rattle.report_text.specs.declared.fault.ReportFault.{ReportFault}
+use Rattle.report_text.specs.declared.fault.ReportFault.TheVariants as report_faults
+use Rattle.report_text.specs.ReportText.{FaultOf as ReportFaultOf}
+use Rattle.run_log.specs.Report.{rendering_of}
+use Rattle.run_log.specs.WellFormed.{IsWellFormed}
 use Rattle.beam_tool.specs.Outside.{Rose}
-use Rattle.beam_tool.specs.TopCall.{WasRead, IsTooLong, IsNoScript, HasNoFault, IsLine, ReportOf, made, ScriptVerdict, report, refusal, refusal_text, ReplayOf, all_made, stopped, ListVerdict, replay, fault, ReadVerdict, whole_text, long_text, done_text, not_enabled_text, Verdict, misread, run, progress, Answered, Reported, SourceFailed, SinkFailed, Delivered, whole, cut, Ends, written, cut_off, source_failed, no_memory}
+use Rattle.beam_tool.specs.Parting.{script_part, report_part}
+use Rattle.beam_tool.specs.TopCall.{WasRead, IsTooLong, IsNoScript, HasNoFault, IsScriptRead, IsReportOf, IsReportRead, HasScriptAndReport, HasFaultyReport, IsUnlawful, IsLine, ReportOf, made, ScriptVerdict, report, refusal, refusal_text, ReplayOf, all_made, stopped, ListVerdict, replay, fault, ReportVerdict, report_refused, lawful, not_lawful, CheckVerdict, script_refused, judged, ReadVerdict, whole_text, long_text, report_syntax_text, lawful_text, not_lawful_text, done_text, not_enabled_text, Verdict, misread, run, check, progress, Answered, Reported, Checked, SourceFailed, SinkFailed, Delivered, whole, cut, Ends, written, cut_off, source_failed, no_memory}
+use Rattle.beam_tool.proofs.ScriptParts.{parts_are_whole, part_of_script, part_behind_script}
 
 -- ---- what the bytes come to
 
@@ -33,6 +42,10 @@ pub both_ok : {A E : Type 0} (P Q : A → Type 0) (r : Result A E) → IfOk r P 
 both_ok P Q (Ok a) p q = (p, q)
 both_ok P Q (Err e) p q = tt
 
+-- a test has one outcome
+pub true_not_false : (b : Bool) → b ≡ true → b ≡ false → ⊥
+true_not_false b e f = cc
+
 -- a verdict on a line is one on an answer that is this line
 pub by_line : (P : ℕ → Option RunLog → List ℕ → Type 0) (wanted : ℕ) (line : List ℕ) (status : ℕ) (log : Option RunLog) (text : List ℕ) → P wanted None line → IsLine wanted line status log text → P status log text
 by_line P wanted line status log text p h =
@@ -41,20 +54,20 @@ by_line P wanted line status log text p h =
     (subst (λ (t : List ℕ). P wanted None t) (sym h.text_is) p))
 
 -- what a slice of the bytes comes to, where the whole was read
-pub by_slice : (P : List ℕ → ℕ → Option RunLog → List ℕ → Type 0) (left left' : Option (List ℕ)) (bytes slice : List ℕ) (status : ℕ) (log : Option RunLog) (text : List ℕ) → slice ≡ bytes → WasRead left left' bytes → P slice status log text → ReadVerdict left left' P status log text
-by_slice P left left' bytes slice status log text e read p = whole_text bytes status log text read (subst (λ (b : List ℕ). P b status log text) e p)
+pub by_slice : (P : List ℕ → ℕ → Option RunLog → List ℕ → Type 0) (limit : ℕ) (left left' : Option (List ℕ)) (bytes slice : List ℕ) (status : ℕ) (log : Option RunLog) (text : List ℕ) → slice ≡ bytes → WasRead limit left left' bytes → P slice status log text → ReadVerdict limit left left' P status log text
+by_slice P limit left left' bytes slice status log text e read p = whole_text bytes status log text read (subst (λ (b : List ℕ). P b status log text) e p)
 
 -- ---- what is told
 
 -- a text that was read is the told one
-told_is : {left left' : Option (List ℕ)} {bytes read : List ℕ} → left ≡ Some bytes → WasRead left left' read → bytes ≡ read
+told_is : {limit : ℕ} {left left' : Option (List ℕ)} {bytes read : List ℕ} → left ≡ Some bytes → WasRead limit left left' read → bytes ≡ read
 told_is {left = None} e r = absurd cc
 told_is {left = Some told} {bytes = bytes} e r = let same : bytes ≡ told = cc in same ∙ r.told
 
 -- a text over the limit is the told one
-long_is : (left : Option (List ℕ)) (bytes : List ℕ) → left ≡ Some bytes → IsTooLong left → LONGEST_SCRIPT < length bytes
-long_is None bytes e l = absurd cc
-long_is (Some told) bytes e l = let same : told ≡ bytes = cc in subst (λ (x : List ℕ). LONGEST_SCRIPT < length x) same l
+long_is : (limit : ℕ) (left : Option (List ℕ)) (bytes : List ℕ) → left ≡ Some bytes → IsTooLong limit left → limit < length bytes
+long_is limit None bytes e l = absurd cc
+long_is limit (Some told) bytes e l = let same : told ≡ bytes = cc in subst (λ (x : List ℕ). limit < length x) same l
 
 -- two answers to one text differ
 apart : {A B : Type 0} {a : A} {b : B} (r : Result A B) → r ≡ Ok a → r ≡ Err b → ⊥
@@ -70,11 +83,24 @@ replay_log : {events : Events} {status : ℕ} {log : Option RunLog} {text : List
 replay_log (all_made _ e) = refl
 replay_log (stopped _ _ e) = refl
 
+report_status : {s : Script} {bytes : List ℕ} {status : ℕ} {log : Option RunLog} {text : List ℕ} → ReportVerdict s bytes status log text → status ≤ 3
+report_status (report_refused _ q bare) = omega arith
+report_status (lawful _ r l) = omega arith
+report_status (not_lawful _ r l) = omega arith
+
+report_log : {s : Script} {bytes : List ℕ} {status : ℕ} {log : Option RunLog} {text : List ℕ} → ReportVerdict s bytes status log text → log ≡ None
+report_log (report_refused _ q bare) = refl
+report_log (lawful _ r l) = refl
+report_log (not_lawful _ r l) = refl
+
 known_verdict : {left left' : Option (List ℕ)} {form : Option Form} {status : ℕ} {log : Option RunLog} {text : List ℕ} → Verdict left left' form status log text → status ≤ 3
 known_verdict misread = omega arith
 known_verdict (run _ _ _ _ (whole_text _ _ _ _ r (report _ _ _ _ t h (made _ _ l e)))) = omega arith
 known_verdict (run _ _ _ _ (whole_text _ _ _ _ r (refusal _ q bare))) = omega arith
 known_verdict (run _ _ _ _ (long_text l)) = omega arith
+known_verdict (check _ _ _ (whole_text _ _ _ _ r (script_refused _ q bare))) = omega arith
+known_verdict (check _ _ _ (whole_text _ _ _ _ r (judged _ _ _ _ rs v))) = report_status v
+known_verdict (check _ _ _ (long_text l)) = omega arith
 known_verdict (progress _ _ _ (whole_text _ _ _ _ r (replay _ _ _ _ t v))) = omega (arith, replay_status v)
 known_verdict (progress _ _ _ (whole_text _ _ _ _ r (fault _ e))) = omega arith
 known_verdict (progress _ _ _ (long_text l)) = omega arith
@@ -97,10 +123,53 @@ headline_of n {got = got} {got' = got'} (written _ _ _ (run _ _ _ _ (whole_text 
     record { bytes = bytes; script = s; log = log; read = r; text = t; answered_is = refl; legal = l; written = subst (λ (x : List ℕ). Appends got got' x) q a }
 headline_of n (written _ _ _ (run _ _ _ _ (whole_text _ _ _ _ r (refusal _ q bare))) a) f e = absurd (omega arith)
 headline_of n (written _ _ _ (run _ _ _ _ (long_text l)) a) f e = absurd (omega arith)
+headline_of n (written _ _ _ (check _ _ _ v) a) f e = absurd cc
 headline_of n (written _ _ _ (progress _ _ _ v) a) f e = absurd cc
 headline_of n (cut_off _ _ _ v r p) f e = absurd (omega arith)
 headline_of n (source_failed g r) f e = absurd (omega arith)
 headline_of n (no_memory g) f e = absurd (omega arith)
+
+-- what was read of a script and a report, as the whole of the bytes
+parts_read : (bytes : List ℕ) (s : Script) (log : RunLog) → ScriptText (script_part bytes) s → IsReportOf s.names (report_part bytes) log → HasScriptAndReport bytes s log
+parts_read bytes s log t r = record { front = script_part bytes; behind = report_part bytes; whole = parts_are_whole bytes; text = t; report = r }
+
+-- a report that was answered with this status has a log of which this is true, and this is the line of it
+record IsAnswered (judgement : Script → RunLog → Type 0) (line : List ℕ) (s : Script) (bytes text : List ℕ) : Type 0 where
+  log : RunLog
+  read : IsReportRead s.names bytes log
+  holds : judgement s log
+  text_is : text ≡ line
+
+answered_lawful : {s : Script} {bytes : List ℕ} {status : ℕ} {log : Option RunLog} {text : List ℕ} → ReportVerdict s bytes status log text → status ≡ 0 → IsAnswered Legal lawful_text s bytes text
+answered_lawful (report_refused _ q bare) e = absurd (omega arith)
+answered_lawful (lawful log r l) e = record { log = log; read = r; holds = l; text_is = refl }
+answered_lawful (not_lawful _ r l) e = absurd (omega arith)
+
+answered_unlawful : {s : Script} {bytes : List ℕ} {status : ℕ} {log : Option RunLog} {text : List ℕ} → ReportVerdict s bytes status log text → status ≡ 1 → IsAnswered IsUnlawful not_lawful_text s bytes text
+answered_unlawful (report_refused _ q bare) e = absurd (omega arith)
+answered_unlawful (lawful _ r l) e = absurd (omega arith)
+answered_unlawful (not_lawful log r l) e = record { log = log; read = r; holds = l; text_is = refl }
+
+-- the same of a whole check
+checked_by : (judgement : Script → RunLog → Type 0) (line : List ℕ) (wanted : ℕ) → wanted ≤ 1 → ((s : Script) (bytes : List ℕ) (status : ℕ) (log : Option RunLog) (text : List ℕ) → ReportVerdict s bytes status log text → status ≡ wanted → IsAnswered judgement line s bytes text)
+    → {form : Option Form} {left left' : Option (List ℕ)} {sf sf' : ℕ} {got got' : Option (List ℕ)} {kf kf' : ℕ} {status : ℕ} {log : Option RunLog} → Ends form left left' sf sf' got got' kf kf' status log → form ≡ Some forms.Check → status ≡ wanted → Checked judgement line left left' got got'
+checked_by judgement line wanted few answer (written _ _ _ misread a) f e = absurd cc
+checked_by judgement line wanted few answer (written _ _ _ (run _ _ _ _ v) a) f e = absurd cc
+checked_by judgement line wanted few answer (written _ _ _ (check _ _ _ (whole_text _ _ _ _ r (script_refused _ q bare))) a) f e = absurd (omega arith)
+checked_by judgement line wanted few answer {got = got} {got' = got'} (written _ _ _ (check _ _ _ (whole_text bytes _ _ _ r (judged s status log text rs v))) a) f e =
+    let is = answer s (report_part bytes) status log text v e in
+    record { bytes = bytes; script = s; log = is.log; read = r; parts = parts_read bytes s is.log rs.text is.read.report; holds = is.holds; written = subst (λ (x : List ℕ). Appends got got' x) is.text_is a }
+checked_by judgement line wanted few answer (written _ _ _ (check _ _ _ (long_text l)) a) f e = absurd (omega arith)
+checked_by judgement line wanted few answer (written _ _ _ (progress _ _ _ v) a) f e = absurd cc
+checked_by judgement line wanted few answer (cut_off _ _ _ v r p) f e = absurd (omega arith)
+checked_by judgement line wanted few answer (source_failed g r) f e = absurd (omega arith)
+checked_by judgement line wanted few answer (no_memory g) f e = absurd (omega arith)
+
+pub checked_of : {form : Option Form} {left left' : Option (List ℕ)} {sf sf' : ℕ} {got got' : Option (List ℕ)} {kf kf' : ℕ} {status : ℕ} {log : Option RunLog} → Ends form left left' sf sf' got got' kf kf' status log → form ≡ Some forms.Check → status ≡ 0 → Checked Legal lawful_text left left' got got'
+checked_of ends f e = checked_by Legal lawful_text 0 (omega arith) (λ s b n l t v is. answered_lawful v is) ends f e
+
+pub checked_unlawful_of : {form : Option Form} {left left' : Option (List ℕ)} {sf sf' : ℕ} {got got' : Option (List ℕ)} {kf kf' : ℕ} {status : ℕ} {log : Option RunLog} → Ends form left left' sf sf' got got' kf kf' status log → form ≡ Some forms.Check → status ≡ 1 → Checked IsUnlawful not_lawful_text left left' got got'
+checked_unlawful_of ends f e = checked_by IsUnlawful not_lawful_text 1 (omega arith) (λ s b n l t v is. answered_unlawful v is) ends f e
 
 pub source_failed_of : {form : Option Form} {left left' : Option (List ℕ)} {sf sf' : ℕ} {got got' : Option (List ℕ)} {kf kf' : ℕ} {status : ℕ} {log : Option RunLog} → Ends form left left' sf sf' got got' kf kf' status log → status ≡ 4 → SourceFailed form sf sf'
 source_failed_of (written status _ _ v a) e = absurd (omega (arith, known_verdict v, e))
@@ -114,11 +183,17 @@ sink_failed_of (cut_off status log text v r p) e = record { rose = r; status = s
 sink_failed_of (source_failed f r) e = absurd (omega arith)
 sink_failed_of (no_memory f) e = absurd (omega arith)
 
+check_log : {left left' : Option (List ℕ)} {status : ℕ} {log : Option RunLog} {text : List ℕ} → ReadVerdict LONGEST_CHECK left left' CheckVerdict status log text → log ≡ None
+check_log (whole_text _ _ _ _ r (script_refused _ q bare)) = refl
+check_log (whole_text _ _ _ _ r (judged _ _ _ _ rs v)) = report_log v
+check_log (long_text l) = refl
+
 no_log_verdict : {left left' : Option (List ℕ)} {form : Option Form} {status : ℕ} {log : Option RunLog} {text : List ℕ} → Verdict left left' form status log text → status ≢ 0 → log ≡ None
 no_log_verdict misread d = refl
 no_log_verdict (run _ _ _ _ (whole_text _ _ _ _ r (report _ _ _ _ t h (made _ _ l e)))) d = absurd (d refl)
 no_log_verdict (run _ _ _ _ (whole_text _ _ _ _ r (refusal _ q bare))) d = refl
 no_log_verdict (run _ _ _ _ (long_text l)) d = refl
+no_log_verdict (check _ _ _ v) d = check_log v
 no_log_verdict (progress _ _ _ (whole_text _ _ _ _ r (replay _ _ _ _ t v))) d = replay_log v
 no_log_verdict (progress _ _ _ (whole_text _ _ _ _ r (fault _ e))) d = refl
 no_log_verdict (progress _ _ _ (long_text l)) d = refl
@@ -129,11 +204,24 @@ no_log_of (cut_off _ _ _ v r p) d c = absurd (c refl)
 no_log_of (source_failed f r) d c = refl
 no_log_of (no_memory f) d c = refl
 
+no_log_by_form : {left left' : Option (List ℕ)} {form : Option Form} {status : ℕ} {log : Option RunLog} {text : List ℕ} → Verdict left left' form status log text → form ≡ Some forms.Check → log ≡ None
+no_log_by_form misread f = refl
+no_log_by_form (run _ _ _ _ v) f = absurd cc
+no_log_by_form (check _ _ _ v) f = check_log v
+no_log_by_form (progress _ _ _ v) f = absurd cc
+
+pub no_log_checked_of : {form : Option Form} {left left' : Option (List ℕ)} {sf sf' : ℕ} {got got' : Option (List ℕ)} {kf kf' : ℕ} {status : ℕ} {log : Option RunLog} → Ends form left left' sf sf' got got' kf kf' status log → form ≡ Some forms.Check → log ≡ None
+no_log_checked_of (written _ _ _ v a) f = no_log_by_form v f
+no_log_checked_of (cut_off _ _ _ v r p) f = no_log_by_form v f
+no_log_checked_of (source_failed g r) f = refl
+no_log_checked_of (no_memory g) f = refl
+
 -- ---- where no count rose
 
 pub complete_words_of : {form : Option Form} {left left' : Option (List ℕ)} {sf sf' : ℕ} {got got' : Option (List ℕ)} {kf kf' : ℕ} {status : ℕ} {log : Option RunLog} → Ends form left left' sf sf' got got' kf kf' status log → form ≡ None → Rose kf kf' ⊎ (status ≡ 2)
 complete_words_of (written _ _ _ misread a) e = inr refl
 complete_words_of (written _ _ _ (run _ _ _ _ v) a) e = absurd cc
+complete_words_of (written _ _ _ (check _ _ _ v) a) e = absurd cc
 complete_words_of (written _ _ _ (progress _ _ _ v) a) e = absurd cc
 complete_words_of (cut_off _ _ _ v r p) e = inl r
 complete_words_of (source_failed f r) e = absurd (f e)
@@ -143,7 +231,8 @@ pub complete_run_of : {form : Option Form} {left left' : Option (List ℕ)} {sf 
 complete_run_of n bytes s (written _ _ _ misread a) e l t ns nk = absurd cc
 complete_run_of n bytes s (written _ _ _ (run _ _ _ _ (whole_text _ _ _ _ r (report _ _ _ _ _ _ (made _ _ _ _)))) a) e l t ns nk = inl refl
 complete_run_of n bytes s (written _ _ _ (run _ _ _ _ (whole_text _ _ _ _ r (refusal _ q bare))) a) e l t ns nk = absurd (bare s (subst (λ (x : List ℕ). ScriptText x s) (told_is l r) t))
-complete_run_of {left = left} n bytes s (written _ _ _ (run _ _ _ _ (long_text long)) a) e l t ns nk = absurd (omega (arith, long_is left bytes l long, t.whole.short))
+complete_run_of {left = left} n bytes s (written _ _ _ (run _ _ _ _ (long_text long)) a) e l t ns nk = absurd (omega (arith, long_is LONGEST_SCRIPT left bytes l long, t.whole.short))
+complete_run_of n bytes s (written _ _ _ (check _ _ _ v) a) e l t ns nk = absurd cc
 complete_run_of n bytes s (written _ _ _ (progress _ _ _ v) a) e l t ns nk = absurd cc
 complete_run_of n bytes s (cut_off _ _ _ v r p) e l t ns nk = absurd (nk r)
 complete_run_of n bytes s (source_failed f r) e l t ns nk = absurd (ns r)
@@ -154,10 +243,90 @@ complete_refusal_of n bytes q (written _ _ _ misread a) e l t ns nk = absurd cc
 complete_refusal_of n bytes q (written _ _ _ (run _ _ _ _ (whole_text _ _ _ _ r (report _ _ _ _ _ sane (made _ _ _ _)))) a) e l t ns nk = absurd (sane q (subst (λ (b : List ℕ). FaultOf b q) (told_is l r) t))
 complete_refusal_of n bytes q (written _ _ _ (run _ _ _ _ (whole_text _ _ _ _ r (refusal _ _ _))) a) e l t ns nk = inl refl
 complete_refusal_of n bytes q (written _ _ _ (run _ _ _ _ (long_text long)) a) e l t ns nk = inl refl
+complete_refusal_of n bytes q (written _ _ _ (check _ _ _ v) a) e l t ns nk = absurd cc
 complete_refusal_of n bytes q (written _ _ _ (progress _ _ _ v) a) e l t ns nk = absurd cc
 complete_refusal_of n bytes q (cut_off _ _ _ v r p) e l t ns nk = absurd (nk r)
 complete_refusal_of n bytes q (source_failed f r) e l t ns nk = absurd (ns r)
 complete_refusal_of n bytes q (no_memory f) e l t ns nk = inr refl
+
+-- what was told is a script's text and a report's, and so are the two parts of what was read
+record PartsAre (read : List ℕ) (s : Script) (P : List ℕ → Type 0) : Type 0 where
+  text : ScriptText (script_part read) s
+  behind : P (report_part read)
+
+told_parts : (P : List ℕ → Type 0) (bytes read front behind : List ℕ) (s : Script) → bytes ≡ read → bytes ≡ front ++ behind → ScriptText front s → P behind → PartsAre read s P
+told_parts P bytes read front behind s same w t p =
+    let both : front ++ behind ≡ read = sym w ∙ same in
+    record {
+      text = subst (λ (x : List ℕ). ScriptText x s) (sym (part_of_script front behind s t) ∙ ap script_part both) t;
+      behind = subst P (sym (part_behind_script front behind s t) ∙ ap report_part both) p;
+    }
+
+-- the answer to a report, for the script and the log that stand there
+lawful_status : {s t : Script} {bytes : List ℕ} {status : ℕ} {log : Option RunLog} {text : List ℕ} (l : RunLog) → s ≡ t → IsReportOf s.names bytes l → Legal s l → ReportVerdict t bytes status log text → status ≡ 0
+lawful_status {bytes = bytes} l same r legal (report_refused _ q bare) = absurd (bare l (subst (λ (x : Script). IsReportOf x.names bytes l) same r))
+lawful_status l same r legal (lawful _ _ _) = refl
+lawful_status {s = s} {t = t} {bytes = bytes} l same r legal (not_lawful m read never) =
+    let one : l ≡ m = read.only l (subst (λ (x : Script). IsReportOf x.names bytes l) same r) in
+    absurd (never (subst (λ (x : RunLog). Legal t x) one (subst (λ (x : Script). Legal x l) same legal)))
+
+unlawful_status : {s t : Script} {bytes : List ℕ} {status : ℕ} {log : Option RunLog} {text : List ℕ} (l : RunLog) → s ≡ t → IsReportOf s.names bytes l → IsUnlawful s l → ReportVerdict t bytes status log text → status ≡ 1
+unlawful_status {bytes = bytes} l same r never (report_refused _ q bare) = absurd (bare l (subst (λ (x : Script). IsReportOf x.names bytes l) same r))
+unlawful_status {s = s} {t = t} {bytes = bytes} l same r never (lawful m read legal) =
+    let one : l ≡ m = read.only l (subst (λ (x : Script). IsReportOf x.names bytes l) same r) in
+    absurd (never (subst (λ (x : Script). Legal x l) (sym same) (subst (λ (x : RunLog). Legal t x) (sym one) legal)))
+unlawful_status l same r never (not_lawful _ _ _) = refl
+
+faulty_status : {s t : Script} {bytes : List ℕ} {status : ℕ} {log : Option RunLog} {text : List ℕ} (q : ReportFault) → s ≡ t → ReportFaultOf s.names bytes q → ReportVerdict t bytes status log text → status ≡ 3
+faulty_status q same f (report_refused _ _ _) = refl
+faulty_status {bytes = bytes} q same f (lawful _ read _) = absurd (read.sane q (subst (λ (x : Script). ReportFaultOf x.names bytes q) same f))
+faulty_status {bytes = bytes} q same f (not_lawful _ read _) = absurd (read.sane q (subst (λ (x : Script). ReportFaultOf x.names bytes q) same f))
+
+-- the answer of a check whose input has a script's text in front, of which behind it this is true
+told_status : (P : List ℕ → Type 0) (wanted : ℕ) (bytes front behind : List ℕ) (s : Script) → bytes ≡ front ++ behind → ScriptText front s → P behind
+    → ((t : Script) (b : List ℕ) (status : ℕ) (log : Option RunLog) (text : List ℕ) → s ≡ t → P b → ReportVerdict t b status log text → status ≡ wanted)
+    → {form : Option Form} {left left' : Option (List ℕ)} {sf sf' : ℕ} {got got' : Option (List ℕ)} {kf kf' : ℕ} {status : ℕ} {log : Option RunLog} → Ends form left left' sf sf' got got' kf kf' status log → form ≡ Some forms.Check → left ≡ Some bytes
+    → (LONGEST_CHECK < length bytes → 3 ≡ wanted) → (Rose sf sf' → ⊥) → (Rose kf kf' → ⊥) → (status ≡ wanted) ⊎ (status ≡ 6)
+told_status P wanted bytes front behind s w t p answer (written _ _ _ misread a) f l long ns nk = absurd cc
+told_status P wanted bytes front behind s w t p answer (written _ _ _ (run _ _ _ _ v) a) f l long ns nk = absurd cc
+told_status P wanted bytes front behind s w t p answer (written _ _ _ (check _ _ _ (whole_text read _ _ _ r (script_refused _ q bare))) a) f l long ns nk =
+    absurd (bare s (told_parts P bytes read front behind s (told_is l r) w t p).text)
+told_status P wanted bytes front behind s w t p answer (written _ _ _ (check _ _ _ (whole_text read _ _ _ r (judged found status log text rs v))) a) f l long ns nk =
+    let parts = told_parts P bytes read front behind s (told_is l r) w t p in
+    inl (answer found (report_part read) status log text (rs.only s parts.text) parts.behind v)
+told_status P wanted bytes front behind s w t p answer {left = left} (written _ _ _ (check _ _ _ (long_text over)) a) f l long ns nk = inl (long (long_is LONGEST_CHECK left bytes l over))
+told_status P wanted bytes front behind s w t p answer (written _ _ _ (progress _ _ _ v) a) f l long ns nk = absurd cc
+told_status P wanted bytes front behind s w t p answer (cut_off _ _ _ v r c) f l long ns nk = absurd (nk r)
+told_status P wanted bytes front behind s w t p answer (source_failed g r) f l long ns nk = absurd (ns r)
+told_status P wanted bytes front behind s w t p answer (no_memory g) f l long ns nk = inr refl
+
+pub complete_lawful_of : {form : Option Form} {left left' : Option (List ℕ)} {sf sf' : ℕ} {got got' : Option (List ℕ)} {kf kf' : ℕ} {status : ℕ} {log : Option RunLog} (bytes : List ℕ) (s : Script) (l : RunLog) → Ends form left left' sf sf' got got' kf kf' status log → form ≡ Some forms.Check → left ≡ Some bytes → length bytes ≤ LONGEST_CHECK → HasScriptAndReport bytes s l → Legal s l → (Rose sf sf' → ⊥) → (Rose kf kf' → ⊥) → (status ≡ 0) ⊎ (status ≡ 6)
+complete_lawful_of bytes s l ends f told short h legal ns nk =
+    told_status (λ b. IsReportOf s.names b l) 0 bytes h.front h.behind s h.whole h.text h.report (λ t b n lg x same r v. lawful_status l same r legal v) ends f told (λ over. absurd (omega arith)) ns nk
+
+pub complete_unlawful_of : {form : Option Form} {left left' : Option (List ℕ)} {sf sf' : ℕ} {got got' : Option (List ℕ)} {kf kf' : ℕ} {status : ℕ} {log : Option RunLog} (bytes : List ℕ) (s : Script) (l : RunLog) → Ends form left left' sf sf' got got' kf kf' status log → form ≡ Some forms.Check → left ≡ Some bytes → length bytes ≤ LONGEST_CHECK → HasScriptAndReport bytes s l → IsUnlawful s l → (Rose sf sf' → ⊥) → (Rose kf kf' → ⊥) → (status ≡ 1) ⊎ (status ≡ 6)
+complete_unlawful_of bytes s l ends f told short h never ns nk =
+    told_status (λ b. IsReportOf s.names b l) 1 bytes h.front h.behind s h.whole h.text h.report (λ t b n lg x same r v. unlawful_status l same r never v) ends f told (λ over. absurd (omega arith)) ns nk
+
+pub complete_report_fault_of : {form : Option Form} {left left' : Option (List ℕ)} {sf sf' : ℕ} {got got' : Option (List ℕ)} {kf kf' : ℕ} {status : ℕ} {log : Option RunLog} (bytes : List ℕ) (s : Script) (q : ReportFault) → Ends form left left' sf sf' got got' kf kf' status log → form ≡ Some forms.Check → left ≡ Some bytes → HasFaultyReport bytes s q → (Rose sf sf' → ⊥) → (Rose kf kf' → ⊥) → (status ≡ 3) ⊎ (status ≡ 6)
+complete_report_fault_of bytes s q ends f told h ns nk =
+    told_status (λ b. ReportFaultOf s.names b q) 3 bytes h.front h.behind s h.whole h.text h.fault (λ t b n lg x same r v. faulty_status q same r v) ends f told (λ over. refl) ns nk
+
+-- a script's part that is over the limit or faulty is none that was read
+no_part : (bytes read : List ℕ) (q : ScriptFault) (s : Script) → bytes ≡ read → length read ≤ LONGEST_CHECK → IsScriptRead (script_part read) s → (LONGEST_CHECK < length bytes) ⊎ FaultOf (script_part bytes) q → ⊥
+no_part bytes read q s same short is (inl long) = omega (arith, long, short, ap length same)
+no_part bytes read q s same short is (inr f) = is.sane q (subst (λ (x : List ℕ). FaultOf (script_part x) q) same f)
+
+pub complete_script_fault_of : {form : Option Form} {left left' : Option (List ℕ)} {sf sf' : ℕ} {got got' : Option (List ℕ)} {kf kf' : ℕ} {status : ℕ} {log : Option RunLog} (bytes : List ℕ) (q : ScriptFault) → Ends form left left' sf sf' got got' kf kf' status log → form ≡ Some forms.Check → left ≡ Some bytes → (LONGEST_CHECK < length bytes) ⊎ FaultOf (script_part bytes) q → (Rose sf sf' → ⊥) → (Rose kf kf' → ⊥) → (status ≡ 3) ⊎ (status ≡ 6)
+complete_script_fault_of bytes q (written _ _ _ misread a) e l f ns nk = absurd cc
+complete_script_fault_of bytes q (written _ _ _ (run _ _ _ _ v) a) e l f ns nk = absurd cc
+complete_script_fault_of bytes q (written _ _ _ (check _ _ _ (whole_text _ _ _ _ r (script_refused _ _ _))) a) e l f ns nk = inl refl
+complete_script_fault_of bytes q (written _ _ _ (check _ _ _ (whole_text read _ _ _ r (judged s _ _ _ rs v))) a) e l f ns nk = absurd (no_part bytes read q s (told_is l r) r.short rs f)
+complete_script_fault_of bytes q (written _ _ _ (check _ _ _ (long_text long)) a) e l f ns nk = inl refl
+complete_script_fault_of bytes q (written _ _ _ (progress _ _ _ v) a) e l f ns nk = absurd cc
+complete_script_fault_of bytes q (cut_off _ _ _ v r p) e l f ns nk = absurd (nk r)
+complete_script_fault_of bytes q (source_failed g r) e l f ns nk = absurd (ns r)
+complete_script_fault_of bytes q (no_memory g) e l f ns nk = inr refl
 
 -- the event lists that one text has are one
 one_list : (bytes : List ℕ) (es fs : Events) → EventText bytes es → EventText bytes fs → es ≡ fs
@@ -189,7 +358,7 @@ stopped_status {events = events} index state s (all_made t m) = absurd (never_st
 stopped_status index state s (stopped _ _ _) = refl
 
 -- the answer to a told event list is that to the list that was read
-told_list : {left left' : Option (List ℕ)} {bytes read : List ℕ} {events found : Events} {status : ℕ} {log : Option RunLog} {text : List ℕ} → left ≡ Some bytes → WasRead left left' read → EventText bytes events → EventText read found → ReplayOf found status log text → ReplayOf events status log text
+told_list : {limit : ℕ} {left left' : Option (List ℕ)} {bytes read : List ℕ} {events found : Events} {status : ℕ} {log : Option RunLog} {text : List ℕ} → left ≡ Some bytes → WasRead limit left left' read → EventText bytes events → EventText read found → ReplayOf found status log text → ReplayOf events status log text
 told_list {bytes = bytes} {events = events} {found = found} {status = status} {log = log} {text = text} l r t u v =
     let same : found ≡ events = one_list bytes found events (subst (λ (x : List ℕ). EventText x found) (sym (told_is l r)) u) t in
     subst (λ (es : Events). ReplayOf es status log text) same v
@@ -197,10 +366,11 @@ told_list {bytes = bytes} {events = events} {found = found} {status = status} {l
 pub complete_replay_of : {form : Option Form} {left left' : Option (List ℕ)} {sf sf' : ℕ} {got got' : Option (List ℕ)} {kf kf' : ℕ} {status : ℕ} {log : Option RunLog} (bytes : List ℕ) (events : Events) (state : Progress) → Ends form left left' sf sf' got got' kf kf' status log → form ≡ Some forms.Progress → left ≡ Some bytes → length bytes ≤ LONGEST_SCRIPT → EventText bytes events → after_all (opening events.members events.watchers) events.list ≡ Some state → (Rose sf sf' → ⊥) → (Rose kf kf' → ⊥) → (status ≡ 0) ⊎ (status ≡ 6)
 complete_replay_of bytes events state (written _ _ _ misread a) e l s t m ns nk = absurd cc
 complete_replay_of bytes events state (written _ _ _ (run _ _ _ _ v) a) e l s t m ns nk = absurd cc
+complete_replay_of bytes events state (written _ _ _ (check _ _ _ v) a) e l s t m ns nk = absurd cc
 complete_replay_of bytes events state (written _ _ _ (progress _ _ _ (whole_text _ _ _ _ r (replay _ _ _ _ u v))) a) e l s t m ns nk = inl (made_status state m (told_list l r t u v))
 complete_replay_of bytes events state (written _ _ _ (progress _ _ _ (whole_text read _ _ _ r (fault line f))) a) e l s t m ns nk =
     absurd (apart (reading read) (reading_complete read events (subst (λ (x : List ℕ). EventText x events) (told_is l r) t)) f)
-complete_replay_of {left = left} bytes events state (written _ _ _ (progress _ _ _ (long_text long)) a) e l s t m ns nk = absurd (omega (arith, long_is left bytes l long, s))
+complete_replay_of {left = left} bytes events state (written _ _ _ (progress _ _ _ (long_text long)) a) e l s t m ns nk = absurd (omega (arith, long_is LONGEST_SCRIPT left bytes l long, s))
 complete_replay_of bytes events state (cut_off _ _ _ v r p) e l s t m ns nk = absurd (nk r)
 complete_replay_of bytes events state (source_failed f r) e l s t m ns nk = absurd (ns r)
 complete_replay_of bytes events state (no_memory f) e l s t m ns nk = inr refl
@@ -208,10 +378,11 @@ complete_replay_of bytes events state (no_memory f) e l s t m ns nk = inr refl
 pub complete_stop_of : {form : Option Form} {left left' : Option (List ℕ)} {sf sf' : ℕ} {got got' : Option (List ℕ)} {kf kf' : ℕ} {status : ℕ} {log : Option RunLog} (bytes : List ℕ) (events : Events) (index : ℕ) (state : Progress) → Ends form left left' sf sf' got got' kf kf' status log → form ≡ Some forms.Progress → left ≡ Some bytes → length bytes ≤ LONGEST_SCRIPT → EventText bytes events → StopsAt (opening events.members events.watchers) events.list index state → (Rose sf sf' → ⊥) → (Rose kf kf' → ⊥) → (status ≡ 1) ⊎ (status ≡ 6)
 complete_stop_of bytes events index state (written _ _ _ misread a) e l s t m ns nk = absurd cc
 complete_stop_of bytes events index state (written _ _ _ (run _ _ _ _ v) a) e l s t m ns nk = absurd cc
+complete_stop_of bytes events index state (written _ _ _ (check _ _ _ v) a) e l s t m ns nk = absurd cc
 complete_stop_of bytes events index state (written _ _ _ (progress _ _ _ (whole_text _ _ _ _ r (replay _ _ _ _ u v))) a) e l s t m ns nk = inl (stopped_status index state m (told_list l r t u v))
 complete_stop_of bytes events index state (written _ _ _ (progress _ _ _ (whole_text read _ _ _ r (fault line f))) a) e l s t m ns nk =
     absurd (apart (reading read) (reading_complete read events (subst (λ (x : List ℕ). EventText x events) (told_is l r) t)) f)
-complete_stop_of {left = left} bytes events index state (written _ _ _ (progress _ _ _ (long_text long)) a) e l s t m ns nk = absurd (omega (arith, long_is left bytes l long, s))
+complete_stop_of {left = left} bytes events index state (written _ _ _ (progress _ _ _ (long_text long)) a) e l s t m ns nk = absurd (omega (arith, long_is LONGEST_SCRIPT left bytes l long, s))
 complete_stop_of bytes events index state (cut_off _ _ _ v r p) e l s t m ns nk = absurd (nk r)
 complete_stop_of bytes events index state (source_failed f r) e l s t m ns nk = absurd (ns r)
 complete_stop_of bytes events index state (no_memory f) e l s t m ns nk = inr refl
@@ -224,6 +395,7 @@ no_list bytes read line events same short t (inr f) = apart (reading bytes) (rea
 pub complete_fault_of : {form : Option Form} {left left' : Option (List ℕ)} {sf sf' : ℕ} {got got' : Option (List ℕ)} {kf kf' : ℕ} {status : ℕ} {log : Option RunLog} (bytes : List ℕ) (line : ℕ) → Ends form left left' sf sf' got got' kf kf' status log → form ≡ Some forms.Progress → left ≡ Some bytes → (LONGEST_SCRIPT < length bytes) ⊎ (reading bytes ≡ Err line) → (Rose sf sf' → ⊥) → (Rose kf kf' → ⊥) → (status ≡ 3) ⊎ (status ≡ 6)
 complete_fault_of bytes line (written _ _ _ misread a) e l f ns nk = absurd cc
 complete_fault_of bytes line (written _ _ _ (run _ _ _ _ v) a) e l f ns nk = absurd cc
+complete_fault_of bytes line (written _ _ _ (check _ _ _ v) a) e l f ns nk = absurd cc
 complete_fault_of bytes line (written _ _ _ (progress _ _ _ (whole_text read _ _ _ r (replay events _ _ _ t _))) a) e l f ns nk = absurd (no_list bytes read line events (told_is l r) r.short t f)
 complete_fault_of bytes line (written _ _ _ (progress _ _ _ (whole_text _ _ _ _ r (fault _ _))) a) e l f ns nk = inl refl
 complete_fault_of bytes line (written _ _ _ (progress _ _ _ (long_text long)) a) e l f ns nk = inl refl
@@ -275,6 +447,26 @@ pub refusal_of : (bytes : List ℕ) (f : ScriptFault) (status : ℕ) (log : Opti
 refusal_of bytes f status log text (inl q) only line known = by_line (ScriptVerdict bytes) 3 (refusal_text f) status log text (refusal f q (λ s t. known (only s t))) line
 refusal_of bytes f status log text (inr e) only line known = absurd (known e)
 
+two_faults : (f : ReportFault) (line : ℕ) → f ≡ report_faults.Syntax line → f ≡ report_faults.NoMemory → ⊥
+two_faults f line e h = cc
+
+-- the fault of a report is the answer to it
+pub report_refused_of : (s : Script) (bytes : List ℕ) (f : ReportFault) (line status : ℕ) (log : Option RunLog) (text : List ℕ) → f ≡ report_faults.Syntax line → ReportFaultOf s.names bytes f ⊎ (f ≡ report_faults.NoMemory) → ((l : RunLog) → IsWellFormed s.names l → rendering_of s.names l ≡ bytes → f ≡ report_faults.NoMemory) → IsLine 3 (report_syntax_text line) status log text → ReportVerdict s bytes status log text
+report_refused_of s bytes f line status log text e (inl q) only is =
+    by_line (ReportVerdict s bytes) 3 (report_syntax_text line) status log text (report_refused line (subst (ReportFaultOf s.names bytes) e q) (λ l r. two_faults f line e (only l r.formed r.text_is))) is
+report_refused_of s bytes f line status log text e (inr h) only is = absurd (two_faults f line e h)
+
+-- the answer to a report is that of its script's bytes
+pub judged_of : (bytes part behind : List ℕ) (s : Script) (status : ℕ) (log : Option RunLog) (text : List ℕ) → part ≡ script_part bytes → behind ≡ report_part bytes → ScriptText part s → ((other : Script) → ScriptText part other → other ≡ s) → HasNoFault part → ReportVerdict s behind status log text → CheckVerdict bytes status log text
+judged_of bytes part behind s status log text pe be t only sane v =
+    judged s status log text (subst (λ (b : List ℕ). IsScriptRead b s) pe (record { text = t; only = only; sane = sane })) (subst (λ (b : List ℕ). ReportVerdict s b status log text) be v)
+
+-- the fault of a script's part is the answer to the bytes
+pub script_refused_of : (bytes part : List ℕ) (f : ScriptFault) (status : ℕ) (log : Option RunLog) (text : List ℕ) → part ≡ script_part bytes → FaultOf part f ⊎ (f ≡ faults.NoMemory) → ((s : Script) → ScriptText part s → f ≡ faults.NoMemory) → IsLine 3 (refusal_text f) status log text → (f ≡ faults.NoMemory → ⊥) → CheckVerdict bytes status log text
+script_refused_of bytes part f status log text pe (inl q) only line known =
+    by_line (CheckVerdict bytes) 3 (refusal_text f) status log text (script_refused f (subst (λ (b : List ℕ). FaultOf b f) pe q) (subst IsNoScript pe (λ s t. known (only s t)))) line
+script_refused_of bytes part f status log text pe (inr e) only line known = absurd (known e)
+
 -- the answer to an event list is that to its bytes
 pub replay_of : (bytes : List ℕ) (events : Events) (status : ℕ) (log : Option RunLog) (text : List ℕ) → EventText bytes events → ReplayOf events status log text → ListVerdict bytes status log text
 replay_of bytes events status log text t r = replay events status log text t r
@@ -292,9 +484,13 @@ replay_stopped events s t index status log text se r line =
     by_line (ReplayOf events) 1 (not_enabled_text index) status log text (stopped index t (subst (λ (x : Progress). StopsAt x events.list index t) se r)) line
 
 -- what a run comes to, by its form
-pub run_by : (left left' : Option (List ℕ)) (form : Form) (schedulers status : ℕ) (log : Option RunLog) (text : List ℕ) → form ≡ forms.Run schedulers → ReadVerdict left left' ScriptVerdict status log text → Verdict left left' (Some form) status log text
+pub run_by : (left left' : Option (List ℕ)) (form : Form) (schedulers status : ℕ) (log : Option RunLog) (text : List ℕ) → form ≡ forms.Run schedulers → ReadVerdict LONGEST_SCRIPT left left' ScriptVerdict status log text → Verdict left left' (Some form) status log text
 run_by left left' form schedulers status log text e v = subst (λ (f : Form). Verdict left left' (Some f) status log text) (sym e) (run schedulers status log text v)
 
+-- what a check comes to, by its form
+pub check_by : (left left' : Option (List ℕ)) (form : Form) (status : ℕ) (log : Option RunLog) (text : List ℕ) → form ≡ forms.Check → ReadVerdict LONGEST_CHECK left left' CheckVerdict status log text → Verdict left left' (Some form) status log text
+check_by left left' form status log text e v = subst (λ (f : Form). Verdict left left' (Some f) status log text) (sym e) (check status log text v)
+
 -- what a replay comes to, by its form
-pub progress_by : (left left' : Option (List ℕ)) (form : Form) (status : ℕ) (log : Option RunLog) (text : List ℕ) → form ≡ forms.Progress → ReadVerdict left left' ListVerdict status log text → Verdict left left' (Some form) status log text
+pub progress_by : (left left' : Option (List ℕ)) (form : Form) (status : ℕ) (log : Option RunLog) (text : List ℕ) → form ≡ forms.Progress → ReadVerdict LONGEST_SCRIPT left left' ListVerdict status log text → Verdict left left' (Some form) status log text
 progress_by left left' form status log text e v = subst (λ (f : Form). Verdict left left' (Some f) status log text) (sym e) (progress status log text v)

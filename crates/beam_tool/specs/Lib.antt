@@ -1,4 +1,5 @@
 pub mod Memory
 pub mod Outside
+pub mod Parting
 pub mod Transfer
 pub mod TopCall

@@ -11,6 +11,7 @@ use Rattle.prgr_core.specs.declared.progress.Progress.{Progress}
 use Rattle.prgr_core.specs.EventText.{EventText}
 use Rattle.prgr_core.specs.Reading.{reading}
 use Rattle.prgr_core.specs.Step.{after_all, opening, StopsAt}
+use Rattle.beam_tool.specs.declared.check_form.TheConstants.{LONGEST_CHECK}
 use Rattle.beam_tool.specs.declared.form.TheConstants.{MOST_SCHEDULERS}
 use Rattle.beam_tool.specs.declared.form.Form.{Form}
 use Rattle.beam_tool.specs.declared.form.Form.TheVariants as forms
@@ -28,7 +29,12 @@ use Rattle.script_text.specs.ScriptText.{ScriptText, FaultOf}
 use Rattle.run_log.specs.declared.logs.RunLog.{RunLog}
 use Rattle.run_log.specs.Report.{rendering_of, line_of}
 use Rattle.run_log.specs.Legal.{Legal}
+use Rattle.run_log.specs.WellFormed.{IsWellFormed}
+use Rattle.report_text.specs.declared.fault.ReportFault.{ReportFault}
+use Rattle.report_text.specs.declared.fault.ReportFault.TheVariants as report_faults
+use Rattle.report_text.specs.ReportText.{FaultOf as ReportFaultOf}
 use Rattle.beam_tool.specs.Outside.{Rose, GetsPrefix}
+use Rattle.beam_tool.specs.Parting.{script_part, report_part}
 
 -- the counts of schedulers that may be asked for
 abbrev pub scheduler_counts : List ℕ
@@ -38,12 +44,12 @@ scheduler_counts = range_with_len 1 MOST_SCHEDULERS
 abbrev pub schedulers_of : List ℕ → Option ℕ
 schedulers_of text = find (λ n. bytes_eq (decimal n) text) scheduler_counts
 
--- the form that these words have, if any: `run`, `run --schedulers N` or `progress`
+-- the form that these words have, if any: `run`, `run --schedulers N`, `check` or `progress`
 abbrev pub form_of : List (List ℕ) → Option Form
 form_of (command ∷ option ∷ count ∷ []) =
     if bytes_eq command (codes "run") && bytes_eq option (codes "--schedulers") then option_map forms.Run (schedulers_of count) else None
 form_of (command ∷ []) =
-    if bytes_eq command (codes "run") then Some (forms.Run 2) else (if bytes_eq command (codes "progress") then Some forms.Progress else None)
+    if bytes_eq command (codes "run") then Some (forms.Run 2) else (if bytes_eq command (codes "check") then Some forms.Check else (if bytes_eq command (codes "progress") then Some forms.Progress else None))
 form_of [] = None
 form_of (command ∷ option ∷ []) = None
 form_of (command ∷ option ∷ count ∷ more ∷ rest) = None
@@ -64,6 +70,18 @@ too_long_text = refusal_text faults.FileTooLong
 abbrev pub syntax_text : ℕ → List ℕ
 syntax_text line = refusal_text (faults.Syntax line)
 
+-- the line for a report whose first faulty line this is, counted from the first line of the report
+abbrev pub report_syntax_text : ℕ → List ℕ
+report_syntax_text line = line_of (codes "refused report " ++ decimal line ++ codes " syntax")
+
+-- the line for a report of a lawful log
+abbrev pub lawful_text : List ℕ
+lawful_text = line_of (codes "lawful")
+
+-- the line for a report of a log that is not lawful
+abbrev pub not_lawful_text : List ℕ
+not_lawful_text = line_of (codes "not lawful")
+
 -- the line for an event that is not enabled
 abbrev pub not_enabled_text : ℕ → List ℕ
 not_enabled_text index = line_of (codes "not enabled " ++ decimal index)
@@ -80,15 +98,60 @@ IsNoScript bytes = (s : Script) → ScriptText bytes s → ⊥
 abbrev pub HasNoFault : List ℕ → Type 0
 HasNoFault bytes = (f : ScriptFault) → FaultOf bytes f → ⊥
 
+-- the bytes are the text of this script and of no other, and have no fault
+pub record IsScriptRead (bytes : List ℕ) (s : Script) : Type 0 where
+  pub text : ScriptText bytes s
+  pub only : (other : Script) → ScriptText bytes other → other ≡ s
+  pub sane : HasNoFault bytes
+
+-- the text is the report of this log, whose atoms have these names
+pub record IsReportOf (names : List (List ℕ)) (text : List ℕ) (log : RunLog) : Type 0 where
+  pub formed : IsWellFormed names log
+  pub text_is : rendering_of names log ≡ text
+
+-- the text is the report of no log, with the atoms of these names
+abbrev pub IsNoReport : List (List ℕ) → List ℕ → Type 0
+IsNoReport names text = (log : RunLog) → IsReportOf names text log → ⊥
+
+-- the text has no fault of a report
+abbrev pub HasNoReportFault : List (List ℕ) → List ℕ → Type 0
+HasNoReportFault names text = (f : ReportFault) → ReportFaultOf names text f → ⊥
+
+-- the text is the report of this log and of no other, and has no fault
+pub record IsReportRead (names : List (List ℕ)) (text : List ℕ) (log : RunLog) : Type 0 where
+  pub report : IsReportOf names text log
+  pub only : (other : RunLog) → IsReportOf names text other → other ≡ log
+  pub sane : HasNoReportFault names text
+
+-- the bytes are the text of this script, and behind it the report of this log
+pub record HasScriptAndReport (bytes : List ℕ) (s : Script) (log : RunLog) : Type 0 where
+  pub front : List ℕ
+  pub behind : List ℕ
+  pub whole : bytes ≡ front ++ behind
+  pub text : ScriptText front s
+  pub report : IsReportOf s.names behind log
+
+-- the bytes are the text of this script, and what stands behind it is a report with this fault
+pub record HasFaultyReport (bytes : List ℕ) (s : Script) (f : ReportFault) : Type 0 where
+  pub front : List ℕ
+  pub behind : List ℕ
+  pub whole : bytes ≡ front ++ behind
+  pub text : ScriptText front s
+  pub fault : ReportFaultOf s.names behind f
+
+-- the log is not lawful for the script
+abbrev pub IsUnlawful : Script → RunLog → Type 0
+IsUnlawful s log = Legal s log → ⊥
+
 -- what was left of the source is over the limit
-abbrev pub IsTooLong : Option (List ℕ) → Type 0
-IsTooLong left = IfSome left (λ bytes. LONGEST_SCRIPT < length bytes)
+abbrev pub IsTooLong : ℕ → Option (List ℕ) → Type 0
+IsTooLong limit left = IfSome left (λ bytes. limit < length bytes)
 
 -- the source was read to its end, and these are its bytes, within the limit
-pub record WasRead (left left_after : Option (List ℕ)) (bytes : List ℕ) : Type 0 where
+pub record WasRead (limit : ℕ) (left left_after : Option (List ℕ)) (bytes : List ℕ) : Type 0 where
   pub told : IfSome left (λ told. told ≡ bytes)
   pub to_end : OnSome left (left_after ≡ Some [])
-  pub short : length bytes ≤ LONGEST_SCRIPT
+  pub short : length bytes ≤ limit
 
 -- an event list that the machine can be given: 1 to 16 members, and at most 4 watchers
 pub record IsReplayable (events : Events) : Type 0 where
@@ -121,16 +184,28 @@ pub data ListVerdict (bytes : List ℕ) : ℕ → Option RunLog → List ℕ →
   replay : (events : Events) (status : ℕ) (log : Option RunLog) (text : List ℕ) → EventText bytes events → ReplayOf events status log text → ListVerdict bytes status log text
   fault : (line : ℕ) → reading bytes ≡ Err line → ListVerdict bytes 3 None (syntax_text line)
 
--- what a form that reads comes to apart from writing: what its bytes come to, or the line for a text over the limit
-pub data ReadVerdict (left left_after : Option (List ℕ)) (P : List ℕ → ℕ → Option RunLog → List ℕ → Type 0) : ℕ → Option RunLog → List ℕ → Type 0 where
-  whole_text : (bytes : List ℕ) (status : ℕ) (log : Option RunLog) (text : List ℕ) → WasRead left left_after bytes → P bytes status log text → ReadVerdict left left_after P status log text
-  long_text : IsTooLong left → ReadVerdict left left_after P 3 None too_long_text
+-- the answer to a report, for the script that stands before it: it is refused, or its log is lawful, or it is not
+pub data ReportVerdict (s : Script) (report : List ℕ) : ℕ → Option RunLog → List ℕ → Type 0 where
+  report_refused : (line : ℕ) → ReportFaultOf s.names report (report_faults.Syntax line) → IsNoReport s.names report → ReportVerdict s report 3 None (report_syntax_text line)
+  lawful : (log : RunLog) → IsReportRead s.names report log → Legal s log → ReportVerdict s report 0 None lawful_text
+  not_lawful : (log : RunLog) → IsReportRead s.names report log → IsUnlawful s log → ReportVerdict s report 1 None not_lawful_text
+
+-- the answer of a check to the bytes that it read: that to the report behind the script's part, or the one fault of that part, which comes first
+pub data CheckVerdict (bytes : List ℕ) : ℕ → Option RunLog → List ℕ → Type 0 where
+  script_refused : (f : ScriptFault) → FaultOf (script_part bytes) f → IsNoScript (script_part bytes) → CheckVerdict bytes 3 None (refusal_text f)
+  judged : (s : Script) (status : ℕ) (log : Option RunLog) (text : List ℕ) → IsScriptRead (script_part bytes) s → ReportVerdict s (report_part bytes) status log text → CheckVerdict bytes status log text
+
+-- what a form that reads up to a limit comes to apart from writing: what its bytes come to, or the line for a text over the limit
+pub data ReadVerdict (limit : ℕ) (left left_after : Option (List ℕ)) (P : List ℕ → ℕ → Option RunLog → List ℕ → Type 0) : ℕ → Option RunLog → List ℕ → Type 0 where
+  whole_text : (bytes : List ℕ) (status : ℕ) (log : Option RunLog) (text : List ℕ) → WasRead limit left left_after bytes → P bytes status log text → ReadVerdict limit left left_after P status log text
+  long_text : IsTooLong limit left → ReadVerdict limit left left_after P 3 None too_long_text
 
 -- what a call comes to apart from writing, by the form of its words: status, log and text
 pub data Verdict (left left_after : Option (List ℕ)) : Option Form → ℕ → Option RunLog → List ℕ → Type 0 where
   misread : Verdict left left_after None 2 None not_understood_text
-  run : (schedulers status : ℕ) (log : Option RunLog) (text : List ℕ) → ReadVerdict left left_after ScriptVerdict status log text → Verdict left left_after (Some (forms.Run schedulers)) status log text
-  progress : (status : ℕ) (log : Option RunLog) (text : List ℕ) → ReadVerdict left left_after ListVerdict status log text → Verdict left left_after (Some forms.Progress) status log text
+  run : (schedulers status : ℕ) (log : Option RunLog) (text : List ℕ) → ReadVerdict LONGEST_SCRIPT left left_after ScriptVerdict status log text → Verdict left left_after (Some (forms.Run schedulers)) status log text
+  check : (status : ℕ) (log : Option RunLog) (text : List ℕ) → ReadVerdict LONGEST_CHECK left left_after CheckVerdict status log text → Verdict left left_after (Some forms.Check) status log text
+  progress : (status : ℕ) (log : Option RunLog) (text : List ℕ) → ReadVerdict LONGEST_SCRIPT left left_after ListVerdict status log text → Verdict left left_after (Some forms.Progress) status log text
 
 -- statuses 0 to 3: the text of what the call came to was written whole
 pub record Answered (form : Option Form) (left left_after got got_after : Option (List ℕ)) (status : ℕ) (log : Option RunLog) : Type 0 where
@@ -143,11 +218,21 @@ pub record Reported (left left_after got got_after : Option (List ℕ)) (answere
   pub bytes : List ℕ
   pub script : Script
   pub log : RunLog
-  pub read : WasRead left left_after bytes
+  pub read : WasRead LONGEST_SCRIPT left left_after bytes
   pub text : ScriptText bytes script
   pub answered_is : answered ≡ Some log
   pub legal : Legal script log
   pub written : Appends got got_after (rendering_of script.names log)
+
+-- statuses 0 and 1 of a check: the whole source is a script's text and behind it the report of a log, of the two this is true, and this line was written
+pub record Checked (judgement : Script → RunLog → Type 0) (line : List ℕ) (left left_after got got_after : Option (List ℕ)) : Type 0 where
+  pub bytes : List ℕ
+  pub script : Script
+  pub log : RunLog
+  pub read : WasRead LONGEST_CHECK left left_after bytes
+  pub parts : HasScriptAndReport bytes script log
+  pub holds : judgement script log
+  pub written : Appends got got_after line
 
 -- status 4: a form that reads, and a source that failed
 pub record SourceFailed (form : Option Form) (faults faults_after : ℕ) : Type 0 where

@@ -1,12 +1,17 @@
+ghost use Rattle.std.specs.Prelude.{IfOk};
+ghost use Rattle.run_log.specs.Report.{line_of};
+ghost use Rattle.beam_tool.specs.TopCall.{IsLine};
+
 use crate::fault::ReadFault;
 use run_log::RunLog;
+use std::alloc::Global;
 use term_core::{ByteList, NoMemory};
 
 /// The work was done.
 pub const DONE: u8 = 0;
 
-/// An event of the list is not enabled.
-pub const NOT_ENABLED: u8 = 1;
+/// What was read is no history: a report's log is not lawful, or an event of a list is not enabled.
+pub const NOT_ALLOWED: u8 = 1;
 
 /// The words have no form.
 pub const NOT_UNDERSTOOD: u8 = 2;
@@ -29,6 +34,19 @@ pub struct Answer {
     pub status: u8,
     pub log: Option<RunLog>,
     pub text: ByteList,
+}
+
+/// The answer of one line, which is given without its line feed.
+pub fn line_answer(alloc: Global, status: u8, line: &[u8]) -> Result<Answer, NoMemory>
+    ensures { IfOk result (λ a. IsLine status (line_of line.now) a.status a.log a.text) }
+{
+    let mut text = ByteList::from_slice(alloc, line)?;
+    text.push(b'\n')?;
+    Ok(Answer {
+        status,
+        log: None,
+        text,
+    })
 }
 
 /// Why a call came to nothing that is written.

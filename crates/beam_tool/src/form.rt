@@ -17,6 +17,8 @@ pub enum Form {
         /// From 1 to 16.
         schedulers: u32,
     },
+    /// `check`: judges the report that is read behind its script.
+    Check,
     /// `progress`: replays the event list that is read on the thread progress machine.
     Progress,
 }
@@ -29,6 +31,7 @@ pub fn form_of(words: &[String]) -> Option<Form>
         [command] if command.as_str() == "run" => Some(Form::Run {
             schedulers: SCHEDULERS,
         }),
+        [command] if command.as_str() == "check" => Some(Form::Check),
         [command] if command.as_str() == "progress" => Some(Form::Progress),
         [command, option, count]
             if command.as_str() == "run" && option.as_str() == "--schedulers" => {

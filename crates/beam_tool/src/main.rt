@@ -2,6 +2,9 @@
 #![tactic(auto)]
 
 mod answer;
+mod check_form;
+#[cfg(test)]
+mod check_tests;
 #[cfg(test)]
 mod constant_tests;
 mod fault;
@@ -12,6 +15,7 @@ mod memory;
 mod old_code_tests;
 #[cfg(test)]
 mod outside_tests;
+mod parting;
 mod piece;
 mod progress_form;
 mod refusal;

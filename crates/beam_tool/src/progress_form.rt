@@ -3,7 +3,7 @@ ghost use Rattle.prgr_core.specs.EventText.{EventText};
 ghost use Rattle.beam_tool.specs.Outside.{Rose};
 ghost use Rattle.beam_tool.specs.TopCall.{ReadVerdict, ListVerdict, ReplayOf, IsReplayable, IsLine, not_enabled_text, done_text};
 
-use crate::answer::{Answer, DONE, NOT_ENABLED, Stop};
+use crate::answer::{Answer, DONE, NOT_ALLOWED, Stop};
 use crate::refusal::refusal;
 use crate::source::Source;
 use crate::transfer::{Input, read_whole};
@@ -15,7 +15,7 @@ use term_core::{ByteList, NoMemory, print_number};
 /// What the replay of an event list comes to apart from writing.
 pub fn progress_answer<S: Source>(alloc: Global, source: &mut S) -> Result<Answer, Stop>
     ensures verdict { IfOk result
-        (λ a. ReadVerdict (S.left source.old) (S.left source.new) ListVerdict a.status a.log a.text) }
+        (λ a. ReadVerdict LONGEST_SCRIPT (S.left source.old) (S.left source.new) ListVerdict a.status a.log a.text) }
     ensures failed { IsErrOf result Stop.SourceFault
         → Rose (S.faults source.old) (S.faults source.new) }
 {
@@ -71,13 +71,13 @@ fn done(alloc: Global, events: u64, state: &PrgrState) -> Result<Answer, NoMemor
 
 /// The line of an event that is not enabled.
 fn not_enabled(alloc: Global, index: u64) -> Result<Answer, NoMemory>
-    ensures { IfOk result (λ a. IsLine NOT_ENABLED (not_enabled_text index) a.status a.log a.text) }
+    ensures { IfOk result (λ a. IsLine NOT_ALLOWED (not_enabled_text index) a.status a.log a.text) }
 {
     let mut text = ByteList::from_slice(alloc, b"not enabled ")?;
     print_number(index, &mut text)?;
     text.push(b'\n')?;
     Ok(Answer {
-        status: NOT_ENABLED,
+        status: NOT_ALLOWED,
         log: None,
         text,
     })

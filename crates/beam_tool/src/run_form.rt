@@ -16,7 +16,7 @@ use term_core::{ByteList, NoMemory};
 /// What a run comes to apart from writing.
 pub fn run_answer<S: Source>(alloc: Global, source: &mut S) -> Result<Answer, Stop>
     ensures verdict { IfOk result
-        (λ a. ReadVerdict (S.left source.old) (S.left source.new) ScriptVerdict a.status a.log a.text) }
+        (λ a. ReadVerdict LONGEST_SCRIPT (S.left source.old) (S.left source.new) ScriptVerdict a.status a.log a.text) }
     ensures failed { IsErrOf result Stop.SourceFault
         → Rose (S.faults source.old) (S.faults source.new) }
 {

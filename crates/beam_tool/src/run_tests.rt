@@ -1,11 +1,11 @@
-use crate::tests::{CALM, RUN, outcome_of};
+use crate::tests::{CALM, CHECK, RUN, outcome_of};
 use std::alloc::{AllocError, Global};
 use std::sync::Wait;
 use std::test::Fail;
 use std::thread::Threads;
 
 /// Runs a script with these lines between its first and its last, and compares the report: how many generations it
-/// tells, and the lines behind that.
+/// tells, and the lines behind that. The report is then checked behind its script.
 pub fn runs_as<R: Threads + Wait + Sync + AllocGlobal>(
     rt: &R,
     lines: &str,
@@ -18,7 +18,11 @@ pub fn runs_as<R: Threads + Wait + Sync + AllocGlobal>(
     let Ok(run) = outcome_of(rt, RUN, script.as_bytes(), CALM) else {
         return Err(AllocError);
     };
-    Ok(run.status == 0 && run.got.as_slice() == report.as_bytes())
+    let both = format!(in alloc; "{script}{report}")?;
+    let Ok(check) = outcome_of(rt, CHECK, both.as_bytes(), CALM) else {
+        return Err(AllocError);
+    };
+    Ok(run.status == 0 && run.got.as_slice() == report.as_bytes() && check.status == 0)
 }
 
 #[test]

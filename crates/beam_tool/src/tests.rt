@@ -11,6 +11,9 @@ use term_core::{ByteList, CountList, NoMemory};
 /// The words of a run.
 pub const RUN: &[&str] = &["run", "--schedulers", "1"];
 
+/// The words of a check.
+pub const CHECK: &[&str] = &["check"];
+
 /// The first script.
 const FIRST: &str =
     "beam script 1\nmodule m.1\nexport main/0\nadd 1 2 $0\nprint $0\nend\nloader\nload m.1\nspawn m:main()\ngo\n";
@@ -99,7 +102,7 @@ fn the_first_script_runs(rt: HostRuntime) -> Result<(), Fail> {
 
 #[test]
 fn words_of_no_form_are_not_understood(rt: HostRuntime) -> Result<(), Fail> {
-    let cases: [&[&str]; 12] = [
+    let cases: [&[&str]; 15] = [
         &[],
         &["run", "--schedulers"],
         &["run", "--schedulers", "0"],
@@ -112,6 +115,9 @@ fn words_of_no_form_are_not_understood(rt: HostRuntime) -> Result<(), Fail> {
         &["--help"],
         &["progress", "progress"],
         &["Progress"],
+        &["check", "check"],
+        &["check", "--schedulers", "1"],
+        &["Check"],
     ];
     for words in cases {
         let call = outcome_of(&rt, words, FIRST.as_bytes(), CALM)?;
@@ -273,6 +279,38 @@ fn other_texts_are_refused(rt: HostRuntime) -> Result<(), Fail> {
     ];
     for (text, line) in cases {
         let call = outcome_of(&rt, RUN, text.as_bytes(), CALM)?;
+        assert_eq!(rt; call.got.as_slice(), line.as_bytes(), "at {text}");
+        assert_eq!(rt; call.status, 3);
+        assert!(rt; !call.logged);
+    }
+    Ok(())
+}
+
+#[test]
+fn the_script_of_a_check_is_judged_first(rt: HostRuntime) -> Result<(), Fail> {
+    // The script ends with the first line `go`, wherever it stands; where there is none, all of the input is the script.
+    let cases = [
+        ("", "refused 1 syntax\n"),
+        ("beam script 1\ngo", "refused 2 syntax\n"),
+        (
+            "beam script 1\nmodule m.1\nexport main/0\n",
+            "refused 3 syntax\n",
+        ),
+        (
+            "beam script 1\nmodule m.1\ngo\nend\ngo\nbeam report 1\n",
+            "refused 3 syntax\n",
+        ),
+        (
+            "beam script 1\nloader\ngo on\nbeam report 1\n",
+            "refused 3 syntax\n",
+        ),
+        (
+            "beam script 1\nloader\nload m.9\ngo\nno report\n",
+            "refused 3 unknown_name\n",
+        ),
+    ];
+    for (text, line) in cases {
+        let call = outcome_of(&rt, &["check"], text.as_bytes(), CALM)?;
         assert_eq!(rt; call.got.as_slice(), line.as_bytes(), "at {text}");
         assert_eq!(rt; call.status, 3);
         assert!(rt; !call.logged);
@@ -457,13 +495,14 @@ fn a_text_over_the_limit_is_refused(rt: HostRuntime) -> Result<(), Fail> {
         long.extend_from_slice(&[b'a'; 1024])?;
     }
     let run = outcome_of(&rt, RUN, long.as_slice(), CALM)?;
+    let check = outcome_of(&rt, &["check"], long.as_slice(), CALM)?;
     let replay = outcome_of(&rt, &["progress"], long.as_slice(), CALM)?;
-    for call in [&run, &replay] {
+    for call in [&run, &check, &replay] {
         assert_eq!(rt;
             call.got.as_slice(),
             b"refused 0 file_too_long\n".as_slice()
         );
     }
-    assert_eq!(rt; (run.status, replay.status), (3, 3));
+    assert_eq!(rt; (run.status, check.status, replay.status), (3, 3, 3));
     Ok(())
 }

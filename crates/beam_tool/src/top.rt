@@ -7,12 +7,17 @@ ghost use Rattle.prgr_core.specs.Step.{after_all, opening, StopsAt};
 ghost use Rattle.script_text.specs.declared.script.Script.{Script};
 ghost use Rattle.script_text.specs.declared.fault.ScriptFault.{ScriptFault};
 ghost use Rattle.script_text.specs.ScriptText.{ScriptText, FaultOf};
+ghost use Rattle.run_log.specs.declared.logs.RunLog.{RunLog as RunLogValue};
+ghost use Rattle.run_log.specs.Legal.{Legal};
+ghost use Rattle.report_text.specs.declared.fault.ReportFault.{ReportFault};
 ghost use Rattle.beam_tool.specs.Outside.{Rose};
-ghost use Rattle.beam_tool.specs.TopCall.{form_of as the_form_of, Verdict, Answered, Reported, SourceFailed, SinkFailed, Delivered, Ends};
+ghost use Rattle.beam_tool.specs.Parting.{script_part};
+ghost use Rattle.beam_tool.specs.TopCall.{form_of as the_form_of, HasScriptAndReport, HasFaultyReport, IsUnlawful, lawful_text, not_lawful_text, Verdict, Answered, Reported, Checked, SourceFailed, SinkFailed, Delivered, Ends};
 
 use crate::answer::{
-    Answer, DONE, NO_MEMORY, NOT_ENABLED, NOT_UNDERSTOOD, REFUSED, SINK_FAULT, SOURCE_FAULT, Stop,
+    Answer, DONE, NO_MEMORY, NOT_ALLOWED, NOT_UNDERSTOOD, REFUSED, SINK_FAULT, SOURCE_FAULT, Stop,
 };
+use crate::check_form::{LONGEST_CHECK, check_answer};
 use crate::form::{Form, form_of};
 use crate::gate::Gate;
 use crate::progress_form::progress_answer;
@@ -49,6 +54,12 @@ pub fn beam_top<R: Threads + Wait + Sync, S: Source, K: Sink, G: Gate>(
     ensures headline { (schedulers : ℕ) → the_form_of (map string_bytes words.now) ≡ Some (Form.Run schedulers) → result.status ≡ DONE
         → Reported (S.left source.old) (S.left source.new) (K.got sink.old) (K.got sink.new) result.log }
 
+    // A report that is checked shows a history of one code server for the script before it, or it does not.
+    ensures checked { the_form_of (map string_bytes words.now) ≡ Some Form.Check → result.status ≡ DONE
+        → Checked Legal lawful_text (S.left source.old) (S.left source.new) (K.got sink.old) (K.got sink.new) }
+    ensures checked_unlawful { the_form_of (map string_bytes words.now) ≡ Some Form.Check → result.status ≡ NOT_ALLOWED
+        → Checked IsUnlawful not_lawful_text (S.left source.old) (S.left source.new) (K.got sink.old) (K.got sink.new) }
+
     // Statuses 0 to 3 come only for what the words, the bytes and the definitions give, and their text is written.
     ensures answered { result.status ≤ REFUSED → Answered (the_form_of (map string_bytes words.now))
         (S.left source.old) (S.left source.new) (K.got sink.old) (K.got sink.new) result.status result.log }
@@ -65,6 +76,7 @@ pub fn beam_top<R: Threads + Wait + Sync, S: Source, K: Sink, G: Gate>(
     ensures unwritten_at_source_fault { result.status ≡ SOURCE_FAULT → sink.new ≡ sink.old }
     ensures unwritten_at_no_memory { result.status ≡ NO_MEMORY → sink.new ≡ sink.old }
     ensures no_log { result.status ≢ DONE → result.status ≢ SINK_FAULT → result.log ≡ None }
+    ensures no_log_checked { the_form_of (map string_bytes words.now) ≡ Some Form.Check → result.log ≡ None }
 
     // Where no count rose, the status is the one whose condition holds, or memory was refused.
     ensures complete_words { the_form_of (map string_bytes words.now) ≡ None
@@ -77,6 +89,22 @@ pub fn beam_top<R: Threads + Wait + Sync, S: Source, K: Sink, G: Gate>(
         → S.left source.old ≡ Some bytes → FaultOf bytes fault
         → (Rose (S.faults source.old) (S.faults source.new) → ⊥) → (Rose (K.faults sink.old) (K.faults sink.new) → ⊥)
         → (result.status ≡ REFUSED) ⊎ (result.status ≡ NO_MEMORY) }
+    ensures complete_lawful { (bytes : List ℕ) (s : Script) (log : RunLogValue) → the_form_of (map string_bytes words.now) ≡ Some Form.Check
+        → S.left source.old ≡ Some bytes → length bytes ≤ LONGEST_CHECK → HasScriptAndReport bytes s log → Legal s log
+        → (Rose (S.faults source.old) (S.faults source.new) → ⊥) → (Rose (K.faults sink.old) (K.faults sink.new) → ⊥)
+        → (result.status ≡ DONE) ⊎ (result.status ≡ NO_MEMORY) }
+    ensures complete_unlawful { (bytes : List ℕ) (s : Script) (log : RunLogValue) → the_form_of (map string_bytes words.now) ≡ Some Form.Check
+        → S.left source.old ≡ Some bytes → length bytes ≤ LONGEST_CHECK → HasScriptAndReport bytes s log → IsUnlawful s log
+        → (Rose (S.faults source.old) (S.faults source.new) → ⊥) → (Rose (K.faults sink.old) (K.faults sink.new) → ⊥)
+        → (result.status ≡ NOT_ALLOWED) ⊎ (result.status ≡ NO_MEMORY) }
+    ensures complete_script_fault { (bytes : List ℕ) (fault : ScriptFault) → the_form_of (map string_bytes words.now) ≡ Some Form.Check
+        → S.left source.old ≡ Some bytes → (LONGEST_CHECK < length bytes) ⊎ FaultOf (script_part bytes) fault
+        → (Rose (S.faults source.old) (S.faults source.new) → ⊥) → (Rose (K.faults sink.old) (K.faults sink.new) → ⊥)
+        → (result.status ≡ REFUSED) ⊎ (result.status ≡ NO_MEMORY) }
+    ensures complete_report_fault { (bytes : List ℕ) (s : Script) (fault : ReportFault) → the_form_of (map string_bytes words.now) ≡ Some Form.Check
+        → S.left source.old ≡ Some bytes → HasFaultyReport bytes s fault
+        → (Rose (S.faults source.old) (S.faults source.new) → ⊥) → (Rose (K.faults sink.old) (K.faults sink.new) → ⊥)
+        → (result.status ≡ REFUSED) ⊎ (result.status ≡ NO_MEMORY) }
     ensures complete_replay { (bytes : List ℕ) (events : Events) (state : Progress) → the_form_of (map string_bytes words.now) ≡ Some Form.Progress
         → S.left source.old ≡ Some bytes → length bytes ≤ LONGEST_SCRIPT → EventText bytes events
         → after_all (opening events.members events.watchers) events.list ≡ Some state
@@ -86,7 +114,7 @@ pub fn beam_top<R: Threads + Wait + Sync, S: Source, K: Sink, G: Gate>(
         → S.left source.old ≡ Some bytes → length bytes ≤ LONGEST_SCRIPT → EventText bytes events
         → StopsAt (opening events.members events.watchers) events.list index state
         → (Rose (S.faults source.old) (S.faults source.new) → ⊥) → (Rose (K.faults sink.old) (K.faults sink.new) → ⊥)
-        → (result.status ≡ NOT_ENABLED) ⊎ (result.status ≡ NO_MEMORY) }
+        → (result.status ≡ NOT_ALLOWED) ⊎ (result.status ≡ NO_MEMORY) }
     ensures complete_fault { (bytes : List ℕ) (line : ℕ) → the_form_of (map string_bytes words.now) ≡ Some Form.Progress
         → S.left source.old ≡ Some bytes → (LONGEST_SCRIPT < length bytes) ⊎ (reading bytes ≡ Err line)
         → (Rose (S.faults source.old) (S.faults source.new) → ⊥) → (Rose (K.faults sink.old) (K.faults sink.new) → ⊥)
@@ -137,6 +165,7 @@ fn form_answer<S: Source>(alloc: Global, form: Form, source: &mut S) -> Result<A
 {
     match form {
         Form::Run { schedulers: _ } => run_answer(alloc, source),
+        Form::Check => check_answer(alloc, source),
         Form::Progress => progress_answer(alloc, source),
     }
 }

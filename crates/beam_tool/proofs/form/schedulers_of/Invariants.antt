@@ -1,4 +1,4 @@
-use Rattle.std.proofs.Common.{◌≡◌, ℕ, ◌+◌, ◌-◌, ◌≤◌, bytes_eq, decimal}
+use Rattle.std.proofs.Common.{◌≡◌, ◌-◌, bytes_eq, decimal}
 use Rattle.std.specs.List.{find, range_with_len}
 use Rattle.beam_tool.specs.TopCall.{schedulers_of as the_schedulers_of}
 use Rattle.beam_tool.proofs.form.schedulers_of.Given as goal

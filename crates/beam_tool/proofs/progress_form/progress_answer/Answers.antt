@@ -1,5 +1,6 @@
 -- The answer to what was read, or to a text over the limit.
 use Rattle.beam_tool.specs.TopCall.{ReadVerdict, ListVerdict, too_long_text, long_text}
+use Rattle.script_text.specs.declared.script.TheConstants.{LONGEST_SCRIPT}
 use Rattle.beam_tool.proofs.TopCalls.{by_slice, by_line}
 use Rattle.beam_tool.proofs.progress_form.progress_answer.Goals as goal
 
@@ -8,9 +9,9 @@ returns-in_ok-judged-in-Whole-clause-verdict g c =
     let told = rw c.in-Whole.is at c.in_ok-bytes.ensures.whole in
     let to_end = rw c.in-Whole.is at c.in_ok-bytes.ensures.end in
     let short = rw c.in-Whole.is at c.in_ok-bytes.ensures.limit in
-    by_slice ListVerdict _ _ _ _ _ _ _ c.as_slice.ensures (record { told = told; to_end = to_end; short = short }) c.in_ok-judged-in-Whole.ensures
+    by_slice ListVerdict _ _ _ _ _ _ _ _ c.as_slice.ensures (record { told = told; to_end = to_end; short = short }) c.in_ok-judged-in-Whole.ensures
 
 pub returns-in_ok-refusal-in-TooLong-clause-verdict : goal.returns-in_ok-refusal-in-TooLong-clause-verdict
 returns-in_ok-refusal-in-TooLong-clause-verdict g c =
     let long = rw c.in-TooLong.is at c.in_ok-bytes.ensures.too_long in
-    by_line (ReadVerdict (g.S.Source.left c.args.source.now) (g.S.Source.left c.read_whole.new.source) ListVerdict) 3 too_long_text _ _ _ (long_text long) c.in_ok-refusal-in-TooLong.ensures.line
+    by_line (ReadVerdict LONGEST_SCRIPT (g.S.Source.left c.args.source.now) (g.S.Source.left c.read_whole.new.source) ListVerdict) 3 too_long_text _ _ _ (long_text long) c.in_ok-refusal-in-TooLong.ensures.line

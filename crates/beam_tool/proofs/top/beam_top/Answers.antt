@@ -1,5 +1,5 @@
 -- Each clause of the top call follows from how the call ended.
-use Rattle.beam_tool.proofs.TopCalls.{known_of, headline_of, answered_of, source_failed_of, sink_failed_of, no_log_of, complete_words_of, complete_run_of, complete_refusal_of, complete_replay_of, complete_stop_of, complete_fault_of}
+use Rattle.beam_tool.proofs.TopCalls.{known_of, headline_of, checked_of, checked_unlawful_of, answered_of, source_failed_of, sink_failed_of, no_log_of, no_log_checked_of, complete_words_of, complete_run_of, complete_refusal_of, complete_lawful_of, complete_unlawful_of, complete_script_fault_of, complete_report_fault_of, complete_replay_of, complete_stop_of, complete_fault_of}
 use Rattle.beam_tool.proofs.top.beam_top.Goals as goal
 
 pub returns-clause-known : goal.returns-clause-known
@@ -7,6 +7,12 @@ returns-clause-known g c = known_of c.ended.ensures.ends
 
 pub returns-clause-headline : goal.returns-clause-headline
 returns-clause-headline g c n f e = headline_of n c.ended.ensures.ends f e
+
+pub returns-clause-checked : goal.returns-clause-checked
+returns-clause-checked g c f e = checked_of c.ended.ensures.ends f e
+
+pub returns-clause-checked_unlawful : goal.returns-clause-checked_unlawful
+returns-clause-checked_unlawful g c f e = checked_unlawful_of c.ended.ensures.ends f e
 
 pub returns-clause-answered : goal.returns-clause-answered
 returns-clause-answered g c e = answered_of c.ended.ensures.ends e
@@ -20,6 +26,9 @@ returns-clause-sink_fault g c e = sink_failed_of c.ended.ensures.ends e
 pub returns-clause-no_log : goal.returns-clause-no_log
 returns-clause-no_log g c d s = no_log_of c.ended.ensures.ends d s
 
+pub returns-clause-no_log_checked : goal.returns-clause-no_log_checked
+returns-clause-no_log_checked g c f = no_log_checked_of c.ended.ensures.ends f
+
 pub returns-clause-complete_words : goal.returns-clause-complete_words
 returns-clause-complete_words g c e = complete_words_of c.ended.ensures.ends e
 
@@ -28,6 +37,18 @@ returns-clause-complete_run g c n bytes s e l t ns nk = complete_run_of n bytes 
 
 pub returns-clause-complete_refusal : goal.returns-clause-complete_refusal
 returns-clause-complete_refusal g c n bytes q e l t ns nk = complete_refusal_of n bytes q c.ended.ensures.ends e l t ns nk
+
+pub returns-clause-complete_lawful : goal.returns-clause-complete_lawful
+returns-clause-complete_lawful g c bytes s log f l short h legal ns nk = complete_lawful_of bytes s log c.ended.ensures.ends f l short h legal ns nk
+
+pub returns-clause-complete_unlawful : goal.returns-clause-complete_unlawful
+returns-clause-complete_unlawful g c bytes s log f l short h never ns nk = complete_unlawful_of bytes s log c.ended.ensures.ends f l short h never ns nk
+
+pub returns-clause-complete_script_fault : goal.returns-clause-complete_script_fault
+returns-clause-complete_script_fault g c bytes q e l f ns nk = complete_script_fault_of bytes q c.ended.ensures.ends e l f ns nk
+
+pub returns-clause-complete_report_fault : goal.returns-clause-complete_report_fault
+returns-clause-complete_report_fault g c bytes s q e l h ns nk = complete_report_fault_of bytes s q c.ended.ensures.ends e l h ns nk
 
 pub returns-clause-complete_replay : goal.returns-clause-complete_replay
 returns-clause-complete_replay g c bytes events state e l s t m ns nk = complete_replay_of bytes events state c.ended.ensures.ends e l s t m ns nk

@@ -1,9 +1,12 @@
 -- The verdict of a form is that of its work.
-use Rattle.beam_tool.proofs.TopCalls.{on_ok, run_by, progress_by}
+use Rattle.beam_tool.proofs.TopCalls.{on_ok, run_by, check_by, progress_by}
 use Rattle.beam_tool.proofs.top.form_answer.Goals as goal
 
 pub returns-in-Run-clause-verdict : goal.returns-in-Run-clause-verdict
 returns-in-Run-clause-verdict g c = on_ok _ _ c.run_answer.result (λ a h. run_by _ _ c.args.form c.in-Run.schedulers a.status a.log a.text c.in-Run.is h) c.run_answer.ensures.verdict
+
+pub returns-in-Check-clause-verdict : goal.returns-in-Check-clause-verdict
+returns-in-Check-clause-verdict g c = on_ok _ _ c.check_answer.result (λ a h. check_by _ _ c.args.form a.status a.log a.text c.in-Check.is h) c.check_answer.ensures.verdict
 
 pub returns-in-Progress-clause-verdict : goal.returns-in-Progress-clause-verdict
 returns-in-Progress-clause-verdict g c = on_ok _ _ c.progress_answer.result (λ a h. progress_by _ _ c.args.form a.status a.log a.text c.in-Progress.is h) c.progress_answer.ensures.verdict
