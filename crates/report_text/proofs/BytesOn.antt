@@ -1,7 +1,7 @@
 -- The bytes of a text, from a line on: the next line is taken, or no line has ended.
-use Rattle.std.proofs.Common.{◌≡◌, ℕ, ◌+◌, ◌<◌, Bool, true, false, cond, List, [], ◌∷◌, Option, Some, None, Result, Ok, Err, bytes_eq, codes, refl, sym, ap, ◌∙◌, subst}
+use Rattle.std.proofs.Common.{◌≡◌, ℕ, ◌+◌, false, List, Option, Some, None, Result, Ok, bytes_eq, codes, sym, ap, ◌∙◌, subst}
 use Rattle.mod_text.specs.LineReading.{cut_at}
-use Rattle.mod_text.specs.Reading.{Lines, lines}
+use Rattle.mod_text.specs.Reading.{Lines}
 use Rattle.mod_text.proofs.Cuts.{lines_of_cut, lines_of_tail, uncut_is}
 use Rattle.mod_text.proofs.Options.{failed}
 use Rattle.run_log.specs.declared.logs.RunLog.{RunLog}

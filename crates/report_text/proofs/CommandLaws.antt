@@ -1,8 +1,7 @@
 -- Commands of a report's entries: what is read has this text, and what has this text is read.
-use Rattle.std.proofs.Common.{◌≡◌, ℕ, ◌<◌, ◌≤◌, Bool, true, false, cond, ◌==◌, List, [], ◌∷◌, ◌++◌, length, decimal, Option, Some, None, bytes_eq, codes, refl, sym, ap, ◌∙◌, subst, arith, append_assoc}
+use Rattle.std.proofs.Common.{◌≡◌, ℕ, Bool, true, false, ◌==◌, List, [], ◌∷◌, ◌++◌, decimal, Some, None, codes, refl, sym, ap, ◌∙◌, subst, arith, append_assoc}
 use Rattle.std.specs.Prelude.{map}
-use Rattle.std.specs.Char.{is_ascii_digit}
-use Rattle.std.specs.List.{AllByRecursion, join_with_byte, flat_map}
+use Rattle.std.specs.List.{join_with_byte}
 use Rattle.term_core.specs.declared.atom.AtomId.{AtomId}
 use Rattle.term_core.specs.declared.atom.Mfa.{Mfa}
 use Rattle.term_core.specs.declared.term.Term.{Term}
@@ -11,7 +10,6 @@ use Rattle.term_core.specs.Plain.{plain, term_of}
 use Rattle.term_core.specs.PlainTerm.{PlainTerm}
 use Rattle.term_core.specs.TermText.{atom_text, term_text}
 use Rattle.term_core.proofs.PlainTerms.{plain-term_of, term_of-plain}
-use Rattle.term_core.proofs.TermBytes.{is_term_byte}
 use Rattle.server_core.specs.declared.command.ModRef.{ModRef}
 use Rattle.server_core.specs.declared.command.Cmd.{Cmd}
 use Rattle.server_core.specs.declared.command.Cmd.TheVariants.{Load, Delete, SoftPurge, Doom, Purge, CheckOld, Put, Erase, Trace, Spawn, Release}
@@ -22,15 +20,14 @@ use Rattle.script_text.specs.LineReading.{parts_of, each_reading, switch_reading
 use Rattle.script_text.specs.Sound.{IsTermOf}
 use Rattle.script_text.proofs.CommandLaws.{join-flat}
 use Rattle.run_log.specs.Report.{mfa_text, plain_text, call_text, reference_text, switch_text, cmd_text}
-use Rattle.run_log.specs.WellFormed.{IsNamed, IsWide, IsFunctionOf, IsCallOf, IsReferenceOf, IsCommandOf}
-use Rattle.report_text.specs.declared.terms.Call.{Call}
+use Rattle.run_log.specs.WellFormed.{IsNamed, IsReferenceOf, IsCommandOf}
 use Rattle.report_text.specs.WordReading.{atom_reading, version_reading, number_reading}
 use Rattle.report_text.specs.TermReading.{plain_reading, function_reading, call_reading}
 use Rattle.report_text.specs.CommandReading.{reference_reading, load_reading, put_reading, trace_reading, spawn_reading, release_reading, atom_command, on_atom_reading, worded_command, command_reading}
-use Rattle.report_text.proofs.Pairs.{two, two_at, two_is, by_word}
+use Rattle.report_text.proofs.Pairs.{two_at, two_is, by_word}
 use Rattle.report_text.proofs.WordLaws.{atom_again, atom_is, named_lacks, version_again, version_is, number_again, number_is, decimal_lacks, digit_apart}
 use Rattle.report_text.proofs.Items.{IsItem, joined_again, joined_is, AreJoined}
-use Rattle.report_text.proofs.TermLaws.{call_of, plain_again, plain_is, plain_lacks, function_again, function_is, function_lacks, call_again, call_is, call_lacks}
+use Rattle.report_text.proofs.TermLaws.{call_of, plain_again, plain_is, function_again, function_is, function_lacks, call_again, call_is}
 
 -- a command as it is read before its reply: none lingers and none was killed
 abbrev pub bare : Cmd → Cmd

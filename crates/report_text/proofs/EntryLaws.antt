@@ -1,5 +1,5 @@
 -- Entries of a report's journal: what is read has this text, and what has this text is read.
-use Rattle.std.proofs.Common.{◌≡◌, ℕ, ◌<◌, Bool, true, false, cond, ◌==◌, List, [], ◌∷◌, ◌++◌, length, decimal, Option, Some, None, IfSome, bytes_eq, codes, refl, sym, ap, ◌∙◌, subst, arith, append_assoc}
+use Rattle.std.proofs.Common.{◌≡◌, ℕ, Bool, true, false, cond, ◌==◌, List, [], ◌∷◌, ◌++◌, decimal, Option, Some, None, IfSome, codes, refl, sym, ap, ◌∙◌, subst}
 use Rattle.std.proofs.lemmas.Bool.Decides.{Decides-eqb}
 use Rattle.term_core.specs.Names.{IsNames}
 use Rattle.server_core.specs.declared.command.Cmd.{Cmd}
@@ -19,7 +19,7 @@ use Rattle.report_text.specs.TermReading.{ended_reading}
 use Rattle.report_text.specs.CommandReading.{command_reading}
 use Rattle.report_text.specs.ReplyReading.{reply_reading, published_reading, agreed}
 use Rattle.report_text.specs.EntryReading.{loader_reading, who_reading, command_front, answer_behind, answer_reading, made_reading, entry_of, entry_reading}
-use Rattle.report_text.proofs.Pairs.{two, two_at, two_is, cut_last_here, cut_last_is, ended_is, by_word}
+use Rattle.report_text.proofs.Pairs.{two_at, two_is, cut_last_here, cut_last_is, ended_is, by_word}
 use Rattle.report_text.proofs.WordLaws.{narrow_again, narrow_is, narrow_wide, decimal_lacks}
 use Rattle.report_text.proofs.CommandLaws.{bare, command_again, command_is, IsCommandText}
 use Rattle.report_text.proofs.ReplyLaws.{reply_again, reply_is, published_again, published_is, agreed_text, agreed_fits, agreed_agrees, agreed_again}

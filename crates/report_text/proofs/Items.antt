@@ -1,7 +1,7 @@
 -- Items in a row: each is read of its part, and the parts are their texts.
-use Rattle.std.proofs.Common.{◌≡◌, ℕ, ◌<◌, Bool, true, false, ◌==◌, List, [], ◌∷◌, ◌++◌, length, Option, Some, None, refl, sym, ap, ◌∙◌, subst, arith}
+use Rattle.std.proofs.Common.{◌≡◌, ℕ, ◌<◌, true, false, ◌==◌, List, [], ◌∷◌, length, Option, Some, refl, sym, ap, ◌∙◌, subst, arith}
 use Rattle.std.specs.Prelude.{map}
-use Rattle.std.specs.List.{AllByRecursion, join_with_byte, flat_map}
+use Rattle.std.specs.List.{AllByRecursion, join_with_byte}
 use Rattle.mod_text.specs.LineReading.{◌>>=◌}
 use Rattle.mod_text.proofs.Options.{some, some_is, bind_some, bind_at}
 use Rattle.mod_text.proofs.Cuts.{lacks, lacks-append, lacks-cons}

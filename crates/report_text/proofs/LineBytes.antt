@@ -1,7 +1,6 @@
 -- The bytes of a report's lines: neither a line feed nor, in a command, an equals sign is among them.
-use Rattle.std.proofs.Common.{◌≡◌, ℕ, ◌<◌, ◌≤◌, Bool, true, false, ◌||◌, ◌&&◌, ◌==◌, List, [], ◌∷◌, ◌++◌, length, decimal, Option, Some, None, IfSome, codes, refl, sym, ap, ◌∙◌, arith}
+use Rattle.std.proofs.Common.{◌≡◌, ℕ, Bool, true, false, ◌||◌, ◌==◌, List, [], ◌∷◌, ◌++◌, decimal, codes, refl, ◌∙◌, arith}
 use Rattle.std.specs.Prelude.{map}
-use Rattle.std.specs.Char.{is_ascii_digit}
 use Rattle.std.specs.List.{AllByRecursion, join_with_byte, flat_map, list_all}
 use Rattle.std.proofs.lemmas.Bool.{and_parts, and_from}
 use Rattle.std.proofs.lemmas.List.Folds.{list_all-append}
@@ -26,8 +25,8 @@ use Rattle.run_log.specs.declared.logs.Who.{Who}
 use Rattle.run_log.specs.declared.logs.Who.TheVariants.{Loader, Runtime}
 use Rattle.mod_text.proofs.LineAgain.{name_bytes}
 use Rattle.script_text.specs.Sound.{IsTermOf}
-use Rattle.run_log.specs.Report.{mfa_text, plain_text, call_text, who_text, reference_text, switch_text, cmd_text, limit_text, reply_text, published_text, end_text}
-use Rattle.run_log.specs.WellFormed.{IsWide, IsNarrow, IsNamed, IsFunctionOf, IsCallOf, IsReferenceOf, IsCommandOf, IsReplyOf, IsWhoOf, IsLineOf, IsEndOf}
+use Rattle.run_log.specs.Report.{mfa_text, plain_text, call_text, who_text, reference_text, switch_text, cmd_text, reply_text, end_text}
+use Rattle.run_log.specs.WellFormed.{IsWide, IsNamed, IsFunctionOf, IsCallOf, IsReferenceOf, IsCommandOf, IsReplyOf, IsWhoOf, IsLineOf, IsEndOf}
 use Rattle.report_text.specs.ReportLine.{shown_line_text}
 use Rattle.report_text.proofs.WordLaws.{atom_is_text, narrow_wide}
 use Rattle.report_text.proofs.TermLaws.{text_back}

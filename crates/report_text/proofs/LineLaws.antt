@@ -1,7 +1,6 @@
 -- Lines of a report: what is read has this text, what has this text is read, and no line has a line feed.
-use Rattle.std.proofs.Common.{◌≡◌, ℕ, ◌<◌, Bool, true, false, cond, ◌==◌, List, [], ◌∷◌, ◌++◌, length, decimal, Option, Some, None, IfSome, bytes_eq, codes, refl, sym, ap, ◌∙◌, subst, arith, append_assoc}
+use Rattle.std.proofs.Common.{◌≡◌, ℕ, true, false, ◌==◌, List, [], ◌∷◌, ◌++◌, decimal, Option, Some, None, IfSome, codes, refl, sym, ap, ◌∙◌, subst, append_assoc}
 use Rattle.term_core.specs.declared.atom.Mfa.{Mfa}
-use Rattle.term_core.specs.declared.term.Term.{Term}
 use Rattle.term_core.specs.Names.{IsNames}
 use Rattle.term_core.specs.Plain.{plain, term_of}
 use Rattle.term_core.specs.PlainTerm.{PlainTerm}
@@ -16,7 +15,7 @@ use Rattle.mod_text.proofs.Cuts.{lacks, lacks-all, lacks-append, lacks-cons, cut
 use Rattle.script_text.specs.Sound.{IsTermOf}
 use Rattle.run_log.specs.declared.logs.Entry.{Entry}
 use Rattle.run_log.specs.Report.{mfa_text, plain_text, call_text, who_text, cmd_text, reply_text, published_text, end_text}
-use Rattle.run_log.specs.WellFormed.{IsWide, IsFunctionOf, IsCallOf, IsLineOf, IsEndOf, IsEntryOf}
+use Rattle.run_log.specs.WellFormed.{IsWide, IsLineOf, IsEndOf, IsEntryOf}
 use Rattle.report_text.specs.declared.terms.Call.{Call}
 use Rattle.report_text.specs.declared.line.ReportLine.{ReportLine}
 use Rattle.report_text.specs.declared.line.ReportLine.TheVariants as lines
@@ -25,9 +24,8 @@ use Rattle.report_text.specs.WordReading.{number_reading}
 use Rattle.report_text.specs.TermReading.{plain_reading, function_reading, call_reading}
 use Rattle.report_text.specs.EntryReading.{entry_reading}
 use Rattle.report_text.specs.LineReading.{worded_end, longer_end, end_reading, process_reading, span_reading, export_reading, print_reading, trace_line_reading, numbered_line, number_line, plain_line, worded_line, longer_line, line_reading}
-use Rattle.report_text.proofs.Pairs.{two, two_at, two_is, by_word}
+use Rattle.report_text.proofs.Pairs.{two_at, two_is, by_word}
 use Rattle.report_text.proofs.WordLaws.{number_again, number_is, decimal_lacks}
-use Rattle.report_text.proofs.Items.{IsItem}
 use Rattle.report_text.proofs.TermLaws.{call_of, plain_again, plain_is, function_again, function_is, function_lacks, call_again, call_is}
 use Rattle.report_text.proofs.EntryLaws.{entry_bytes, entry_again, entry_is}
 use Rattle.report_text.proofs.LineBytes.{IsPlainText, is_command_byte, both, one_more, number_plain, function_plain, call_plain, command_plain, reply_plain, who_plain, shown_plain, end_plain}

@@ -8,7 +8,7 @@ use Rattle.mod_text.specs.LineReading.{◌>>=◌, cut_at}
 use Rattle.mod_text.proofs.Options.{some}
 use Rattle.script_text.specs.LineReading.{parts_of, each_reading}
 use Rattle.script_text.proofs.Parts.{parts-cut_some, parts-cut_none, shorter_rest}
-use Rattle.script_text.proofs.ReadingLoops.{with_read, with_read_none}
+use Rattle.script_text.proofs.ReadingLoops.{with_read}
 use Rattle.report_text.specs.declared.line_fault.LineFault.{LineFault}
 use Rattle.report_text.specs.declared.line_fault.LineFault.TheVariants as faults
 use Rattle.report_text.specs.TermReading.{plain_reading}

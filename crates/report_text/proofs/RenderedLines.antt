@@ -1,20 +1,18 @@
 -- The rendering of a log is the text of its lines.
-use Rattle.std.proofs.Common.{◌≡◌, ℕ, ◌+◌, List, [], ◌∷◌, ◌++◌, codes, decimal, refl, sym, ap, ◌∙◌, append_assoc}
+use Rattle.std.proofs.Common.{◌≡◌, ℕ, ◌+◌, List, [], ◌∷◌, ◌++◌, refl, sym, ap, ◌∙◌, append_assoc}
 use Rattle.std.specs.Prelude.{map}
 use Rattle.std.specs.List.{flat_map}
-use Rattle.term_core.specs.declared.atom.Mfa.{Mfa}
 use Rattle.machine_core.specs.declared.process.Line.{Line}
 use Rattle.machine_core.specs.declared.process.Line.TheVariants as shown
-use Rattle.run_log.specs.declared.logs.Entry.{Entry}
 use Rattle.run_log.specs.declared.logs.Span.{Span}
 use Rattle.run_log.specs.declared.logs.ProcessLog.{ProcessLog}
 use Rattle.run_log.specs.declared.logs.Snapshot.{Snapshot}
 use Rattle.run_log.specs.declared.logs.RunLog.{RunLog}
 use Rattle.run_log.specs.Journal.{published_count}
-use Rattle.run_log.specs.Report.{line_of, entry_text, shown_text, span_text, end_text, call_text, process_text, processes_text, export_text, snapshot_text, observer_text, observers_text, rendering_of}
+use Rattle.run_log.specs.Report.{line_of, entry_text, shown_text, span_text, process_text, processes_text, export_text, snapshot_text, observer_text, observers_text, rendering_of}
 use Rattle.report_text.specs.declared.line.ReportLine.{ReportLine}
 use Rattle.report_text.specs.declared.line.ReportLine.TheVariants as lines
-use Rattle.report_text.specs.ReportLine.{line_text, shown_line_text, span_lines, process_lines, processes_lines, export_line, snapshot_lines, observer_lines, observers_lines, log_lines, lines_text}
+use Rattle.report_text.specs.ReportLine.{line_text, span_lines, process_lines, processes_lines, export_line, snapshot_lines, observer_lines, observers_lines, log_lines, lines_text}
 
 pub lines_text-append : (names : List (List ℕ)) (xs ys : List ReportLine) → lines_text names (xs ++ ys) ≡ lines_text names xs ++ lines_text names ys
 lines_text-append names [] ys = refl

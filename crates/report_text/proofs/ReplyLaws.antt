@@ -1,5 +1,5 @@
 -- Replies of a report's entries: what is read has this text, and what has this text is read.
-use Rattle.std.proofs.Common.{◌≡◌, ℕ, ◌<◌, Bool, true, false, cond, ◌==◌, if◌then◌else◌, List, [], ◌∷◌, ◌++◌, length, decimal, Option, Some, None, IfSome, option_map, bytes_eq, codes, refl, sym, ap, ◌∙◌, subst, arith, append_assoc}
+use Rattle.std.proofs.Common.{◌≡◌, ℕ, ◌<◌, Bool, true, false, cond, ◌==◌, if◌then◌else◌, List, [], ◌∷◌, ◌++◌, length, decimal, Option, Some, None, IfSome, option_map, codes, refl, sym, ap, ◌∙◌, subst, arith, append_assoc}
 use Rattle.std.specs.Prelude.{map}
 use Rattle.std.specs.List.{AllByRecursion, join_with_byte}
 use Rattle.std.proofs.lemmas.Bool.Decides.{Decides-eqb}
@@ -15,14 +15,14 @@ use Rattle.server_core.specs.declared.command.Reply.{Reply}
 use Rattle.server_core.specs.declared.command.Reply.TheVariants as replies
 use Rattle.mod_text.specs.LineReading.{◌>>=◌, cut_at}
 use Rattle.mod_text.proofs.Options.{some, some_is, bind_some, bind_at, map_some}
-use Rattle.mod_text.proofs.Cuts.{lacks, lacks-append, lacks-cons, cut_here, cut_is}
+use Rattle.mod_text.proofs.Cuts.{lacks, cut_here, cut_is}
 use Rattle.script_text.specs.LineReading.{parts_of, each_reading}
 use Rattle.run_log.specs.Report.{cmd_text, limit_text, reply_text, published_text}
-use Rattle.run_log.specs.WellFormed.{IsNamed, IsWide, IsNarrow, IsLingerOf, IsReplyOf, IsCommandOf, Agrees, lingering_in, is_true_reply}
+use Rattle.run_log.specs.WellFormed.{IsNamed, IsWide, IsLingerOf, IsReplyOf, IsCommandOf, Agrees}
 use Rattle.report_text.specs.WordReading.{atom_reading, narrow_reading, number_reading}
 use Rattle.report_text.specs.TermReading.{ended_reading}
 use Rattle.report_text.specs.ReplyReading.{linger_reading, limit_reading, atoms_reading, closed_atoms, not_purged_reading, false_reading, duplicated_reading, system_limit_reading, worded_reply, longer_reply, reply_reading, published_reading, agreed}
-use Rattle.report_text.proofs.Pairs.{two, two_at, two_is, ended_is, by_word, nothing}
+use Rattle.report_text.proofs.Pairs.{two_at, two_is, ended_is, by_word, nothing}
 use Rattle.report_text.proofs.WordLaws.{atom_again, atom_is, atom_is_text, named_lacks, narrow_again, narrow_is, narrow_wide, number_again, number_is, decimal_lacks}
 use Rattle.report_text.proofs.Items.{IsItem, joined_again, joined_is, joined_lacks}
 use Rattle.report_text.proofs.CommandLaws.{bare}

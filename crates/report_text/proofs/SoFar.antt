@@ -1,8 +1,8 @@
 -- The lines that a state has taken, and what is known of its log: each line that is taken keeps both, and each state can be completed.
-use Rattle.std.proofs.Common.{◌≡◌, ◌≢◌, ℕ, zero, suc, ◌+◌, ◌-◌, ◌*◌, ◌^◌, ◌<◌, ◌≤◌, Bool, true, false, cond, ◌==◌, ◌&&◌, not, nat_lt, List, [], ◌∷◌, ◌++◌, length, Option, Some, None, is_some, IfSome, refl, sym, ap, ◌∙◌, subst, arith, append_assoc, append-nil, length-append}
+use Rattle.std.proofs.Common.{◌≡◌, ◌≢◌, ℕ, zero, suc, ◌+◌, ◌-◌, ◌^◌, ◌<◌, Bool, true, false, cond, ◌==◌, not, nat_lt, List, [], ◌∷◌, ◌++◌, length, Option, Some, None, is_some, IfSome, refl, sym, ap, ◌∙◌, subst, arith, append_assoc, append-nil, length-append}
 use Rattle.std.specs.Prelude.{map}
 use Rattle.std.specs.List.{AllByRecursion, flat_map}
-use Rattle.std.proofs.lemmas.Bool.{and_parts, not-true}
+use Rattle.std.proofs.lemmas.Bool.{and_parts}
 use Rattle.std.proofs.lemmas.Bool.Decides.{nat_tests, Decides-eqb}
 use Rattle.std.proofs.lemmas.Grind.{flat_map-append}
 use Rattle.std.proofs.lemmas.List.{map-append}
@@ -17,14 +17,14 @@ use Rattle.machine_core.specs.declared.process.End.TheVariants.{Normal}
 use Rattle.mod_text.specs.LineReading.{◌>>=◌}
 use Rattle.mod_text.proofs.Options.{some, some_is, bind_some, guarded, guard_some}
 use Rattle.script_text.proofs.SoundnessGroups.{each_append}
-use Rattle.run_log.specs.declared.logs.Who.TheVariants.{Loader, Runtime}
+use Rattle.run_log.specs.declared.logs.Who.TheVariants.{Runtime}
 use Rattle.run_log.specs.declared.logs.Entry.{Entry}
 use Rattle.run_log.specs.declared.logs.Span.{Span}
 use Rattle.run_log.specs.declared.logs.ProcessLog.{ProcessLog}
 use Rattle.run_log.specs.declared.logs.Snapshot.{Snapshot}
 use Rattle.run_log.specs.declared.logs.RunLog.{RunLog}
 use Rattle.run_log.specs.Journal.{publishes, published_count}
-use Rattle.run_log.specs.WholeSpans.{AreApart, AreWhole, last_generation}
+use Rattle.run_log.specs.WholeSpans.{AreApart}
 use Rattle.run_log.specs.WellFormed.{IsWide, IsEntryOf, IsProcessOf, IsSnapshotOf, IsSpanOf, IsLineOf, IsCallOf, IsEndOf, IsExportOf, IsFunctionOf, IsWellFormed}
 use Rattle.run_log.proofs.ApartSpans.{apart_more, apart_cut, last_is}
 use Rattle.report_text.specs.declared.line.ReportLine.{ReportLine}
@@ -34,8 +34,7 @@ use Rattle.report_text.specs.declared.state.Stage.TheVariants.{Head, Count, Entr
 use Rattle.report_text.specs.declared.state.ReportState.{ReportState}
 use Rattle.report_text.specs.ReportLine.{IsReportLine, span_lines, process_lines, processes_lines, export_line, snapshot_lines, observer_lines, observers_lines, log_lines}
 use Rattle.report_text.specs.ReportText.{AreCounted}
-use Rattle.report_text.specs.Taking.{at, empty_log, opening, count_after, with_entry, entry_behind, may_begin, begun, process_behind, spans_with, spans_closed, may_follow, span_behind, with_line, shown_in, ended, with_process, end_behind, shots_with, with_observer, shots_closed, observers_closed, observer_behind, snapshot_behind, with_export, export_in, head_taken, count_taken, entry_taken, process_taken, span_taken, shown_taken, end_taken, observer_taken, snapshot_taken, export_taken, close_taken, taken, all_taken}
-use Rattle.report_text.proofs.WholeLogs.{count-cons}
+use Rattle.report_text.specs.Taking.{at, empty_log, opening, count_after, with_entry, may_begin, begun, process_behind, spans_with, spans_closed, may_follow, with_line, shown_in, ended, with_process, shots_with, shots_closed, observers_closed, observer_behind, with_export, export_in, head_taken, count_taken, entry_taken, process_taken, span_taken, shown_taken, end_taken, observer_taken, snapshot_taken, export_taken, close_taken, taken}
 
 -- ---- the lines so far
 

@@ -1,7 +1,6 @@
 -- Terms, functions and calls of a report's line: what is read has this text, and what has this text is read.
-use Rattle.std.proofs.Common.{◌≡◌, ℕ, ℤ, ◌<◌, ◌≤◌, suc, Bool, true, false, cond, ◌&&◌, ◌==◌, not, nat_le, List, [], ◌∷◌, ◌++◌, length, take, decimal, Option, Some, None, is_some, unwrap_or, slice_get, bytes_eq, refl, sym, ap, ◌∙◌, subst, arith, append_assoc, append-nil, length-take, IsTrue, IsSome}
+use Rattle.std.proofs.Common.{◌≡◌, ℕ, ◌<◌, ◌≤◌, true, false, ◌==◌, not, nat_le, List, [], ◌∷◌, ◌++◌, length, decimal, Option, Some, None, is_some, unwrap_or, slice_get, bytes_eq, refl, sym, ap, ◌∙◌, subst, arith, append_assoc, append-nil, length-take, IsSome}
 use Rattle.std.specs.Prelude.{map}
-use Rattle.std.specs.Fmt.{signed_decimal}
 use Rattle.std.specs.List.{AllByRecursion, join_with_byte, list_all}
 use Rattle.std.proofs.lemmas.Bool.{and_parts, and_from, not-true}
 use Rattle.std.proofs.lemmas.Bool.Decides.{nat_tests}
@@ -9,12 +8,11 @@ use Rattle.std.proofs.lemmas.List.{length-map}
 use Rattle.std.proofs.lemmas.Option.{slice_get-get_or, slice_get_within}
 use Rattle.term_core.specs.declared.atom.AtomId.{AtomId}
 use Rattle.term_core.specs.declared.atom.Mfa.{Mfa}
-use Rattle.term_core.specs.declared.term.Term.{Term}
-use Rattle.term_core.specs.Names.{IsNames, number_of, is_name_byte, given_names}
-use Rattle.term_core.specs.Plain.{plain, term_of}
-use Rattle.term_core.specs.PlainTerm.{PlainTerm, EachLeaf, tuple_of, row_of, term_words, map_leaves, row_count, terms_of}
+use Rattle.term_core.specs.Names.{IsNames, number_of, is_name_byte}
+use Rattle.term_core.specs.Plain.{term_of}
+use Rattle.term_core.specs.PlainTerm.{PlainTerm, EachLeaf, row_of, term_words, map_leaves, row_count}
 use Rattle.term_core.specs.TermForms.{is_term_text, is_wide_text, term_in, text_words, tree_of}
-use Rattle.term_core.specs.TermParts.{parts_of_terms, joined, joined_behind}
+use Rattle.term_core.specs.TermParts.{parts_of_terms, joined}
 use Rattle.term_core.specs.TermText.{IsTerm, atom_text, term_text, number_in}
 use Rattle.term_core.specs.Written.{WrittenTerm, written, parted, IsTermInteger, integer_of, outside_of, IntegersFit}
 use Rattle.term_core.proofs.LeafFacts.{EachLeaf-weaker, EachLeaf-map, term_words-map}
@@ -27,17 +25,17 @@ use Rattle.term_core.proofs.TermForms.{printed_is, tree_is, nonempty-is_term_tex
 use Rattle.term_core.proofs.TokenLaws.{terms_of-row_of}
 use Rattle.term_core.proofs.Truths.{is_some_at}
 use Rattle.term_core.proofs.WrittenTokens.{RowHasLeafTexts}
-use Rattle.mod_text.specs.LineReading.{◌>>=◌, cut_at}
+use Rattle.mod_text.specs.LineReading.{cut_at}
 use Rattle.mod_text.proofs.Options.{some, some_is, bind_some, bind_at, guard_some, guarded, passed, same_bytes, bytes_are}
 use Rattle.mod_text.proofs.Cuts.{lacks, lacks-all, lacks-append, lacks-cons, cut_here, cut_is}
 use Rattle.script_text.specs.LineReading.{each_reading}
 use Rattle.script_text.specs.Sound.{IsTermOf}
 use Rattle.run_log.specs.Report.{mfa_text, plain_text, call_text}
-use Rattle.run_log.specs.WellFormed.{IsNamed, IsFunctionOf, IsCallOf}
+use Rattle.run_log.specs.WellFormed.{IsFunctionOf, IsCallOf}
 use Rattle.report_text.specs.declared.terms.Call.{Call}
 use Rattle.report_text.specs.WordReading.{atom_reading, arity_reading}
 use Rattle.report_text.specs.TermReading.{is_short_text, named_term, plain_reading, some_terms, terms_reading, ended_reading, closed_reading, arity_part, function_reading, arguments_part, call_reading}
-use Rattle.report_text.proofs.Pairs.{two, two_at, two_is, ended_is}
+use Rattle.report_text.proofs.Pairs.{two_at, two_is, ended_is}
 use Rattle.report_text.proofs.WordLaws.{atom_again, atom_is, named_lacks, arity_again, arity_is, decimal_lacks, digit_apart}
 use Rattle.report_text.proofs.Items.{IsItem, each_again, each_is, each_count, joined_lacks}
 

@@ -1,5 +1,5 @@
 -- The lines of a log are taken, one after another, and leave that log.
-use Rattle.std.proofs.Common.{◌≡◌, ◌≢◌, ℕ, ◌+◌, ◌-◌, ◌<◌, ◌≤◌, Bool, true, false, cond, ◌==◌, ◌&&◌, not, nat_lt, List, [], ◌∷◌, ◌++◌, length, Option, Some, None, is_some, IfSome, refl, sym, ap, ◌∙◌, subst, arith, append_assoc, append-nil, length-append}
+use Rattle.std.proofs.Common.{◌≡◌, ◌≢◌, ℕ, ◌+◌, ◌-◌, ◌<◌, true, false, cond, ◌==◌, not, nat_lt, List, [], ◌∷◌, ◌++◌, length, Option, Some, None, is_some, refl, sym, ap, ◌∙◌, arith, append_assoc, append-nil, length-append}
 use Rattle.std.specs.Prelude.{map}
 use Rattle.std.specs.List.{AllByRecursion, flat_map}
 use Rattle.std.proofs.lemmas.Bool.{and_from}
@@ -8,9 +8,8 @@ use Rattle.std.proofs.lemmas.List.Sums.{sum-map, sum_by-cons}
 use Rattle.term_core.specs.declared.atom.Mfa.{Mfa}
 use Rattle.machine_core.specs.declared.process.Line.{Line}
 use Rattle.machine_core.specs.declared.process.End.{End}
-use Rattle.machine_core.specs.declared.process.End.TheVariants.{Normal}
 use Rattle.mod_text.specs.LineReading.{◌>>=◌}
-use Rattle.mod_text.proofs.Options.{some, some_is, bind_some, bind_at, passed, failed}
+use Rattle.mod_text.proofs.Options.{some, bind_at, passed, failed}
 use Rattle.run_log.specs.declared.logs.Entry.{Entry}
 use Rattle.run_log.specs.declared.logs.Span.{Span}
 use Rattle.run_log.specs.declared.logs.ProcessLog.{ProcessLog}
@@ -23,8 +22,8 @@ use Rattle.report_text.specs.declared.line.ReportLine.TheVariants as lines
 use Rattle.report_text.specs.declared.state.Stage.{Stage}
 use Rattle.report_text.specs.declared.state.Stage.TheVariants.{Head, Count, Entries, Processes, Process, Observer, Done}
 use Rattle.report_text.specs.declared.state.ReportState.{ReportState}
-use Rattle.report_text.specs.ReportLine.{span_lines, process_lines, processes_lines, export_line, snapshot_lines, observer_lines, observers_lines, log_lines}
-use Rattle.report_text.specs.Taking.{at, empty_log, opening, count_after, with_entry, may_begin, begun, spans_with, spans_closed, may_follow, with_line, ended, with_process, shots_with, with_observer, observers_closed, with_export, taken, all_taken}
+use Rattle.report_text.specs.ReportLine.{span_lines, process_lines, processes_lines, export_line, snapshot_lines, observers_lines, log_lines}
+use Rattle.report_text.specs.Taking.{at, empty_log, opening, count_after, with_entry, may_begin, begun, spans_with, spans_closed, may_follow, with_line, with_process, shots_with, with_observer, observers_closed, with_export, taken, all_taken}
 
 first_step : (o : Option ReportState) (xs ys : List ReportLine) → ((next : ReportState) → all_taken next (xs ++ ys) ≡ (all_taken next xs >>= λ t. all_taken t ys)) → (o >>= λ next. all_taken next (xs ++ ys)) ≡ ((o >>= λ next. all_taken next xs) >>= λ t. all_taken t ys)
 first_step None xs ys more = refl

@@ -3,8 +3,7 @@ use Rattle.std.proofs.Common.{◌≡◌, ℕ, zero, suc, ◌+◌, ◌-◌, ◌^�
 use Rattle.std.specs.Prelude.{map}
 use Rattle.std.specs.List.{AllByRecursion, flat_map}
 use Rattle.std.proofs.lemmas.Bool.Decides.{nat_tests, Decides-eqb}
-use Rattle.std.proofs.lemmas.List.{take-append-drop, length-map, take_all, length-drop}
-use Rattle.std.proofs.lemmas.List.Sums.{sum-map}
+use Rattle.std.proofs.lemmas.List.{take-append-drop, length-map, take_all}
 use Rattle.term_core.specs.Gives.{GivesUnless, RefusesUnless}
 use Rattle.term_core.specs.Names.{IsNames}
 use Rattle.mod_text.specs.LineReading.{◌>>=◌}
@@ -19,7 +18,7 @@ use Rattle.run_log.specs.declared.logs.Span.{Span}
 use Rattle.run_log.specs.declared.logs.ProcessLog.{ProcessLog}
 use Rattle.run_log.specs.declared.logs.Snapshot.{Snapshot}
 use Rattle.run_log.specs.declared.logs.RunLog.{RunLog}
-use Rattle.run_log.specs.Journal.{publishes, published_count}
+use Rattle.run_log.specs.Journal.{published_count}
 use Rattle.run_log.specs.Report.{rendering_of}
 use Rattle.run_log.specs.WholeSpans.{AreWhole}
 use Rattle.run_log.specs.WellFormed.{IsWide, IsEntryOf, IsProcessOf, IsSnapshotOf, IsSpanOf, IsLineOf, IsExportOf, IsWellFormed}
@@ -38,11 +37,11 @@ use Rattle.report_text.specs.Reading.{Gives, line_taken, ended_log, last_number,
 use Rattle.report_text.proofs.LineLaws.{line_is, line_again, line_lacks}
 use Rattle.report_text.proofs.RenderedLines.{lines_text-append, rendered}
 use Rattle.report_text.proofs.WholeLogs.{count-cons, log_taken}
-use Rattle.report_text.proofs.SoFar.{IsGood, Stands, so_far, IsTaken, line_is as step_is, opening_stands, IsCompleted, completed}
+use Rattle.report_text.proofs.SoFar.{IsGood, Stands, so_far, line_is as step_is, opening_stands, completed}
 
 -- ---- each line of a log can be written
 
--- the counts of a log that a text shows
+-- what is flat, and what is mapped
 flat_fits : {X : Type 0} (P : ReportLine → Type 0) (Q : X → Type 0) (f : X → List ReportLine) → ((x : X) → Q x → AllByRecursion P (f x)) → (xs : List X) → AllByRecursion Q xs → AllByRecursion P (flat_map f xs)
 flat_fits P Q f one [] h = tt
 flat_fits P Q f one (x ∷ xs) h = each_append P (f x) (flat_map f xs) (one x h.0) (flat_fits P Q f one xs h.1)

@@ -1,8 +1,7 @@
 -- How the commands of a report's entries are read. What processes did is in the reply: until it is read, none lingers and none was killed.
 -- Source: this project's report text. The texts stand in run_log; laws say that both agree.
-use Rattle.std.specs.Prelude.{ℕ, Bool, true, false, List, Option, Some, None, option_map, bytes_eq, codes, if◌then◌else◌}
+use Rattle.std.specs.Prelude.{ℕ, false, List, Option, Some, None, bytes_eq, codes, if◌then◌else◌}
 use Rattle.term_core.specs.declared.atom.AtomId.{AtomId}
-use Rattle.term_core.specs.declared.atom.Mfa.{Mfa}
 use Rattle.term_core.specs.Plain.{term_of}
 use Rattle.server_core.specs.declared.command.ModRef.{ModRef}
 use Rattle.server_core.specs.declared.command.Cmd.{Cmd}

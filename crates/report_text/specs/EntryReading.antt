@@ -1,6 +1,6 @@
 -- How the entries of a report's journal are read: a command holds no `=`, and what was published no space.
 -- Source: this project's report text. The texts stand in run_log; laws say that both agree.
-use Rattle.std.specs.Prelude.{ℕ, ◌==◌, Bool, true, false, List, [], ◌∷◌, length, Option, Some, None, option_map, bytes_eq, codes, if◌then◌else◌}
+use Rattle.std.specs.Prelude.{ℕ, ◌==◌, List, [], ◌∷◌, Option, Some, None, bytes_eq, codes, if◌then◌else◌}
 use Rattle.server_core.specs.declared.command.Cmd.{Cmd}
 use Rattle.mod_text.specs.LineReading.{◌>>=◌, cut_at}
 use Rattle.run_log.specs.declared.logs.Who.{Who}

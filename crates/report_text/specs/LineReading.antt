@@ -1,6 +1,6 @@
 -- How the lines of a report are read, by their words.
 -- Source: this project's report text. The texts stand in ReportLine; laws say that both agree.
-use Rattle.std.specs.Prelude.{ℕ, Bool, true, false, List, Option, Some, None, bytes_eq, codes, if◌then◌else◌}
+use Rattle.std.specs.Prelude.{ℕ, List, Option, Some, None, bytes_eq, codes, if◌then◌else◌}
 use Rattle.term_core.specs.Plain.{term_of}
 use Rattle.machine_core.specs.declared.process.Line.TheVariants as shown
 use Rattle.machine_core.specs.declared.process.End.{End}

@@ -7,13 +7,12 @@ use Rattle.term_core.specs.declared.atom.Mfa.{Mfa}
 use Rattle.term_core.specs.TermText.{term_text}
 use Rattle.machine_core.specs.declared.process.Line.{Line}
 use Rattle.machine_core.specs.declared.process.Line.TheVariants as shown
-use Rattle.run_log.specs.declared.logs.Entry.{Entry}
 use Rattle.run_log.specs.declared.logs.Span.{Span}
 use Rattle.run_log.specs.declared.logs.ProcessLog.{ProcessLog}
 use Rattle.run_log.specs.declared.logs.Snapshot.{Snapshot}
 use Rattle.run_log.specs.declared.logs.RunLog.{RunLog}
 use Rattle.run_log.specs.Journal.{published_count}
-use Rattle.run_log.specs.Report.{line_of, who_text, cmd_text, reply_text, published_text, call_text, end_text, mfa_text}
+use Rattle.run_log.specs.Report.{who_text, cmd_text, reply_text, published_text, call_text, end_text, mfa_text}
 use Rattle.run_log.specs.WellFormed.{IsWide, IsEntryOf, IsCallOf, IsLineOf, IsEndOf, IsFunctionOf}
 use Rattle.report_text.specs.declared.line.ReportLine.{ReportLine}
 use Rattle.report_text.specs.declared.line.ReportLine.TheVariants.{Head, Generations, Entry as EntryLine, Process, Span as SpanLine, Shown, End, Observer, Snapshot as SnapshotLine, Export, Close}
@@ -64,6 +63,7 @@ abbrev pub processes_lines : ℕ → List ProcessLog → List ReportLine
 processes_lines number [] = []
 processes_lines number (log ∷ logs) = process_lines number log ++ processes_lines (number + 1) logs
 
+-- the line of an exported function
 abbrev pub export_line : Mfa × ℕ → ReportLine
 export_line export = Export export.0 export.1
 

@@ -9,7 +9,8 @@ use Rattle.run_log.specs.WellFormed.{IsWide, IsWellFormed}
 use Rattle.report_text.specs.declared.fault.ReportFault.{ReportFault}
 use Rattle.report_text.specs.declared.fault.ReportFault.TheVariants.{Syntax, NoMemory}
 
--- the numbers that a report counts up, of generations, processes and observers, have 64 bits
+-- the numbers that a report counts up, of generations, processes and observers, have 64 bits: else a longer number would go on, to a log that
+-- no list can hold
 pub record AreCounted (log : RunLog) : Type 0 where
   pub generations : IsWide (published_count log.journal)
   pub processes : length log.processes ≤ 2 ^ 64
@@ -43,6 +44,7 @@ pub record FaultAt (names : List (List ℕ)) (text : List ℕ) (line : ℕ) : Ty
   pub before : GoesOn names (first_lines (line - 1) text)
   pub here : StopsAt names text line ⊎ EndsAt names text line
 
+-- what each fault says of a text
 abbrev pub FaultOf : List (List ℕ) → List ℕ → ReportFault → Type 0
 FaultOf names text (Syntax line) = FaultAt names text line
 FaultOf names text NoMemory = ⊥

@@ -1,6 +1,6 @@
 -- A report line by line: what is read of its log so far, which lines may follow, and what each adds.
 -- Source: this project's report text. The lines of a whole log stand in ReportLine; laws say that just those are taken.
-use Rattle.std.specs.Prelude.{ℕ, ◌-◌, ◌<◌, ◌==◌, ◌&&◌, not, nat_lt, Bool, true, false, List, [], ◌∷◌, ◌++◌, length, Option, Some, None, if◌then◌else◌}
+use Rattle.std.specs.Prelude.{ℕ, ◌-◌, ◌==◌, ◌&&◌, not, nat_lt, Bool, true, false, List, [], ◌∷◌, ◌++◌, length, Option, Some, None, if◌then◌else◌}
 use Rattle.term_core.specs.declared.atom.Mfa.{Mfa}
 use Rattle.term_core.specs.PlainTerm.{PlainTerm}
 use Rattle.machine_core.specs.declared.process.Line.{Line}
@@ -30,6 +30,7 @@ empty_log = record { journal = []; processes = []; observers = [] }
 abbrev pub opening : ReportState
 opening = at empty_log Head
 
+-- the head stands first
 abbrev pub head_taken : RunLog → Stage → Option ReportState
 head_taken log Head = Some (at log Count)
 head_taken log Count = None
@@ -39,6 +40,7 @@ head_taken log (Process process going) = None
 head_taken log (Observer shots going) = None
 head_taken log Done = None
 
+-- the count of generations stands behind it
 abbrev pub count_taken : RunLog → Stage → ℕ → Option ReportState
 count_taken log Head count = None
 count_taken log Count count = Some (at log (Entries count))
@@ -55,12 +57,15 @@ abbrev pub count_after : ℕ → Option ℕ → Option ℕ
 count_after left None = Some left
 count_after left (Some generation) = if left == 0 then None else Some (left - 1)
 
+-- a log with one more entry
 abbrev pub with_entry : RunLog → Entry → RunLog
 with_entry log e = record log { journal = log.journal ++ e ∷ [] }
 
+-- an entry among others, where it may publish what it does
 abbrev pub entry_behind : RunLog → ℕ → Entry → Option ReportState
 entry_behind log left e = count_after left e.published >>= λ more. Some (at (with_entry log e) (Entries more))
 
+-- an entry stands behind the count and other entries
 abbrev pub entry_taken : RunLog → Stage → Entry → Option ReportState
 entry_taken log Head e = None
 entry_taken log Count e = None
@@ -86,9 +91,11 @@ may_begin Done = false
 abbrev pub begun : Mfa → List PlainTerm → ProcessLog
 begun target args = record { target = target; args = args; spans = []; fin = Normal }
 
+-- a process begins with the next number
 abbrev pub process_behind : RunLog → ℕ → Mfa → List PlainTerm → Option ReportState
 process_behind log number target args = if number == length log.processes then Some (at log (Process (begun target args) None)) else None
 
+-- a process begins where no other goes on
 abbrev pub process_taken : RunLog → Stage → ℕ → Mfa → List PlainTerm → Option ReportState
 process_taken log stage number target args = if may_begin stage then process_behind log number target args else None
 
@@ -97,6 +104,7 @@ abbrev pub spans_with : List Span → Option Span → List Span
 spans_with spans None = spans
 spans_with spans (Some span) = spans ++ span ∷ []
 
+-- a process with the span that went on
 abbrev pub spans_closed : ProcessLog → Option Span → ProcessLog
 spans_closed process going = record process { spans = spans_with process.spans going }
 
@@ -105,10 +113,12 @@ abbrev pub may_follow : Option Span → ℕ → ℕ → Bool
 may_follow None generation turns = nat_lt 0 turns
 may_follow (Some span) generation turns = nat_lt 0 turns && not (span.generation == generation)
 
+-- a span in a process, which closes the one before it
 abbrev pub span_behind : RunLog → ProcessLog → Option Span → ℕ → ℕ → Option ReportState
 span_behind log process going generation turns =
     if may_follow going generation turns then Some (at log (Process (spans_closed process going) (Some (record { generation = generation; turns = turns; lines = [] })))) else None
 
+-- a span stands in a process
 abbrev pub span_taken : RunLog → Stage → ℕ → ℕ → Option ReportState
 span_taken log Head generation turns = None
 span_taken log Count generation turns = None
@@ -118,16 +128,20 @@ span_taken log (Process process going) generation turns = span_behind log proces
 span_taken log (Observer shots going) generation turns = None
 span_taken log Done generation turns = None
 
+-- a span with one more line
 abbrev pub with_line : Span → Line → Span
 with_line span line = record span { lines = span.lines ++ line ∷ [] }
 
+-- what is shown in a span
 abbrev pub shown_behind : RunLog → ProcessLog → Span → Line → Option ReportState
 shown_behind log process span line = Some (at log (Process process (Some (with_line span line))))
 
+-- what is shown stands in a span
 abbrev pub shown_in : RunLog → ProcessLog → Option Span → Line → Option ReportState
 shown_in log process None line = None
 shown_in log process (Some span) line = shown_behind log process span line
 
+-- what is shown stands in a process
 abbrev pub shown_taken : RunLog → Stage → Line → Option ReportState
 shown_taken log Head line = None
 shown_taken log Count line = None
@@ -137,15 +151,19 @@ shown_taken log (Process process going) line = shown_in log process going line
 shown_taken log (Observer shots going) line = None
 shown_taken log Done line = None
 
+-- a process that ended so
 abbrev pub ended : ProcessLog → End → ProcessLog
 ended process fin = record process { fin = fin }
 
+-- a log with one more process
 abbrev pub with_process : RunLog → ProcessLog → RunLog
 with_process log process = record log { processes = log.processes ++ process ∷ [] }
 
+-- the end of a process
 abbrev pub end_behind : RunLog → ProcessLog → Option Span → End → Option ReportState
 end_behind log process going fin = Some (at (with_process log (ended (spans_closed process going) fin)) Processes)
 
+-- an end stands in a process
 abbrev pub end_taken : RunLog → Stage → End → Option ReportState
 end_taken log Head fin = None
 end_taken log Count fin = None
@@ -162,9 +180,11 @@ abbrev pub shots_with : List Snapshot → Option Snapshot → List Snapshot
 shots_with shots None = shots
 shots_with shots (Some shot) = shots ++ shot ∷ []
 
+-- a log with one more observer
 abbrev pub with_observer : RunLog → List Snapshot → RunLog
 with_observer log shots = record log { observers = log.observers ++ shots ∷ [] }
 
+-- a log with an observer and the snapshot that went on
 abbrev pub shots_closed : RunLog → List Snapshot → Option Snapshot → RunLog
 shots_closed log shots going = with_observer log (shots_with shots going)
 
@@ -178,15 +198,19 @@ observers_closed log (Process process going) = None
 observers_closed log (Observer shots going) = Some (shots_closed log shots going)
 observers_closed log Done = None
 
+-- an observer begins with the next number
 abbrev pub observer_behind : RunLog → ℕ → Option ReportState
 observer_behind log number = if number == length log.observers then Some (at log (Observer [] None)) else None
 
+-- an observer begins where no process goes on
 abbrev pub observer_taken : RunLog → Stage → ℕ → Option ReportState
 observer_taken log stage number = observers_closed log stage >>= λ closed. observer_behind closed number
 
+-- a snapshot in an observer, which closes the one before it
 abbrev pub snapshot_behind : RunLog → List Snapshot → Option Snapshot → ℕ → Option ReportState
 snapshot_behind log shots going generation = Some (at log (Observer (shots_with shots going) (Some (record { generation = generation; exports = [] }))))
 
+-- a snapshot stands in an observer
 abbrev pub snapshot_taken : RunLog → Stage → ℕ → Option ReportState
 snapshot_taken log Head generation = None
 snapshot_taken log Count generation = None
@@ -196,16 +220,20 @@ snapshot_taken log (Process process going) generation = None
 snapshot_taken log (Observer shots going) generation = snapshot_behind log shots going generation
 snapshot_taken log Done generation = None
 
+-- a snapshot with one more export
 abbrev pub with_export : Snapshot → Mfa → ℕ → Snapshot
 with_export shot function serial = record shot { exports = shot.exports ++ (function, serial) ∷ [] }
 
+-- an export in a snapshot
 abbrev pub export_behind : RunLog → List Snapshot → Snapshot → Mfa → ℕ → Option ReportState
 export_behind log shots shot function serial = Some (at log (Observer shots (Some (with_export shot function serial))))
 
+-- an export stands in a snapshot
 abbrev pub export_in : RunLog → List Snapshot → Option Snapshot → Mfa → ℕ → Option ReportState
 export_in log shots None function serial = None
 export_in log shots (Some shot) function serial = export_behind log shots shot function serial
 
+-- an export stands in an observer
 abbrev pub export_taken : RunLog → Stage → Mfa → ℕ → Option ReportState
 export_taken log Head function serial = None
 export_taken log Count function serial = None
@@ -215,6 +243,7 @@ export_taken log (Process process going) function serial = None
 export_taken log (Observer shots going) function serial = export_in log shots going function serial
 export_taken log Done function serial = None
 
+-- the last line stands where no process goes on
 abbrev pub close_taken : RunLog → Stage → Option ReportState
 close_taken log stage = observers_closed log stage >>= λ closed. Some (at closed Done)
 

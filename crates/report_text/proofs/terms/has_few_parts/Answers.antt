@@ -1,4 +1,4 @@
-use Rattle.std.proofs.Common.{◌≡◌, length, sym, ap, ◌∙◌, arith}
+use Rattle.std.proofs.Common.{length, ap, arith}
 use Rattle.std.specs.Prelude.{option_map}
 use Rattle.term_core.specs.TermParts.{parts_of_terms, parts_of_rest}
 use Rattle.script_text.proofs.TermParts.{left_of, left_behind, parts_cut}

@@ -1,4 +1,4 @@
-use Rattle.std.proofs.Common.{◌≡◌, Some}
+use Rattle.std.proofs.Common.{◌≡◌}
 use Rattle.std.specs.Prelude.{option_map}
 use Rattle.term_core.specs.TermParts.{parts_of_terms, parts_of_rest}
 use Rattle.script_text.specs.LineReading.{each_reading}

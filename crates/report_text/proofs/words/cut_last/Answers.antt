@@ -1,4 +1,4 @@
-use Rattle.std.proofs.Common.{◌≡◌, ℕ, ◌-◌, List, Some, length, take, drop, sym, ap, ◌∙◌, arith}
+use Rattle.std.proofs.Common.{ℕ, ◌-◌, List, Some, take, sym, ap, ◌∙◌, arith}
 use Rattle.report_text.proofs.LastCuts.{cut_there, rest_is, lacks_all}
 use Rattle.report_text.proofs.words.cut_last.Goals as goal
 

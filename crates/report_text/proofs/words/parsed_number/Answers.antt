@@ -1,5 +1,5 @@
 -- What `parse` says of a number's digits.
-use Rattle.std.proofs.Common.{◌≡◌, ◌∙◌, subst, List, ℕ}
+use Rattle.std.proofs.Common.{◌∙◌, subst, List, ℕ}
 use Rattle.std.specs.Str.Parse.{ParsesUnsigned}
 use Rattle.mod_text.proofs.Numbers.{IsAscii-number}
 use Rattle.report_text.proofs.Parsed.{parsed_number}
