@@ -1,5 +1,5 @@
 -- Lemmas on the kinds of bytes: what a byte of each kind is, and the kinds of digits, letters and names' bytes.
-use Rattle.std.proofs.Common.{◌≡◌, ℕ, Bool, true, false, cond, ◌==◌, refl, sym, ap, ◌∙◌, subst, arith}
+use Rattle.std.proofs.Common.{◌≡◌, ℕ, Bool, true, false, cond, ◌==◌, refl, sym, ap, ◌∙◌, arith}
 use Rattle.std.specs.Char.{is_ascii_digit, is_ascii_lowercase}
 use Rattle.std.specs.Int.{is_in_range}
 use Rattle.std.proofs.lemmas.Bool.Decides.{nat_tests, Decides-eqb}
@@ -67,10 +67,6 @@ kind_is c =
     either c (c == 125) (Close Curly) _ (λ h. (Decides-eqb c 125).0 h) (λ h4.
     either c (is_ascii_lowercase c) Letter _ (λ h. h) (λ letter.
     either c (is_name_byte c) NameByte Foreign (λ h. (h, no_digit c zero_test range, letter)) (λ h. (h, letter)))))))))))
-
--- of a byte with a known kind
-pub kind_is_at : (c : ℕ) (k : ByteKind) → kind_of c ≡ k → IsOfKind c k
-kind_is_at c k e = subst (IsOfKind c) e (kind_is c)
 
 -- the kinds of digits
 abbrev pub is_digit_kind : ByteKind → Bool
