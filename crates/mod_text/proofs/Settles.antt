@@ -26,10 +26,6 @@ use Rattle.mod_text.proofs.Keepings.{map-append}
 pub forms_at : (lines : List (Bor (List ℕ))) (i : ℕ) (d : Bor (List ℕ)) → i < length lines → forms_of (drop i lines) ≡ form_of (get_or lines i d) ∷ forms_of (drop (i + 1) lines)
 forms_at lines i d within = ap forms_of (drop-cons lines i d within) ∙ ap (λ n. form_of (get_or lines i d) ∷ forms_of (drop n lines)) (sym (add-one i))
 
-pub no_forms : (lines : List (Bor (List ℕ))) → forms_of (drop (length lines) lines) ≡ []
-no_forms [] = refl
-no_forms (line ∷ lines) = no_forms lines
-
 -- each line that was kept is within its limits
 pub kept_at : (lines : List (Bor (List ℕ))) (i : ℕ) (d : Bor (List ℕ)) → i < length lines → All IsKept (forms_of lines) → IsKept (form_of (get_or lines i d))
 kept_at lines i d within kept =
@@ -71,9 +67,6 @@ body_is_whole lines i past so_far =
     sym (so_far ∙ (λ j. forms_of (take_all i lines past j) ++ body_of (forms_of (drop_all i lines past j))) ∙ append-nil (forms_of lines))
 
 -- ---- numbers of lines
-
-later-none : (n : ℕ) → later_by n None ≡ None
-later-none n = refl
 
 later-zero : (o : Option ℕ) → o ≡ later_by 0 o
 later-zero None = refl
@@ -175,16 +168,9 @@ some_if : {X : Type 0} (t : Bool) (x y : X) → Some x ≡ cond t (Some y) None 
 some_if true x y e = (refl, cc)
 some_if false x y e = absurd cc
 
-none_if : {X : Type 0} (t : Bool) (y : X) → ◌≡◌ {A = Option X} None (cond t (Some y) None) → t ≡ false
-none_if true y e = absurd cc
-none_if false y e = refl
-
 -- an instruction that is settled
 pub settled_is : (names : List (List ℕ)) (headers : List HeaderForm) (body : List LineForm) (i : InstrForm) (x : Instr) → Some x ≡ settled_instr names headers body i → (is_settled headers body i ≡ true) × (x ≡ instr_in names headers body i)
 settled_is names headers body i x is = some_if (is_settled headers body i) x (instr_in names headers body i) is
-
-pub unsettled_is : (names : List (List ℕ)) (headers : List HeaderForm) (body : List LineForm) (i : InstrForm) (found : Option Instr) → found ≡ settled_instr names headers body i → found ≡ None → is_settled headers body i ≡ false
-unsettled_is names headers body i found is none = none_if (is_settled headers body i) (instr_in names headers body i) (sym none ∙ is)
 
 -- ---- the functions of a module
 

@@ -413,10 +413,6 @@ first_fault names bytes stop e =
       here = front_fault (names_behind names is.more) is.more tail is.left stop.fault lack.tail (left_lack (map line_written is.more) is.left (subst AllLack is.texts lack.ended)) is.here;
     }
 
-not_end : (others : List (List ℕ)) (tail : List ℕ) (more : List LineForm) (line : LineForm) → (is_end others tail ≡ true → line ∷ more ≡ []) → (t : Bool) → is_end others tail ≡ t → t ≡ false
-not_end others tail more line opens true e = absurd (let none = opens e in cc)
-not_end others tail more line opens false e = refl
-
 further_end : (more : List LineForm) (left : List (List ℕ)) (tail : List ℕ) → is_end left tail ≡ false → is_end (map line_written more ++ left) tail ≡ false
 further_end [] left tail h = h
 further_end (line ∷ more) left tail h = refl
