@@ -84,17 +84,11 @@ is_name_kind _ = false
 
 -- a byte is a digit by its kind
 digit_by : (c : ℕ) (k : ByteKind) → IsOfKind c k → is_ascii_digit c ≡ is_digit_kind k
-digit_by c (Open Curly) h = ap is_ascii_digit h
-digit_by c (Open Square) h = ap is_ascii_digit h
-digit_by c (Close Curly) h = ap is_ascii_digit h
-digit_by c (Close Square) h = ap is_ascii_digit h
-digit_by c Comma h = ap is_ascii_digit h
-digit_by c Minus h = ap is_ascii_digit h
-digit_by c Zero h = ap is_ascii_digit h
 digit_by c Digit h = grind (arith, nat_tests)
 digit_by c Letter h = grind (arith, nat_tests)
 digit_by c NameByte h = h.1
 digit_by c Foreign h = grind (arith, nat_tests)
+digit_by c k h = ap is_ascii_digit h
 
 -- so of each byte
 pub digit_kind : (c : ℕ) → is_ascii_digit c ≡ is_digit_kind (kind_of c)
@@ -102,17 +96,11 @@ digit_kind c = digit_by c (kind_of c) (kind_is c)
 
 -- a name's byte by its kind
 name_by : (c : ℕ) (k : ByteKind) → IsOfKind c k → is_name_byte c ≡ is_name_kind k
-name_by c (Open Curly) h = ap is_name_byte h
-name_by c (Open Square) h = ap is_name_byte h
-name_by c (Close Curly) h = ap is_name_byte h
-name_by c (Close Square) h = ap is_name_byte h
-name_by c Comma h = ap is_name_byte h
-name_by c Minus h = ap is_name_byte h
-name_by c Zero h = ap is_name_byte h
 name_by c Digit h = grind (arith, nat_tests)
 name_by c Letter h = grind (arith, nat_tests)
 name_by c NameByte h = h.0
 name_by c Foreign h = h.0
+name_by c k h = ap is_name_byte h
 
 -- so of each byte
 pub name_kind : (c : ℕ) → is_name_byte c ≡ is_name_kind (kind_of c)
@@ -120,17 +108,11 @@ name_kind c = name_by c (kind_of c) (kind_is c)
 
 -- a digit above zero has its kind
 positive_by : (c : ℕ) (k : ByteKind) → IsOfKind c k → is_in_range 49 57 c ≡ true → k ≡ Digit
-positive_by c (Open Curly) h p = absurd (false_is_no_true (sym (ap (is_in_range 49 57) h) ∙ p))
-positive_by c (Open Square) h p = absurd (false_is_no_true (sym (ap (is_in_range 49 57) h) ∙ p))
-positive_by c (Close Curly) h p = absurd (false_is_no_true (sym (ap (is_in_range 49 57) h) ∙ p))
-positive_by c (Close Square) h p = absurd (false_is_no_true (sym (ap (is_in_range 49 57) h) ∙ p))
-positive_by c Comma h p = absurd (false_is_no_true (sym (ap (is_in_range 49 57) h) ∙ p))
-positive_by c Minus h p = absurd (false_is_no_true (sym (ap (is_in_range 49 57) h) ∙ p))
-positive_by c Zero h p = absurd (false_is_no_true (sym (ap (is_in_range 49 57) h) ∙ p))
 positive_by c Digit h p = refl
 positive_by c Letter h p = absurd (letter_is_no_digit c h p)
 positive_by c NameByte h p = absurd (other_is_no_digit c h.1 p)
 positive_by c Foreign h p = absurd (foreign_is_no_digit c h.0 p)
+positive_by c k h p = absurd (false_is_no_true (sym (ap (is_in_range 49 57) h) ∙ p))
 
 -- so of each byte
 pub positive_kind : (c : ℕ) → is_in_range 49 57 c ≡ true → kind_of c ≡ Digit
@@ -138,17 +120,11 @@ positive_kind c p = positive_by c (kind_of c) (kind_is c) p
 
 -- a small letter has its kind
 letter_by : (c : ℕ) (k : ByteKind) → IsOfKind c k → is_ascii_lowercase c ≡ true → k ≡ Letter
-letter_by c (Open Curly) h p = absurd (false_is_no_true (sym (ap is_ascii_lowercase h) ∙ p))
-letter_by c (Open Square) h p = absurd (false_is_no_true (sym (ap is_ascii_lowercase h) ∙ p))
-letter_by c (Close Curly) h p = absurd (false_is_no_true (sym (ap is_ascii_lowercase h) ∙ p))
-letter_by c (Close Square) h p = absurd (false_is_no_true (sym (ap is_ascii_lowercase h) ∙ p))
-letter_by c Comma h p = absurd (false_is_no_true (sym (ap is_ascii_lowercase h) ∙ p))
-letter_by c Minus h p = absurd (false_is_no_true (sym (ap is_ascii_lowercase h) ∙ p))
-letter_by c Zero h p = absurd (false_is_no_true (sym (ap is_ascii_lowercase h) ∙ p))
 letter_by c Digit h p = absurd (letter_is_no_digit c p h)
 letter_by c Letter h p = refl
 letter_by c NameByte h p = absurd (false_is_no_true (sym (h.2) ∙ p))
 letter_by c Foreign h p = absurd (false_is_no_true (sym (h.1) ∙ p))
+letter_by c k h p = absurd (false_is_no_true (sym (ap is_ascii_lowercase h) ∙ p))
 
 -- so of each byte
 pub letter_kind : (c : ℕ) → is_ascii_lowercase c ≡ true → kind_of c ≡ Letter
@@ -158,13 +134,7 @@ letter_kind c p = letter_by c (kind_of c) (kind_is c) p
 pub leaf_if_digit : (k : ByteKind) → is_digit_kind k ≡ true → is_leaf_kind k ≡ true
 leaf_if_digit Zero h = refl
 leaf_if_digit Digit h = refl
-leaf_if_digit (Open b) h = cc
-leaf_if_digit (Close b) h = cc
-leaf_if_digit Comma h = cc
-leaf_if_digit Minus h = cc
-leaf_if_digit Letter h = cc
-leaf_if_digit NameByte h = cc
-leaf_if_digit Foreign h = cc
+leaf_if_digit k h = cc
 
 -- and so is a byte of a name
 pub leaf_if_name : (k : ByteKind) → is_name_kind k ≡ true → is_leaf_kind k ≡ true
@@ -172,8 +142,4 @@ leaf_if_name Zero h = refl
 leaf_if_name Digit h = refl
 leaf_if_name Letter h = refl
 leaf_if_name NameByte h = refl
-leaf_if_name (Open b) h = cc
-leaf_if_name (Close b) h = cc
-leaf_if_name Comma h = cc
-leaf_if_name Minus h = cc
-leaf_if_name Foreign h = cc
+leaf_if_name k h = cc

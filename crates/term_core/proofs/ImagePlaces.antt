@@ -86,9 +86,7 @@ first_word-parts (list_of row) = list_parts (row_count row)
 -- an image begins with it
 image_first : (t : PlainTerm) (rest : List ℕ) → get_or (image_of t ++ rest) 0 0 ≡ first_word t
 image_first (integer_leaf z) rest = refl
-image_first (atom_leaf a) rest = refl
-image_first (tuple_of row) rest = refl
-image_first (list_of row) rest = refl
+image_first t rest = refl
 
 -- so it stands at the image's place
 pub first_word-at : (words : List ℕ) (at : ℕ) (t : PlainTerm) → IsImageAt words at t → get_or words at 0 ≡ first_word t

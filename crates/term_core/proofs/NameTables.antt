@@ -51,20 +51,15 @@ number_of-no_atom names text sound none =
 
 -- the given names are atoms
 given_texts : (k : ℕ) (d : List ℕ) → k < 3 → IsTrue (is_atom_text (slice_index_or given_names k d))
-given_texts zero d h = refl
-given_texts (suc zero) d h = refl
-given_texts (suc (suc zero)) d h = refl
 given_texts (suc (suc (suc k))) d h = absurd (omega arith)
+given_texts k d h = refl
 
 -- no two of them are alike
 given_apart : (i j : ℕ) → i < j → j < 3 → slice_get given_names i ≡ slice_get given_names j → ⊥
 given_apart zero (suc zero) l h e = cc
 given_apart zero (suc (suc zero)) l h e = cc
 given_apart (suc zero) (suc (suc zero)) l h e = cc
-given_apart i zero l h e = omega arith
-given_apart (suc i) (suc zero) l h e = omega arith
-given_apart (suc (suc i)) (suc (suc zero)) l h e = omega arith
-given_apart i (suc (suc (suc k))) l h e = omega arith
+given_apart i j l h e = omega arith
 
 -- the given names are a table
 pub given_names-IsNames : IsNames given_names

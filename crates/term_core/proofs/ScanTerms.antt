@@ -23,12 +23,7 @@ leaf_start : (kind : ByteKind) (top : Option Bracket) → is_leaf_kind kind ≡ 
 leaf_start (Open b) top h = cc
 leaf_start (Close b) top h = cc
 leaf_start Comma top h = cc
-leaf_start Minus top h = refl
-leaf_start Zero top h = refl
-leaf_start Digit top h = refl
-leaf_start Letter top h = refl
-leaf_start NameByte top h = refl
-leaf_start Foreign top h = refl
+leaf_start kind top h = refl
 
 -- so does each leaf
 start_leaf : (brackets : List Bracket) (text rest : List ℕ) → LeafText text → accepts AfterOpen brackets (text ++ rest) ≡ accepts TermStart brackets (text ++ rest)

@@ -130,9 +130,7 @@ bracketed_written (list_of row) h = refl
 -- one word stands for a term that is in no brackets
 immediate_of : (f : List ℕ → ℤ) (g : List ℕ → ℕ) (form : WrittenTerm) → is_immediate (map_leaves f g form) ≡ not (is_in_brackets form)
 immediate_of f g (integer_leaf text) = refl
-immediate_of f g (atom_leaf text) = refl
-immediate_of f g (tuple_of row) = refl
-immediate_of f g (list_of row) = refl
+immediate_of f g form = refl
 
 -- a text begins with a bracket exactly where its term stands in brackets
 pub is_bracketed-form : (text : List ℕ) (form : WrittenTerm) → IsTextOf text form → is_bracketed text ≡ is_in_brackets form

@@ -27,13 +27,7 @@ leaf_word false front tokens = omega arith
 pub starts-token : (inside : Bool) (kind : ByteKind) (front : List ℕ) (tokens : List Token) → starts (token_at inside kind front ++ tokens) ≡ word_at inside kind + starts tokens
 starts-token inside (Open b) front tokens = refl
 starts-token inside (Close b) front tokens = omega arith
-starts-token inside Comma front tokens = leaf_word (begins inside Comma) front tokens
-starts-token inside Minus front tokens = leaf_word (begins inside Minus) front tokens
-starts-token inside Zero front tokens = leaf_word (begins inside Zero) front tokens
-starts-token inside Digit front tokens = leaf_word (begins inside Digit) front tokens
-starts-token inside Letter front tokens = leaf_word (begins inside Letter) front tokens
-starts-token inside NameByte front tokens = leaf_word (begins inside NameByte) front tokens
-starts-token inside Foreign front tokens = leaf_word (begins inside Foreign) front tokens
+starts-token inside kind front tokens = leaf_word (begins inside kind) front tokens
 
 -- the words of a byte and of what is behind it
 pub words_behind : (text : List ℕ) (at c : ℕ) (inside later : Bool) (kind : ByteKind) → c ≡ get_or text at 0 → at < length text → kind ≡ kind_of c → later ≡ is_leaf_kind kind →

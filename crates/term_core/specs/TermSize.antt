@@ -11,9 +11,7 @@ use Rattle.term_core.specs.PlainTerm.{row_of, term_words, row_words}
 -- what stands below a term is smaller than it
 deep_le-words : (t : Term) → deep-Term t ≤ term_words (plain t)
 deep_le-words (Int z) = omega arith
-deep_le-words (Atom a) = omega arith
-deep_le-words (Tuple ts) = omega arith
-deep_le-words (ListOf ts) = omega arith
+deep_le-words t = omega arith
 
 -- no term of a row is as large as the row
 pub most_le-words : (ts : List Term) → most deep-Term ts ≤ row_words (row_of (map plain ts))
