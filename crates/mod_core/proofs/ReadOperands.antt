@@ -23,8 +23,6 @@ pub record IsConstantAt (words : List ℕ) (word : ℕ) (o : Operand) : Type 0 w
 
 -- a word with the tag of a constant's place stands for one
 pub constant_word : (words : List ℕ) (word : ℕ) (o : Operand) → word % 16 ≡ 5 → IsWordOf words word o → IsConstantAt words word o
-constant_word words word (Reg register) tag is = absurd (omega (arith, is.0))
-constant_word words word (Const (Int z)) tag is = absurd (omega (arith, is.0))
-constant_word words word (Const (Atom a)) tag is = absurd (omega (arith, is.0))
 constant_word words word (Const (Tuple ts)) tag is = record { term = plain (Tuple ts); image = is.1; operand_is = ap Const (term_of-plain (Tuple ts)) }
 constant_word words word (Const (ListOf ts)) tag is = record { term = plain (ListOf ts); image = is.1; operand_is = ap Const (term_of-plain (ListOf ts)) }
+constant_word words word o tag is = absurd (omega (arith, is.0))
