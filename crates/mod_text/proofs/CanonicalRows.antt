@@ -136,12 +136,10 @@ function_rows names fs f before sound plain opened few new =
     )
 
 open_by : (o : Option LineForm) → is_in_function o ≡ true → is_open o ≡ true
-open_by None h = absurd cc
-open_by (Some (title name version)) h = absurd cc
 open_by (Some (header exported name arity)) h = refl
 open_by (Some (label name)) h = refl
 open_by (Some (instr i)) h = refl
-open_by (Some end) h = absurd cc
+open_by o h = absurd cc
 
 -- behind a function the module is open
 open_behind : (names : List (List ℕ)) (fs : List Function) (f : Function) (before : List LineForm) → is_open (last_line (before ++ function_lines names fs f)) ≡ true

@@ -102,11 +102,9 @@ lines_settled names fs headers body code number (i ∷ is) settled =
 -- labels and instructions begin no function that lacks something
 body_settled : (headers : List HeaderForm) (body rest : List LineForm) → IsBody body → first_unsettled headers rest ≡ None → first_unsettled headers (body ++ rest) ≡ None
 body_settled headers [] rest is none = none
-body_settled headers (title name version ∷ body) rest is none = absurd is
-body_settled headers (header exported name arity ∷ body) rest is none = absurd is
 body_settled headers (label name ∷ body) rest is none = ap (option_map suc) (body_settled headers body rest is none)
 body_settled headers (instr i ∷ body) rest is none = ap (option_map suc) (body_settled headers body rest is none)
-body_settled headers (end ∷ body) rest is none = absurd is
+body_settled headers body rest is none = absurd is
 
 -- every label and every local function is found
 pub all_settled : (names : List (List ℕ)) (fs : List Function) (headers : List HeaderForm) (gs : List Function) → All (IsFunctionBack names fs headers) gs → first_unsettled headers (lines_to_end names fs gs) ≡ None

@@ -263,10 +263,8 @@ split_again end h = refl
 
 -- the terms of a line are terms
 sound_operand : (o : OperandForm) → is_operand_form o ≡ true → is_sound_operand o ≡ true
-sound_operand (register digits) h = refl
-sound_operand (integer text) h = refl
-sound_operand (atom text) h = refl
 sound_operand (complex text) h = (and_parts (is_bracketed text) (is_term_text text) h).1
+sound_operand o h = refl
 
 sound_both : (a b : OperandForm) (rest : Bool) → (is_operand_form a && (is_operand_form b && rest)) ≡ true → (is_sound_operand a && is_sound_operand b) ≡ true
 sound_both a b rest h =
@@ -280,22 +278,15 @@ sound_instr (add a b to) h = sound_both a b (is_number_text to) h
 sound_instr (sub a b to) h = sound_both a b (is_number_text to) h
 sound_instr (eq a b target) h = sound_both a b (is_atom_text target) h
 sound_instr (less a b target) h = sound_both a b (is_atom_text target) h
-sound_instr (jump target) h = refl
-sound_instr (call name arity at) h = refl
-sound_instr (call_ext name function arity at) h = refl
 sound_instr (ret value) h = sound_operand value h
-sound_instr (pget key to) h = refl
 sound_instr (pget_or key other to) h = sound_operand other (and_parts (is_operand_form other) (is_number_text to) (and_parts (is_atom_text key) (is_operand_form other && is_number_text to) h).1).0
 sound_instr (elem index from to) h = sound_both index from (is_number_text to) h
 sound_instr (print value) h = sound_operand value h
-sound_instr yield h = refl
+sound_instr i h = refl
 
 pub sound_terms : (line : LineForm) → is_line_form line ≡ true → has_sound_terms line ≡ true
-sound_terms (title name version) h = refl
-sound_terms (header exported name arity) h = refl
-sound_terms (label name) h = refl
 sound_terms (instr i) h = sound_instr i h
-sound_terms end h = refl
+sound_terms line h = refl
 
 -- each line is read from its text
 pub line_again : (line : LineForm) → is_line_form line ≡ true → line_reading (line_written line) ≡ Some line

@@ -86,6 +86,4 @@ sound_lines names before (line ∷ lines) follow = All-cons IsSound line lines f
 pub held_is : (before : List (List ℕ)) (bytes : List ℕ) (first : ℕ) (after : List (List ℕ)) (r : Result Module ModFault) → IsNames after → Ends before bytes first after r → IfOk r (λ m. IsModuleHeld after m)
 held_is before bytes first after _ sound (read forms m e value settled) =
     subst (IsModuleHeld after) (sym value) (module_held after (some_names after sound) forms (sound_lines before [] forms (bytes_are_read before bytes after forms e).faultless))
-held_is before bytes first after _ sound (missing forms number fault e lacking is) = tt
-held_is before bytes first after _ sound (stopped stop fault so is) = tt
-held_is before bytes first after _ sound (no_memory fault is) = tt
+held_is before bytes first after _ sound _ = tt

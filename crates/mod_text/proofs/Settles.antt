@@ -36,18 +36,14 @@ kept_behind lines i kept = subst (All IsKept) (drop-map form_of i lines) (All-dr
 
 -- a line of the body goes to its front
 pub body_goes_on : (line : LineForm) (lines : List LineForm) → is_body_line line ≡ true → body_of (line ∷ lines) ≡ line ∷ body_of lines
-body_goes_on (title name version) lines h = absurd cc
-body_goes_on (header exported name arity) lines h = absurd cc
 body_goes_on (label name) lines h = refl
 body_goes_on (instr i) lines h = refl
-body_goes_on end lines h = absurd cc
+body_goes_on line lines h = absurd cc
 
 pub body_ends : (line : LineForm) (lines : List LineForm) → is_body_line line ≡ false → body_of (line ∷ lines) ≡ []
-body_ends (title name version) lines h = refl
-body_ends (header exported name arity) lines h = refl
 body_ends (label name) lines h = absurd cc
 body_ends (instr i) lines h = absurd cc
-body_ends end lines h = refl
+body_ends line lines h = refl
 
 -- the body so far, where the next line is none of it
 pub body_stops : (lines : List (Bor (List ℕ))) (i : ℕ) (d : Bor (List ℕ)) → i < length lines → body_of (forms_of lines) ≡ forms_of (take i lines) ++ body_of (forms_of (drop i lines)) → false ≡ is_body_line (form_of (get_or lines i d)) → forms_of (take i lines) ≡ body_of (forms_of lines)
@@ -84,11 +80,9 @@ on_true false P h e = absurd cc
 -- the lines of a body were kept where all were
 pub kept_body : (lines : List LineForm) → All IsKept lines → All IsKept (body_of lines)
 kept_body [] kept = kept
-kept_body (title name version ∷ lines) kept = All-nil IsKept
-kept_body (header exported name arity ∷ lines) kept = All-nil IsKept
 kept_body (label name ∷ lines) kept = All-cons IsKept (label name) (body_of lines) (All-head IsKept (label name) lines kept) (kept_body lines (All-tail IsKept (label name) lines kept))
 kept_body (instr i ∷ lines) kept = All-cons IsKept (instr i) (body_of lines) (All-head IsKept (instr i) lines kept) (kept_body lines (All-tail IsKept (instr i) lines kept))
-kept_body (end ∷ lines) kept = All-nil IsKept
+kept_body lines kept = All-nil IsKept
 
 -- a version is small
 pub version_small : (name version : List ℕ) → is_line_form (title name version) ≡ true → number_value version < 2 ^ 32
@@ -104,14 +98,10 @@ pub record HasVersion (text : List ℕ) : Type 0 where
   pub small : number_value text < 2 ^ 32
 
 pub title_version : (lines : List LineForm) → IsTitled lines → All IsKept lines → HasVersion (title_of lines).1
-title_version [] titled kept = absurd titled
 title_version (title name version ∷ lines) titled kept =
     let sound = (All-head IsKept (title name version) lines kept).sound in
     record { number = (and_parts (is_number_text version) (nat_le 1 (number_value version) && nat_le (number_value version) 999999) (and_parts (is_atom_text name) (is_version_text version) sound).1).0; small = version_small name version sound }
-title_version (header exported name arity ∷ lines) titled kept = absurd titled
-title_version (label name ∷ lines) titled kept = absurd titled
-title_version (instr i ∷ lines) titled kept = absurd titled
-title_version (end ∷ lines) titled kept = absurd titled
+title_version lines titled kept = absurd titled
 
 -- the function of a header
 pub header_function : (names : List (List ℕ)) (headers : List HeaderForm) (behind : List LineForm) (body : List LineForm) (exported : Bool) (name arity : List ℕ) (atom : AtomId) (number : ℕ) (code : List Instr) → atom ≡ atom_in names name → number ≡ number_value arity → code ≡ map (instr_in names headers body) (instrs_in body) → body ≡ body_of behind → ◌≡◌ {A = List Function} (record { name = atom; arity = number; exported = exported; code = code } ∷ []) (map (function_in names headers) (function_at (header exported name arity) behind))
@@ -176,10 +166,7 @@ settled_is names headers body i x is = some_if (is_settled headers body i) x (in
 
 functions_at : (line : LineForm) (lines : List LineForm) → functions_in (line ∷ lines) ≡ function_at line lines ++ functions_in lines
 functions_at (title name version) lines = refl
-functions_at (header exported name arity) lines = refl
-functions_at (label name) lines = refl
-functions_at (instr i) lines = refl
-functions_at end lines = refl
+functions_at line lines = refl
 
 -- what the loop over the lines keeps
 pub record FunctionsSoFar (names : List (List ℕ)) (headers : List HeaderForm) (lines : List (Bor (List ℕ))) (i : ℕ) (list : List Function) : Type 0 where

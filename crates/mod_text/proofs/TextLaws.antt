@@ -478,7 +478,4 @@ fault_again names bytes number fault is = fault_at_front names is.lines bytes is
 pub titled_is : (names : List (List ℕ)) (forms : List LineForm) → AreLines names forms → last_line forms ≡ Some end → IsTitled forms
 titled_is names [] follow closed = absurd cc
 titled_is names (title name version ∷ lines) follow closed = tt
-titled_is names (header exported name arity ∷ lines) follow closed = absurd (let place = follow.0.stands.place in cc)
-titled_is names (label name ∷ lines) follow closed = absurd (let place = follow.0.stands.place in cc)
-titled_is names (instr i ∷ lines) follow closed = absurd (let place = follow.0.stands.place in cc)
-titled_is names (end ∷ lines) follow closed = absurd (let place = follow.0.stands.place in cc)
+titled_is names forms follow closed = absurd (let place = follow.0.stands.place in cc)

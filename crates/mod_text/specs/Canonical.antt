@@ -65,17 +65,7 @@ abbrev pub goes_to : ℕ → Instr → Bool
 goes_to number (Eq a b target) = target == number
 goes_to number (Less a b target) = target == number
 goes_to number (Jump target) = target == number
-goes_to number (Move from to) = false
-goes_to number (Add a b to) = false
-goes_to number (Sub a b to) = false
-goes_to number (Call function at) = false
-goes_to number (CallExt to at) = false
-goes_to number (Ret value) = false
-goes_to number (Pget key to) = false
-goes_to number (PgetOr key other to) = false
-goes_to number (Elem index from to) = false
-goes_to number (Print value) = false
-goes_to number Yield = false
+goes_to number _ = false
 
 -- the label of a number, if it is a target
 abbrev pub labels_where : Bool → ℕ → List LineForm

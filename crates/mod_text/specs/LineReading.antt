@@ -206,10 +206,8 @@ line_split text = parts_reading text (cut_at 32 text)
 
 -- whether an operand that begins with a bracket is a term's text
 abbrev pub is_sound_operand : OperandForm → Bool
-is_sound_operand (register digits) = true
-is_sound_operand (integer text) = true
-is_sound_operand (atom text) = true
 is_sound_operand (complex text) = is_term_text text
+is_sound_operand _ = true
 
 -- whether each operand of an instruction is that begins with a bracket
 abbrev pub has_sound_operands : InstrForm → Bool
@@ -218,23 +216,16 @@ has_sound_operands (add a b to) = is_sound_operand a && is_sound_operand b
 has_sound_operands (sub a b to) = is_sound_operand a && is_sound_operand b
 has_sound_operands (eq a b target) = is_sound_operand a && is_sound_operand b
 has_sound_operands (less a b target) = is_sound_operand a && is_sound_operand b
-has_sound_operands (jump target) = true
-has_sound_operands (call name arity at) = true
-has_sound_operands (call_ext name function arity at) = true
 has_sound_operands (ret value) = is_sound_operand value
-has_sound_operands (pget key to) = true
 has_sound_operands (pget_or key other to) = is_sound_operand other
 has_sound_operands (elem index from to) = is_sound_operand index && is_sound_operand from
 has_sound_operands (print value) = is_sound_operand value
-has_sound_operands yield = true
+has_sound_operands _ = true
 
 -- the same of a line
 abbrev pub has_sound_terms : LineForm → Bool
-has_sound_terms (title name version) = true
-has_sound_terms (header exported name arity) = true
-has_sound_terms (label name) = true
 has_sound_terms (instr i) = has_sound_operands i
-has_sound_terms end = true
+has_sound_terms _ = true
 
 -- the line, where each of its tuples and lists is a term's text
 abbrev pub sound_reading : Option LineForm → Option LineForm
