@@ -12,13 +12,11 @@ use Rattle.term_core.proofs.Numbers.{names_with_all-Extends, names_with_all-appe
 
 -- what begins with a byte is a leaf where each token is
 pub begun_leaf : (inside : Bool) (kind : ByteKind) (front : List ℕ) → begins inside kind ≡ true → AreLeaves (token_at inside kind front) → IsLeaf front
-begun_leaf false Minus front begun h = h.0
-begun_leaf false Zero front begun h = h.0
-begun_leaf false Digit front begun h = h.0
-begun_leaf false Letter front begun h = h.0
-begun_leaf false NameByte front begun h = h.0
-begun_leaf false Foreign front begun h = h.0
-begun_leaf inside kind front begun h = cc
+begun_leaf inside (Open b) front begun h = cc
+begun_leaf inside (Close b) front begun h = cc
+begun_leaf inside Comma front begun h = cc
+begun_leaf false kind front begun h = h.0
+begun_leaf true kind front begun h = cc
 
 -- by whether a leaf is an atom
 leaf_joins : (b : Bool) (names : List (List ℕ)) (text : List ℕ) → Extends names (cond b (names_with names text) names)

@@ -84,6 +84,10 @@ is_name_kind _ = false
 
 -- a byte is a digit by its kind
 digit_by : (c : ℕ) (k : ByteKind) → IsOfKind c k → is_ascii_digit c ≡ is_digit_kind k
+digit_by c (Open Curly) h = ap is_ascii_digit h
+digit_by c (Open Square) h = ap is_ascii_digit h
+digit_by c (Close Curly) h = ap is_ascii_digit h
+digit_by c (Close Square) h = ap is_ascii_digit h
 digit_by c Digit h = grind (arith, nat_tests)
 digit_by c Letter h = grind (arith, nat_tests)
 digit_by c NameByte h = h.1
@@ -96,6 +100,10 @@ digit_kind c = digit_by c (kind_of c) (kind_is c)
 
 -- a name's byte by its kind
 name_by : (c : ℕ) (k : ByteKind) → IsOfKind c k → is_name_byte c ≡ is_name_kind k
+name_by c (Open Curly) h = ap is_name_byte h
+name_by c (Open Square) h = ap is_name_byte h
+name_by c (Close Curly) h = ap is_name_byte h
+name_by c (Close Square) h = ap is_name_byte h
 name_by c Digit h = grind (arith, nat_tests)
 name_by c Letter h = grind (arith, nat_tests)
 name_by c NameByte h = h.0
@@ -108,6 +116,10 @@ name_kind c = name_by c (kind_of c) (kind_is c)
 
 -- a digit above zero has its kind
 positive_by : (c : ℕ) (k : ByteKind) → IsOfKind c k → is_in_range 49 57 c ≡ true → k ≡ Digit
+positive_by c (Open Curly) h p = absurd (false_is_no_true (sym (ap (is_in_range 49 57) h) ∙ p))
+positive_by c (Open Square) h p = absurd (false_is_no_true (sym (ap (is_in_range 49 57) h) ∙ p))
+positive_by c (Close Curly) h p = absurd (false_is_no_true (sym (ap (is_in_range 49 57) h) ∙ p))
+positive_by c (Close Square) h p = absurd (false_is_no_true (sym (ap (is_in_range 49 57) h) ∙ p))
 positive_by c Digit h p = refl
 positive_by c Letter h p = absurd (letter_is_no_digit c h p)
 positive_by c NameByte h p = absurd (other_is_no_digit c h.1 p)
@@ -120,6 +132,10 @@ positive_kind c p = positive_by c (kind_of c) (kind_is c) p
 
 -- a small letter has its kind
 letter_by : (c : ℕ) (k : ByteKind) → IsOfKind c k → is_ascii_lowercase c ≡ true → k ≡ Letter
+letter_by c (Open Curly) h p = absurd (false_is_no_true (sym (ap is_ascii_lowercase h) ∙ p))
+letter_by c (Open Square) h p = absurd (false_is_no_true (sym (ap is_ascii_lowercase h) ∙ p))
+letter_by c (Close Curly) h p = absurd (false_is_no_true (sym (ap is_ascii_lowercase h) ∙ p))
+letter_by c (Close Square) h p = absurd (false_is_no_true (sym (ap is_ascii_lowercase h) ∙ p))
 letter_by c Digit h p = absurd (letter_is_no_digit c p h)
 letter_by c Letter h p = refl
 letter_by c NameByte h p = absurd (false_is_no_true (sym (h.2) ∙ p))
