@@ -8,7 +8,7 @@ use Rattle.std.proofs.lemmas.Option.{same_Some}
 use Rattle.term_core.specs.declared.names.TheConstants.{MOST_NAMES}
 use Rattle.term_core.specs.declared.term_text.TheConstants.{MOST_WORDS}
 use Rattle.term_core.specs.declared.term.Term.{Term}
-use Rattle.term_core.specs.declared.term.Term.TheVariants.{Int, Atom, Tuple, List as ListOf}
+use Rattle.term_core.specs.declared.term.Term.TheVariants.{Tuple, List as ListOf}
 use Rattle.term_core.specs.Image.{HasTermIntegers, IsImageAt, IsPlainTerm, image_of}
 use Rattle.term_core.specs.PlainTerm.{PlainTerm, term_words}
 use Rattle.term_core.specs.Plain.{plain}
@@ -16,9 +16,9 @@ use Rattle.term_core.specs.Written.{IsTermInteger}
 use Rattle.term_core.proofs.ImageTerms.{length-image}
 use Rattle.term_core.proofs.LeafFacts.{EachLeaf-weaker, EachOf, EachOf-append}
 use Rattle.mod_core.specs.declared.code.Operand.{Operand}
-use Rattle.mod_core.specs.declared.code.Operand.TheVariants.{Reg, Const}
+use Rattle.mod_core.specs.declared.code.Operand.TheVariants.{Const}
 use Rattle.mod_core.specs.declared.code.Instr.{Instr}
-use Rattle.mod_core.specs.declared.code.Instr.TheVariants.{Move, Add, Sub, Eq, Less, Jump, Call, CallExt, Ret, Pget, PgetOr, Elem, Print, Yield}
+use Rattle.mod_core.specs.declared.code.Instr.TheVariants.{Move, Add, Sub, Eq, Less, Ret, PgetOr, Elem, Print}
 use Rattle.mod_core.specs.declared.code.Function.{Function}
 use Rattle.mod_core.specs.declared.code.Module.{Module}
 use Rattle.mod_core.specs.Module.{IsConstant, IsFunction, IsInstr, IsModule, IsOperand}

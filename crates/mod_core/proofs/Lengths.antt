@@ -5,7 +5,7 @@ use Rattle.term_core.specs.Image.{image_of}
 use Rattle.term_core.specs.PlainTerm.{PlainTerm}
 use Rattle.term_core.proofs.ImageTerms.{length-image}
 use Rattle.mod_core.specs.declared.code.Instr.{Instr}
-use Rattle.mod_core.specs.declared.code.Instr.TheVariants.{Move, Add, Sub, Eq, Less, Jump, Call, CallExt, Ret, Pget, PgetOr, Elem, Print, Yield}
+use Rattle.mod_core.specs.declared.code.Instr.TheVariants.{Move}
 use Rattle.mod_core.specs.declared.code.Function.{Function}
 use Rattle.mod_core.specs.declared.code.Module.{Module}
 use Rattle.mod_core.specs.ModuleImage.{code_constants, code_len, code_start, code_words, constants_len, constants_of, constants_start, constants_words, function_heads, function_len, function_words, functions_words, instr_constants, instr_len, instr_words, module_image, place_from, place_in, placed, placed_code, return_ok}

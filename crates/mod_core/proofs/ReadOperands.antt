@@ -1,6 +1,6 @@
 -- What a word of an image is read as: the operand that it stands for.
 use Rattle.std.proofs.Common.{◌≡◌, ℕ, ◌/◌, ◌%◌, ◌<◌, List, length, ap, arith}
-use Rattle.term_core.specs.declared.term.Term.TheVariants.{Int, Atom, Tuple, List as ListOf}
+use Rattle.term_core.specs.declared.term.Term.TheVariants.{Tuple, List as ListOf}
 use Rattle.term_core.specs.Image.{IsImageAt}
 use Rattle.term_core.specs.Plain.{plain, term_of}
 use Rattle.term_core.specs.PlainTerm.{PlainTerm}
@@ -8,7 +8,7 @@ use Rattle.term_core.proofs.ImagePlaces.{within-at}
 use Rattle.term_core.proofs.ImageTerms.{some_words}
 use Rattle.term_core.proofs.PlainTerms.{term_of-plain}
 use Rattle.mod_core.specs.declared.code.Operand.{Operand}
-use Rattle.mod_core.specs.declared.code.Operand.TheVariants.{Reg, Const}
+use Rattle.mod_core.specs.declared.code.Operand.TheVariants.{Const}
 use Rattle.mod_core.specs.Decoding.{IsWordOf}
 
 -- an image stands within the words

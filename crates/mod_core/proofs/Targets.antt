@@ -7,7 +7,7 @@ use Rattle.std.proofs.lemmas.List.Elements.{All-head, All-tail}
 use Rattle.std.proofs.lemmas.List.FromFn.{map-range_with_len_more}
 use Rattle.std.proofs.lemmas.List.Sums.{sum_by-append}
 use Rattle.mod_core.specs.declared.code.Instr.{Instr}
-use Rattle.mod_core.specs.declared.code.Instr.TheVariants.{Move, Add, Sub, Eq, Less, Jump, Call, CallExt, Ret, Pget, PgetOr, Elem, Print, Yield}
+use Rattle.mod_core.specs.declared.code.Instr.TheVariants.{Eq, Less, Jump}
 use Rattle.mod_core.specs.declared.code.Function.{Function}
 use Rattle.mod_core.specs.Module.{IsInstr}
 use Rattle.mod_core.specs.ModuleImage.{code_len, place_in, placed, placed_code}

@@ -3,7 +3,7 @@ use Rattle.std.specs.Prelude.{◌≤◌, List, [], ◌∷◌, map}
 use Rattle.std.proofs.Common.{arith}
 use denote.Param.Weighed.{most}
 use Rattle.term_core.specs.declared.term.Term.{Term}
-use Rattle.term_core.specs.declared.term.Term.TheVariants.{Int, Atom, Tuple, List as ListOf}
+use Rattle.term_core.specs.declared.term.Term.TheVariants.{Int}
 use Rattle.term_core.specs.declared.term.TermList.TheDeep.{deep-Term}
 use Rattle.term_core.specs.Plain.{plain}
 use Rattle.term_core.specs.PlainTerm.{row_of, term_words, row_words}
