@@ -8,9 +8,9 @@ use Rattle.mod_core.specs.declared.code.Instr.{Instr}
 use Rattle.mod_core.specs.declared.code.Function.{Function}
 use Rattle.mod_text.specs.Canonical.{label_text, written_instr, goes_to, labels_at, lines_from}
 use Rattle.mod_text.specs.LineFaults.{is_in_function, last_line}
-use Rattle.mod_text.specs.ModuleLine.{LineForm, title, header, label, instr, end}
+use Rattle.mod_text.specs.ModuleLine.{LineForm, label, instr}
 use Rattle.mod_text.specs.ModuleValue.{body_of, functions_in, headers_in, instrs_in, label_number}
-use Rattle.mod_text.proofs.Options.{some, same_bytes, passed, failed}
+use Rattle.term_core.proofs.Text.Options.{some, same_bytes, passed, failed}
 use Rattle.mod_text.proofs.Keepings.{last_line-push}
 use Rattle.mod_text.proofs.CanonicalParts.{labels_differ}
 

@@ -19,8 +19,8 @@ use Rattle.mod_text.specs.ModuleText.{ModuleText}
 use Rattle.mod_text.specs.ModuleValue.{HeaderForm, label_number, function_in, headers_in, module_of, first_unsettled}
 use Rattle.mod_core.proofs.ImageWords.{few_instrs}
 use Rattle.mod_text.proofs.Keepings.{last_line-push}
-use Rattle.mod_text.proofs.Numbers.{decimal-writes}
-use Rattle.mod_text.proofs.Options.{failed}
+use Rattle.term_core.proofs.Text.Numbers.{decimal-writes}
+use Rattle.term_core.proofs.Text.Options.{failed}
 use Rattle.mod_text.proofs.CanonicalParts.{atom_back}
 use Rattle.mod_text.proofs.CanonicalInstrs.{HasTargets, instr_back}
 use Rattle.mod_text.proofs.CanonicalBodies.{label_number-lines}

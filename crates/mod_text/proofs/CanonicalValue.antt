@@ -8,9 +8,9 @@ use Rattle.term_core.specs.TermText.{atom_text}
 use Rattle.mod_core.specs.declared.code.Instr.{Instr}
 use Rattle.mod_core.specs.declared.code.Function.{Function}
 use Rattle.mod_text.specs.Canonical.{label_text, written_instr, goes_to, labels_at, lines_from, function_lines}
-use Rattle.mod_text.specs.ModuleLine.{LineForm, title, header, label, instr, end}
+use Rattle.mod_text.specs.ModuleLine.{LineForm, header, label, instr, end}
 use Rattle.mod_text.specs.ModuleValue.{FunctionForm, HeaderForm, body_of, functions_in, headers_in, instr_in, function_in, is_settled, unsettled_at, unsettled_in, earlier, first_unsettled}
-use Rattle.mod_text.proofs.Numbers.{decimal-writes}
+use Rattle.term_core.proofs.Text.Numbers.{decimal-writes}
 use Rattle.mod_text.proofs.CanonicalParts.{atom_back}
 use Rattle.mod_text.proofs.CanonicalInstrs.{IsInstrBack}
 use Rattle.mod_text.proofs.CanonicalBodies.{IsBody, lines_are_body, body_of-body, functions_in-body, headers_in-body, instrs_in-lines}

@@ -23,7 +23,7 @@ use Rattle.term_core.proofs.TextForms.{text_outside}
 use Rattle.mod_core.specs.Module.{IsConstant}
 use Rattle.mod_core.specs.ModuleImage.{constants_len, operand_constants}
 use Rattle.mod_text.specs.Keeping.{operand_form_words}
-use Rattle.mod_text.specs.ModuleLine.{OperandForm, register, integer, atom, complex, is_operand_form, LineForm, is_line_form}
+use Rattle.mod_text.specs.ModuleLine.{OperandForm, complex, is_operand_form, LineForm, is_line_form}
 use Rattle.mod_text.specs.ModuleValue.{operand_in}
 
 -- a line whose parts are of their forms

@@ -8,7 +8,8 @@ use Rattle.term_core.specs.Names.{is_atom_text, names_with, number_of}
 use Rattle.term_core.specs.TermText.{names_with_all}
 use Rattle.mod_text.specs.declared.fault.LineFault.{LineFault}
 use Rattle.mod_text.specs.declared.fault.LineFault.TheVariants as faults
-use Rattle.mod_text.specs.ModuleLine.{OperandForm, register, integer, atom, complex, InstrForm, move, add, sub, eq, less, jump, call, call_ext, ret, pget, pget_or, elem, print, yield, LineForm, title, header, label, instr, end, is_number_text, is_operand_form, is_function_form, is_instr_form, is_line_form, is_arity_text, is_version_text}
+use Rattle.term_core.specs.Text.Numbers.{is_number_text}
+use Rattle.mod_text.specs.ModuleLine.{OperandForm, register, integer, atom, complex, InstrForm, move, add, sub, eq, less, jump, call, call_ext, ret, pget, pget_or, elem, print, yield, LineForm, title, header, label, instr, end, is_operand_form, is_function_form, is_instr_form, is_line_form, is_arity_text, is_version_text}
 use Rattle.mod_text.specs.LineFaults.{operand_atoms, instr_atoms, line_atoms}
 use Rattle.mod_text.specs.Keeping.{naming}
 use Rattle.mod_text.specs.Reading.{Fails, Gives}

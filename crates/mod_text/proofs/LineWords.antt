@@ -8,7 +8,8 @@ use Rattle.term_core.specs.Names.{is_atom_text}
 use Rattle.term_core.specs.PlainTerm.{PlainTerm}
 use Rattle.mod_core.proofs.ImageWords.{image_len}
 use Rattle.mod_core.specs.ModuleImage.{code_len, instr_len, function_len, operand_constants, instr_constants, code_constants, constants_of, constants_len, module_image}
-use Rattle.mod_text.specs.ModuleLine.{OperandForm, InstrForm, move, add, sub, eq, less, jump, call, call_ext, ret, pget, pget_or, elem, print, yield, LineForm, title, header, label, instr, end, is_number_text, is_operand_form, is_instr_form}
+use Rattle.term_core.specs.Text.Numbers.{is_number_text}
+use Rattle.mod_text.specs.ModuleLine.{OperandForm, InstrForm, move, add, sub, eq, less, ret, pget_or, elem, print, LineForm, title, header, label, instr, end, is_operand_form, is_instr_form}
 use Rattle.mod_text.specs.ModuleValue.{FunctionForm, HeaderForm, body_of, functions_in, headers_in, instrs_in, operand_in, instr_in, function_in, module_of}
 use Rattle.mod_text.specs.LineFaults.{is_in_function, ends_too_long}
 use Rattle.mod_text.specs.Keeping.{RowFrom, IsKept, operand_form_words, instr_form_words, line_words, lines_words}

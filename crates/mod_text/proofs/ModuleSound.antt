@@ -23,7 +23,8 @@ use Rattle.mod_core.specs.declared.code.Module.{Module}
 use Rattle.mod_text.specs.declared.fault.LineFault.TheVariants as faults
 use Rattle.mod_core.specs.Module.{IsOperand, IsCallPlace, IsInstr, IsFunction, SameFunction, IsModule}
 use Rattle.mod_core.specs.ModuleImage.{module_image}
-use Rattle.mod_text.specs.ModuleLine.{OperandForm, register, integer, atom, complex, InstrForm, move, add, sub, eq, less, jump, call, call_ext, ret, pget, pget_or, elem, print, yield, LineForm, title, header, label, instr, end, is_number_text, is_version_text, is_arity_text, is_operand_form, is_function_form, number_value}
+use Rattle.term_core.specs.Text.Numbers.{is_number_text, number_value}
+use Rattle.mod_text.specs.ModuleLine.{OperandForm, register, integer, atom, complex, InstrForm, move, add, sub, eq, less, jump, call, call_ext, ret, pget, pget_or, elem, print, yield, LineForm, title, header, label, instr, end, is_version_text, is_arity_text, is_operand_form, is_function_form}
 use Rattle.mod_text.specs.ModuleValue.{FunctionForm, HeaderForm, body_of, functions_in, headers_in, instrs_in, is_header, label_number, function_number, atom_in, operand_in, target_in, instr_in, function_in, title_of, module_of, IsTitled, is_settled, unsettled_at, unsettled_in, earlier, first_unsettled}
 use Rattle.mod_text.specs.LineFaults.{last_line, is_high, has_high_operand, is_high_call, has_high_register, is_wide_operand, has_wide_integer, is_long_operand, has_long_term, names_after, overfills_names, is_seventeenth, ends_too_long, is_repeated, fault_of_line, line_atoms}
 use Rattle.mod_text.specs.ModuleText.{FollowOn, names_behind, AreLines, ModuleText}
@@ -31,7 +32,7 @@ use Rattle.mod_text.specs.Keeping.{RowFrom, IsKept, IsKeptInstr}
 use Rattle.mod_text.proofs.Constants.{IsSound, constant_is}
 use Rattle.mod_text.proofs.LineWords.{image_words, kept_sound}
 use Rattle.mod_text.proofs.Keepings.{headers_in-append, last_line-push}
-use Rattle.mod_text.proofs.Options.{some_is, same_bytes, bytes_are}
+use Rattle.term_core.proofs.Text.Options.{some_is, same_bytes, bytes_are}
 use Rattle.mod_text.proofs.Settles.{kept_body}
 use Rattle.mod_text.proofs.TextLaws.{titled_is}
 

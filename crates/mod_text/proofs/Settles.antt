@@ -14,7 +14,8 @@ use Rattle.mod_core.specs.declared.code.Function.{Function}
 use Rattle.mod_text.specs.declared.fault.FinishFault.{FinishFault}
 use Rattle.mod_text.specs.declared.fault.FinishFault.TheVariants.{Missing, NoMemory}
 use Rattle.mod_text.specs.LineViews.{form_of, forms_of}
-use Rattle.mod_text.specs.ModuleLine.{InstrForm, LineForm, title, header, label, instr, end, is_line_form, is_version_text, is_number_text, number_value}
+use Rattle.term_core.specs.Text.Numbers.{is_number_text, number_value}
+use Rattle.mod_text.specs.ModuleLine.{InstrForm, LineForm, title, header, label, instr, end, is_line_form, is_version_text}
 use Rattle.mod_text.specs.ModuleValue.{HeaderForm, body_of, functions_in, instrs_in, instr_in, function_in, is_settled, is_settled_line, unsettled_at, unsettled_in, unsettled_below, earlier, first_unsettled, atom_in, title_of, IsTitled}
 use Rattle.mod_text.specs.Keeping.{IsKept}
 use Rattle.mod_text.specs.Settling.{settled_instr, later_by, function_at, is_body_line, IsUnsettled, IsUnsettledBelow, IsLater}

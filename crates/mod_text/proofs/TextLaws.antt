@@ -8,13 +8,14 @@ use Rattle.mod_text.specs.declared.fault.LineFault.{LineFault}
 use Rattle.mod_text.specs.declared.fault.LineFault.TheVariants as faults
 use Rattle.mod_text.specs.declared.fault.LineStop.{LineStop}
 use Rattle.mod_text.specs.ModuleValue.{IsTitled}
-use Rattle.mod_text.specs.ModuleLine.{LineForm, title, header, label, instr, end, line_written, lines_written, LineText}
-use Rattle.mod_text.specs.LineReading.{cut_at, line_reading}
+use Rattle.mod_text.specs.ModuleLine.{LineForm, title, end, line_written, lines_written, LineText}
+use Rattle.term_core.specs.Text.Cuts.{cut_at, Lines, lines, before_lines, lines_of}
+use Rattle.mod_text.specs.LineReading.{line_reading}
 use Rattle.mod_text.specs.LineFaults.{may_follow, last_line, names_after, fault_of_line, StandsBehind, HasLineFault, of_no_form, over_limit, IsNext}
 use Rattle.mod_text.specs.ModuleText.{FollowOn, names_behind, AreLines, FaultAtFront, unended, stops, faulty, FirstFault}
-use Rattle.mod_text.specs.Reading.{Step, kept, judged, line_step, Lines, lines, before_lines, lines_of, Read, stop_at, is_end, go_on, text_on, bytes_on, read_behind}
-use Rattle.mod_text.proofs.Options.{some_is, passed, bytes_are}
-use Rattle.mod_text.proofs.Cuts.{lacks, lacks-cons, cut_here, lines_behind, lines_of_tail}
+use Rattle.mod_text.specs.Reading.{Step, kept, judged, line_step, Read, stop_at, is_end, go_on, text_on, bytes_on, read_behind}
+use Rattle.term_core.proofs.Text.Options.{some_is, passed, bytes_are}
+use Rattle.term_core.proofs.Text.Cuts.{lacks, lacks-cons, cut_here, lines_behind, lines_of_tail}
 use Rattle.mod_text.proofs.Stepping.{front_read, bytes_on-cut}
 use Rattle.mod_text.proofs.Keepings.{last_line-push}
 use Rattle.mod_text.proofs.LineLaws.{line_is}

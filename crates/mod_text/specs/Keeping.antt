@@ -7,7 +7,7 @@ use Rattle.term_core.specs.TermText.{names_with_all}
 use Rattle.mod_core.specs.declared.code.TheConstants.{MOST_FUNCTIONS}
 use Rattle.mod_text.specs.declared.fault.LineFault.{LineFault}
 use Rattle.mod_text.specs.declared.fault.LineFault.TheVariants as faults
-use Rattle.mod_text.specs.ModuleLine.{OperandForm, register, integer, atom, complex, InstrForm, move, add, sub, eq, less, jump, call, call_ext, ret, pget, pget_or, elem, print, yield, LineForm, title, header, label, instr, end, is_operand_form, is_instr_form, is_line_form}
+use Rattle.mod_text.specs.ModuleLine.{OperandForm, complex, InstrForm, move, add, sub, eq, less, jump, call, call_ext, ret, pget, pget_or, elem, print, yield, LineForm, header, instr, end, is_operand_form, is_instr_form, is_line_form}
 use Rattle.mod_text.specs.LineFaults.{may_follow, last_line, has_high_operand, has_high_instr, has_high_register, is_wide_operand, has_wide_instr, has_wide_integer, has_long_instr, has_long_term, open_labels, place_fault}
 use Rattle.mod_text.specs.ModuleValue.{HeaderForm, headers_in}
 

@@ -7,7 +7,7 @@ use Rattle.std.specs.HashMap.{HashMap, get_by}
 use Rattle.mod_core.specs.declared.code.Instr.{Instr}
 use Rattle.mod_text.specs.declared.fault.FinishFault.{FinishFault}
 use Rattle.mod_text.specs.declared.fault.FinishFault.TheVariants.{Missing, NoMemory}
-use Rattle.mod_text.specs.ModuleLine.{InstrForm, LineForm, title, header, label, instr, end}
+use Rattle.mod_text.specs.ModuleLine.{InstrForm, LineForm, header, label, instr}
 use Rattle.mod_text.specs.ModuleValue.{FunctionForm, HeaderForm, body_of, label_number, is_settled, instr_in, earlier}
 
 -- labels with the numbers of their instructions

@@ -10,12 +10,13 @@ use Rattle.term_core.specs.Names.{IsNames}
 use Rattle.mod_core.specs.declared.code.Module.{Module}
 use Rattle.mod_text.specs.Canonical.{canonical as module_lines, IsModuleHeld}
 use Rattle.mod_core.specs.Module.{IsModule}
-use Rattle.mod_text.specs.ModuleLine.{LineForm, number_value, lines_written, line_bytes, is_line_form, line_written}
+use Rattle.term_core.specs.Text.Numbers.{number_value}
+use Rattle.mod_text.specs.ModuleLine.{LineForm, lines_written, line_bytes, is_line_form, line_written}
 use Rattle.mod_text.specs.ModuleText.{FollowOn}
 use Rattle.mod_text.specs.LineFaults.{names_after}
 use Rattle.mod_text.specs.ModuleValue.{module_of}
-use Rattle.mod_text.specs.Reading.{Lines, lines as parts_of, lines_of}
-use Rattle.mod_text.proofs.Cuts.{lacks}
+use Rattle.term_core.specs.Text.Cuts.{Lines, lines as parts_of, lines_of}
+use Rattle.term_core.proofs.Text.Cuts.{lacks}
 use Rattle.mod_text.proofs.LineAgain.{line_lacks}
 use Rattle.mod_text.proofs.ModuleHeld.{module_held, some_names, sound_lines}
 use Rattle.script_text.specs.declared.script.Script.{Script}

@@ -6,10 +6,10 @@ use Rattle.term_core.specs.Plain.{term_of}
 use Rattle.term_core.specs.PlainTerm.{PlainTerm, atoms_of}
 use Rattle.term_core.specs.TermText.{number_in, names_with_all}
 use Rattle.term_core.specs.Written.{WrittenTerm}
-use Rattle.mod_text.specs.LineReading.{cut_at}
+use Rattle.term_core.specs.Text.Cuts.{cut_at}
 use Rattle.mod_text.specs.ModuleLine.{LineForm}
-use Rattle.mod_text.proofs.Cuts.{cut_is}
-use Rattle.mod_text.proofs.Options.{some_is}
+use Rattle.term_core.proofs.Text.Cuts.{cut_is}
+use Rattle.term_core.proofs.Text.Options.{some_is}
 use Rattle.script_text.specs.declared.fault.Which.TheVariants as which
 use Rattle.script_text.specs.declared.fault.ScriptFault.{ScriptFault}
 use Rattle.script_text.specs.declared.fault.ScriptFault.TheVariants as faults

@@ -16,7 +16,8 @@ use Rattle.term_core.proofs.LeafFacts.{term_words-map}
 use Rattle.term_core.proofs.NameTables.{slice_get-number_of}
 use Rattle.term_core.proofs.PlainTerms.{plain-term_of}
 use Rattle.mod_core.specs.declared.code.Module.{Module}
-use Rattle.mod_text.specs.ModuleLine.{LineForm, title, header, label, instr, end, number_value}
+use Rattle.term_core.specs.Text.Numbers.{number_value}
+use Rattle.mod_text.specs.ModuleLine.{LineForm, title, header, label, instr, end}
 use Rattle.mod_text.specs.ModuleValue.{atom_in, mfa_in, module_of}
 use Rattle.server_core.specs.CommandTable.{text_of}
 use Rattle.script_text.specs.declared.script.ScriptCmd.TheVariants.{Load, Put, Trace, Spawn}

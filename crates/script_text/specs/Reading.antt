@@ -8,7 +8,7 @@ use Rattle.term_core.specs.Plain.{term_of}
 use Rattle.mod_text.specs.declared.fault.LineFault.TheVariants as line_faults
 use Rattle.mod_text.specs.ModuleLine.{LineForm, title, header, label, instr, end}
 use Rattle.mod_text.specs.LineFaults.{last_line, counted_of}
-use Rattle.mod_text.specs.LineReading.{cut_at}
+use Rattle.term_core.specs.Text.Cuts.{cut_at}
 use Rattle.mod_text.specs.ModuleValue.{IsTitled, module_of, unsettled_line}
 use Rattle.mod_text.specs.Reading.{Step, line_step, is_end}
 use Rattle.server_core.specs.declared.command.ModRef.{ModRef}

@@ -60,7 +60,7 @@ pub struct ScriptReader<'a> {
 impl<'a> ScriptReader<'a> {
     ghost use Rattle.std.specs.Prelude.{◌≡◌, ◌+◌, ◌<◌, ◌^◌, length, IfOk, IfSome, OnOk};
     ghost use Rattle.std.specs.List.{list_all};
-    ghost use Rattle.mod_text.specs.LineReading.{cut_at};
+    ghost use Rattle.term_core.specs.Text.Cuts.{cut_at};
     ghost use Rattle.mod_text.specs.ModuleValue.{IsTitled, unsettled_line};
     ghost use Rattle.script_text.specs.LineFaults.{or_else};
     ghost use Rattle.script_text.specs.Causes.{Gives, GivesText};

@@ -11,7 +11,7 @@ use Rattle.std.proofs.lemmas.Slice.Eq.{bytes_eq-Decides}
 use Rattle.std.proofs.lemmas.Str.Parse.{parse_digits}
 use Rattle.term_core.specs.Written.{is_positive_text}
 use Rattle.term_core.proofs.IntegerTexts.{own, Positive-from, positive-decimal}
-use Rattle.mod_text.specs.ModuleLine.{is_number_text, number_value, small_number}
+use Rattle.term_core.specs.Text.Numbers.{is_number_text, number_value, small_number}
 
 -- the bytes of a number's text
 pub record IsDigits (text : List ℕ) : Type 0 where

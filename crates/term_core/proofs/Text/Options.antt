@@ -1,7 +1,7 @@
 -- Options that are read one after the other, and tests.
 use Rattle.std.proofs.Common.{◌≡◌, ℕ, Bool, true, false, cond, List, Option, Some, None, option_map, bytes_eq, refl, sym, ap, ◌∙◌}
 use Rattle.std.proofs.lemmas.Slice.Eq.{bytes_eq-Decides}
-use Rattle.mod_text.specs.LineReading.{◌>>=◌, tested}
+use Rattle.term_core.specs.Text.Steps.{◌>>=◌, tested}
 
 abbrev pub some : {A : Type 0} → A → Option A
 some x = Some x

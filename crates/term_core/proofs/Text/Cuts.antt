@@ -4,9 +4,13 @@ use Rattle.std.specs.List.{list_all}
 use Rattle.std.proofs.lemmas.Bool.{and_parts, and_from, not-true}
 use Rattle.std.proofs.lemmas.Bool.Decides.{Decides-eqb}
 use Rattle.std.proofs.lemmas.List.Folds.{list_all-append}
-use Rattle.mod_text.specs.LineReading.{with_first, cut_at}
-use Rattle.mod_text.specs.Reading.{Lines, lines, before_lines, lines_of}
-use Rattle.mod_text.proofs.Options.{some, some_is, passed, failed}
+use Rattle.std.specs.Char.{is_ascii_digit}
+use Rattle.term_core.specs.Names.{is_name_byte, is_atom_text}
+use Rattle.term_core.specs.Text.Cuts.{with_first, cut_at, Lines, lines, before_lines, lines_of}
+use Rattle.term_core.specs.Text.Numbers.{is_number_text}
+use Rattle.term_core.proofs.TermBytes.{name_bytes-atom}
+use Rattle.term_core.proofs.Text.Numbers.{number_digits}
+use Rattle.term_core.proofs.Text.Options.{some, some_is, passed, failed}
 
 -- ---- a byte that a text lacks
 
@@ -30,6 +34,14 @@ lacks-append byte a b h k = list_all-append (λ c. not (c == byte)) a b ∙ and_
 
 pub lacks-cons : (byte b : ℕ) (a : List ℕ) → (b == byte) ≡ false → lacks byte a ≡ true → lacks byte (b ∷ a) ≡ true
 lacks-cons byte b a h k = and_from (not (b == byte)) (lacks byte a) (ap not h) k
+
+-- of an atom's text
+pub atom_lacks : (byte : ℕ) (text : List ℕ) → is_name_byte byte ≡ false → is_atom_text text ≡ true → lacks byte text ≡ true
+atom_lacks byte text apart h = lacks-all is_name_byte byte text apart (name_bytes-atom text h)
+
+-- and of a number's
+pub number_lacks : (byte : ℕ) (text : List ℕ) → is_ascii_digit byte ≡ false → is_number_text text ≡ true → lacks byte text ≡ true
+number_lacks byte text apart h = lacks-all is_ascii_digit byte text apart (number_digits text h).digits
 
 -- ---- cutting
 
