@@ -9,7 +9,7 @@ use Rattle.mod_text.specs.LineReading.{cut_at}
 use Rattle.mod_text.specs.ModuleValue.{unsettled_line}
 use Rattle.mod_text.specs.Reading.{lines, before_lines, lines_of, is_end}
 use Rattle.mod_text.proofs.Cuts.{cut_is, uncut_is, lines_of_cut, lines_of_tail}
-use Rattle.script_text.specs.declared.script.Script.{Script}
+use Rattle.script_core.specs.declared.script.Script.{Script}
 use Rattle.script_text.specs.declared.fault.ScriptFault.{ScriptFault}
 use Rattle.script_text.specs.declared.fault.ScriptFault.TheVariants as faults
 use Rattle.script_text.specs.declared.reading.cause.LineCause.{LineCause}
