@@ -6,7 +6,7 @@ use Rattle.std.specs.List.{AllByRecursion}
 use Rattle.term_core.specs.Text.Cuts.{cut_at, Lines, lines, before_lines}
 use Rattle.term_core.proofs.Text.Cuts.{lacks, cut_is, uncut_is, lines_behind, lines_of_cut, lines_of_tail}
 use Rattle.term_core.proofs.Text.Options.{some_is, bytes_are}
-use Rattle.script_text.specs.declared.script.Script.{Script}
+use Rattle.script_core.specs.declared.script.Script.{Script}
 use Rattle.script_text.specs.ScriptLine.{ScriptLine, go, script_line_written, is_script_line}
 use Rattle.script_text.specs.LineFaults.{last_of, line_fault}
 use Rattle.script_text.specs.ScriptText.{ScriptText, HaveNoFault}

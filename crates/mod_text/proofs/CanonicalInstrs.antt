@@ -10,7 +10,8 @@ use Rattle.mod_core.specs.declared.code.Operand.{Operand}
 use Rattle.mod_core.specs.declared.code.Instr.{Instr}
 use Rattle.mod_core.specs.declared.code.Instr.TheVariants.{Move, Add, Sub, Eq, Less, Jump, Call, CallExt, Ret, Pget, PgetOr, Elem, Print, Yield}
 use Rattle.mod_core.specs.declared.code.Function.{Function}
-use Rattle.mod_text.specs.Canonical.{label_text, written_operand, written_call, written_instr, goes_to, HasAtomsAmong}
+use Rattle.mod_text.specs.Canonical.{label_text, written_operand, written_call, written_instr, goes_to}
+use Rattle.mod_core.specs.HeldNames.{HasAtomsAmong}
 use Rattle.mod_text.specs.LineFaults.{is_high, has_high_operand, is_high_call, has_high_instr, is_wide_operand, has_wide_instr, is_long_operand, has_long_instr, operand_atoms, instr_atoms}
 use Rattle.mod_core.specs.Module.{IsInstr, IsFunctionName, IsCallPlace}
 use Rattle.term_core.specs.Text.Numbers.{number_value, is_number_text}

@@ -10,7 +10,8 @@ use Rattle.mod_core.specs.declared.code.Instr.{Instr}
 use Rattle.mod_core.specs.declared.code.Function.{Function}
 use Rattle.mod_core.specs.declared.code.Module.{Module}
 use Rattle.mod_text.specs.declared.fault.LineFault.TheVariants as faults
-use Rattle.mod_text.specs.Canonical.{label_text, goes_to, function_lines, canonical, IsModuleHeld}
+use Rattle.mod_text.specs.Canonical.{label_text, goes_to, function_lines, canonical}
+use Rattle.mod_core.specs.HeldNames.{IsModuleHeld}
 use Rattle.mod_text.specs.LineFaults.{ends_too_long}
 use Rattle.mod_core.specs.Module.{IsModule}
 use Rattle.mod_core.specs.ModuleImage.{module_image}

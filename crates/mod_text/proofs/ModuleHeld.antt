@@ -10,7 +10,7 @@ use Rattle.term_core.specs.TermText.{number_in}
 use Rattle.term_core.proofs.NameTables.{slice_get-number_of}
 use Rattle.mod_core.specs.declared.code.Module.{Module}
 use Rattle.mod_text.specs.declared.fault.ModFault.{ModFault}
-use Rattle.mod_text.specs.Canonical.{IsOperandAmong, HasAtomsAmong, IsFunctionHeld, IsModuleHeld}
+use Rattle.mod_core.specs.HeldNames.{IsOperandAmong, HasAtomsAmong, IsFunctionHeld, IsModuleHeld}
 use Rattle.mod_text.specs.Ending.{Ends, read}
 use Rattle.term_core.specs.Text.Numbers.{is_number_text}
 use Rattle.mod_text.specs.ModuleLine.{OperandForm, register, integer, atom, complex, InstrForm, move, add, sub, eq, less, jump, call, call_ext, ret, pget, pget_or, elem, print, yield, LineForm, is_operand_form, is_instr_form}

@@ -18,7 +18,7 @@ use Rattle.term_core.specs.Text.Cuts.{cut_at}
 use Rattle.term_core.proofs.Text.Options.{some, some_is, bind_some, bind_at}
 use Rattle.term_core.proofs.Text.Cuts.{lacks, lacks-append, lacks-cons, cut_here, cut_is}
 use Rattle.script_text.specs.LineReading.{parts_of, each_reading, switch_reading}
-use Rattle.script_text.specs.Sound.{IsTermOf}
+use Rattle.script_core.specs.Sound.{IsTermOf}
 use Rattle.script_text.proofs.CommandLaws.{join-flat}
 use Rattle.run_log.specs.Report.{mfa_text, plain_text, call_text, reference_text, switch_text, cmd_text}
 use Rattle.run_log.specs.WellFormed.{IsNamed, IsReferenceOf, IsCommandOf}

@@ -29,7 +29,7 @@ use Rattle.term_core.specs.Text.Cuts.{cut_at}
 use Rattle.term_core.proofs.Text.Options.{some, some_is, bind_some, bind_at, guard_some, guarded, passed, same_bytes, bytes_are}
 use Rattle.term_core.proofs.Text.Cuts.{lacks, lacks-all, lacks-append, lacks-cons, cut_here, cut_is}
 use Rattle.script_text.specs.LineReading.{each_reading}
-use Rattle.script_text.specs.Sound.{IsTermOf}
+use Rattle.script_core.specs.Sound.{IsTermOf}
 use Rattle.run_log.specs.Report.{mfa_text, plain_text, call_text}
 use Rattle.run_log.specs.WellFormed.{IsFunctionOf, IsCallOf}
 use Rattle.report_text.specs.declared.terms.Call.{Call}

@@ -21,7 +21,7 @@ use Rattle.script_text.specs.declared.reading.cause.LineCause.{LineCause}
 use Rattle.script_text.specs.declared.reading.cause.LineCause.TheVariants as causes
 use Rattle.script_text.specs.declared.reading.reader.Place.TheVariants.{Loading}
 use Rattle.script_text.specs.declared.reading.reader.ScriptReader.{ScriptReader}
-use Rattle.script_text.specs.declared.script.ScriptCmd.TheVariants.{Load}
+use Rattle.script_core.specs.declared.script.ScriptCmd.TheVariants.{Load}
 use Rattle.script_text.specs.ScriptLine.{RefForm, load, spawn, is_ref_form, are_some_refs, IsLine}
 use Rattle.script_text.specs.Counts.{is_same_ref, is_given}
 use Rattle.script_text.specs.Groups.{onto_last}

@@ -8,8 +8,8 @@ use Rattle.mod_text.specs.ModuleValue.{module_of}
 use Rattle.term_core.specs.Text.Cuts.{lines_of}
 use Rattle.mod_text.specs.Reading.{is_end}
 use Rattle.term_core.proofs.Text.Options.{some_is, bytes_are, same_bytes}
-use Rattle.script_text.specs.declared.script.Script.{Script}
-use Rattle.script_text.specs.declared.script.ScriptCmd.{ScriptCmd}
+use Rattle.script_core.specs.declared.script.Script.{Script}
+use Rattle.script_core.specs.declared.script.ScriptCmd.{ScriptCmd}
 use Rattle.script_text.specs.declared.fault.ScriptFault.{ScriptFault}
 use Rattle.script_text.specs.declared.fault.ScriptFault.TheVariants as faults
 use Rattle.script_text.specs.declared.reading.cause.LineCause.{LineCause}

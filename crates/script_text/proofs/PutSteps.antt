@@ -17,8 +17,8 @@ use Rattle.script_text.specs.declared.reading.cause.LineCause.{LineCause}
 use Rattle.script_text.specs.declared.reading.cause.LineCause.TheVariants as causes
 use Rattle.script_text.specs.declared.reading.reader.Place.TheVariants.{Loading}
 use Rattle.script_text.specs.declared.reading.reader.ScriptReader.{ScriptReader}
-use Rattle.script_text.specs.declared.script.ScriptCmd.{ScriptCmd}
-use Rattle.script_text.specs.declared.script.ScriptCmd.TheVariants.{Put}
+use Rattle.script_core.specs.declared.script.ScriptCmd.{ScriptCmd}
+use Rattle.script_core.specs.declared.script.ScriptCmd.TheVariants.{Put}
 use Rattle.script_text.specs.ScriptLine.{ScriptLine, put, is_term_form, IsLine}
 use Rattle.script_text.specs.ScriptValue.{argument_in}
 use Rattle.script_text.specs.LineFaults.{is_wide_term, is_long_term, may_stand}

@@ -21,7 +21,7 @@ use Rattle.script_text.specs.declared.reading.cause.LineCause.{LineCause}
 use Rattle.script_text.specs.declared.reading.cause.LineCause.TheVariants as causes
 use Rattle.script_text.specs.declared.reading.reader.Place.TheVariants.{Loading}
 use Rattle.script_text.specs.declared.reading.reader.ScriptReader.{ScriptReader}
-use Rattle.script_text.specs.declared.script.ScriptCmd.TheVariants.{Spawn}
+use Rattle.script_core.specs.declared.script.ScriptCmd.TheVariants.{Spawn}
 use Rattle.script_text.specs.ScriptLine.{ScriptLine, spawn, is_term_form, IsLine}
 use Rattle.script_text.specs.Counts.{FunctionForm}
 use Rattle.script_text.specs.Groups.{onto_last}

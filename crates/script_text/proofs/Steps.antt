@@ -12,7 +12,7 @@ use Rattle.mod_text.specs.ModuleValue.{IsTitled, module_of, unsettled_line}
 use Rattle.script_text.specs.declared.reading.reader.Place.{Place}
 use Rattle.script_text.specs.declared.reading.reader.Place.TheVariants.{Unread, Between, Within, Observing, Loading, Finished}
 use Rattle.script_text.specs.declared.reading.reader.ScriptReader.{ScriptReader}
-use Rattle.script_text.specs.declared.script.ScriptCmd.{ScriptCmd}
+use Rattle.script_core.specs.declared.script.ScriptCmd.{ScriptCmd}
 use Rattle.script_text.specs.ScriptLine.{ScriptLine, head, code, observer, loader, load, spawn, go}
 use Rattle.script_text.specs.Groups.{onto_last}
 use Rattle.script_text.specs.ScriptValue.{commands_on, commands_of}

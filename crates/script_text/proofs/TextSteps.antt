@@ -9,7 +9,7 @@ use Rattle.term_core.specs.Text.Cuts.{cut_at, lines, before_lines, lines_of}
 use Rattle.mod_text.specs.ModuleValue.{unsettled_line}
 use Rattle.mod_text.specs.Reading.{is_end}
 use Rattle.term_core.proofs.Text.Cuts.{cut_is, uncut_is, lines_of_cut, lines_of_tail}
-use Rattle.script_text.specs.declared.script.Script.{Script}
+use Rattle.script_core.specs.declared.script.Script.{Script}
 use Rattle.script_text.specs.declared.fault.ScriptFault.{ScriptFault}
 use Rattle.script_text.specs.declared.fault.ScriptFault.TheVariants as faults
 use Rattle.script_text.specs.declared.reading.cause.LineCause.{LineCause}

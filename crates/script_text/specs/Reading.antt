@@ -12,10 +12,10 @@ use Rattle.term_core.specs.Text.Cuts.{cut_at}
 use Rattle.mod_text.specs.ModuleValue.{IsTitled, module_of, unsettled_line}
 use Rattle.mod_text.specs.Reading.{Step, line_step, is_end}
 use Rattle.server_core.specs.declared.command.ModRef.{ModRef}
-use Rattle.script_text.specs.declared.script.TheConstants.{LONGEST_SCRIPT, LONGEST_LINE, MOST_LOADERS, MOST_PROCESSES, MOST_OBSERVERS}
-use Rattle.script_text.specs.declared.script.ScriptCmd.{ScriptCmd}
-use Rattle.script_text.specs.declared.script.ScriptCmd.TheVariants.{Load, Put, Trace, Spawn}
-use Rattle.script_text.specs.declared.script.Script.{Script}
+use Rattle.script_core.specs.declared.script.TheConstants.{LONGEST_SCRIPT, LONGEST_LINE, MOST_LOADERS, MOST_PROCESSES, MOST_OBSERVERS}
+use Rattle.script_core.specs.declared.script.ScriptCmd.{ScriptCmd}
+use Rattle.script_core.specs.declared.script.ScriptCmd.TheVariants.{Load, Put, Trace, Spawn}
+use Rattle.script_core.specs.declared.script.Script.{Script}
 use Rattle.script_text.specs.declared.fault.Which.TheVariants as which
 use Rattle.script_text.specs.declared.fault.ScriptFault.{ScriptFault}
 use Rattle.script_text.specs.declared.fault.ScriptFault.TheVariants as faults

@@ -8,7 +8,7 @@ use Rattle.term_core.specs.Written.{WrittenTerm, written, parted, is_integer_tex
 use Rattle.mod_core.specs.declared.code.TheConstants.{MOST_ARGUMENTS}
 use Rattle.term_core.specs.Text.Numbers.{is_number_text, number_value}
 use Rattle.mod_text.specs.ModuleLine.{LineForm, parted_by, spaced, function_written, line_written, is_line_form, is_function_form, is_version_text}
-use Rattle.script_text.specs.declared.script.TheConstants.{MOST_SNAPSHOTS}
+use Rattle.script_core.specs.declared.script.TheConstants.{MOST_SNAPSHOTS}
 
 -- a version of a module, as it is written: its name, and the digits of the version
 pub record RefForm : Type 0 where

@@ -1,5 +1,5 @@
 use Rattle.std.proofs.Common.{◌≡◌, take}
-use Rattle.script_text.proofs.copying.copy_loaders.Given as goal
+use Rattle.script_core.proofs.copying.copy_loaders.Given as goal
 
 -- those so far are copied
 abbrev pub invariant-loop-commands : goal.invariant-loop-commands

@@ -1,6 +1,6 @@
 use Rattle.std.proofs.Common.{◌≡◌, ◌≤◌, take, sum_by}
-use Rattle.script_text.specs.Sound.{spawns_in}
-use Rattle.log_shape.proofs.spawns.spawn_count.Given as goal
+use Rattle.script_core.specs.Processes.{spawns_in}
+use Rattle.script_core.proofs.processes.spawn_count.Given as goal
 
 -- the spawns among the commands so far, at most as many as these
 abbrev pub invariant-loop-command : goal.invariant-loop-command

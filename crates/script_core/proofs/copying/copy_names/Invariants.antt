@@ -1,6 +1,6 @@
 use Rattle.std.proofs.Common.{◌≡◌, ◌-◌, length, take}
 use Rattle.term_core.specs.Names.{IsNames}
-use Rattle.script_text.proofs.copying.copy_names.Given as goal
+use Rattle.script_core.proofs.copying.copy_names.Given as goal
 
 -- the names so far are copied
 abbrev pub invariant-names : goal.invariant-names

@@ -1,7 +1,7 @@
 use Rattle.std.proofs.Common.{get_or, length, ap, ◌∙◌, arith}
 use Rattle.std.proofs.lemmas.List.{length-set}
-use Rattle.log_shape.proofs.SpawnLines.{first_next, numbers_more}
-use Rattle.log_shape.proofs.spawns.first_numbers.Goals as goal
+use Rattle.script_core.proofs.SpawnLines.{first_next, numbers_more}
+use Rattle.script_core.proofs.processes.first_numbers.Goals as goal
 
 -- one loader more
 pub loop-loader-preserved : goal.loop-loader-preserved

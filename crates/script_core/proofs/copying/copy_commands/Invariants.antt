@@ -1,5 +1,5 @@
 use Rattle.std.proofs.Common.{◌≡◌, take}
-use Rattle.script_text.proofs.copying.copy_commands.Given as goal
+use Rattle.script_core.proofs.copying.copy_commands.Given as goal
 
 -- those so far are copied
 abbrev pub invariant-loop-command : goal.invariant-loop-command

@@ -1,15 +1,15 @@
 -- Each spawn line of a script has the number of spawns before it in the text.
-use Rattle.std.proofs.Common.{◌≡◌, ℕ, zero, suc, ◌+◌, List, [], ◌∷◌, ◌++◌, length, take, slice_get, unwrap_or, Some, refl, sym, ap, subst, ◌∙◌, arith}
+use Rattle.std.proofs.Common.{◌≡◌, ℕ, zero, suc, ◌+◌, List, [], ◌∷◌, ◌++◌, length, take, get_or, slice_get, slice_set, slice_index, sum_by, ◌<◌, ◌⊎◌, inl, inr, Some, refl, sym, ap, subst, ◌∙◌, arith, get_or-set_same, get_or-set_other}
+use Rattle.std.proofs.lemmas.Bool.{cases_eq}
 use Rattle.std.proofs.lemmas.Option.{none-some, same_Some}
+use Rattle.std.proofs.lemmas.List.{length-append}
 use Rattle.std.proofs.lemmas.List.Sums.{sum_by-cons, sum_by-append}
 use Rattle.term_core.specs.declared.atom.Mfa.{Mfa}
 use Rattle.term_core.specs.PlainTerm.{PlainTerm}
-use Rattle.script_text.specs.declared.script.ScriptCmd.{ScriptCmd}
-use Rattle.script_text.specs.declared.script.ScriptCmd.TheVariants.{Spawn}
-use Rattle.script_text.specs.Sound.{spawns_in}
-use Rattle.run_log.specs.Legal.{SpawnLine, spawns_from, spawns_of}
-use Rattle.lap_runner.specs.Runs.{spawn_count, spawn_number}
-use Rattle.lap_runner.proofs.Lists.{JoinedAt, in_front, behind, joined_at, get_behind, get_front, take_next}
+use Rattle.script_core.specs.declared.script.ScriptCmd.{ScriptCmd}
+use Rattle.script_core.specs.declared.script.ScriptCmd.TheVariants.{Spawn}
+use Rattle.script_core.specs.Processes.{SpawnLine, commands_at, first_number, spawn_count, spawn_number, spawns_from, spawns_in, spawns_of}
+use Rattle.script_core.proofs.JoinedPlaces.{got, take_next, JoinedAt, in_front, behind, joined_at, get_behind, get_front}
 
 -- as many spawn lines as spawns
 pub lines_counted : (loader place : ℕ) (commands : List ScriptCmd) → length (spawns_from loader place commands) ≡ spawn_count commands
@@ -20,9 +20,15 @@ lines_counted loader place (Spawn target args ∷ commands) =
     omega (arith, rest, count)
 lines_counted loader place (cmd ∷ commands) = lines_counted loader (suc place) commands ∙ sym (sum_by-cons spawns_in cmd commands ∙ omega arith)
 
--- the commands of a loader that is there, or none
-abbrev pub commands_at : List (List ScriptCmd) → ℕ → List ScriptCmd
-commands_at loaders loader = unwrap_or (slice_get loaders loader) []
+-- and in all loaders
+pub all_counted : (loader : ℕ) (loaders : List (List ScriptCmd)) → length (spawns_of loader loaders) ≡ sum_by spawn_count loaders
+all_counted loader [] = refl
+all_counted loader (commands ∷ loaders) =
+    let many = length-append (spawns_from loader 0 commands) (spawns_of (suc loader) loaders) in
+    let here = lines_counted loader 0 commands in
+    let rest = all_counted (suc loader) loaders in
+    let count = sum_by-cons spawn_count commands loaders in
+    omega (arith, many, here, rest, count)
 
 -- a spawn line of a loader, from a place on: its own place, and how many spawns stand before it
 pub record LineFrom (loader place : ℕ) (commands : List ScriptCmd) (number : ℕ) (line : SpawnLine) : Type 0 where
@@ -59,6 +65,13 @@ line_from loader place (Spawn target args ∷ commands) (suc number) line h =
 line_from loader place (cmd ∷ commands) number line h =
     subst (λ n. LineFrom loader place (cmd ∷ commands) n line) (omega arith) (line_further loader place cmd commands number line (line_from loader (suc place) commands number line h))
 
+first_further : (commands : List ScriptCmd) (loaders : List (List ScriptCmd)) (loader : ℕ) → first_number (commands ∷ loaders) (suc loader) ≡ spawn_count commands + first_number loaders loader
+first_further commands loaders loader = sum_by-cons spawn_count commands (take loader loaders)
+
+-- the loader in front makes its processes first
+pub number_further : (commands : List ScriptCmd) (loaders : List (List ScriptCmd)) (loader place : ℕ) → spawn_number (commands ∷ loaders) (suc loader) place ≡ spawn_count commands + spawn_number loaders loader place
+number_further commands loaders loader place = omega (arith, first_further commands loaders loader)
+
 -- a spawn line of the loaders that are numbered from one on: its number is the count of spawns before it, and its command is there
 pub record LineAt (first : ℕ) (loaders : List (List ScriptCmd)) (number : ℕ) (line : SpawnLine) : Type 0 where
   pub at : ℕ
@@ -72,7 +85,7 @@ line_of_first first commands loaders number line l =
     record {
       at = 0;
       loader_is = omega (arith, l.loader_is);
-      number_is = l.number_is ∙ ap (λ n. spawn_count (take n commands)) p;
+      number_is = let q : number ≡ spawn_count (take line.place commands) = l.number_is ∙ ap (λ n. spawn_count (take n commands)) p in omega (arith, q);
       command = subst (λ n. slice_get commands n ≡ Some (Spawn line.target line.args)) p l.command;
     }
 
@@ -80,7 +93,7 @@ line_of_later : (first : ℕ) (commands : List ScriptCmd) (loaders : List (List 
 line_of_later first commands loaders number n line e l = record {
   at = suc l.at;
   loader_is = omega (arith, l.loader_is);
-  number_is = omega (arith, e, lines_counted first 0 commands, l.number_is);
+  number_is = omega (arith, e, lines_counted first 0 commands, l.number_is, first_further commands loaders l.at);
   command = l.command;
 }
 
@@ -120,21 +133,42 @@ pub spawn_at : (first : ℕ) (loaders : List (List ScriptCmd)) (loader place : �
     → slice_get (spawns_of first loaders) (spawn_number loaders loader place) ≡ Some (record { loader = first + loader; place = place; target = target; args = args })
 spawn_at first [] loader place target args h = absurd (none-some _ h)
 spawn_at first (commands ∷ loaders) zero place target args h =
+    let z : spawn_number (commands ∷ loaders) zero place ≡ spawn_count (take place commands) = omega arith in
     let f : first ≡ first + 0 = omega arith in
     let p : 0 + place ≡ place = omega arith in
-    get_front (spawns_from first 0 commands) (spawns_of (suc first) loaders) (spawn_count (take place commands)) (record { loader = first; place = 0 + place; target = target; args = args }) (spawn_from first 0 commands place target args h)
+    ap (slice_get (spawns_from first 0 commands ++ spawns_of (suc first) loaders)) z
+    ∙ get_front (spawns_from first 0 commands) (spawns_of (suc first) loaders) (spawn_count (take place commands)) (record { loader = first; place = 0 + place; target = target; args = args }) (spawn_from first 0 commands place target args h)
     ∙ ap (λ k. Some (record { loader = first; place = k; target = target; args = args })) p
     ∙ ap (λ k. Some (record { loader = k; place = place; target = target; args = args })) f
 spawn_at first (commands ∷ loaders) (suc loader) place target args h =
     let f : suc first + loader ≡ first + suc loader = omega arith in
-    ap (λ n. slice_get (spawns_from first 0 commands ++ spawns_of (suc first) loaders) (n + spawn_number loaders loader place)) (sym (lines_counted first 0 commands))
+    let s : spawn_number (commands ∷ loaders) (suc loader) place ≡ length (spawns_from first 0 commands) + spawn_number loaders loader place = omega (arith, lines_counted first 0 commands, first_further commands loaders loader) in
+    ap (slice_get (spawns_from first 0 commands ++ spawns_of (suc first) loaders)) s
     ∙ get_behind (spawns_from first 0 commands) (spawns_of (suc first) loaders) (spawn_number loaders loader place)
     ∙ spawn_at (suc first) loaders loader place target args h
     ∙ ap (λ k. Some (record { loader = k; place = place; target = target; args = args })) f
 
--- the count of spawns before the next place
+-- the number behind the next place
 pub number_next : (loaders : List (List ScriptCmd)) (loader place : ℕ) (cmd : ScriptCmd) → slice_get (commands_at loaders loader) place ≡ Some cmd → spawn_number loaders loader (place + 1) ≡ spawn_number loaders loader place + spawns_in cmd
-number_next [] loader place cmd h = absurd (none-some _ h)
-number_next (commands ∷ loaders) zero place cmd h =
-    ap spawn_count (take_next commands place cmd h) ∙ sum_by-append spawns_in (take place commands) (cmd ∷ []) ∙ ap (λ n. spawn_count (take place commands) + n) (sum_by-cons spawns_in cmd [] ∙ omega arith)
-number_next (commands ∷ loaders) (suc loader) place cmd h = omega (arith, number_next loaders loader place cmd h)
+number_next loaders loader place cmd h =
+    let more = ap spawn_count (take_next (commands_at loaders loader) place cmd h) in
+    let one = sum_by-append spawns_in (take place (commands_at loaders loader)) (cmd ∷ []) in
+    let last = sum_by-cons spawns_in cmd [] in
+    omega (arith, more, one, last)
+
+-- the number of the next loader's first process
+pub first_next : (loaders : List (List ScriptCmd)) (i : ℕ) (commands : List ScriptCmd) → commands ≡ get_or loaders i commands → i < length loaders → first_number loaders (i + 1) ≡ first_number loaders i + spawn_count commands
+first_next loaders i commands is less =
+    let more = ap (sum_by spawn_count) (take_next loaders i commands (got loaders i commands is less)) in
+    let one = sum_by-append spawn_count (take i loaders) (commands ∷ []) in
+    let last = sum_by-cons spawn_count commands [] in
+    omega (arith, more, one, last)
+
+-- and those of the loaders so far
+pub numbers_more : (loaders : List (List ScriptCmd)) (numbers : List ℕ) (i next : ℕ) → i < length numbers → next ≡ first_number loaders i → ((k : ℕ) → k < i → slice_index numbers k ≡ first_number loaders k)
+    → (k : ℕ) → k < i + 1 → slice_index (slice_set numbers i next) k ≡ first_number loaders k
+numbers_more loaders numbers i next less is before k below = by_place (cases_eq k i)
+  where
+    by_place : (k ≡ i) ⊎ (k ≡ i → ⊥) → slice_index (slice_set numbers i next) k ≡ first_number loaders k
+    by_place (inl q) = ap (slice_index (slice_set numbers i next)) q ∙ get_or-set_same numbers i next 0 less ∙ is ∙ ap (first_number loaders) (sym q)
+    by_place (inr n) = get_or-set_other numbers i k next 0 n ∙ before k (omega (arith, n))

@@ -1,6 +1,6 @@
 -- What every script has that is the value of some text.
 -- Source: this project's limits of a script.
-use Rattle.std.specs.Prelude.{◌≡◌, ℕ, ◌<◌, ◌≤◌, List, length, All, IsTrue, is_some, sum_by}
+use Rattle.std.specs.Prelude.{◌≡◌, ℕ, ◌<◌, ◌≤◌, List, length, All, IsTrue, is_some}
 use Rattle.std.specs.List.{AllByRecursion}
 use Rattle.term_core.specs.Names.{IsNames}
 use Rattle.term_core.specs.declared.term_text.TheConstants.{MOST_WORDS}
@@ -8,13 +8,14 @@ use Rattle.term_core.specs.Plain.{plain}
 use Rattle.term_core.specs.PlainTerm.{PlainTerm, EachLeaf, term_words}
 use Rattle.term_core.specs.Written.{IsTermInteger}
 use Rattle.mod_core.specs.declared.code.Module.{Module}
-use Rattle.mod_text.specs.Canonical.{IsModuleHeld}
+use Rattle.mod_core.specs.HeldNames.{IsModuleHeld}
 use Rattle.server_core.specs.declared.command.ModRef.{ModRef}
 use Rattle.server_core.specs.CommandTable.{AreTexts, text_of}
-use Rattle.script_text.specs.declared.script.TheConstants.{MOST_LOADERS, MOST_PROCESSES, MOST_OBSERVERS, MOST_SNAPSHOTS}
-use Rattle.script_text.specs.declared.script.ScriptCmd.{ScriptCmd}
-use Rattle.script_text.specs.declared.script.ScriptCmd.TheVariants.{Load, Delete, SoftPurge, Purge, CheckOld, Put, Erase, Trace, Spawn}
-use Rattle.script_text.specs.declared.script.Script.{Script}
+use Rattle.script_core.specs.declared.script.TheConstants.{MOST_LOADERS, MOST_PROCESSES, MOST_OBSERVERS, MOST_SNAPSHOTS}
+use Rattle.script_core.specs.declared.script.ScriptCmd.{ScriptCmd}
+use Rattle.script_core.specs.declared.script.ScriptCmd.TheVariants.{Load, Delete, SoftPurge, Purge, CheckOld, Put, Erase, Trace, Spawn}
+use Rattle.script_core.specs.declared.script.Script.{Script}
+use Rattle.script_core.specs.Processes.{processes_of}
 
 -- a term of at most 64 words, its integers of 60 bits, its atoms named
 pub record IsTermOf (names : List (List ℕ)) (term : PlainTerm) : Type 0 where
@@ -56,21 +57,6 @@ IsCmdOf names texts (Put key term) = IsPutOf names key.0 (plain term)
 IsCmdOf names texts (Erase key) = key.0 < length names
 IsCmdOf names texts (Trace target on) = IsTraceOf names target.«module».0 target.name.0 target.arity
 IsCmdOf names texts (Spawn target args) = IsSpawnOf names target.«module».0 target.name.0 target.arity args
-
--- one for a spawn
-abbrev pub spawns_in : ScriptCmd → ℕ
-spawns_in (Load refs) = 0
-spawns_in (Delete m) = 0
-spawns_in (SoftPurge m) = 0
-spawns_in (Purge m) = 0
-spawns_in (CheckOld m) = 0
-spawns_in (Put key term) = 0
-spawns_in (Erase key) = 0
-spawns_in (Trace target on) = 0
-spawns_in (Spawn target args) = 1
-
-abbrev pub processes_of : Script → ℕ
-processes_of s = sum_by (λ commands. sum_by spawns_in commands) s.loaders
 
 -- a script that is the value of some text: its modules can be loaded, their atoms have names, each load and each spawn can be made, and it is within
 -- the limits of loaders, processes and observers

@@ -1,8 +1,8 @@
 use Rattle.std.proofs.Common.{◌∙◌, sym, arith}
 use Rattle.std.proofs.lemmas.Option.{slice_get_within}
 use Rattle.term_core.proofs.NameTables.{texts_are_atoms}
-use Rattle.script_text.proofs.NamesCopied.{named_by, name_copied, none_left, names_copied}
-use Rattle.script_text.proofs.copying.copy_names.Goals as goal
+use Rattle.script_core.proofs.NamesCopied.{named_by, name_copied, none_left, names_copied}
+use Rattle.script_core.proofs.copying.copy_names.Goals as goal
 
 -- the given names are copied
 pub names-init : goal.names-init

@@ -1,7 +1,7 @@
 use Rattle.std.proofs.Common.{◌≡◌, ℕ, ◌<◌, length, slice_index}
-use Rattle.script_text.specs.declared.script.TheConstants.{MOST_LOADERS}
-use Rattle.log_shape.specs.SpawnNumbers.{first_number}
-use Rattle.log_shape.proofs.spawns.first_numbers.Given as goal
+use Rattle.script_core.specs.declared.script.TheConstants.{MOST_LOADERS}
+use Rattle.script_core.specs.Processes.{first_number}
+use Rattle.script_core.proofs.processes.first_numbers.Given as goal
 
 -- the numbers of the loaders so far, and the next one
 abbrev pub invariant-loop-loader : goal.invariant-loop-loader
