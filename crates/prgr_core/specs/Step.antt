@@ -124,6 +124,10 @@ with_retirement s = record s {
   retired = s.retired ++ (record { generation = s.generation; need = s.counter + 2 }) ∷ [];
 }
 
+-- the present generation has this need from now on, whatever is awaited
+abbrev pub with_pair : Progress → Progress
+with_pair s = record s { retired = s.retired ++ (record { generation = s.generation; need = s.counter + 2 }) ∷ [] }
+
 -- a retirement leaves once the counter has reached its need
 abbrev pub released : Progress → ℕ → Option ℕ → Option Progress
 released s generation None = None
