@@ -18,7 +18,7 @@ fn are_digits(bytes: &[u8]) -> bool
     bytes.iter().all(|byte| byte.is_ascii_digit())
 }
 
-fn is_positive_text(text: &[u8]) -> bool
+pub(crate) fn is_positive_text(text: &[u8]) -> bool
     ensures { result ≡ is_positive_text text.now }
 {
     match text.split_first() {
@@ -27,7 +27,8 @@ fn is_positive_text(text: &[u8]) -> bool
     }
 }
 
-fn is_integer_text(text: &[u8]) -> bool
+/// Whether this is an integer's text, of any length.
+pub fn is_integer_text(text: &[u8]) -> bool
     ensures { result ≡ is_integer_text text.now }
 {
     match text.split_first() {
@@ -38,8 +39,8 @@ fn is_integer_text(text: &[u8]) -> bool
     }
 }
 
-// None where the integer has more than 64 bits.
-fn parsed_integer(text: &[u8]) -> Option<i64>
+/// The integer that a text says, unless it has more than 64 bits.
+pub fn parsed_integer(text: &[u8]) -> Option<i64>
     requires { IsTrue (is_integer_text text.now) }
     ensures { MatchOption result (IsTermInteger (integer_of text.now) → ⊥) (λ z. z ≡ integer_of text.now) }
 {

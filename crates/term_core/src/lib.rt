@@ -29,6 +29,7 @@ mod term_image;
 mod term_text;
 #[cfg(test)]
 mod tests;
+mod words;
 
 pub use area::{AreaRef, CodeRef, Found};
 pub use atom::{AtomId, Mfa};
@@ -37,7 +38,7 @@ pub use hold::{Full, Kind, MOST_AREAS};
 pub use image_fault::ImageFault;
 pub use image_reading::read_image;
 pub use immediate::{parts_of_word, words_read_back};
-pub use integer::{GREATEST_INTEGER, LEAST_INTEGER};
+pub use integer::{GREATEST_INTEGER, LEAST_INTEGER, is_integer_text, parsed_integer};
 pub use items::{AtomList, ByteList, CountList, Items, WordList};
 pub use names::{LONGEST_ATOM, MOST_NAMES, NameFault, Names, is_atom_text};
 pub use naming::name_atoms;
@@ -48,3 +49,4 @@ pub use term::{Term, TermList};
 pub use term_fault::TermFault;
 pub use term_image::{image, image_len, images_read_back};
 pub use term_text::{MOST_WORDS, read_term, terms_read_back};
+pub use words::{cut_at, is_number_text, small_number};
