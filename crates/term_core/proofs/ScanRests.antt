@@ -129,10 +129,9 @@ begun_back brackets kind c rest is h = absurd h
 
 -- a closing bracket that stands where it may
 pub closed_back : (b d : Bracket) (outer : List Bracket) (c : ℕ) (rest : List ℕ) → c ≡ closing d → RestMoved (b ∷ outer) (closed (Some b) d) rest → (c ∷ rest ≡ closing b ∷ rest) × Closes outer rest
-closed_back Curly Curly outer c rest e h = (ap (λ x. x ∷ rest) e, h)
 closed_back Curly Square outer c rest e h = absurd h
 closed_back Square Curly outer c rest e h = absurd h
-closed_back Square Square outer c rest e h = (ap (λ x. x ∷ rest) e, h)
+closed_back b d outer c rest e h = (ap (λ x. x ∷ rest) e, h)
 
 -- a comma, a term, and what follows
 comma_back : (b : Bracket) (outer : List Bracket) (c : ℕ) (rest : List ℕ) → c ≡ 44 → TermThen (b ∷ outer) rest → Closes (b ∷ outer) (c ∷ rest)
@@ -147,7 +146,6 @@ comma_back b outer c rest e h =
 
 -- what stands behind a term
 pub ended_back : (brackets : List Bracket) (kind : ByteKind) (c : ℕ) (rest : List ℕ) → IsOfKind c kind → RestMoved brackets (ended (top_of brackets) kind) rest → Closes brackets (c ∷ rest)
-ended_back [] (Open b) c rest is h = absurd h
 ended_back (b ∷ outer) (Close d) c rest is h = let back = closed_back b d outer c rest is h in (no_terms, rest, tt, back.0, back.1)
 ended_back (b ∷ outer) Comma c rest is h = comma_back b outer c rest is h
 ended_back brackets kind c rest is h = absurd h

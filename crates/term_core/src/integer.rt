@@ -1,6 +1,7 @@
 ghost use Rattle.std.specs.Prelude.{◌≡◌, IsTrue, MatchOption};
 ghost use Rattle.std.specs.Char.{is_ascii_digit};
 ghost use Rattle.std.specs.List.{list_all};
+ghost use Rattle.term_core.specs.Text.Numbers.{is_number_text, small_number};
 ghost use Rattle.term_core.specs.Tokens.{is_outside};
 ghost use Rattle.term_core.specs.Written.{IsTermInteger, is_positive_text, is_integer_text, integer_of};
 
@@ -25,6 +26,21 @@ pub(crate) fn is_positive_text(text: &[u8]) -> bool
         None => false,
         Some((first, rest)) => matches!(*first, b'1'..=b'9') && are_digits(rest),
     }
+}
+
+/// Whether these are a number's digits.
+pub fn is_number_text(text: &[u8]) -> bool
+    ensures { result ≡ is_number_text text.now }
+{
+    text == b"0".as_slice() || is_positive_text(text)
+}
+
+/// The number that digits write, unless it is 2 ^ 32 or more.
+pub fn small_number(digits: &[u8]) -> Option<u32>
+    requires { IsTrue (is_number_text digits.now) }
+    ensures { result ≡ small_number digits.now }
+{
+    ascii_text(digits).parse::<u32>().ok()
 }
 
 /// Whether this is an integer's text, of any length.

@@ -29,7 +29,6 @@ mod term_image;
 mod term_text;
 #[cfg(test)]
 mod tests;
-mod words;
 
 pub use area::{AreaRef, CodeRef, Found};
 pub use atom::{AtomId, Mfa};
@@ -38,15 +37,16 @@ pub use hold::{Full, Kind, MOST_AREAS};
 pub use image_fault::ImageFault;
 pub use image_reading::read_image;
 pub use immediate::{parts_of_word, words_read_back};
-pub use integer::{GREATEST_INTEGER, LEAST_INTEGER, is_integer_text, parsed_integer};
+pub use integer::{
+    GREATEST_INTEGER, LEAST_INTEGER, is_integer_text, is_number_text, parsed_integer, small_number,
+};
 pub use items::{AtomList, ByteList, CountList, Items, WordList};
 pub use names::{LONGEST_ATOM, MOST_NAMES, NameFault, Names, is_atom_text};
 pub use naming::name_atoms;
 pub use no_memory::NoMemory;
-pub use parts::{cut_term, terms_are_parted};
+pub use parts::{cut_at, cut_term, terms_are_parted};
 pub use printing::{print_atom, print_number, print_term};
 pub use term::{Term, TermList};
 pub use term_fault::TermFault;
 pub use term_image::{image, image_len, images_read_back};
 pub use term_text::{MOST_WORDS, read_term, terms_read_back};
-pub use words::{cut_at, is_number_text, small_number};
