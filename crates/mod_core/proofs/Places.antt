@@ -36,9 +36,8 @@ place_word m i h =
 
 -- no function begins before the first
 pub place_least : (place : ℕ) (fs : List Function) (n : ℕ) → place ≤ place_from place fs n
-place_least place [] n = omega arith
-place_least place (f ∷ fs) zero = omega arith
 place_least place (f ∷ fs) (suc n) = omega (arith, place_least (place + function_len f) fs n)
+place_least place fs n = omega arith
 
 -- ---- words at a place
 

@@ -17,10 +17,9 @@ use Rattle.mod_core.proofs.Lengths.{some_words}
 -- ---- places go up
 
 pub len_less : (is : List Instr) (i j : ℕ) → i < j → j ≤ length is → code_len (take i is) < code_len (take j is)
-len_less [] i j before within = absurd (omega arith)
-len_less (x ∷ is) i zero before within = absurd (omega arith)
 len_less (x ∷ is) zero (suc j) before within = omega (arith, some_words x)
 len_less (x ∷ is) (suc i) (suc j) before within = omega (arith, len_less is i j (omega arith) (omega arith))
+len_less is i j before within = absurd (omega arith)
 
 -- how many of the places before one are before another
 abbrev before : ℕ → List Instr → ℕ → ℕ → ℕ

@@ -9,7 +9,7 @@ use Rattle.term_core.specs.TermText.{names_with_all}
 use Rattle.mod_text.specs.declared.fault.LineFault.{LineFault}
 use Rattle.mod_text.specs.declared.fault.LineFault.TheVariants as faults
 use Rattle.term_core.specs.Text.Numbers.{is_number_text}
-use Rattle.mod_text.specs.ModuleLine.{OperandForm, register, integer, atom, complex, InstrForm, move, add, sub, eq, less, jump, call, call_ext, ret, pget, pget_or, elem, print, yield, LineForm, title, header, label, instr, end, is_operand_form, is_function_form, is_instr_form, is_line_form, is_arity_text, is_version_text}
+use Rattle.mod_text.specs.ModuleLine.{OperandForm, atom, complex, InstrForm, move, add, sub, eq, less, jump, call, call_ext, ret, pget, pget_or, elem, print, yield, LineForm, title, header, instr, is_operand_form, is_function_form, is_instr_form, is_line_form, is_arity_text, is_version_text}
 use Rattle.mod_text.specs.LineFaults.{operand_atoms, instr_atoms, line_atoms}
 use Rattle.mod_text.specs.Keeping.{naming}
 use Rattle.mod_text.specs.Reading.{Fails, Gives}
@@ -28,10 +28,9 @@ one_atom : (text : List ℕ) → is_atom_text text ≡ true → are_atoms (text 
 one_atom text h = and_from (is_atom_text text) true h refl
 
 operand_atoms_are : (o : OperandForm) → is_operand_form o ≡ true → are_atoms (operand_atoms o) ≡ true
-operand_atoms_are (register digits) h = refl
-operand_atoms_are (integer text) h = refl
 operand_atoms_are (atom text) h = one_atom text h
 operand_atoms_are (complex text) h = term_atoms_are text
+operand_atoms_are o h = refl
 
 two_operands : (a b : OperandForm) (rest : Bool) → (is_operand_form a && (is_operand_form b && rest)) ≡ true → are_atoms (operand_atoms a ++ operand_atoms b) ≡ true
 two_operands a b rest h =
@@ -67,9 +66,8 @@ instr_atoms_are yield h = refl
 pub line_atoms_are : (line : LineForm) → is_line_form line ≡ true → are_atoms (line_atoms line) ≡ true
 line_atoms_are (title name version) h = one_atom name (and_parts (is_atom_text name) (is_version_text version) h).0
 line_atoms_are (header exported name arity) h = one_atom name (and_parts (is_atom_text name) (is_arity_text arity) h).0
-line_atoms_are (label name) h = refl
 line_atoms_are (instr i) h = instr_atoms_are i h
-line_atoms_are end h = refl
+line_atoms_are line h = refl
 
 -- ---- names
 

@@ -171,8 +171,7 @@ pub record IsForm (headers : List HeaderForm) (f : FunctionForm) : Type 0 where
 
 both_none : (a b : Option ℕ) → option_map suc (earlier a b) ≡ None → (a ≡ None) × (b ≡ None)
 both_none None None h = (refl, refl)
-both_none None (Some n) h = absurd cc
-both_none (Some n) b h = absurd cc
+both_none a b h = absurd cc
 
 pub forms_are : (headers : List HeaderForm) (lines : List LineForm) → All IsKept lines → first_unsettled headers lines ≡ None → All (IsForm headers) (functions_in lines)
 forms_are headers [] kept none = All-nil (IsForm headers)
@@ -272,8 +271,7 @@ module _ (names : List (List ℕ)) (forms : List FunctionForm) (room : length na
 
   settled_by : (t : Bool) (o : Option ℕ) → cond t (option_map suc o) (Some 0) ≡ None → (t ≡ true) × (o ≡ None)
   settled_by true None h = (refl, refl)
-  settled_by true (Some n) h = absurd cc
-  settled_by false o h = absurd cc
+  settled_by t o h = absurd cc
 
   code_is : (body rest : List LineForm) → All IsKept rest → unsettled_at (map head_of forms) body rest ≡ None → All (IsInstr (map (function_in names (map head_of forms)) forms) (length (instrs_in body))) (map (instr_in names (map head_of forms) body) (instrs_in rest))
   code_is body [] kept none = All-nil (IsInstr (map (function_in names (map head_of forms)) forms) (length (instrs_in body)))
@@ -422,10 +420,9 @@ heads_named names (instr i ∷ lines) = heads_named (names_after names (instr i)
 heads_named names (end ∷ lines) = heads_named names lines
 
 one_name : (names : List (List ℕ)) (a b : List ℕ) (o p : Option ℕ) → number_of names a ≡ o → number_of names b ≡ p → is_some o ≡ true → is_some p ≡ true → unwrap_or o 0 ≡ unwrap_or p 0 → a ≡ b
-one_name names a b None p is_a is_b some_a some_b same = absurd cc
-one_name names a b (Some n) None is_a is_b some_a some_b same = absurd cc
 one_name names a b (Some n) (Some k) is_a is_b some_a some_b same =
     some_is a b (sym (slice_get-number_of names a n is_a) ∙ ap (slice_get names) same ∙ slice_get-number_of names b k is_b)
+one_name names a b o p is_a is_b some_a some_b same = absurd cc
 
 -- texts with one number are one
 pub names_one : (names : List (List ℕ)) (a b : List ℕ) → IsNamed names a → IsNamed names b → number_in names a ≡ number_in names b → a ≡ b

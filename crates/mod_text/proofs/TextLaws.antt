@@ -167,22 +167,19 @@ end_line text line is ends = some_is line end (sym (text_again text line is) ∙
 
 nothing_left : (ended : List (List ℕ)) (tail : List ℕ) → is_end ended tail ≡ true → (ended ≡ []) × (tail ≡ [])
 nothing_left [] [] h = (refl, refl)
-nothing_left [] (b ∷ tail) h = absurd cc
-nothing_left (text ∷ others) tail h = absurd cc
+nothing_left ended tail h = absurd cc
 
 both_false : (a b : Bool) → a ≡ true → (a && not b) ≡ false → b ≡ true
 both_false true true e h = refl
-both_false true false e h = absurd cc
-both_false false b e h = absurd cc
+both_false a b e h = absurd cc
 
 both_true_first : (a b : Bool) → (a && not b) ≡ true → a ≡ true
 both_true_first true b h = refl
 both_true_first false b h = absurd cc
 
 both_true_second : (a b : Bool) → (a && not b) ≡ true → b ≡ false
-both_true_second true true h = absurd cc
 both_true_second true false h = refl
-both_true_second false b h = absurd cc
+both_true_second a b h = absurd cc
 
 next_of_text : (names : List (List ℕ)) (before : List LineForm) (text : List ℕ) (line : LineForm) → IsNext names before text line → IsNext names before (line_written line) line
 next_of_text names before text line next = subst (λ t. IsNext names before t line) next.stands.is_text.text_is next
@@ -383,8 +380,7 @@ nothing_joined ((b ∷ text) ∷ others) tail none = absurd cc
 
 end_where_none : (a b : Bool) → (a && not b) ≡ false → a ≡ true → b ≡ true
 end_where_none true true h e = refl
-end_where_none true false h e = absurd cc
-end_where_none false b h e = absurd cc
+end_where_none a b h e = absurd cc
 
 differs : (text : List ℕ) → bytes_eq text (codes "end") ≡ false → text ≡ codes "end" → ⊥
 differs text other same = let equal : bytes_eq text (codes "end") ≡ true = ap (λ t. bytes_eq t (codes "end")) same in absurd cc

@@ -8,10 +8,12 @@ ghost use Rattle.mod_text.specs.LineFaults.{is_open as is_open_behind, is_in_fun
 ghost use Rattle.mod_text.specs.Keeping.{IsKept, operand_form_words, instr_form_words, line_words as words_of_line, lines_words};
 
 use crate::line::line_of;
-use crate::words::{integer_of, number_of};
 use crate::written::{WrittenInstr, WrittenLine, WrittenOperand};
 use mod_core::{LONGEST_IMAGE, REGISTERS};
-use term_core::{GREATEST_INTEGER, LEAST_INTEGER, MOST_WORDS, is_wide_text, text_words};
+use term_core::{
+    GREATEST_INTEGER, LEAST_INTEGER, MOST_WORDS, is_wide_text, parsed_integer, small_number,
+    text_words,
+};
 
 /// How many words of an image stand before the functions.
 const HEAD_WORDS: usize = 4;
@@ -49,7 +51,7 @@ fn is_high(digits: &[u8]) -> bool
     requires { IsTrue (is_number_text digits.now) }
     ensures { result ≡ is_high_register digits.now }
 {
-    match number_of(digits) {
+    match small_number(digits) {
         Some(register) => register >= REGISTERS,
         None => true,
     }
@@ -70,7 +72,7 @@ fn is_high_call(arity: &[u8], at: &[u8]) -> bool
     requires at { IsTrue (is_number_text at.now) }
     ensures { result ≡ is_call_too_high arity.now at.now }
 {
-    match (number_of(arity), number_of(at)) {
+    match (small_number(arity), small_number(at)) {
         (Some(arity), Some(at)) => at >= REGISTERS || arity > REGISTERS - at,
         _ => true,
     }
@@ -121,7 +123,7 @@ fn is_wide_operand(operand: &WrittenOperand<'_>) -> bool
     ensures { result ≡ is_operand_too_wide (operand_form operand.now) }
 {
     match operand {
-        WrittenOperand::Integer(text) => match integer_of(text) {
+        WrittenOperand::Integer(text) => match parsed_integer(text) {
             Some(number) => number < LEAST_INTEGER || number > GREATEST_INTEGER,
             None => true,
         },

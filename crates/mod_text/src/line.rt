@@ -9,10 +9,10 @@ ghost use Rattle.mod_text.specs.LineReading.{register_reading, constant_reading,
 ghost use Rattle.term_core.specs.Names.{is_atom_text as is_atom};
 ghost use Rattle.term_core.specs.TermForms.{is_bracketed as begins_with_bracket};
 
-use crate::words::{cut_at, is_arity_text, is_integer_text, is_number_text, is_version_text};
+use crate::words::{is_arity_text, is_version_text};
 use crate::written::{WrittenInstr, WrittenLine, WrittenOperand};
 use std::alloc::Global;
-use term_core::{NoMemory, is_atom_text, is_term_text};
+use term_core::{NoMemory, cut_at, is_atom_text, is_integer_text, is_number_text, is_term_text};
 
 fn read_number(text: &[u8]) -> Option<&[u8]>
     ensures { option_map (λ digits. digits.now) result ≡ tested is_number text.now }

@@ -14,10 +14,9 @@ ghost use Rattle.mod_text.specs.ModuleText.{ModuleText, FirstFault, MissingAt, H
 
 use crate::fault::{FinishFault, LineFault, LineStop, ModFault};
 use crate::reader::ModuleReader;
-use crate::words::cut_at;
 use mod_core::Module;
 use std::alloc::Global;
-use term_core::{AtomId, Names};
+use term_core::{AtomId, Names, cut_at};
 
 fn syntax_at(number: usize) -> LineStop
     ensures { result ≡ record { number = number; fault = LineFault.Syntax } }

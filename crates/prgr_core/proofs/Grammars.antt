@@ -102,8 +102,7 @@ pub record ReadsOn (members watchers : ℕ) (events all : List PrgrEvent) (text 
 
 at_end_ok : (members watchers number : ℕ) (events : List PrgrEvent) (others : List (List ℕ)) (tail : List ℕ) (all : List PrgrEvent) (line : List ℕ) → line ≡ codes "go" → at_end number events others tail ≡ Ok all → ReadsOn members watchers events all (line_then line (joined others tail))
 at_end_ok members watchers number events [] [] all line is e = record { more = []; whole = sym (ok_same events all e) ∙ sym (append-nil events); allowed = tt; spelled = ap (λ (x : List ℕ). line_then x []) is }
-at_end_ok members watchers number events [] (b ∷ tail) all line is e = absurd (cc)
-at_end_ok members watchers number events (other ∷ others) tail all line is e = absurd (cc)
+at_end_ok members watchers number events others tail all line is e = absurd (cc)
 
 choice_either : {A : Type 0} (b : Bool) (x y : Result A ℕ) (z : A) → (if b then x else y) ≡ Ok z → ((b ≡ true) × (x ≡ Ok z)) ⊎ (y ≡ Ok z)
 choice_either true x y z e = inl (refl, e)

@@ -41,13 +41,12 @@ either_true false b e = inr e
 pub slice_get-slice_set : {X : Type 0} (xs : List X) (k : ℕ) (y : X) (j : ℕ) (x : X) → slice_get (slice_set xs k y) j ≡ Some x → ((j ≡ k) × (x ≡ y)) ⊎ ((j ≡ k → ⊥) × (slice_get xs j ≡ Some x))
 slice_get-slice_set [] k y j x e = absurd (cc)
 slice_get-slice_set (z ∷ zs) zero y zero x e = inl (refl, cc)
-slice_get-slice_set (z ∷ zs) zero y (suc j) x e = inr (λ i. absurd (cc), e)
-slice_get-slice_set (z ∷ zs) (suc k) y zero x e = inr (λ i. absurd (cc), e)
 slice_get-slice_set (z ∷ zs) (suc k) y (suc j) x e =
     elim (slice_get-slice_set zs k y j x e) as (λ _. ((suc j ≡ suc k) × (x ≡ y)) ⊎ ((suc j ≡ suc k → ⊥) × (slice_get (z ∷ zs) (suc j) ≡ Some x))) [
       | inl here ↦ inl (ap suc here.0, here.1)
       | inr other ↦ inr (λ i. other.0 (cc), other.1)
     ]
+slice_get-slice_set (z ∷ zs) k y j x e = inr (λ i. absurd (cc), e)
 
 -- after a push, a place has what it had, or the new last
 pub slice_get-push : {X : Type 0} (xs : List X) (y : X) (j : ℕ) (x : X) → slice_get (xs ++ y ∷ []) j ≡ Some x → (slice_get xs j ≡ Some x) ⊎ (x ≡ y)

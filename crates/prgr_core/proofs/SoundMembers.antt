@@ -7,7 +7,7 @@ use Rattle.prgr_core.specs.declared.member.Member.{Member}
 use Rattle.prgr_core.specs.declared.member.Role.{Role}
 use Rattle.prgr_core.specs.declared.member.Role.TheVariants.{Follows, Leads}
 use Rattle.prgr_core.specs.declared.member.Loaded.{Loaded}
-use Rattle.prgr_core.specs.declared.member.Loaded.TheVariants.{Nothing, Counter, CounterAndRoot}
+use Rattle.prgr_core.specs.declared.member.Loaded.TheVariants.{CounterAndRoot}
 use Rattle.prgr_core.specs.declared.progress.Progress.{Progress}
 use Rattle.prgr_core.specs.declared.event.PrgrEvent.TheVariants.{LoadCounter, LoadRoot, Report, Wait, Enter}
 use Rattle.prgr_core.specs.Members.{IsValue, HasLoaded, HasLoadedRoot, IsLeading, is_waiting, is_value, counter_loaded, root_loaded, confirmed, waiting, entering}
@@ -27,9 +27,8 @@ follows_true Follows e leads = leads
 follows_true (Leads scans) e leads = absurd (cc)
 
 reported_some : (s : Progress) (k : ℕ) (a : Member) (loaded : Loaded) (t : Progress) → reported s k a loaded ≡ Some t → (c : ℕ) × HasLoadedRoot loaded c × (with_member s k (confirmed c a) ≡ t)
-reported_some s k a Nothing t e = absurd (cc)
-reported_some s k a (Counter c) t e = absurd (cc)
 reported_some s k a (CounterAndRoot c) t e = (c, refl, cc)
+reported_some s k a loaded t e = absurd (cc)
 
 -- ---- each event
 

@@ -71,10 +71,9 @@ first_word (list_of row) = row_count row * 16 + 4
 
 -- how many parts a term has
 abbrev pub part_count : PlainTerm → ℕ
-part_count (integer_leaf z) = 0
-part_count (atom_leaf a) = 0
 part_count (tuple_of row) = row_count row
 part_count (list_of row) = row_count row
+part_count _ = 0
 
 -- and counts the term's parts
 pub first_word-parts : (t : PlainTerm) → parts_of_word (first_word t) ≡ part_count t
@@ -95,26 +94,23 @@ first_word-at words at t h =
 
 -- the word of an integer or an atom is that of its term
 pub first_word-immediate : (t : PlainTerm) → is_immediate t ≡ true → first_word t ≡ immediate_word (term_of t)
-first_word-immediate (integer_leaf z) h = refl
-first_word-immediate (atom_leaf a) h = refl
 first_word-immediate (tuple_of row) h = cc
 first_word-immediate (list_of row) h = cc
+first_word-immediate t h = refl
 
 -- and is read as it
 pub term_of_word-first_word : (t : PlainTerm) → is_immediate t ≡ true → IsPlainTerm t → term_of_word (first_word t) ≡ term_of t
 term_of_word-first_word (integer_leaf z) h fits = term_of_word-immediate_word (term_of (integer_leaf z)) fits tt
 term_of_word-first_word (atom_leaf a) h fits = term_of_word-immediate_word (term_of (atom_leaf a)) tt fits
-term_of_word-first_word (tuple_of row) h fits = cc
-term_of_word-first_word (list_of row) h fits = cc
+term_of_word-first_word t h fits = cc
 
 -- ---- the parts
 
 -- the terms in brackets, if there are any
 abbrev pub row_in : PlainTerm → RowOf ℤ ℕ
-row_in (integer_leaf z) = no_terms
-row_in (atom_leaf a) = no_terms
 row_in (tuple_of row) = row
 row_in (list_of row) = row
+row_in _ = no_terms
 
 -- what a part of a row is: a term as it can be, of no more words than the row
 pub record IsPart (row : RowOf ℤ ℕ) (u : PlainTerm) : Type 0 where
@@ -203,7 +199,6 @@ part_behind words at word row rest i u whole fits short is =
 
 -- each part of a term that stands at a place stands behind its word
 pub part_at : (words : List ℕ) (at : ℕ) (t : PlainTerm) (i : ℕ) (u : PlainTerm) → IsImageAt words at t → slice_get (terms_of (row_in t)) i ≡ Some u → PartAt words at i u
-part_at words at (integer_leaf z) i u h is = cc
-part_at words at (atom_leaf a) i u h is = cc
 part_at words at (tuple_of row) i u h is = let short = h.short in part_behind words at (row_count row * 16 + 3) row h.rest i u h.whole h.fits (omega arith) is
 part_at words at (list_of row) i u h is = let short = h.short in part_behind words at (row_count row * 16 + 4) row h.rest i u h.whole h.fits (omega arith) is
+part_at words at t i u h is = cc

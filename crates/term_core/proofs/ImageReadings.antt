@@ -1,5 +1,5 @@
 -- Where the code finds an image, a term has one; and what it reads back is that term.
-use Rattle.std.proofs.Common.{◌≡◌, ℕ, zero, suc, ◌+◌, ◌-◌, ◌*◌, ◌<◌, ◌≤◌, ℤ, Bool, true, false, cond, List, [], ◌∷◌, ◌++◌, length, take, drop, min, All, IsTrue, Option, None, Some, option_map, refl, sym, ap, ◌∙◌, subst, arith}
+use Rattle.std.proofs.Common.{◌≡◌, ℕ, zero, suc, ◌+◌, ◌-◌, ◌*◌, ◌<◌, ◌≤◌, ℤ, Bool, true, cond, List, [], ◌∷◌, ◌++◌, length, take, drop, min, All, IsTrue, Option, None, Some, option_map, refl, sym, ap, ◌∙◌, subst, arith}
 use Rattle.std.proofs.lemmas.List.{append_assoc, append-nil, take-append-drop, length-take-le, length-take, length-drop, take_min}
 use Rattle.std.proofs.lemmas.List.Elements.{All-nil, All-cons}
 use Rattle.std.proofs.Math.Seq.{take-append-add}
@@ -22,9 +22,8 @@ row_append (t ∷ xs) ys = ap (λ ws. image_of t ++ ws) (row_append xs ys) ∙ s
 
 -- the terms of the front of a row
 plain_front : (n : ℕ) (ts : List PlainTerm) → IsPlainRow (row_of ts) → IsPlainRow (row_of (take n ts))
-plain_front zero ts h = tt
-plain_front (suc n) [] h = tt
 plain_front (suc n) (t ∷ ts) h = (h.0, plain_front n ts h.1)
+plain_front n ts h = tt
 
 -- and of the rest
 plain_rest : (n : ℕ) (ts : List PlainTerm) → IsPlainRow (row_of ts) → IsPlainRow (row_of (drop n ts))
@@ -125,9 +124,8 @@ same_some m n e = cc
 
 -- by the test and what is found
 step_of : (b : Bool) (o : Option ℕ) (k : ℕ) → cond b (option_map suc o) None ≡ Some k → Step b o k
-step_of false o k h = cc
-step_of true None k h = cc
 step_of true (Some j) k h = record { fits = refl; rest = j; is = refl; next = same_some (suc j) k h }
+step_of b o k h = cc
 
 -- what is found: images of as many terms, which are read back from them
 record IsFound (n k : ℕ) (words : List ℕ) : Type 0 where
@@ -172,9 +170,8 @@ found_fit (word ∷ words) (suc n) k h =
 
 -- a list of one
 one_of : (ts : List PlainTerm) → length ts ≡ 1 → (t : PlainTerm) × (ts ≡ t ∷ [])
-one_of [] e = absurd (omega (arith, e))
 one_of (t ∷ []) e = (t, refl)
-one_of (t ∷ (u ∷ ts)) e = absurd (omega (arith, e))
+one_of ts e = absurd (omega (arith, e))
 
 -- the one term that is found is read back
 pub found_one : (words : List ℕ) (k : ℕ) → found_len 1 words ≡ Some k → (t : PlainTerm) × (terms_in (take k words) ≡ t ∷ [])

@@ -16,10 +16,9 @@ IsPlainRow row = EachInRow IsTermInteger (λ atom. atom < 4294967296) row
 -- an image has the term's words
 mutual
   pub length-image : (t : TermOf ℤ ℕ) → length (image_of t) ≡ term_words t
-  length-image (integer_leaf z) = refl
-  length-image (atom_leaf a) = refl
   length-image (tuple_of row) = omega (arith, length-row_image row)
   length-image (list_of row) = omega (arith, length-row_image row)
+  length-image t = refl
 
   -- the same of a row
   pub length-row_image : (row : RowOf ℤ ℕ) → length (row_image row) ≡ row_words row

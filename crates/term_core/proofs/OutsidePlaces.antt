@@ -80,22 +80,19 @@ outside_leaf (c ∷ text) rest h d =
 
 -- the same of an integer's text
 integer_choice : (i b : Bool) → i ≡ true → cond {A = Option ℕ} (i && not b) (Some 0) None ≡ cond {A = Option ℕ} b None (Some 0)
-integer_choice true true h = refl
-integer_choice true false h = refl
 integer_choice false b h = cc
+integer_choice true b h = refl
 
 -- behind the brackets
 shut_in : (o later : Option ℕ) (n m : ℕ) → m ≡ 1 + n → place_or None 1 (place_or o n later) ≡ place_or (place_or None 1 o) m later
-shut_in None None n m e = refl
 shut_in None (Some i) n m e = ap Some (omega (arith, e))
-shut_in (Some i) later n m e = refl
+shut_in o later n m e = refl
 
 -- a term, and those behind it
 row_places : (front row later : Option ℕ) (n k m : ℕ) → m ≡ n + k → place_or front n (place_or (place_or None 1 row) k later) ≡ place_or (place_or front (n + 1) row) m later
-row_places (Some i) row later n k m e = refl
 row_places None (Some i) later n k m e = ap Some (omega arith)
-row_places None None None n k m e = refl
 row_places None None (Some i) n k m e = ap Some (omega (arith, e))
+row_places front row later n k m e = refl
 
 -- a closing bracket stands at no integer
 outside_closing : (b : Bracket) (rest : List ℕ) → outside_at false (closing b ∷ rest) ≡ place_or None 1 (outside_at false rest)

@@ -49,9 +49,8 @@ is_some-position p (x ∷ xs) =
 
 -- where none passes, the first does not, nor any behind
 none_parts : (b : Bool) (o : Option ℕ) → cond {A = Option ℕ} b (Some 0) (option_map (λ i. i + 1) o) ≡ None → (b ≡ false) × (o ≡ None)
-none_parts true o h = cc
 none_parts false None h = (refl, refl)
-none_parts false (Some i) h = cc
+none_parts b o h = cc
 
 -- behind a list where none passes, the first of what follows is found where it passes
 pub position-append_one : {X : Type 0} (p : X → Bool) (xs : List X) (y : X) → position p xs ≡ None → p y ≡ true → position p (xs ++ y ∷ []) ≡ Some (length xs)

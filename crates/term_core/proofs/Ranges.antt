@@ -23,8 +23,7 @@ IsTermInteger-from (negsuc n) h = let small = small_then n h in record { low = o
 -- no place, nor one behind it
 none_places : (o : Option ℕ) (n : ℕ) (later : Option ℕ) → place_or o n later ≡ None → (o ≡ None) × (later ≡ None)
 none_places None n None h = (refl, refl)
-none_places None n (Some i) h = cc
-none_places (Some i) n later h = cc
+none_places o n later h = cc
 
 -- by the test
 fits_if : (z : ℤ) (b : Bool) → is_term_integer z ≡ b → cond {A = Option ℕ} b None (Some 0) ≡ None → IsTermInteger z

@@ -16,6 +16,5 @@ same_from xs ys i x y atx aty lessx lessy =
 -- the same lists are as long
 pub same_length : (xs ys : List PlainTerm) → are_same xs ys ≡ true → length xs ≡ length ys
 same_length [] [] h = refl
-same_length [] (y ∷ ys) h = cc
-same_length (x ∷ xs) [] h = cc
 same_length (x ∷ xs) (y ∷ ys) h = omega (arith, same_length xs ys (both (is_same x y) (are_same xs ys) h).1)
+same_length xs ys h = cc

@@ -1,5 +1,5 @@
 -- The fault of the scan is the least place at which no term's text goes on.
-use Rattle.std.proofs.Common.{◌≡◌, ℕ, zero, suc, ◌+◌, ◌<◌, ◌⊎◌, inl, inr, Bool, true, false, cond, List, [], ◌∷◌, ◌++◌, length, take, drop, Option, None, Some, refl, sym, ap, ◌∙◌, subst, arith, add-one}
+use Rattle.std.proofs.Common.{◌≡◌, ℕ, suc, ◌+◌, ◌<◌, ◌⊎◌, inl, inr, Bool, true, false, cond, List, [], ◌∷◌, ◌++◌, length, take, drop, Option, None, Some, refl, sym, ap, ◌∙◌, subst, arith, add-one}
 use Rattle.term_core.specs.declared.byte_kind.Bracket.{Bracket}
 use Rattle.term_core.specs.declared.byte_kind.Bracket.TheVariants.{Curly, Square}
 use Rattle.term_core.specs.declared.scan.Place.{Place}
@@ -151,9 +151,8 @@ no_fault (c ∷ rest) s h = passes_behind rest (λ t. no_fault rest t) (stepped 
 
 -- what is cut off behind some place is what it was cut from
 pub cut_again : (at : ℕ) (text : List ℕ) → take at text ++ drop at text ≡ text
-cut_again zero text = refl
-cut_again (suc at) [] = refl
 cut_again (suc at) (c ∷ rest) = ap (λ t. c ∷ t) (cut_again at rest)
+cut_again at text = refl
 
 -- where it stops before the end, the text is not accepted
 pub not_accepted : (text : List ℕ) (at : ℕ) → Stops at_start text at → ends (run at_start text) ≡ true → ⊥

@@ -129,10 +129,9 @@ begun_back brackets kind c rest is h = absurd h
 
 -- a closing bracket that stands where it may
 pub closed_back : (b d : Bracket) (outer : List Bracket) (c : ℕ) (rest : List ℕ) → c ≡ closing d → RestMoved (b ∷ outer) (closed (Some b) d) rest → (c ∷ rest ≡ closing b ∷ rest) × Closes outer rest
-closed_back Curly Curly outer c rest e h = (ap (λ x. x ∷ rest) e, h)
 closed_back Curly Square outer c rest e h = absurd h
 closed_back Square Curly outer c rest e h = absurd h
-closed_back Square Square outer c rest e h = (ap (λ x. x ∷ rest) e, h)
+closed_back b d outer c rest e h = (ap (λ x. x ∷ rest) e, h)
 
 -- a comma, a term, and what follows
 comma_back : (b : Bracket) (outer : List Bracket) (c : ℕ) (rest : List ℕ) → c ≡ 44 → TermThen (b ∷ outer) rest → Closes (b ∷ outer) (c ∷ rest)

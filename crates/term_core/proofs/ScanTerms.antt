@@ -34,8 +34,7 @@ start_leaf brackets (c ∷ text) rest h = ap (λ move. accepts_moved brackets mo
 start_term : (brackets : List Bracket) (t : WrittenTerm) (rest : List ℕ) → HasLeafTexts t → accepts AfterOpen brackets (written t ++ rest) ≡ accepts TermStart brackets (written t ++ rest)
 start_term brackets (integer_leaf text) rest h = start_leaf brackets text rest (LeafText-integer text h)
 start_term brackets (atom_leaf text) rest h = start_leaf brackets text rest (LeafText-atom text h)
-start_term brackets (tuple_of row) rest h = refl
-start_term brackets (list_of row) rest h = refl
+start_term brackets t rest h = refl
 
 -- a closing bracket behind the opening one
 accepts_none : (b : Bracket) (outer : List Bracket) (rest : List ℕ) → accepts AfterOpen (b ∷ outer) (closing b ∷ rest) ≡ accepts AfterTerm outer rest

@@ -116,5 +116,4 @@ integer_is_some (c ∷ rest) h = omega arith
 pub nonempty-written : (t : WrittenTerm) → HasLeafTexts t → 0 < length (written t)
 nonempty-written (integer_leaf text) h = integer_is_some text h
 nonempty-written (atom_leaf text) h = atom_is_some text h
-nonempty-written (tuple_of row) h = omega arith
-nonempty-written (list_of row) h = omega arith
+nonempty-written t h = omega arith

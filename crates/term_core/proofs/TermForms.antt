@@ -8,7 +8,7 @@ use Rattle.term_core.specs.Faults.{IsTextOf}
 use Rattle.term_core.specs.Image.{is_immediate}
 use Rattle.term_core.specs.Names.{IsNames, number_of}
 use Rattle.term_core.specs.Plain.{plain}
-use Rattle.term_core.specs.PlainTerm.{integer_leaf, atom_leaf, tuple_of, list_of, map_leaves, atoms_of, term_words}
+use Rattle.term_core.specs.PlainTerm.{integer_leaf, atom_leaf, map_leaves, atoms_of, term_words}
 use Rattle.term_core.specs.Scanning.{at_start, syntax_fault}
 use Rattle.term_core.specs.TermForms.{is_term_text, is_bracketed, tree_of, term_atoms, text_words, is_wide_text, term_in, IsFormOf, is_in_brackets, IsPrinted}
 use Rattle.term_core.specs.TermText.{IsTerm, number_in, names_with_all, term_text}
@@ -124,8 +124,7 @@ leaf_bracketed (c ∷ rest) h =
 bracketed_written : (form : WrittenTerm) → HasLeafTexts form → is_bracketed (written form) ≡ is_in_brackets form
 bracketed_written (integer_leaf text) h = leaf_bracketed text (LeafText-integer text h)
 bracketed_written (atom_leaf text) h = leaf_bracketed text (LeafText-atom text h)
-bracketed_written (tuple_of row) h = refl
-bracketed_written (list_of row) h = refl
+bracketed_written form h = refl
 
 -- one word stands for a term that is in no brackets
 immediate_of : (f : List ℕ → ℤ) (g : List ℕ → ℕ) (form : WrittenTerm) → is_immediate (map_leaves f g form) ≡ not (is_in_brackets form)

@@ -2,7 +2,7 @@
 use Rattle.std.proofs.Common.{◌≡◌, ℕ, ◌+◌, ◌-◌, ◌*◌, ◌/◌, ◌%◌, ◌<◌, ◌≤◌, true, false, cond, ◌==◌, nat_lt, ℤ, pos, negsuc, refl, ap, ◌∙◌, arith}
 use Rattle.std.proofs.lemmas.Bool.Decides.{nat_tests}
 use Rattle.term_core.specs.declared.term.Term.{Term}
-use Rattle.term_core.specs.declared.term.Term.TheVariants.{Int, Atom, Tuple, List as ListOf}
+use Rattle.term_core.specs.declared.term.Term.TheVariants.{Int, Atom}
 use Rattle.term_core.specs.Image.{IsImmediate, HasSmallAtoms, low_bits, immediate_word, integer_of_bits, term_of_word}
 use Rattle.term_core.specs.Written.{IsTermInteger}
 use Rattle.term_core.proofs.IntegerTexts.{range_pos, range_negsuc}
@@ -48,5 +48,4 @@ term_of_word-immediate_word (Int z) is small =
 term_of_word-immediate_word (Atom a) is small =
     let parts = tagged a.0 2 (omega arith) in
     atom_tag (immediate_word (Atom a)) a.0 parts.0 parts.1 small
-term_of_word-immediate_word (Tuple ts) is small = absurd is
-term_of_word-immediate_word (ListOf ts) is small = absurd is
+term_of_word-immediate_word t is small = absurd is

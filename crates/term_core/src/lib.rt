@@ -42,12 +42,14 @@ pub use hold::{Full, Kind, MOST_AREAS};
 pub use image_fault::ImageFault;
 pub use image_reading::read_image;
 pub use immediate::{parts_of_word, words_read_back};
-pub use integer::{GREATEST_INTEGER, LEAST_INTEGER};
+pub use integer::{
+    GREATEST_INTEGER, LEAST_INTEGER, is_integer_text, is_number_text, parsed_integer, small_number,
+};
 pub use items::{AtomList, ByteList, CountList, Items, WordList};
 pub use names::{LONGEST_ATOM, MOST_NAMES, NameFault, Names, is_atom_text};
 pub use naming::name_atoms;
 pub use no_memory::NoMemory;
-pub use parts::{cut_term, terms_are_parted};
+pub use parts::{cut_at, cut_term, terms_are_parted};
 pub use printing::{print_atom, print_number, print_term};
 pub use term::{Term, TermList};
 pub use term_fault::TermFault;

@@ -70,9 +70,8 @@ cut_is byte [] x h = absurd cc
 cut_is byte (b ∷ rest) x h = cut_step (b == byte) b byte rest (cut_at byte rest) x refl (cut_is byte rest) h
 
 uncut_step : (t : Bool) (b byte : ℕ) (rest : List ℕ) (o : Option (List ℕ × List ℕ)) → (b == byte) ≡ t → (o ≡ None → lacks byte rest ≡ true) → cond t (Some ([], rest)) (option_map (with_first b) o) ≡ None → lacks byte (b ∷ rest) ≡ true
-uncut_step true b byte rest o e more h = absurd cc
-uncut_step false b byte rest (Some y) e more h = absurd cc
 uncut_step false b byte rest None e more h = lacks-cons byte b rest e (more refl)
+uncut_step t b byte rest o e more h = absurd cc
 
 -- what is not cut lacks the byte
 pub uncut_is : (byte : ℕ) (text : List ℕ) → cut_at byte text ≡ None → lacks byte text ≡ true

@@ -2,7 +2,7 @@
 use Rattle.std.proofs.Common.{◌∙◌, subst, List, ℕ}
 use Rattle.std.specs.Str.Parse.{ParsesUnsigned}
 use Rattle.term_core.proofs.Text.Numbers.{IsAscii-number, parsed_number}
-use Rattle.mod_text.proofs.words.number_of.Goals as goal
+use Rattle.term_core.proofs.integer.small_number.Goals as goal
 
 -- they are ASCII
 pub ascii_text-requires : goal.ascii_text-requires

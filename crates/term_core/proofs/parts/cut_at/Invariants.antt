@@ -1,7 +1,7 @@
 use Rattle.std.proofs.Common.{◌≡◌, ◌++◌, take, drop}
 use Rattle.std.specs.Prelude.{option_map}
 use Rattle.term_core.specs.Text.Cuts.{cut_at}
-use Rattle.mod_text.proofs.words.cut_at.Given as goal
+use Rattle.term_core.proofs.parts.cut_at.Given as goal
 
 -- the byte is not among those so far
 abbrev pub invariant-loop-place : goal.invariant-loop-place
