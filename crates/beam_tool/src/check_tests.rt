@@ -187,71 +187,13 @@ fn snapshots_tell_the_exports_of_their_generation(rt: HostRuntime) -> Result<(),
 }
 
 #[test]
-fn faulty_reports_are_refused(rt: HostRuntime) -> Result<(), Fail> {
-    // What stands behind the empty script, and the line that is written: its lines are counted from the report's first.
-    let cases = [
-        (
-            "beam report 1\ngenerations 0\n",
-            "refused report 2 syntax\n",
-        ),
-        (
-            "beam report 1\ngenerations 0\nend report",
-            "refused report 3 syntax\n",
-        ),
-        ("", "refused report 1 syntax\n"),
-        ("go\n", "refused report 1 syntax\n"),
-    ];
-    for (report, line) in cases {
-        let input = format!(in rt.alloc(); "beam script 1\ngo\n{report}")?;
-        let check = outcome_of(&rt, CHECK, input.as_bytes(), CALM)?;
-        assert_eq!(rt; check.got.as_slice(), line.as_bytes(), "at {report}");
-        assert_eq!(rt; check.status, 3);
-    }
-    Ok(())
-}
-
-/// A module whose function prints.
-const PRINTING: &str = "module n.1\nexport main/0\nprint 1\nend\n";
-
-/// Two versions of a module without functions.
-const TWO_EMPTY: &str = "module m.1\nend\nmodule m.2\nend\nloader\nload m.1\nload m.2\npurge m\n";
-
-#[test]
-fn each_clause_is_asked(rt: HostRuntime) -> Result<(), Fail> {
-    // The commands of a loader in another order; a first turn before its spawn; a purge that tells of a kill that was
-    // none; and a process that is not told.
-    let cases = [
-        (
-            "loader\ncheck_old m\ncheck_old n\n",
-            0,
-            "entry L0 check_old m = false -\nentry L0 check_old n = false -\n",
-            "entry L0 check_old n = false -\nentry L0 check_old m = false -\n",
-        ),
-        (
-            "loader\nload n.1\nput k 1\nspawn n:main()\n",
-            2,
-            "entry L0 load n.1 = ok @1\nentry L0 put k 1 = ok @2\nentry L0 spawn n:main() = ok -\nprocess 0 n:main()\nspan 2 1\nprint 1\nend normal\n",
-            "entry L0 load n.1 = ok @1\nentry L0 put k 1 = ok @2\nentry L0 spawn n:main() = ok -\nprocess 0 n:main()\nspan 1 1\nprint 1\nend normal\n",
-        ),
-        (
-            TWO_EMPTY,
-            4,
-            "entry L0 load m.1 = ok @1\nentry L0 load m.2 = ok @2\nentry L0 doom m = ok @3\nentry L0 purge m = false @4\nentry rt release 1 = ok -\n",
-            "entry L0 load m.1 = ok @1\nentry L0 load m.2 = ok @2\nentry L0 doom m = ok @3\nentry L0 purge m = true @4\nentry rt release 1 = ok -\n",
-        ),
-        (
-            "loader\nload n.1\nspawn n:main()\n",
-            1,
-            "entry L0 load n.1 = ok @1\nentry L0 spawn n:main() = ok -\nprocess 0 n:main()\nspan 1 1\nprint 1\nend normal\n",
-            "entry L0 load n.1 = ok @1\nentry L0 spawn n:main() = ok -\n",
-        ),
-    ];
-    for (commands, generations, lawful, unlawful) in cases {
-        let lines = format!(in rt.alloc(); "{PRINTING}{commands}")?;
-        let told = is_judged(&rt, lines.as_str(), generations, lawful, true)?;
-        assert!(rt; told, "{lawful}");
-        let told = is_judged(&rt, lines.as_str(), generations, unlawful, false)?;
-        assert!(rt; told, "{unlawful}");
-    }
+fn a_report_that_stops_is_refused(rt: HostRuntime) -> Result<(), Fail> {
+    let input = "beam script 1\ngo\nbeam report 1\ngenerations 0\n";
+    let check = outcome_of(&rt, CHECK, input.as_bytes(), CALM)?;
+    assert_eq!(rt;
+        check.got.as_slice(),
+        b"refused report 2 syntax\n".as_slice()
+    );
+    assert_eq!(rt; check.status, 3);
     Ok(())
 }

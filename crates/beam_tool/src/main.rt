@@ -5,14 +5,10 @@ mod answer;
 mod check_form;
 #[cfg(test)]
 mod check_tests;
-#[cfg(test)]
-mod constant_tests;
 mod fault;
 mod form;
 mod gate;
 mod memory;
-#[cfg(test)]
-mod old_code_tests;
 #[cfg(test)]
 mod outside_tests;
 mod parting;

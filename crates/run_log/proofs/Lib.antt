@@ -9,13 +9,3 @@ pub mod TurnRuns
 pub mod SpanRuns
 pub mod Marks
 pub mod ApartSpans
-pub mod FirstLegal
-pub mod FirstWellFormed
-pub mod Clauses
-pub mod ExampleParts
-pub mod ExamplePurges
-pub mod ExampleReleases
-pub mod ExampleLingers
-pub mod ExampleSpawns
-pub mod ExampleOrders
-pub mod ExampleSnapshots

@@ -4,5 +4,3 @@ pub mod Legal
 pub mod Report
 pub mod WholeSpans
 pub mod WellFormed
-pub mod FirstRun
-pub mod Examples
