@@ -6,13 +6,14 @@ use Rattle.std.proofs.lemmas.Option.{none-some, same_Some, slice_get-map, slice_
 use Rattle.server_core.specs.ServerState.{ServerState, empty_state}
 use Rattle.machine_core.specs.declared.process.End.{End}
 use Rattle.machine_core.specs.Process.{PlainProcess, new_process}
-use Rattle.script_text.specs.declared.script.Script.{Script}
+use Rattle.script_core.specs.declared.script.Script.{Script}
 use Rattle.run_log.specs.declared.logs.Entry.{Entry}
 use Rattle.run_log.specs.declared.logs.Span.{Span}
 use Rattle.run_log.specs.declared.logs.ProcessLog.{ProcessLog}
 use Rattle.run_log.specs.declared.logs.RunLog.{RunLog}
 use Rattle.run_log.specs.Journal.{published_before, published_count, state_at}
-use Rattle.run_log.specs.Legal.{Complete, IsLogOf, Legal, LogsMatch, PurgesGo, SpansFollow, SpawnBeforeTurns, SpawnLine, TurnsFollow, commands_of, first_generation, marks_of, spawns_of}
+use Rattle.run_log.specs.Legal.{Complete, IsLogOf, Legal, LogsMatch, PurgesGo, SpansFollow, SpawnBeforeTurns, TurnsFollow, commands_of, first_generation, marks_of}
+use Rattle.script_core.specs.Processes.{SpawnLine, spawns_of}
 use Rattle.run_log.specs.WholeSpans.{AreWhole}
 use Rattle.lap_runner.specs.declared.process_run.Phase.{Phase}
 use Rattle.lap_runner.specs.declared.process_run.Phase.TheVariants.{Waiting, Going, Ended}

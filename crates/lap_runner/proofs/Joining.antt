@@ -11,12 +11,13 @@ use Rattle.machine_core.specs.Process.{PlainProcess, names_of, new_process, proc
 use Rattle.machine_core.specs.View.{server_words}
 use Rattle.machine_core.proofs.LaterWords.{HasAreas, process_later}
 use Rattle.machine_core.proofs.TurnLaws.{may_turn_later}
-use Rattle.script_text.specs.declared.script.Script.{Script}
+use Rattle.script_core.specs.declared.script.Script.{Script}
 use Rattle.run_log.specs.declared.logs.Who.{Who}
 use Rattle.run_log.specs.declared.logs.Entry.{Entry}
 use Rattle.run_log.specs.declared.logs.Span.{Span}
 use Rattle.run_log.specs.Journal.{state_after, next_state, newest_state, published_before, published_count, state_at}
-use Rattle.run_log.specs.Legal.{HalfPurge, MayStand, PurgesGo, Replays, SpansGo, SpawnLine, commands_in, commands_of, half_after, is_release, is_runtime, spawns_of}
+use Rattle.run_log.specs.Legal.{HalfPurge, MayStand, PurgesGo, Replays, SpansGo, commands_in, commands_of, half_after, is_release, is_runtime}
+use Rattle.script_core.specs.Processes.{SpawnLine, spawns_of}
 use Rattle.run_log.proofs.AreaWords.{areas_stay, sound_below}
 use Rattle.run_log.proofs.Journals.{before_kept, counted, entry_follows, never_falls, newest_more, purges_more, replays_more, state_kept}
 use Rattle.run_log.proofs.Marks.{marks_under}

@@ -12,9 +12,10 @@ use Rattle.machine_core.specs.Holds.{is_among}
 use Rattle.machine_core.specs.Process.{PlainProcess, names_of, new_process}
 use Rattle.machine_core.specs.Turn.{turn_of}
 use Rattle.machine_core.proofs.TurnLaws.{turn_same}
-use Rattle.script_text.specs.declared.script.Script.{Script}
+use Rattle.script_core.specs.declared.script.Script.{Script}
 use Rattle.run_log.specs.Journal.{newest_state, published_before, state_at}
-use Rattle.run_log.specs.Legal.{Mark, SpawnLine, marks_of, published_to, state_before}
+use Rattle.run_log.specs.Legal.{Mark, marks_of, published_to, state_before}
+use Rattle.script_core.specs.Processes.{SpawnLine}
 use Rattle.run_log.proofs.Journals.{before_counted, newest_at}
 use Rattle.run_log.proofs.Releases.{HasRelease, retired_alike}
 use Rattle.run_log.proofs.StatesForTurns.{for_turns}

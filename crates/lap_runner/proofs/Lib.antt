@@ -8,7 +8,6 @@ mod AnswersSteps
 mod Answers
 mod AnswersEnd
 mod AnswersTurns
-mod SpawnLines
 mod TurnLaws
 mod Taking
 mod Turning

@@ -9,11 +9,12 @@ use Rattle.server_core.specs.declared.command.Linger.{Linger}
 use Rattle.server_core.specs.ServerState.{ServerState, IsSound, empty_state, old_of}
 use Rattle.machine_core.specs.Process.{PlainProcess}
 use Rattle.machine_core.specs.View.{server_words}
-use Rattle.script_text.specs.declared.script.Script.{Script}
+use Rattle.script_core.specs.declared.script.Script.{Script}
 use Rattle.run_log.specs.declared.logs.Who.{Who}
 use Rattle.run_log.specs.declared.logs.Entry.{Entry}
 use Rattle.run_log.specs.Journal.{newest_state, published_count, state_at}
-use Rattle.run_log.specs.Legal.{NamesNot, SpawnLine, StandsNotIn}
+use Rattle.run_log.specs.Legal.{NamesNot, StandsNotIn}
+use Rattle.script_core.specs.Processes.{SpawnLine}
 use Rattle.lap_runner.specs.declared.process_run.Phase.{Phase}
 use Rattle.lap_runner.specs.declared.process_run.Phase.TheVariants.{Waiting, Going, Ended}
 use Rattle.lap_runner.specs.declared.process_run.ProcessRun.{ProcessRun}

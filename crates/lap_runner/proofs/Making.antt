@@ -16,16 +16,16 @@ use Rattle.machine_core.specs.declared.process.TheConstants.{MOST_TURNS}
 use Rattle.machine_core.specs.Holds.{area_count}
 use Rattle.machine_core.specs.Process.{PlainProcess, names_of, new_process}
 use Rattle.machine_core.specs.View.{shown_of}
-use Rattle.script_text.specs.declared.script.Script.{Script}
-use Rattle.script_text.specs.declared.script.ScriptCmd.{ScriptCmd}
-use Rattle.script_text.specs.declared.script.ScriptCmd.TheVariants.{Load, Delete, SoftPurge, Purge, CheckOld, Put, Erase, Trace, Spawn}
-use Rattle.script_text.specs.Sound.{spawns_in}
+use Rattle.script_core.specs.declared.script.Script.{Script}
+use Rattle.script_core.specs.declared.script.ScriptCmd.{ScriptCmd}
+use Rattle.script_core.specs.declared.script.ScriptCmd.TheVariants.{Load, Delete, SoftPurge, Purge, CheckOld, Put, Erase, Trace, Spawn}
+use Rattle.script_core.specs.Processes.{spawns_in, SpawnLine, spawns_of, spawn_number}
 use Rattle.run_log.specs.declared.logs.Who.{Who}
 use Rattle.run_log.specs.declared.logs.Who.TheVariants.{Loader}
 use Rattle.run_log.specs.declared.logs.Entry.{Entry}
 use Rattle.run_log.specs.declared.logs.Span.{Span}
 use Rattle.run_log.specs.Journal.{state_at, is_of, ends_one, published_before}
-use Rattle.run_log.specs.Legal.{HalfPurge, MayStand, MayStandBetween, MayStart, SpawnLine, SpansGo, commands_in, commands_of, ended_by, first_generation, half_after, is_release, is_runtime, spawns_of}
+use Rattle.run_log.specs.Legal.{HalfPurge, MayStand, MayStandBetween, MayStart, SpansGo, commands_in, commands_of, ended_by, first_generation, half_after, is_release, is_runtime}
 use Rattle.run_log.specs.WholeSpans.{AreWhole}
 use Rattle.run_log.proofs.Journals.{commands_other, commands_own}
 use Rattle.run_log.proofs.SpanRuns.{some_and, some_at}
@@ -37,10 +37,10 @@ use Rattle.lap_runner.specs.declared.run.Purging.{Purging}
 use Rattle.lap_runner.specs.declared.run.Run.{Run}
 use Rattle.lap_runner.specs.Answers.{AreKnown}
 use Rattle.lap_runner.specs.Looks.{some_killed}
-use Rattle.lap_runner.specs.Runs.{DoomsJust, Goes, IsRun, PurgeWaits, StandsIn, Waits, done_of, fin_in, half_of, histories_of, history_of, spawn_number}
+use Rattle.lap_runner.specs.Runs.{DoomsJust, Goes, IsRun, PurgeWaits, StandsIn, Waits, done_of, fin_in, half_of, histories_of, history_of}
 use Rattle.lap_runner.specs.Steps.{Advances, HasAdvanced, HasJoined, HasMade, HasStayed, SpawnsNext, loader_after, purging_after, stand_in}
 use Rattle.lap_runner.proofs.Lists.{SetAt, here, map_kept, set_at, set_here, set_there, take_next, there}
-use Rattle.lap_runner.proofs.SpawnLines.{line_at, number_next, spawn_at}
+use Rattle.script_core.proofs.SpawnLines.{line_at, number_next, spawn_at}
 use Rattle.lap_runner.proofs.Dooms.{IsMeanwhile, doom_dooms, purge_lifts, versions_kept}
 use Rattle.lap_runner.proofs.Nexts.{HasPurgeLook, IsNext, IsQuiet, Looked, at_once, between, first_half, half_is, next_is, quiet_keeps, quiet_starts, second_half, still_waits}
 use Rattle.lap_runner.proofs.Joining.{histories_kept, process_kept, purges_after, replays_after, server_after, waits_later}

@@ -14,16 +14,16 @@ use Rattle.server_core.specs.declared.command.Cmd.TheVariants as cmds
 use Rattle.server_core.specs.declared.command.Linger.{Linger}
 use Rattle.server_core.specs.ServerState.{ServerState, IsShortTerm, old_of}
 use Rattle.server_core.specs.CommandTable.{IsOfText, Outcome, apply_of, soft_purge_of}
-use Rattle.script_text.specs.declared.script.ScriptCmd.{ScriptCmd}
-use Rattle.script_text.specs.declared.script.ScriptCmd.TheVariants.{Load, Delete, SoftPurge, Purge, CheckOld, Put, Erase, Trace, Spawn}
-use Rattle.script_text.specs.Sound.{IsCmdOf, IsTermOf}
+use Rattle.script_core.specs.declared.script.ScriptCmd.{ScriptCmd}
+use Rattle.script_core.specs.declared.script.ScriptCmd.TheVariants.{Load, Delete, SoftPurge, Purge, CheckOld, Put, Erase, Trace, Spawn}
+use Rattle.script_core.specs.Sound.{IsCmdOf, IsTermOf}
 use Rattle.run_log.specs.declared.logs.Who.TheVariants.{Loader}
 use Rattle.run_log.specs.Journal.{ends_one}
 use Rattle.run_log.specs.Legal.{MayStart, ended_by, half_after, is_release}
 use Rattle.lap_runner.specs.declared.process_run.ProcessRun.{ProcessRun}
 use Rattle.lap_runner.specs.declared.run.LoaderRun.{LoaderRun}
 use Rattle.lap_runner.specs.declared.run.Purging.{Purging}
-use Rattle.script_text.specs.declared.script.Script.{Script}
+use Rattle.script_core.specs.declared.script.Script.{Script}
 use Rattle.lap_runner.specs.Looks.{closing, goes_meanwhile, lingering, next_cmd, opening, purge_opening, some_killed, some_names, some_stands}
 use Rattle.lap_runner.specs.Runs.{DoomsJust, half_of}
 use Rattle.lap_runner.specs.Steps.{purging_after}

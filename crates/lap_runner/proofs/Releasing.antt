@@ -6,7 +6,7 @@ use Rattle.server_core.specs.declared.command.Cmd.TheVariants.{Release}
 use Rattle.server_core.specs.declared.command.Reply.TheVariants as replies
 use Rattle.server_core.specs.ServerState.{ServerState, is_retired, is_serial_in}
 use Rattle.server_core.specs.CommandTable.{Outcome, unchanged, with_released, without_number}
-use Rattle.script_text.specs.declared.script.Script.{Script}
+use Rattle.script_core.specs.declared.script.Script.{Script}
 use Rattle.run_log.specs.declared.logs.Who.TheVariants.{Loader, Runtime}
 use Rattle.run_log.specs.declared.logs.Entry.{Entry}
 use Rattle.run_log.specs.Legal.{MayStand, MayStart}

@@ -7,10 +7,11 @@ use Rattle.server_core.specs.ServerState.{ServerState, empty_state, is_serial_in
 use Rattle.machine_core.specs.Holds.{is_area_held}
 use Rattle.machine_core.specs.Process.{frame_names}
 use Rattle.machine_core.specs.View.{server_words}
-use Rattle.script_text.specs.declared.script.Script.{Script}
+use Rattle.script_core.specs.declared.script.Script.{Script}
 use Rattle.run_log.specs.declared.logs.Entry.{Entry}
 use Rattle.run_log.specs.Journal.{state_at}
-use Rattle.run_log.specs.Legal.{SpawnLine, commands_of}
+use Rattle.script_core.specs.Processes.{SpawnLine}
+use Rattle.run_log.specs.Legal.{commands_of}
 use Rattle.lap_runner.specs.declared.process_run.Phase.{Phase}
 use Rattle.lap_runner.specs.declared.process_run.Phase.TheVariants.{Waiting, Going, Ended}
 use Rattle.lap_runner.specs.declared.process_run.ProcessRun.{ProcessRun}

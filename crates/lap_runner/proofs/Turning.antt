@@ -13,7 +13,8 @@ use Rattle.machine_core.specs.Turn.{Turn, turn_of}
 use Rattle.run_log.specs.declared.logs.Entry.{Entry}
 use Rattle.run_log.specs.declared.logs.Span.{Span}
 use Rattle.run_log.specs.Journal.{published_before}
-use Rattle.run_log.specs.Legal.{Mark, SpawnLine, SpansFollow, SpansGo, first_generation, marks_of, process_after, turns_of}
+use Rattle.run_log.specs.Legal.{Mark, SpansFollow, SpansGo, first_generation, marks_of, process_after, turns_of}
+use Rattle.script_core.specs.Processes.{SpawnLine}
 use Rattle.run_log.specs.WholeSpans.{AreApart, AreWhole, last_generation}
 use Rattle.run_log.proofs.ApartSpans.{apart_cut, apart_more}
 use Rattle.run_log.proofs.Marks.{marks_empty, marks_more, process_empty, process_now}

@@ -15,7 +15,7 @@ use Rattle.machine_core.specs.declared.process.TurnEnd.TheVariants.{Again, Ended
 use Rattle.machine_core.specs.Holds.{is_among}
 use Rattle.machine_core.specs.Process.{PlainProcess, names_of}
 use Rattle.machine_core.specs.Turn.{turn_of}
-use Rattle.script_text.specs.declared.script.Script.{Script}
+use Rattle.script_core.specs.declared.script.Script.{Script}
 use Rattle.run_log.specs.declared.logs.Entry.{Entry}
 use Rattle.run_log.specs.declared.logs.ProcessLog.{ProcessLog}
 use Rattle.run_log.specs.declared.logs.RunLog.{RunLog}

@@ -14,8 +14,8 @@ use Rattle.machine_core.specs.declared.process.Process.{Process}
 use Rattle.machine_core.specs.declared.process.Value.{Value}
 use Rattle.machine_core.specs.declared.process.Value.TheVariants.{Owned, Literal}
 use Rattle.machine_core.specs.Process.{PlainProcess, names_of, process_of}
-use Rattle.script_text.specs.declared.script.ScriptCmd.{ScriptCmd}
-use Rattle.script_text.specs.declared.script.ScriptCmd.TheVariants.{Load, Delete, SoftPurge, Purge, CheckOld, Put, Erase, Trace, Spawn}
+use Rattle.script_core.specs.declared.script.ScriptCmd.{ScriptCmd}
+use Rattle.script_core.specs.declared.script.ScriptCmd.TheVariants.{Load, Delete, SoftPurge, Purge, CheckOld, Put, Erase, Trace, Spawn}
 use Rattle.run_log.specs.Legal.{is_killed_by}
 use Rattle.lap_runner.specs.declared.process_run.Phase.{Phase}
 use Rattle.lap_runner.specs.declared.process_run.Phase.TheVariants.{Waiting, Going, Ended}

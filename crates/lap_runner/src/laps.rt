@@ -1,5 +1,5 @@
-ghost use Rattle.std.specs.Prelude.{All, ◌≡◌, ◌+◌, ◌≤◌, ◌<◌, ℕ, length, map, slice_get, Some, sum_by, IfOk, OnOk, IfSome, IsSomeAnd, IsTrue, true, false};
-ghost use Rattle.script_text.specs.Sound.{IsScript};
+ghost use Rattle.std.specs.Prelude.{All, ◌≡◌, ◌+◌, ◌≤◌, ℕ, map, slice_get, Some, sum_by, IfOk, OnOk, false};
+ghost use Rattle.script_core.specs.Sound.{IsScript};
 ghost use Rattle.run_log.specs.Legal.{Legal};
 ghost use Rattle.run_log.specs.WholeSpans.{AreWhole};
 ghost use Rattle.lap_runner.specs.Observers.{KeepsGenerations};
@@ -12,7 +12,7 @@ use crate::process_run::{Phase, ProcessRun, log_of, take_turn};
 use crate::releases::release_areas;
 use crate::run::{Run, begin};
 use run_log::{ProcessLogList, RunLog};
-use script_text::Script;
+use script_core::Script;
 use server_core::Server;
 use snapshots::exported_functions;
 use std::alloc::Global;

@@ -4,7 +4,7 @@ use Rattle.std.proofs.lemmas.List.{length-drop, take_all, with_items_is}
 use Rattle.std.proofs.lemmas.List.Elements.{recursion_from_All}
 use Rattle.std.specs.Vec.{with_items}
 use Rattle.server_core.specs.ServerState.{ServerState, empty_state}
-use Rattle.script_text.specs.declared.script.Script.{Script}
+use Rattle.script_core.specs.declared.script.Script.{Script}
 use Rattle.run_log.specs.declared.logs.Entry.{Entry}
 use Rattle.run_log.specs.declared.logs.ProcessLog.{ProcessLog}
 use Rattle.run_log.specs.declared.logs.Snapshot.{Snapshot}

@@ -1,6 +1,6 @@
 -- A lawful log has what needs no run.
 use Rattle.std.proofs.lemmas.List.Elements.{All-from_recursion}
-use Rattle.script_text.specs.declared.script.Script.{Script}
+use Rattle.script_core.specs.declared.script.Script.{Script}
 use Rattle.run_log.specs.declared.logs.ProcessLog.{ProcessLog}
 use Rattle.run_log.specs.declared.logs.RunLog.{RunLog}
 use Rattle.run_log.specs.Legal.{Legal}

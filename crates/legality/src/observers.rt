@@ -6,7 +6,7 @@ ghost use Rattle.snapshots.specs.Texts.{AreOfTexts};
 ghost use Rattle.legality.specs.Observers.{AreShotsJudged, SeesSo};
 
 use run_log::{ExportList, Snapshot, SnapshotList};
-use script_text::Script;
+use script_core::Script;
 use server_core::Server;
 use snapshots::{MfaList, exports_of};
 use std::alloc::Global;

@@ -1,10 +1,10 @@
 ghost use Rattle.std.specs.Prelude.{◌↔◌, IsTrue};
-ghost use Rattle.script_text.specs.Sound.{IsScript};
+ghost use Rattle.script_core.specs.Sound.{IsScript};
 ghost use Rattle.legality.specs.Shape.{IsShaped};
 
 use log_shape::{has_commands_in_order, is_complete, snapshots_fit, spans_rise, spawns_come_first};
 use run_log::RunLog;
-use script_text::Script;
+use script_core::Script;
 
 /// Whether the log has what needs no run.
 pub fn is_shaped(script: &Script, log: &RunLog) -> bool

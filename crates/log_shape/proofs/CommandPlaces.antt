@@ -6,14 +6,16 @@ use Rattle.std.proofs.lemmas.List.{drop_all, length-drop}
 use Rattle.std.proofs.lemmas.Bool.Decides.{Decides-eqb}
 use Rattle.server_core.specs.declared.command.Cmd.{Cmd}
 use Rattle.server_core.specs.declared.command.Cmd.TheVariants as cmds
-use Rattle.script_text.specs.declared.script.ScriptCmd.{ScriptCmd}
+use Rattle.script_core.specs.declared.script.ScriptCmd.{ScriptCmd}
 use Rattle.run_log.specs.declared.logs.Entry.{Entry}
 use Rattle.run_log.specs.declared.logs.Who.{Who}
 use Rattle.run_log.specs.declared.logs.Who.TheVariants.{Loader}
 use Rattle.run_log.specs.Journal.{is_of, entries_of, ends_one}
 use Rattle.run_log.specs.Legal.{ended_by, commands_in}
-use Rattle.log_shape.specs.Places.{AreLeft, commands_at, place_of}
-use Rattle.log_shape.proofs.ListPlaces.{got, drop_next, drop_begins}
+use Rattle.log_shape.specs.Places.{AreLeft, place_of}
+use Rattle.script_core.specs.Processes.{commands_at}
+use Rattle.script_core.proofs.JoinedPlaces.{got}
+use Rattle.log_shape.proofs.ListPlaces.{drop_next, drop_begins}
 
 -- an entry of a loader ends a command of that loader
 pub commands_of_own : (loader : ℕ) (e : Entry) (journal : List Entry) → is_of loader e.who ≡ true → commands_in loader (e ∷ journal) ≡ ended_by e.cmd ++ commands_in loader journal

@@ -3,6 +3,5 @@ pub mod RisingNumbers
 pub mod SameParts
 pub mod ListPlaces
 pub mod CommandPlaces
-pub mod SpawnLines
 pub mod SpawnSteps
 pub mod LogsMatching

@@ -4,10 +4,11 @@ use Rattle.std.proofs.lemmas.Bool.Decides.{Decides-eqb}
 use Rattle.term_core.proofs.Lefts.{left_from}
 use Rattle.term_core.specs.declared.atom.Mfa.{Mfa}
 use Rattle.term_core.specs.PlainTerm.{PlainTerm}
-use Rattle.script_text.specs.declared.script.ScriptCmd.{ScriptCmd}
-use Rattle.script_text.specs.declared.script.ScriptCmd.TheVariants.{Spawn}
+use Rattle.script_core.specs.declared.script.ScriptCmd.{ScriptCmd}
+use Rattle.script_core.specs.declared.script.ScriptCmd.TheVariants.{Spawn}
 use Rattle.run_log.specs.declared.logs.ProcessLog.{ProcessLog}
-use Rattle.run_log.specs.Legal.{SpawnLine, LogsMatch, spawns_from, spawns_of}
+use Rattle.script_core.specs.Processes.{SpawnLine, spawns_from, spawns_of}
+use Rattle.run_log.specs.Legal.{LogsMatch}
 use Rattle.log_shape.proofs.Equivalences.{through, of_equal}
 
 -- a log is matched with a call alone, wherever the spawn stands

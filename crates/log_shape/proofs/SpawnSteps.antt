@@ -8,10 +8,10 @@ use Rattle.term_core.specs.declared.atom.Mfa.{Mfa}
 use Rattle.term_core.specs.PlainTerm.{PlainTerm}
 use Rattle.server_core.specs.declared.command.Cmd.{Cmd}
 use Rattle.server_core.specs.declared.command.Cmd.TheVariants as cmds
-use Rattle.script_text.specs.declared.script.Script.{Script}
-use Rattle.script_text.specs.declared.script.ScriptCmd.{ScriptCmd}
-use Rattle.script_text.specs.declared.script.ScriptCmd.TheVariants.{Spawn}
-use Rattle.script_text.specs.Sound.{spawns_in}
+use Rattle.script_core.specs.declared.script.Script.{Script}
+use Rattle.script_core.specs.declared.script.ScriptCmd.{ScriptCmd}
+use Rattle.script_core.specs.declared.script.ScriptCmd.TheVariants.{Spawn}
+use Rattle.script_core.specs.Processes.{spawns_in, commands_at, spawn_count, first_number, spawn_number}
 use Rattle.run_log.specs.declared.logs.Entry.{Entry}
 use Rattle.run_log.specs.declared.logs.ProcessLog.{ProcessLog}
 use Rattle.run_log.specs.declared.logs.RunLog.{RunLog}
@@ -19,12 +19,11 @@ use Rattle.run_log.specs.declared.logs.Who.{Who}
 use Rattle.run_log.specs.declared.logs.Who.TheVariants.{Loader, Runtime}
 use Rattle.run_log.specs.Journal.{is_of, ends_one, ends_command, publishes, published_before}
 use Rattle.run_log.specs.Legal.{SpawnBeforeTurns, commands_in, commands_of, ended_by}
-use Rattle.log_shape.specs.Places.{commands_at}
-use Rattle.log_shape.specs.SpawnNumbers.{spawn_count, first_number, is_spawn, spawned_by, spawning_loader, BeginsFrom, HasMovedOn, moved_on, stays_behind, CommandsFit, LaterSpawnsFit}
+use Rattle.log_shape.specs.SpawnNumbers.{is_spawn, spawned_by, spawning_loader, BeginsFrom, HasMovedOn, moved_on, stays_behind, CommandsFit, LaterSpawnsFit}
 use Rattle.log_shape.proofs.Equivalences.{through, of_equal}
 use Rattle.log_shape.proofs.ListPlaces.{within}
 use Rattle.log_shape.proofs.CommandPlaces.{commands_of_own, commands_of_other, ends_none, ends_some, is_own, is_other, leaves_all, none_beyond}
-use Rattle.log_shape.proofs.SpawnLines.{LineAt, spawn_number, line_at, spawn_at}
+use Rattle.script_core.proofs.SpawnLines.{LineAt, line_at, spawn_at}
 
 -- so many were published before a later command of the loader
 before_on : (loader : ℕ) (e : Entry) (journal : List Entry) → ends_command loader e ≡ false → (place : ℕ) → published_before loader place (e ∷ journal) ≡ publishes e + published_before loader place journal

@@ -1,13 +1,10 @@
 -- How many commands of each loader the entries so far have ended, as a list of counts; and what is left to be ended by those behind.
 -- Source: this project's profile. Private contracts alone cite it.
-use Rattle.std.specs.Prelude.{◌≡◌, ℕ, List, [], drop, slice_get, slice_index, unwrap_or}
-use Rattle.script_text.specs.declared.script.ScriptCmd.{ScriptCmd}
+use Rattle.std.specs.Prelude.{◌≡◌, ℕ, List, drop, slice_index}
+use Rattle.script_core.specs.declared.script.ScriptCmd.{ScriptCmd}
+use Rattle.script_core.specs.Processes.{commands_at}
 use Rattle.run_log.specs.declared.logs.Entry.{Entry}
 use Rattle.run_log.specs.Legal.{commands_in}
-
--- the commands of a loader, or none where there is no such loader
-abbrev pub commands_at : List (List ScriptCmd) → ℕ → List ScriptCmd
-commands_at loaders loader = unwrap_or (slice_get loaders loader) []
 
 -- how many commands of a loader were ended
 abbrev pub place_of : List ℕ → ℕ → ℕ

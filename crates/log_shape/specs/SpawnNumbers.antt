@@ -1,27 +1,19 @@
--- The numbers of processes, by the spawns of each loader; and what is left to be asked of the first turns of those whose spawns are still to come.
+-- What is left to be asked of the first turns of the processes whose spawns are still to come.
 -- Source: this project's profile. Private contracts alone cite it.
-use Rattle.std.specs.Prelude.{◌≡◌, ℕ, ◌+◌, ◌<◌, ◌≤◌, List, length, take, slice_get, slice_index, slice_set, sum_by, Bool, true, false, Option, None, Some, IfSome, if◌then◌else◌}
+use Rattle.std.specs.Prelude.{◌≡◌, ℕ, ◌+◌, ◌<◌, ◌≤◌, List, length, take, slice_get, slice_index, slice_set, Bool, true, false, Option, None, Some, IfSome, if◌then◌else◌}
 use Rattle.term_core.specs.declared.atom.Mfa.{Mfa}
 use Rattle.term_core.specs.PlainTerm.{PlainTerm}
 use Rattle.server_core.specs.declared.command.Cmd.{Cmd}
 use Rattle.server_core.specs.declared.command.Cmd.TheVariants as cmds
-use Rattle.script_text.specs.declared.script.ScriptCmd.{ScriptCmd}
-use Rattle.script_text.specs.declared.script.ScriptCmd.TheVariants as script
-use Rattle.script_text.specs.Sound.{spawns_in}
+use Rattle.script_core.specs.declared.script.ScriptCmd.{ScriptCmd}
+use Rattle.script_core.specs.declared.script.ScriptCmd.TheVariants as script
+use Rattle.script_core.specs.Processes.{spawn_count}
 use Rattle.run_log.specs.declared.logs.Entry.{Entry}
 use Rattle.run_log.specs.declared.logs.ProcessLog.{ProcessLog}
 use Rattle.run_log.specs.declared.logs.Who.{Who}
 use Rattle.run_log.specs.declared.logs.Who.TheVariants.{Loader, Runtime}
 use Rattle.run_log.specs.Journal.{published_before}
 use Rattle.run_log.specs.Legal.{commands_in, first_generation}
-
--- how many spawns stand among these commands
-abbrev pub spawn_count : List ScriptCmd → ℕ
-spawn_count commands = sum_by spawns_in commands
-
--- the number of a loader's first process: so many spawns stand in the loaders before it
-abbrev pub first_number : List (List ScriptCmd) → ℕ → ℕ
-first_number loaders loader = sum_by spawn_count (take loader loaders)
 
 -- whether a command is a spawn
 abbrev pub is_spawn : Cmd → Bool

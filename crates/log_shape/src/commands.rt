@@ -1,10 +1,10 @@
 ghost use Rattle.std.specs.Prelude.{◌≡◌, ◌∷◌, [], ◌↔◌, IsTrue};
-ghost use Rattle.script_text.specs.declared.script.ScriptCmd.TheVariants as script;
+ghost use Rattle.script_core.specs.declared.script.ScriptCmd.TheVariants as script;
 ghost use Rattle.run_log.specs.Journal.{ends_one};
 ghost use Rattle.run_log.specs.Legal.{ended_by};
 
 use crate::same::{are_same_references, are_same_terms, is_same_function, is_same_term};
-use script_text::ScriptCmd;
+use script_core::ScriptCmd;
 use server_core::{Cmd, RefList};
 use term_core::{AtomId, Mfa, Term, TermList};
 

@@ -1,11 +1,12 @@
 ghost use Rattle.std.specs.Prelude.{◌≡◌, ◌≢◌, ◌≤◌, ◌↔◌, length, All, IsTrue};
 ghost use Rattle.std.specs.List.{AllByRecursion};
-ghost use Rattle.run_log.specs.Legal.{Complete, LogsMatch, spawns_of};
+ghost use Rattle.run_log.specs.Legal.{Complete, LogsMatch};
+ghost use Rattle.script_core.specs.Processes.{spawns_of};
 
 use crate::generations::published_count;
 use crate::matching::has_process_logs;
 use run_log::{ObserverList, ProcessLog, ProcessLogList, RunLog, SnapshotList};
-use script_text::Script;
+use script_core::Script;
 
 fn has_turn(process: &ProcessLog) -> bool
     ensures { IsTrue result ↔ (length process.now.spans ≢ 0) }

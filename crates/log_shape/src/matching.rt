@@ -1,10 +1,11 @@
-ghost use Rattle.std.specs.Prelude.{◌≡◌, ◌∷◌, [], ◌++◌, ◌↔◌, ℕ, List, IsTrue, IsSomeAnd};
-ghost use Rattle.script_text.specs.declared.script.ScriptCmd.{ScriptCmd};
-ghost use Rattle.run_log.specs.Legal.{SpawnLine, LogsMatch, spawns_from, spawns_of};
+ghost use Rattle.std.specs.Prelude.{◌≡◌, ◌∷◌, ◌++◌, ◌↔◌, ℕ, List, IsTrue, IsSomeAnd};
+ghost use Rattle.script_core.specs.declared.script.ScriptCmd.{ScriptCmd};
+ghost use Rattle.script_core.specs.Processes.{SpawnLine, spawns_from, spawns_of};
+ghost use Rattle.run_log.specs.Legal.{LogsMatch};
 
 use crate::same::{are_same_terms, is_same_function};
 use run_log::{ProcessLog, RunLog};
-use script_text::{CommandList, Script, ScriptCmd};
+use script_core::{CommandList, Script, ScriptCmd};
 use term_core::{Mfa, TermList};
 
 // Whether a process log is of a call.

@@ -1,14 +1,15 @@
 ghost use Rattle.std.specs.Prelude.{◌≡◌, ◌∷◌, [], ◌+◌, ◌^◌, ◌<◌, ◌≤◌, ◌↔◌, ℕ, List, length, slice_get, IsTrue, OnSome};
 ghost use Rattle.std.specs.Option.{option_copied};
-ghost use Rattle.script_text.specs.Sound.{IsScript};
+ghost use Rattle.script_core.specs.Sound.{IsScript};
 ghost use Rattle.run_log.specs.declared.logs.Entry.{Entry};
 ghost use Rattle.run_log.specs.declared.logs.Who.TheVariants.{Loader};
 ghost use Rattle.run_log.specs.Legal.{commands_in, commands_of};
-ghost use Rattle.log_shape.specs.Places.{AreLeft, commands_at, place_of};
+ghost use Rattle.log_shape.specs.Places.{AreLeft, place_of};
+ghost use Rattle.script_core.specs.Processes.{commands_at};
 
 use crate::commands::{ends_one, is_end_of};
 use run_log::{Entry, RunLog, Who};
-use script_text::{LoaderList, MOST_LOADERS, Script, ScriptCmd};
+use script_core::{LoaderList, MOST_LOADERS, Script, ScriptCmd};
 
 // The first of a loader's commands that no entry has ended.
 fn next_command<'a>(

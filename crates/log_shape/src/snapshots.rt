@@ -1,11 +1,11 @@
-ghost use Rattle.std.specs.Prelude.{◌≡◌, ◌↔◌, ℕ, List, length, slice_get, Option, Some, IsTrue, IfSome};
+ghost use Rattle.std.specs.Prelude.{◌≡◌, ◌↔◌, length, IsTrue, IfSome};
 ghost use Rattle.std.specs.List.{AllByRecursion};
 ghost use Rattle.std.specs.Option.{option_copied};
 ghost use Rattle.run_log.specs.Legal.{AreRising};
 ghost use Rattle.log_shape.specs.SnapshotShape.{HaveCounts, SnapshotsFit};
 
 use run_log::{ObserverList, RunLog, SnapshotList};
-use script_text::Script;
+use script_core::Script;
 use term_core::CountList;
 
 fn has_count(shots: &SnapshotList, count: Option<&u64>) -> bool

@@ -1,42 +1,14 @@
-ghost use Rattle.std.specs.Prelude.{◌≡◌, ◌∷◌, ◌+◌, ◌<◌, ◌≤◌, ◌↔◌, ℕ, List, length, slice_get, slice_index, sum_by, IsTrue, IfSome};
-ghost use Rattle.script_text.specs.Sound.{IsScript, spawns_in};
+ghost use Rattle.std.specs.Prelude.{◌≡◌, ◌∷◌, ◌+◌, ◌<◌, ◌↔◌, ℕ, List, length, slice_get, slice_index, IsTrue, IfSome};
+ghost use Rattle.script_core.specs.Sound.{IsScript};
 ghost use Rattle.run_log.specs.declared.logs.Entry.{Entry};
 ghost use Rattle.run_log.specs.Journal.{publishes};
 ghost use Rattle.run_log.specs.Legal.{SpawnBeforeTurns, commands_in, commands_of};
-ghost use Rattle.log_shape.specs.SpawnNumbers.{first_number, is_spawn, spawning_loader, BeginsFrom, HasMovedOn, LaterSpawnsFit};
+ghost use Rattle.log_shape.specs.SpawnNumbers.{is_spawn, spawning_loader, BeginsFrom, HasMovedOn, LaterSpawnsFit};
 
 use crate::generations::publishes;
 use run_log::{Entry, ProcessLog, RunLog, Who};
-use script_text::{CommandList, LoaderList, MOST_LOADERS, MOST_PROCESSES, Script, ScriptCmd};
+use script_core::{Script, first_numbers};
 use server_core::Cmd;
-
-fn spawn_count(commands: &CommandList) -> usize
-    ensures { result ≡ sum_by spawns_in commands.now }
-{
-    let mut count = 0;
-    for command in commands.as_slice() {
-        if let ScriptCmd::Spawn { .. } = command {
-            count += 1;
-        }
-    }
-    count
-}
-
-// The number of each loader's first process.
-fn first_numbers(loaders: &LoaderList) -> [usize; MOST_LOADERS]
-    requires few_loaders { length loaders.now ≤ MOST_LOADERS }
-    requires few_processes { sum_by (λ commands. sum_by spawns_in commands) loaders.now ≤ MOST_PROCESSES }
-    ensures first { (loader : ℕ) → loader < length loaders.now → slice_index result loader ≡ first_number loaders.now loader }
-    ensures long { length result ≡ MOST_LOADERS }
-{
-    let mut numbers = [0; MOST_LOADERS];
-    let mut next = 0;
-    for (loader, commands) in loaders.as_slice().iter().enumerate() {
-        numbers[loader] = next;
-        next += spawn_count(commands);
-    }
-    numbers
-}
 
 fn is_spawn(cmd: &Cmd) -> bool
     ensures { result ≡ is_spawn cmd.now }

@@ -23,9 +23,7 @@ use Rattle.mod_core.proofs.Heads.{first_function, head_word}
 mark_cases : (a b c d : Bool) → (a || (b && (c && d))) ≡ true → (a ≡ true) ⊎ ((b ≡ true) × (c ≡ true) × (d ≡ true))
 mark_cases true b c d e = inl refl
 mark_cases false true true true e = inr (refl, refl, refl)
-mark_cases false true true false e = absurd (false≢true e)
-mark_cases false true false d e = absurd (false≢true e)
-mark_cases false false c d e = absurd (false≢true e)
+mark_cases false b c d e = absurd (false≢true e)
 
 -- a mark is the serial or an entry word
 pub mark_is : (count at : ℕ) → is_mark count at ≡ true → (at ≡ 0) ⊎ ((i : ℕ) × ((i < count) × (at ≡ 4 + 4 * i + 2)))

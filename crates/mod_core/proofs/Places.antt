@@ -9,7 +9,7 @@ use Rattle.mod_core.specs.declared.code.Function.{Function}
 use Rattle.mod_core.specs.declared.code.Module.{Module}
 use Rattle.mod_core.specs.Module.{IsModule}
 use Rattle.mod_core.specs.ModuleImage.{code_constants, code_len, code_start, code_words, constants_len, constants_of, constants_start, constants_words, function_heads, function_len, function_place, function_words, functions_words, instr_constants, instr_words, module_image, place_from, place_in, placed, placed_code, return_ok}
-use Rattle.mod_core.proofs.Constants.{ConstantsStand, code_constants_split, constants_in, constants_of_split, constants_place, module_constants_stand, split_at, stand_behind, stand_front}
+use Rattle.mod_core.proofs.Constants.{code_constants_split, constants_in, constants_of_split, constants_place, module_constants_stand, split_at, stand_behind, stand_front}
 use Rattle.mod_core.proofs.Lengths.{code_words-append, code_words_len, constants_len-append, function_words_len, heads_len, image_end, placed_code_constants, placed_code_len, placed_constants}
 pub use Rattle.mod_core.proofs.Lengths.{image_len, placed_len}
 pub use Rattle.mod_core.proofs.Constants.{ConstantsStand}

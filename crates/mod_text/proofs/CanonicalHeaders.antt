@@ -9,7 +9,7 @@ use Rattle.term_core.proofs.Places.{position-map}
 use Rattle.mod_core.specs.declared.code.Function.{Function}
 use Rattle.mod_core.specs.Module.{SameFunction}
 use Rattle.mod_text.specs.ModuleValue.{HeaderForm, is_header}
-use Rattle.mod_text.proofs.Options.{same_bytes, bytes_are}
+use Rattle.term_core.proofs.Text.Options.{same_bytes, bytes_are}
 use Rattle.mod_text.proofs.CanonicalParts.{position-at, held_apart}
 use Rattle.mod_text.proofs.CanonicalInstrs.{AreCalled}
 

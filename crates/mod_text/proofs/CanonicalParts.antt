@@ -25,13 +25,15 @@ use Rattle.term_core.proofs.NameTables.{texts_are_atoms}
 use Rattle.term_core.proofs.Places.{position-cons}
 use Rattle.mod_core.specs.declared.code.Operand.{Operand}
 use Rattle.mod_core.specs.declared.code.Operand.TheVariants.{Reg, Const}
-use Rattle.mod_text.specs.Canonical.{label_text, written_operand, IsConstantAmong, IsOperandAmong}
+use Rattle.mod_text.specs.Canonical.{label_text, written_operand}
+use Rattle.mod_core.specs.HeldNames.{IsConstantAmong, IsOperandAmong}
 use Rattle.mod_text.specs.LineFaults.{is_high, has_high_operand, is_wide_operand, is_long_operand, operand_atoms}
 use Rattle.mod_core.specs.Module.{IsOperand, IsConstant}
-use Rattle.mod_text.specs.ModuleLine.{OperandForm, complex, number_value, is_number_text, is_arity_text, is_version_text, is_operand_form}
+use Rattle.term_core.specs.Text.Numbers.{number_value, is_number_text}
+use Rattle.mod_text.specs.ModuleLine.{OperandForm, complex, is_arity_text, is_version_text, is_operand_form}
 use Rattle.mod_text.specs.ModuleValue.{atom_in, operand_in}
-use Rattle.mod_text.proofs.Numbers.{decimal-writes}
-use Rattle.mod_text.proofs.Options.{same_bytes, bytes_are}
+use Rattle.term_core.proofs.Text.Numbers.{decimal-writes}
+use Rattle.term_core.proofs.Text.Options.{same_bytes, bytes_are}
 
 -- ---- lists
 

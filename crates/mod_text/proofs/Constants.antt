@@ -23,7 +23,7 @@ use Rattle.term_core.proofs.TextForms.{text_outside}
 use Rattle.mod_core.specs.Module.{IsConstant}
 use Rattle.mod_core.specs.ModuleImage.{constants_len, operand_constants}
 use Rattle.mod_text.specs.Keeping.{operand_form_words}
-use Rattle.mod_text.specs.ModuleLine.{OperandForm, register, integer, atom, complex, is_operand_form, LineForm, is_line_form}
+use Rattle.mod_text.specs.ModuleLine.{OperandForm, complex, is_operand_form, LineForm, is_line_form}
 use Rattle.mod_text.specs.ModuleValue.{operand_in}
 
 -- a line whose parts are of their forms
@@ -102,12 +102,10 @@ says names text h =
 
 -- the words of an operand's constant
 pub operand_constant_words : (names : List (List ℕ)) (o : OperandForm) → is_operand_form o ≡ true → constants_len (operand_constants (operand_in names o)) ≡ operand_form_words o
-operand_constant_words names (register digits) h = refl
-operand_constant_words names (integer text) h = refl
-operand_constant_words names (atom text) h = refl
 operand_constant_words names (complex text) h =
     let s = says names text h in
     ap (λ t. constants_len (cond t [] (plain (term_of (term_in names text)) ∷ []))) s.complex ∙ omega (arith, s.words)
+operand_constant_words names o h = refl
 
 -- a constant within its limits
 pub constant_is : (names : List (List ℕ)) (text : List ℕ) → is_complex_text text ≡ true → is_wide_text text ≡ false → nat_lt 64 (text_words text) ≡ false → ((t : List ℕ) → number_in names t < 4096) → IsConstant (term_of (term_in names text))

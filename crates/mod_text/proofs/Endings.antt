@@ -44,16 +44,12 @@ module _ (before : List (List ℕ)) (bytes : List ℕ) (first : ℕ) (after : Li
   read_is _ (read forms m e value settled) =
       let is = bytes_are_read before bytes after forms e in
       record { lines = forms; spelled = is.spelled; faultless = is.faultless; closed = is.closed; settled = settled; named = is.names_are; value = value }
-  read_is _ (missing forms number fault e lacking is) = tt
-  read_is _ (stopped stop fault so is) = tt
-  read_is _ (no_memory fault is) = tt
+  read_is _ _ = tt
 
   -- and a module
   pub sound_is : (r : Result Module ModFault) → length before ≤ 4096 → Ends before bytes first after r → IfOk r IsModule
   sound_is _ room (read forms m e value settled) = module_is_sound before bytes m after room (read_is (Ok m) (read forms m e value settled))
-  sound_is _ room (missing forms number fault e lacking is) = tt
-  sound_is _ room (stopped stop fault so is) = tt
-  sound_is _ room (no_memory fault is) = tt
+  sound_is _ room _ = tt
 
   -- ---- each text of a module is read
 

@@ -1,16 +1,15 @@
 -- The atoms of a line, and the names after them.
-use Rattle.std.proofs.Common.{◌≡◌, ℕ, ◌<◌, ◌≤◌, Bool, true, false, cond, ◌&&◌, nat_lt, List, [], ◌∷◌, ◌++◌, length, Option, Some, None, is_some, Result, Ok, Err, refl, sym, ap, ◌∙◌, subst, arith, length-append, append_assoc}
+use Rattle.std.proofs.Common.{◌≡◌, ℕ, ◌≤◌, Bool, true, false, cond, ◌&&◌, nat_lt, List, [], ◌∷◌, ◌++◌, length, Option, Some, None, is_some, Result, Ok, Err, refl, sym, ap, ◌∙◌, subst, arith, length-append}
 use Rattle.std.specs.List.{list_all}
 use Rattle.std.proofs.lemmas.Bool.{and_parts, and_from}
 use Rattle.std.proofs.lemmas.Bool.Decides.{nat_tests}
-use Rattle.std.proofs.lemmas.List.{append-nil}
 use Rattle.std.proofs.lemmas.List.Folds.{list_all-append}
-use Rattle.term_core.specs.Names.{is_atom_text, names_with, number_of, IsNames, Extends, AtomText}
+use Rattle.term_core.specs.Names.{is_atom_text, names_with, number_of}
 use Rattle.term_core.specs.TermText.{names_with_all}
-use Rattle.term_core.proofs.NameTables.{named_anew}
 use Rattle.mod_text.specs.declared.fault.LineFault.{LineFault}
 use Rattle.mod_text.specs.declared.fault.LineFault.TheVariants as faults
-use Rattle.mod_text.specs.ModuleLine.{OperandForm, register, integer, atom, complex, InstrForm, move, add, sub, eq, less, jump, call, call_ext, ret, pget, pget_or, elem, print, yield, LineForm, title, header, label, instr, end, is_number_text, is_operand_form, is_function_form, is_instr_form, is_line_form, is_arity_text, is_version_text}
+use Rattle.term_core.specs.Text.Numbers.{is_number_text}
+use Rattle.mod_text.specs.ModuleLine.{OperandForm, register, integer, atom, complex, InstrForm, move, add, sub, eq, less, jump, call, call_ext, ret, pget, pget_or, elem, print, yield, LineForm, title, header, label, instr, end, is_operand_form, is_function_form, is_instr_form, is_line_form, is_arity_text, is_version_text}
 use Rattle.mod_text.specs.LineFaults.{operand_atoms, instr_atoms, line_atoms}
 use Rattle.mod_text.specs.Keeping.{naming}
 use Rattle.mod_text.specs.Reading.{Fails, Gives}
@@ -139,55 +138,3 @@ pub goes_on : {X : Type 0} (view : X → List (List ℕ)) (r : Result X LineFaul
 goes_on view r names between xs ys first h = subst (Gives view r) (sym (second_goes_on names xs ys between first)) h
 
 -- ---- one atom
-
-pub Extends-trans : (a b c : List (List ℕ)) → Extends a b → Extends b c → Extends a c
-Extends-trans a b c e f = record { more = e.more ++ f.more; whole = f.whole ∙ ap (λ ns. ns ++ f.more) e.whole ∙ append_assoc a e.more f.more }
-
--- no atom is named at once
-pub naming_none : (names : List (List ℕ)) → IsNames names → naming names [] ≡ Ok names
-naming_none names sound =
-    let room = sound.room in
-    let fits : nat_lt 4096 (length names) ≡ false = grind (arith, nat_tests) in
-    ap (λ t. cond {A = Result (List (List ℕ)) LineFault} t (Err faults.Names) (Ok names)) fits
-
--- an atom with a number was named
-pub naming_one : (names after : List (List ℕ)) (text : List ℕ) (n : ℕ) → AtomText names text n after → naming names (text ∷ []) ≡ Ok after
-naming_one names after text n t =
-    let room : length (names_with names text) ≤ 4096 = omega (arith, t.room, ap length t.named) in
-    let fits : nat_lt 4096 (length (names_with names text)) ≡ false = grind (arith, nat_tests) in
-    ap (λ t. cond {A = Result (List (List ℕ)) LineFault} t (Err faults.Names) (Ok (names_with names text))) fits ∙ ap (λ ns. Ok ns) (sym t.named)
-
--- texts were named, within the room of a table
-pub naming_all : (names after : List (List ℕ)) (texts : List (List ℕ)) → after ≡ names_with_all names texts → IsNames after → naming names texts ≡ Ok after
-naming_all names after texts is sound =
-    let room = sound.room in
-    let few : length (names_with_all names texts) ≤ 4096 = omega (arith, room, ap length is) in
-    let fits : nat_lt 4096 (length (names_with_all names texts)) ≡ false = grind (arith, nat_tests) in
-    ap (λ t. cond {A = Result (List (List ℕ)) LineFault} t (Err faults.Names) (Ok (names_with_all names texts))) fits ∙ ap (λ ns. Ok ns) (sym is)
-
--- or else there are too many of them
-pub naming_over_all : (names texts : List (List ℕ)) → 4096 < length (names_with_all names texts) → naming names texts ≡ Err faults.Names
-naming_over_all names texts many =
-    let over : nat_lt 4096 (length (names_with_all names texts)) ≡ true = grind (arith, nat_tests) in
-    ap (λ t. cond {A = Result (List (List ℕ)) LineFault} t (Err faults.Names) (Ok (names_with_all names texts))) over
-
--- a new one has no room in a full table
-pub naming_full : (names : List (List ℕ)) (text : List ℕ) → number_of names text ≡ None → length names ≡ 4096 → naming names (text ∷ []) ≡ Err faults.Names
-naming_full names text none full =
-    let longer = ap length (named_anew names text none) ∙ length-append names (text ∷ []) in
-    let over : nat_lt 4096 (length (names_with names text)) ≡ true = grind (arith, nat_tests) in
-    ap (λ t. cond {A = Result (List (List ℕ)) LineFault} t (Err faults.Names) (Ok (names_with names text))) over
-
-extends_by : (names : List (List ℕ)) (text : List ℕ) (o : Option ℕ) → Extends names (cond (is_some o) names (names ++ text ∷ []))
-extends_by names text None = record { more = text ∷ []; whole = refl }
-extends_by names text (Some n) = record { more = []; whole = sym (append-nil names) }
-
--- the names before stay
-pub Extends-named : (names after : List (List ℕ)) (text : List ℕ) (n : ℕ) → AtomText names text n after → Extends names after
-Extends-named names after text n t = subst (Extends names) (sym t.named) (extends_by names text (number_of names text))
-
-pub Extends-same : (names : List (List ℕ)) → Extends names names
-Extends-same names = record { more = []; whole = sym (append-nil names) }
-
-pub Extends-equal : (names after : List (List ℕ)) → after ≡ names → Extends names after
-Extends-equal names after same = subst (Extends names) (sym same) (Extends-same names)

@@ -8,7 +8,8 @@ use Rattle.term_core.specs.Names.{is_atom_text}
 use Rattle.term_core.specs.PlainTerm.{PlainTerm}
 use Rattle.mod_core.proofs.ImageWords.{image_len}
 use Rattle.mod_core.specs.ModuleImage.{code_len, instr_len, function_len, operand_constants, instr_constants, code_constants, constants_of, constants_len, module_image}
-use Rattle.mod_text.specs.ModuleLine.{OperandForm, InstrForm, move, add, sub, eq, less, jump, call, call_ext, ret, pget, pget_or, elem, print, yield, LineForm, title, header, label, instr, end, is_number_text, is_operand_form, is_instr_form}
+use Rattle.term_core.specs.Text.Numbers.{is_number_text}
+use Rattle.mod_text.specs.ModuleLine.{OperandForm, InstrForm, move, add, sub, eq, less, ret, pget_or, elem, print, LineForm, title, header, label, instr, end, is_operand_form, is_instr_form}
 use Rattle.mod_text.specs.ModuleValue.{FunctionForm, HeaderForm, body_of, functions_in, headers_in, instrs_in, operand_in, instr_in, function_in, module_of}
 use Rattle.mod_text.specs.LineFaults.{is_in_function, ends_too_long}
 use Rattle.mod_text.specs.Keeping.{RowFrom, IsKept, operand_form_words, instr_form_words, line_words, lines_words}
@@ -37,15 +38,11 @@ instr_len_in names headers body (add a b to) h = two_words names a b (is_number_
 instr_len_in names headers body (sub a b to) h = two_words names a b (is_number_text to) h
 instr_len_in names headers body (eq a b target) h = two_words names a b (is_atom_text target) h
 instr_len_in names headers body (less a b target) h = two_words names a b (is_atom_text target) h
-instr_len_in names headers body (jump target) h = refl
-instr_len_in names headers body (call name arity at) h = refl
-instr_len_in names headers body (call_ext name function arity at) h = refl
 instr_len_in names headers body (ret value) h = ap (λ n. 2 + n) (operand_constant_words names value h)
-instr_len_in names headers body (pget key to) h = refl
 instr_len_in names headers body (pget_or key other to) h = one_words names other (is_number_text to) 4 (and_parts (is_atom_text key) (is_operand_form other && is_number_text to) h).1
 instr_len_in names headers body (elem index from to) h = two_words names index from (is_number_text to) h
 instr_len_in names headers body (print value) h = ap (λ n. 2 + n) (operand_constant_words names value h)
-instr_len_in names headers body yield h = refl
+instr_len_in names headers body i h = refl
 
 -- ---- code
 
@@ -62,12 +59,9 @@ instrs_sound (instr i ∷ lines) h = All-cons IsSoundInstr i (instrs_in lines) (
 instrs_sound (end ∷ lines) h = instrs_sound lines (All-tail IsSound end lines h)
 
 body_sound : (lines : List LineForm) → All IsSound lines → All IsSound (body_of lines)
-body_sound [] h = All-nil IsSound
-body_sound (title name version ∷ lines) h = All-nil IsSound
-body_sound (header exported name arity ∷ lines) h = All-nil IsSound
 body_sound (label name ∷ lines) h = All-cons IsSound (label name) (body_of lines) (All-head IsSound (label name) lines h) (body_sound lines (All-tail IsSound (label name) lines h))
 body_sound (instr i ∷ lines) h = All-cons IsSound (instr i) (body_of lines) (All-head IsSound (instr i) lines h) (body_sound lines (All-tail IsSound (instr i) lines h))
-body_sound (end ∷ lines) h = All-nil IsSound
+body_sound lines h = All-nil IsSound
 
 -- a function each of whose lines is of its form
 abbrev pub IsSoundFunction : FunctionForm → Type 0

@@ -10,9 +10,10 @@ use Rattle.term_core.specs.TermText.{number_in}
 use Rattle.term_core.proofs.NameTables.{slice_get-number_of}
 use Rattle.mod_core.specs.declared.code.Module.{Module}
 use Rattle.mod_text.specs.declared.fault.ModFault.{ModFault}
-use Rattle.mod_text.specs.Canonical.{IsOperandAmong, HasAtomsAmong, IsFunctionHeld, IsModuleHeld}
-use Rattle.mod_text.specs.Ending.{Ends, read, missing, stopped, no_memory}
-use Rattle.mod_text.specs.ModuleLine.{OperandForm, register, integer, atom, complex, InstrForm, move, add, sub, eq, less, jump, call, call_ext, ret, pget, pget_or, elem, print, yield, LineForm, is_number_text, is_operand_form, is_instr_form}
+use Rattle.mod_core.specs.HeldNames.{IsOperandAmong, HasAtomsAmong, IsFunctionHeld, IsModuleHeld}
+use Rattle.mod_text.specs.Ending.{Ends, read}
+use Rattle.term_core.specs.Text.Numbers.{is_number_text}
+use Rattle.mod_text.specs.ModuleLine.{OperandForm, register, integer, atom, complex, InstrForm, move, add, sub, eq, less, jump, call, call_ext, ret, pget, pget_or, elem, print, yield, LineForm, is_operand_form, is_instr_form}
 use Rattle.mod_text.specs.ModuleValue.{FunctionForm, HeaderForm, functions_in, headers_in, instrs_in, operand_in, instr_in, function_in, module_of}
 use Rattle.mod_text.specs.LineFaults.{names_after}
 use Rattle.mod_text.specs.ModuleText.{FollowOn}
@@ -86,6 +87,4 @@ sound_lines names before (line ∷ lines) follow = All-cons IsSound line lines f
 pub held_is : (before : List (List ℕ)) (bytes : List ℕ) (first : ℕ) (after : List (List ℕ)) (r : Result Module ModFault) → IsNames after → Ends before bytes first after r → IfOk r (λ m. IsModuleHeld after m)
 held_is before bytes first after _ sound (read forms m e value settled) =
     subst (IsModuleHeld after) (sym value) (module_held after (some_names after sound) forms (sound_lines before [] forms (bytes_are_read before bytes after forms e).faultless))
-held_is before bytes first after _ sound (missing forms number fault e lacking is) = tt
-held_is before bytes first after _ sound (stopped stop fault so is) = tt
-held_is before bytes first after _ sound (no_memory fault is) = tt
+held_is before bytes first after _ sound _ = tt

@@ -23,7 +23,8 @@ use Rattle.mod_core.specs.declared.code.Module.{Module}
 use Rattle.mod_text.specs.declared.fault.LineFault.TheVariants as faults
 use Rattle.mod_core.specs.Module.{IsOperand, IsCallPlace, IsInstr, IsFunction, SameFunction, IsModule}
 use Rattle.mod_core.specs.ModuleImage.{module_image}
-use Rattle.mod_text.specs.ModuleLine.{OperandForm, register, integer, atom, complex, InstrForm, move, add, sub, eq, less, jump, call, call_ext, ret, pget, pget_or, elem, print, yield, LineForm, title, header, label, instr, end, is_number_text, is_version_text, is_arity_text, is_operand_form, is_function_form, number_value}
+use Rattle.term_core.specs.Text.Numbers.{is_number_text, number_value}
+use Rattle.mod_text.specs.ModuleLine.{OperandForm, register, integer, atom, complex, InstrForm, move, add, sub, eq, less, jump, call, call_ext, ret, pget, pget_or, elem, print, yield, LineForm, title, header, label, instr, end, is_version_text, is_arity_text, is_operand_form, is_function_form}
 use Rattle.mod_text.specs.ModuleValue.{FunctionForm, HeaderForm, body_of, functions_in, headers_in, instrs_in, is_header, label_number, function_number, atom_in, operand_in, target_in, instr_in, function_in, title_of, module_of, IsTitled, is_settled, unsettled_at, unsettled_in, earlier, first_unsettled}
 use Rattle.mod_text.specs.LineFaults.{last_line, is_high, has_high_operand, is_high_call, has_high_register, is_wide_operand, has_wide_integer, is_long_operand, has_long_term, names_after, overfills_names, is_seventeenth, ends_too_long, is_repeated, fault_of_line, line_atoms}
 use Rattle.mod_text.specs.ModuleText.{FollowOn, names_behind, AreLines, ModuleText}
@@ -31,7 +32,7 @@ use Rattle.mod_text.specs.Keeping.{RowFrom, IsKept, IsKeptInstr}
 use Rattle.mod_text.proofs.Constants.{IsSound, constant_is}
 use Rattle.mod_text.proofs.LineWords.{image_words, kept_sound}
 use Rattle.mod_text.proofs.Keepings.{headers_in-append, last_line-push}
-use Rattle.mod_text.proofs.Options.{some_is, same_bytes, bytes_are}
+use Rattle.term_core.proofs.Text.Options.{some_is, same_bytes, bytes_are}
 use Rattle.mod_text.proofs.Settles.{kept_body}
 use Rattle.mod_text.proofs.TextLaws.{titled_is}
 
@@ -307,14 +308,11 @@ module _ (names : List (List ℕ)) (forms : List FunctionForm) (room : length na
 
 -- after a line there are at most sixteen headers, where it was no seventeenth
 few_after : (before : List LineForm) (line : LineForm) → is_seventeenth before line ≡ false → length (headers_in before) ≤ 16 → length (headers_in before ++ headers_in (line ∷ [])) ≤ 16
-few_after before (title name version) h few = omega (arith, few, length-append (headers_in before) [])
 few_after before (header exported name arity) h few =
     let below : nat_le 16 (length (headers_in before)) ≡ false = h in
     let one_more : length (headers_in before) + 1 ≤ 16 = grind (arith, nat_tests) in
     omega (arith, one_more, length-append (headers_in before) ((name, arity) ∷ []))
-few_after before (label name) h few = omega (arith, few, length-append (headers_in before) [])
-few_after before (instr i) h few = omega (arith, few, length-append (headers_in before) [])
-few_after before end h few = omega (arith, few, length-append (headers_in before) [])
+few_after before line h few = omega (arith, few, length-append (headers_in before) [])
 
 pub heads_few : (names : List (List ℕ)) (before lines : List LineForm) → FollowOn names before lines → length (headers_in before) ≤ 16 → length (headers_in (before ++ lines)) ≤ 16
 heads_few names before [] follow few = subst (λ ls. length (headers_in ls) ≤ 16) (sym (append-nil before)) few
@@ -369,11 +367,8 @@ apart_more hs h apart new = λ i j a b below at_i at_j same.
     ]
 
 apart_after : (before : List LineForm) (line : LineForm) → is_repeated before line ≡ false → HeadsApart (headers_in before) → HeadsApart (headers_in before ++ headers_in (line ∷ []))
-apart_after before (title name version) new apart = subst HeadsApart (sym (append-nil (headers_in before))) apart
 apart_after before (header exported name arity) new apart = apart_more (headers_in before) (name, arity) apart new
-apart_after before (label name) new apart = subst HeadsApart (sym (append-nil (headers_in before))) apart
-apart_after before (instr i) new apart = subst HeadsApart (sym (append-nil (headers_in before))) apart
-apart_after before end new apart = subst HeadsApart (sym (append-nil (headers_in before))) apart
+apart_after before line new apart = subst HeadsApart (sym (append-nil (headers_in before))) apart
 
 pub heads_apart : (names : List (List ℕ)) (before lines : List LineForm) → FollowOn names before lines → HeadsApart (headers_in before) → HeadsApart (headers_in (before ++ lines))
 heads_apart names before [] follow apart = subst (λ ls. HeadsApart (headers_in ls)) (sym (append-nil before)) apart
@@ -489,7 +484,6 @@ image_short names after lines row sound short =
 
 -- what the title of a module has
 version_is : (lines : List LineForm) → IsTitled lines → All IsKept lines → (1 ≤ number_value (title_of lines).1) × (number_value (title_of lines).1 ≤ 999999)
-version_is [] titled kept = absurd titled
 version_is (title name version ∷ lines) titled kept =
     let sound = (All-head IsKept (title name version) lines kept).sound in
     let bounds = (and_parts (is_number_text version) (nat_le 1 (number_value version) && nat_le (number_value version) 999999) (and_parts (is_atom_text name) (is_version_text version) sound).1).1 in
@@ -497,10 +491,7 @@ version_is (title name version ∷ lines) titled kept =
     let low : nat_le 1 (number_value version) ≡ true = both.0 in
     let high : nat_le (number_value version) 999999 ≡ true = both.1 in
     (grind (arith, nat_tests), grind (arith, nat_tests))
-version_is (header exported name arity ∷ lines) titled kept = absurd titled
-version_is (label name ∷ lines) titled kept = absurd titled
-version_is (instr i ∷ lines) titled kept = absurd titled
-version_is (end ∷ lines) titled kept = absurd titled
+version_is lines titled kept = absurd titled
 
 -- what all are, one of them is
 All-at : {X : Type 0} (P : X → Type 0) (xs : List X) (i : ℕ) (x : X) → All P xs → slice_get xs i ≡ Some x → P x

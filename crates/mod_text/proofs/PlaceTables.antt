@@ -51,18 +51,12 @@ suc_if true n = refl
 suc_if false n = refl
 
 label_at-suc : (number : ℕ) (wanted : List ℕ) (line : LineForm) → option_map suc (label_at number wanted line) ≡ label_at (suc number) wanted line
-label_at-suc number wanted (title name version) = refl
-label_at-suc number wanted (header exported name arity) = refl
 label_at-suc number wanted (label name) = suc_if (bytes_eq name wanted) number
-label_at-suc number wanted (instr i) = refl
-label_at-suc number wanted end = refl
+label_at-suc number wanted line = refl
 
 first_label : (wanted : List ℕ) (line : LineForm) → label_number wanted (line ∷ []) ≡ label_at 0 wanted line
 first_label wanted (title name version) = refl
-first_label wanted (header exported name arity) = refl
-first_label wanted (label name) = refl
-first_label wanted (instr i) = refl
-first_label wanted end = refl
+first_label wanted line = refl
 
 -- a line more gives its label a number, unless it had one
 pub label_number-push : (wanted : List ℕ) (lines : List LineForm) (line : LineForm) → label_number wanted (lines ++ line ∷ []) ≡ earlier (label_number wanted lines) (label_at (length (instrs_in lines)) wanted line)
@@ -81,17 +75,11 @@ label_number-push wanted (end ∷ lines) line = label_number-push wanted lines l
 
 last_count : (line : LineForm) → length (instrs_in (line ∷ [])) ≡ number_after 0 line
 last_count (title name version) = refl
-last_count (header exported name arity) = refl
-last_count (label name) = refl
-last_count (instr i) = refl
-last_count end = refl
+last_count line = refl
 
 number_after-suc : (number : ℕ) (line : LineForm) → suc (number_after number line) ≡ number_after (suc number) line
-number_after-suc number (title name version) = refl
-number_after-suc number (header exported name arity) = refl
-number_after-suc number (label name) = refl
 number_after-suc number (instr i) = omega arith
-number_after-suc number end = refl
+number_after-suc number line = refl
 
 pub count-push : (lines : List LineForm) (line : LineForm) → length (instrs_in (lines ++ line ∷ [])) ≡ number_after (length (instrs_in lines)) line
 count-push [] line = last_count line

@@ -5,10 +5,10 @@ use Rattle.mod_text.specs.declared.fault.LineFault.{LineFault}
 use Rattle.mod_text.specs.declared.fault.LineFault.TheVariants as faults
 use Rattle.mod_text.specs.declared.fault.LineStop.{LineStop}
 use Rattle.mod_text.specs.ModuleLine.{LineForm}
-use Rattle.mod_text.specs.LineReading.{cut_at}
-use Rattle.mod_text.specs.Reading.{line_step, Fails, Lines, lines, before_lines, lines_of, Read, stop_at, is_end, go_on, text_on, bytes_on, read_behind, StopsSo}
-use Rattle.mod_text.proofs.Options.{passed, failed}
-use Rattle.mod_text.proofs.Cuts.{cut_is, uncut_is, lines_of_cut, lines_of_tail}
+use Rattle.term_core.specs.Text.Cuts.{cut_at, Lines, lines, before_lines, lines_of}
+use Rattle.mod_text.specs.Reading.{line_step, Fails, Read, stop_at, is_end, go_on, text_on, bytes_on, read_behind, StopsSo}
+use Rattle.term_core.proofs.Text.Options.{passed, failed}
+use Rattle.term_core.proofs.Text.Cuts.{cut_is, uncut_is, lines_of_cut, lines_of_tail}
 
 end_of_before : (b : ℕ) (ended : List (List ℕ)) (tail : List ℕ) → is_end (before_lines b ended tail).ended (before_lines b ended tail).tail ≡ false
 end_of_before b [] tail = refl

@@ -8,13 +8,14 @@ use Rattle.mod_text.specs.declared.fault.LineFault.{LineFault}
 use Rattle.mod_text.specs.declared.fault.LineFault.TheVariants as faults
 use Rattle.mod_text.specs.declared.fault.LineStop.{LineStop}
 use Rattle.mod_text.specs.ModuleValue.{IsTitled}
-use Rattle.mod_text.specs.ModuleLine.{LineForm, title, header, label, instr, end, line_written, lines_written, LineText}
-use Rattle.mod_text.specs.LineReading.{cut_at, line_reading}
+use Rattle.mod_text.specs.ModuleLine.{LineForm, title, end, line_written, lines_written, LineText}
+use Rattle.term_core.specs.Text.Cuts.{cut_at, Lines, lines, before_lines, lines_of}
+use Rattle.mod_text.specs.LineReading.{line_reading}
 use Rattle.mod_text.specs.LineFaults.{may_follow, last_line, names_after, fault_of_line, StandsBehind, HasLineFault, of_no_form, over_limit, IsNext}
 use Rattle.mod_text.specs.ModuleText.{FollowOn, names_behind, AreLines, FaultAtFront, unended, stops, faulty, FirstFault}
-use Rattle.mod_text.specs.Reading.{Step, kept, judged, line_step, Lines, lines, before_lines, lines_of, Read, stop_at, is_end, go_on, text_on, bytes_on, read_behind}
-use Rattle.mod_text.proofs.Options.{some_is, passed, bytes_are}
-use Rattle.mod_text.proofs.Cuts.{lacks, lacks-cons, cut_here, lines_behind, lines_of_tail}
+use Rattle.mod_text.specs.Reading.{Step, kept, judged, line_step, Read, stop_at, is_end, go_on, text_on, bytes_on, read_behind}
+use Rattle.term_core.proofs.Text.Options.{some_is, passed, bytes_are}
+use Rattle.term_core.proofs.Text.Cuts.{lacks, lacks-cons, cut_here, lines_behind, lines_of_tail}
 use Rattle.mod_text.proofs.Stepping.{front_read, bytes_on-cut}
 use Rattle.mod_text.proofs.Keepings.{last_line-push}
 use Rattle.mod_text.proofs.LineLaws.{line_is}
@@ -413,10 +414,6 @@ first_fault names bytes stop e =
       here = front_fault (names_behind names is.more) is.more tail is.left stop.fault lack.tail (left_lack (map line_written is.more) is.left (subst AllLack is.texts lack.ended)) is.here;
     }
 
-not_end : (others : List (List ℕ)) (tail : List ℕ) (more : List LineForm) (line : LineForm) → (is_end others tail ≡ true → line ∷ more ≡ []) → (t : Bool) → is_end others tail ≡ t → t ≡ false
-not_end others tail more line opens true e = absurd (let none = opens e in cc)
-not_end others tail more line opens false e = refl
-
 further_end : (more : List LineForm) (left : List (List ℕ)) (tail : List ℕ) → is_end left tail ≡ false → is_end (map line_written more ++ left) tail ≡ false
 further_end [] left tail h = h
 further_end (line ∷ more) left tail h = refl
@@ -482,7 +479,4 @@ fault_again names bytes number fault is = fault_at_front names is.lines bytes is
 pub titled_is : (names : List (List ℕ)) (forms : List LineForm) → AreLines names forms → last_line forms ≡ Some end → IsTitled forms
 titled_is names [] follow closed = absurd cc
 titled_is names (title name version ∷ lines) follow closed = tt
-titled_is names (header exported name arity ∷ lines) follow closed = absurd (let place = follow.0.stands.place in cc)
-titled_is names (label name ∷ lines) follow closed = absurd (let place = follow.0.stands.place in cc)
-titled_is names (instr i ∷ lines) follow closed = absurd (let place = follow.0.stands.place in cc)
-titled_is names (end ∷ lines) follow closed = absurd (let place = follow.0.stands.place in cc)
+titled_is names forms follow closed = absurd (let place = follow.0.stands.place in cc)

@@ -1,6 +1,7 @@
 -- The order in which the lines of a module's text are read and judged. The relation of whole texts and modules, in ModuleText, is
 -- shown to agree with it.
 use Rattle.std.specs.Prelude.{◌≡◌, ℕ, ◌==◌, ◌&&◌, not, Bool, true, false, List, [], ◌∷◌, ◌++◌, length, Option, Some, None, Result, Ok, Err, bytes_eq, codes, if◌then◌else◌}
+use Rattle.term_core.specs.Text.Cuts.{lines, lines_of}
 use Rattle.mod_text.specs.declared.fault.LineFault.{LineFault}
 use Rattle.mod_text.specs.declared.fault.LineFault.TheVariants as faults
 use Rattle.mod_text.specs.declared.fault.LineStop.{LineStop}
@@ -44,27 +45,6 @@ Gives view (Ok x) step = step ≡ Ok (view x)
 Gives view (Err fault) step = Fails step fault
 
 -- ---- lines of a text
-
--- the lines that end with a line feed, and the bytes behind the last of them
-pub record Lines : Type 0 where
-  pub ended : List (List ℕ)
-  pub tail : List ℕ
-
--- these lines, and these bytes behind them
-abbrev pub lines : List (List ℕ) → List ℕ → Lines
-lines ended tail = record { ended = ended; tail = tail }
-
--- with this byte at the front
-abbrev pub before_lines : ℕ → List (List ℕ) → List ℕ → Lines
-before_lines b [] tail = lines [] (b ∷ tail)
-before_lines b (line ∷ others) tail = lines ((b ∷ line) ∷ others) tail
-
--- the lines of a text
-abbrev pub lines_of : List ℕ → Lines
-lines_of [] = lines [] []
-lines_of (b ∷ bs) =
-    if b == 10 then lines ([] ∷ (lines_of bs).ended) (lines_of bs).tail
-    else before_lines b (lines_of bs).ended (lines_of bs).tail
 
 -- ---- whole texts
 

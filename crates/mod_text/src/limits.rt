@@ -2,7 +2,8 @@
 
 ghost use Rattle.std.specs.Prelude.{◌≡◌, ◌≤◌, false, All, IsTrue, option_map, nat_le};
 ghost use Rattle.mod_text.specs.LineViews.{operand_form, instr_form, line_form, text_form, forms_of};
-ghost use Rattle.mod_text.specs.ModuleLine.{is_number_text, is_operand_form, is_instr_form, is_line_form};
+ghost use Rattle.term_core.specs.Text.Numbers.{is_number_text};
+ghost use Rattle.mod_text.specs.ModuleLine.{is_operand_form, is_instr_form, is_line_form};
 ghost use Rattle.mod_text.specs.LineFaults.{is_open as is_open_behind, is_in_function as is_in_function_behind, may_follow as may_stand_behind, is_high as is_high_register, has_high_operand, is_high_call as is_call_too_high, has_high_instr, has_high_register as has_register_too_high, is_wide_operand as is_operand_too_wide, has_wide_instr as has_instr_too_wide, has_wide_integer as has_integer_too_wide, is_long_operand as is_operand_too_long, has_long_instr as has_instr_too_long, has_long_term as has_term_too_long};
 ghost use Rattle.mod_text.specs.Keeping.{IsKept, operand_form_words, instr_form_words, line_words as words_of_line, lines_words};
 

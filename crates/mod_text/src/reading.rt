@@ -6,7 +6,7 @@ ghost use Rattle.term_core.specs.Names.{IsNames, Extends};
 ghost use Rattle.term_core.specs.declared.names.TheConstants.{MOST_NAMES};
 ghost use Rattle.mod_core.specs.declared.code.Module.{Module as ModuleValue};
 ghost use Rattle.mod_text.specs.declared.fault.LineFault.{LineFault as LineFaultValue};
-ghost use Rattle.mod_text.specs.Canonical.{IsModuleHeld};
+ghost use Rattle.mod_core.specs.HeldNames.{IsModuleHeld};
 ghost use Rattle.mod_text.specs.Ending.{Ends, IsFaultOr, IsLabelFault};
 ghost use Rattle.mod_core.specs.Module.{IsModule};
 ghost use Rattle.mod_text.specs.Reading.{bytes_on, read_behind, StopsSo};

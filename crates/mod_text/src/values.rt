@@ -5,7 +5,8 @@ ghost use Rattle.term_core.specs.TermForms.{is_complex_text, is_wide_text};
 ghost use Rattle.term_core.specs.Written.{IsTermInteger, is_integer_text, integer_of as integer_in};
 ghost use Rattle.mod_text.specs.LineFaults.{is_high, has_high_operand, is_wide_operand};
 ghost use Rattle.mod_text.specs.LineViews.{operand_form};
-ghost use Rattle.mod_text.specs.ModuleLine.{complex, is_number_text, is_arity_text, is_operand_form, number_value};
+ghost use Rattle.term_core.specs.Text.Numbers.{is_number_text, number_value};
+ghost use Rattle.mod_text.specs.ModuleLine.{complex, is_arity_text, is_operand_form};
 ghost use Rattle.mod_text.specs.ModuleValue.{atom_in, mfa_in, operand_in};
 
 use crate::words::{integer_of, number_of};

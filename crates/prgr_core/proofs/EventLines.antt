@@ -124,22 +124,7 @@ event_lacks members watchers (WatchSub w k) few few_too below = worded_twice_lac
 -- no event has the line `go`
 pub not_go : (event : PrgrEvent) → bytes_eq (event_text event) (codes "go") ≡ false
 not_go (LoadCounter m) = refl
-not_go (LoadRoot m) = refl
-not_go (Report m) = refl
-not_go (Lead m) = refl
-not_go (Scan m k) = refl
-not_go (ScanDelay m) = refl
-not_go (Advance m) = refl
-not_go (GiveUp m) = refl
-not_go (Wait m) = refl
-not_go (Enter m) = refl
-not_go Publish = refl
-not_go Retire = refl
-not_go (Release g) = refl
-not_go (WatchLoad w) = refl
-not_go (WatchAdd w k) = refl
-not_go (WatchRoot w) = refl
-not_go (WatchSub w k) = refl
+not_go event = refl
 
 -- ---- from a line to its event and back
 

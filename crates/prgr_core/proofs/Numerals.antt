@@ -19,9 +19,7 @@ true_digit c low high = rw (le-leb 48 c low, le-leb c 57 high) refl
 
 neither : (a b d : Bool) → (a || not b || not d) ≡ false → (a ≡ false) × (b ≡ true) × (d ≡ true)
 neither false true true e = (refl, refl, refl)
-neither false true false e = absurd (cc)
-neither false false d e = absurd (cc)
-neither true b d e = absurd (cc)
+neither a b d e = absurd (cc)
 
 -- a digit more makes a number ten times as large, and the digit
 with_digit_some : (n c w : ℕ) → with_digit n c ≡ Some w → (n ≡ 0 → ⊥) × (48 ≤ c) × (c ≤ 57) × (w ≡ n * 10 + (c - 48)) × (w < 2 ^ 64)

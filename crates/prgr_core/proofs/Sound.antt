@@ -7,7 +7,7 @@ use Rattle.prgr_core.specs.declared.event.PrgrEvent.{PrgrEvent}
 use Rattle.prgr_core.specs.declared.event.PrgrEvent.TheVariants.{LoadCounter, LoadRoot, Report, Lead, Scan, ScanDelay, Advance, GiveUp, Wait, Enter, Publish, Retire, Release, WatchLoad, WatchAdd, WatchRoot, WatchSub}
 use Rattle.prgr_core.specs.Needs.{need_of}
 use Rattle.prgr_core.specs.Machine.{machine_of}
-use Rattle.prgr_core.specs.Step.{after, IsSound, released, with_retirement}
+use Rattle.prgr_core.specs.Step.{after, IsSound, released, with_retirement, with_pair}
 use Rattle.prgr_core.proofs.WriterChanges.{publish_keeps, retire_keeps}
 use Rattle.prgr_core.proofs.SoundParts.{sound_with, is_numbered}
 use Rattle.prgr_core.proofs.SoundMembers.{counter_loaded_sound, root_loaded_sound, reported_sound, waiting_sound, entering_sound}
@@ -35,6 +35,15 @@ published_sound : (s : Progress) → IsSound s → (t : Progress) → after s Pu
 published_sound s sound t e =
     let made : record s { generation = s.generation + 1 } ≡ t = cc in
     subst IsSound made (sound_with (record s { generation = s.generation + 1 }) (publish_keeps (machine_of s) sound.invariant) (is_numbered s sound))
+
+-- a need that is kept besides
+pub pair_sound : (s : Progress) → IsSound s → IsSound (with_pair s)
+pair_sound s sound = sound_with (with_pair s) (retire_keeps (machine_of s) sound.invariant (machine_of (with_pair s)).WasRetired (λ n v was. retired_before s n v was.0 was.1)) (is_numbered s sound)
+
+-- the need is kept, or nothing has changed
+pub kept_sound : {T E : Type 0} (result : Result T E) (s t : Progress) → IsSound s → OnOk result (t ≡ with_pair s) → OnErr result (t ≡ s) → IsSound t
+kept_sound (Ok x) s t sound ok err = subst IsSound (sym ok) (pair_sound s sound)
+kept_sound (Err x) s t sound ok err = subst IsSound (sym err) sound
 
 retired_sound : (s : Progress) → IsSound s → (t : Progress) → after s Retire ≡ Some t → IsSound t
 retired_sound s sound t e =

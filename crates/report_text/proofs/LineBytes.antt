@@ -23,8 +23,8 @@ use Rattle.machine_core.specs.declared.process.End.{End}
 use Rattle.machine_core.specs.declared.process.End.TheVariants as ends
 use Rattle.run_log.specs.declared.logs.Who.{Who}
 use Rattle.run_log.specs.declared.logs.Who.TheVariants.{Loader, Runtime}
-use Rattle.mod_text.proofs.LineAgain.{name_bytes}
-use Rattle.script_text.specs.Sound.{IsTermOf}
+use Rattle.term_core.proofs.TermBytes.{name_bytes-atom as name_bytes}
+use Rattle.script_core.specs.Sound.{IsTermOf}
 use Rattle.run_log.specs.Report.{mfa_text, plain_text, call_text, who_text, reference_text, switch_text, cmd_text, reply_text, end_text}
 use Rattle.run_log.specs.WellFormed.{IsWide, IsNamed, IsFunctionOf, IsCallOf, IsReferenceOf, IsCommandOf, IsReplyOf, IsWhoOf, IsLineOf, IsEndOf}
 use Rattle.report_text.specs.ReportLine.{shown_line_text}

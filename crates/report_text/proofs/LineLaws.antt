@@ -9,10 +9,11 @@ use Rattle.machine_core.specs.declared.process.Line.{Line}
 use Rattle.machine_core.specs.declared.process.Line.TheVariants as shown
 use Rattle.machine_core.specs.declared.process.End.{End}
 use Rattle.machine_core.specs.declared.process.End.TheVariants as ends
-use Rattle.mod_text.specs.LineReading.{◌>>=◌, cut_at}
-use Rattle.mod_text.proofs.Options.{some, some_is, bind_some, bind_at}
-use Rattle.mod_text.proofs.Cuts.{lacks, lacks-all, lacks-append, lacks-cons, cut_here, cut_is}
-use Rattle.script_text.specs.Sound.{IsTermOf}
+use Rattle.term_core.specs.Text.Steps.{◌>>=◌}
+use Rattle.term_core.specs.Text.Cuts.{cut_at}
+use Rattle.term_core.proofs.Text.Options.{some, some_is, bind_some, bind_at}
+use Rattle.term_core.proofs.Text.Cuts.{lacks, lacks-all, lacks-append, lacks-cons, cut_here, cut_is}
+use Rattle.script_core.specs.Sound.{IsTermOf}
 use Rattle.run_log.specs.declared.logs.Entry.{Entry}
 use Rattle.run_log.specs.Report.{mfa_text, plain_text, call_text, who_text, cmd_text, reply_text, published_text, end_text}
 use Rattle.run_log.specs.WellFormed.{IsWide, IsLineOf, IsEndOf, IsEntryOf}

@@ -4,8 +4,9 @@ use Rattle.std.proofs.lemmas.Bool.Decides.{nat_tests}
 use Rattle.term_core.specs.PlainTerm.{PlainTerm}
 use Rattle.term_core.specs.TermParts.{parts_of_terms}
 use Rattle.term_core.proofs.PartedTerms.{parts_by_cut}
-use Rattle.mod_text.specs.LineReading.{◌>>=◌, cut_at}
-use Rattle.mod_text.proofs.Options.{some}
+use Rattle.term_core.specs.Text.Steps.{◌>>=◌}
+use Rattle.term_core.specs.Text.Cuts.{cut_at}
+use Rattle.term_core.proofs.Text.Options.{some}
 use Rattle.script_text.specs.LineReading.{parts_of, each_reading}
 use Rattle.script_text.proofs.Parts.{parts-cut_some, parts-cut_none, shorter_rest}
 use Rattle.script_text.proofs.ReadingLoops.{with_read}

@@ -13,9 +13,10 @@ use Rattle.server_core.specs.declared.command.Limit.{Limit}
 use Rattle.server_core.specs.declared.command.Limit.TheVariants.{Instances, Keys, Areas}
 use Rattle.server_core.specs.declared.command.Reply.{Reply}
 use Rattle.server_core.specs.declared.command.Reply.TheVariants as replies
-use Rattle.mod_text.specs.LineReading.{◌>>=◌, cut_at}
-use Rattle.mod_text.proofs.Options.{some, some_is, bind_some, bind_at, map_some}
-use Rattle.mod_text.proofs.Cuts.{lacks, cut_here, cut_is}
+use Rattle.term_core.specs.Text.Steps.{◌>>=◌}
+use Rattle.term_core.specs.Text.Cuts.{cut_at}
+use Rattle.term_core.proofs.Text.Options.{some, some_is, bind_some, bind_at, map_some}
+use Rattle.term_core.proofs.Text.Cuts.{lacks, cut_here, cut_is}
 use Rattle.script_text.specs.LineReading.{parts_of, each_reading}
 use Rattle.run_log.specs.Report.{cmd_text, limit_text, reply_text, published_text}
 use Rattle.run_log.specs.WellFormed.{IsNamed, IsWide, IsLingerOf, IsReplyOf, IsCommandOf, Agrees}

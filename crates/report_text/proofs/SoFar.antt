@@ -14,8 +14,8 @@ use Rattle.server_core.specs.declared.command.Reply.TheVariants as replies
 use Rattle.machine_core.specs.declared.process.Line.{Line}
 use Rattle.machine_core.specs.declared.process.End.{End}
 use Rattle.machine_core.specs.declared.process.End.TheVariants.{Normal}
-use Rattle.mod_text.specs.LineReading.{◌>>=◌}
-use Rattle.mod_text.proofs.Options.{some, some_is, bind_some, guarded, guard_some}
+use Rattle.term_core.specs.Text.Steps.{◌>>=◌}
+use Rattle.term_core.proofs.Text.Options.{some, some_is, bind_some, guarded, guard_some}
 use Rattle.script_text.proofs.SoundnessGroups.{each_append}
 use Rattle.run_log.specs.declared.logs.Who.TheVariants.{Runtime}
 use Rattle.run_log.specs.declared.logs.Entry.{Entry}

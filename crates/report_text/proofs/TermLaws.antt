@@ -25,11 +25,11 @@ use Rattle.term_core.proofs.TermForms.{printed_is, tree_is, nonempty-is_term_tex
 use Rattle.term_core.proofs.TokenLaws.{terms_of-row_of}
 use Rattle.term_core.proofs.Truths.{is_some_at}
 use Rattle.term_core.proofs.WrittenTokens.{RowHasLeafTexts}
-use Rattle.mod_text.specs.LineReading.{cut_at}
-use Rattle.mod_text.proofs.Options.{some, some_is, bind_some, bind_at, guard_some, guarded, passed, same_bytes, bytes_are}
-use Rattle.mod_text.proofs.Cuts.{lacks, lacks-all, lacks-append, lacks-cons, cut_here, cut_is}
+use Rattle.term_core.specs.Text.Cuts.{cut_at}
+use Rattle.term_core.proofs.Text.Options.{some, some_is, bind_some, bind_at, guard_some, guarded, passed, same_bytes, bytes_are}
+use Rattle.term_core.proofs.Text.Cuts.{lacks, lacks-all, lacks-append, lacks-cons, cut_here, cut_is}
 use Rattle.script_text.specs.LineReading.{each_reading}
-use Rattle.script_text.specs.Sound.{IsTermOf}
+use Rattle.script_core.specs.Sound.{IsTermOf}
 use Rattle.run_log.specs.Report.{mfa_text, plain_text, call_text}
 use Rattle.run_log.specs.WellFormed.{IsFunctionOf, IsCallOf}
 use Rattle.report_text.specs.declared.terms.Call.{Call}

@@ -8,8 +8,8 @@ use Rattle.std.proofs.lemmas.List.Sums.{sum-map, sum_by-cons}
 use Rattle.term_core.specs.declared.atom.Mfa.{Mfa}
 use Rattle.machine_core.specs.declared.process.Line.{Line}
 use Rattle.machine_core.specs.declared.process.End.{End}
-use Rattle.mod_text.specs.LineReading.{◌>>=◌}
-use Rattle.mod_text.proofs.Options.{some, bind_at, passed, failed}
+use Rattle.term_core.specs.Text.Steps.{◌>>=◌}
+use Rattle.term_core.proofs.Text.Options.{some, bind_at, passed, failed}
 use Rattle.run_log.specs.declared.logs.Entry.{Entry}
 use Rattle.run_log.specs.declared.logs.Span.{Span}
 use Rattle.run_log.specs.declared.logs.ProcessLog.{ProcessLog}

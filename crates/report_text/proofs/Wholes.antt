@@ -6,10 +6,10 @@ use Rattle.std.proofs.lemmas.Bool.Decides.{nat_tests, Decides-eqb}
 use Rattle.std.proofs.lemmas.List.{take-append-drop, length-map, take_all}
 use Rattle.term_core.specs.Gives.{GivesUnless, RefusesUnless}
 use Rattle.term_core.specs.Names.{IsNames}
-use Rattle.mod_text.specs.LineReading.{◌>>=◌}
-use Rattle.mod_text.specs.Reading.{Lines, lines, before_lines}
-use Rattle.mod_text.proofs.Cuts.{lacks, lines_behind}
-use Rattle.mod_text.proofs.Options.{some, some_is, bind_some, bind_at}
+use Rattle.term_core.specs.Text.Steps.{◌>>=◌}
+use Rattle.term_core.specs.Text.Cuts.{Lines, lines, before_lines}
+use Rattle.term_core.proofs.Text.Cuts.{lacks, lines_behind}
+use Rattle.term_core.proofs.Text.Options.{some, some_is, bind_some, bind_at}
 use Rattle.script_text.specs.TextLines.{lines_of, last_line, all_lines, lines_joined}
 use Rattle.script_text.proofs.LinesJoined.{ended_lack}
 use Rattle.script_text.proofs.SoundnessGroups.{each_append}

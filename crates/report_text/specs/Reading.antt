@@ -1,7 +1,7 @@
 -- A text read line by line, up to its end or to the first line that may not stand there. Lines are counted from 1.
 -- Source: this project's report text. What a report's text is stands in run_log; laws say that both agree.
 use Rattle.std.specs.Prelude.{◌≡◌, ℕ, ◌+◌, ◌-◌, nat_lt, List, [], ◌∷◌, Option, Some, None, Result, Ok, Err, if◌then◌else◌}
-use Rattle.mod_text.specs.LineReading.{◌>>=◌}
+use Rattle.term_core.specs.Text.Steps.{◌>>=◌}
 use Rattle.script_text.specs.TextLines.{lines_of}
 use Rattle.run_log.specs.declared.logs.RunLog.{RunLog}
 use Rattle.report_text.specs.declared.fault.ReportFault.{ReportFault}

@@ -6,7 +6,7 @@ use Rattle.term_core.specs.PlainTerm.{PlainTerm}
 use Rattle.machine_core.specs.declared.process.Line.{Line}
 use Rattle.machine_core.specs.declared.process.End.{End}
 use Rattle.machine_core.specs.declared.process.End.TheVariants.{Normal}
-use Rattle.mod_text.specs.LineReading.{◌>>=◌}
+use Rattle.term_core.specs.Text.Steps.{◌>>=◌}
 use Rattle.run_log.specs.declared.logs.Entry.{Entry}
 use Rattle.run_log.specs.declared.logs.Span.{Span}
 use Rattle.run_log.specs.declared.logs.ProcessLog.{ProcessLog}

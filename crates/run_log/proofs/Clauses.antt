@@ -6,10 +6,11 @@ use Rattle.server_core.specs.declared.command.Cmd.{Cmd}
 use Rattle.server_core.specs.declared.command.Cmd.TheVariants.{SoftPurge, Purge, Release}
 use Rattle.server_core.specs.ServerState.{empty_state, old_of}
 use Rattle.machine_core.specs.Process.{new_process}
-use Rattle.script_text.specs.declared.script.Script.{Script}
+use Rattle.script_core.specs.declared.script.Script.{Script}
 use Rattle.run_log.specs.declared.logs.RunLog.{RunLog}
 use Rattle.run_log.specs.Journal.{published_before, state_at}
-use Rattle.run_log.specs.Legal.{Lingers, LingersTold, NamesNot, PurgedUnnamed, ReleasedUnnamed, SpansFollow, SpawnBeforeTurns, SpawnLine, StandsNotIn, TurnsFollow, dropped_by, first_generation, is_killed_by, last_up_to, published_to, spawns_of, state_before, turns_in_log}
+use Rattle.run_log.specs.Legal.{Lingers, LingersTold, NamesNot, PurgedUnnamed, ReleasedUnnamed, SpansFollow, SpawnBeforeTurns, StandsNotIn, TurnsFollow, dropped_by, first_generation, is_killed_by, last_up_to, published_to, state_before, turns_in_log}
+use Rattle.script_core.specs.Processes.{SpawnLine, spawns_of}
 
 -- what holds of each element and its place, from a place on
 abbrev pub EachFrom : {X : Type 0} → (ℕ → X → Type 0) → ℕ → List X → Type 0

@@ -5,12 +5,13 @@ use Rattle.std.specs.List.{AllByRecursion}
 use Rattle.machine_core.specs.declared.process.End.{End}
 use Rattle.machine_core.specs.Holds.{is_among}
 use Rattle.machine_core.specs.Process.{names_of}
-use Rattle.script_text.specs.declared.script.Script.{Script}
+use Rattle.script_core.specs.declared.script.Script.{Script}
 use Rattle.run_log.specs.declared.logs.Entry.{Entry}
 use Rattle.run_log.specs.declared.logs.Span.{Span}
 use Rattle.run_log.specs.declared.logs.ProcessLog.{ProcessLog}
 use Rattle.run_log.specs.Journal.{published_count}
-use Rattle.run_log.specs.Legal.{Complete, Lingers, LogsMatch, Mark, spawns_of}
+use Rattle.run_log.specs.Legal.{Complete, Lingers, LogsMatch, Mark}
+use Rattle.script_core.specs.Processes.{spawns_of}
 use Rattle.run_log.specs.Examples.{log_alone, log_of, process_of}
 use Rattle.run_log.proofs.SpanRuns.{some_at}
 use Rattle.run_log.proofs.Clauses.{all_by}

@@ -11,7 +11,7 @@ use Rattle.mod_core.specs.declared.code.Module.{Module}
 use Rattle.server_core.specs.ServerState.{code_of, empty_state, export_of, is_export}
 use Rattle.machine_core.specs.declared.process.End.TheVariants as ends
 use Rattle.machine_core.specs.Turn.{run_of}
-use Rattle.script_text.specs.declared.script.Script.{Script}
+use Rattle.script_core.specs.declared.script.Script.{Script}
 use Rattle.run_log.specs.declared.logs.RunLog.{RunLog}
 use Rattle.run_log.specs.declared.logs.Snapshot.{Snapshot}
 use Rattle.run_log.specs.FirstRun.{first_log, first_module, first_names, first_script, first_target, m_atom}

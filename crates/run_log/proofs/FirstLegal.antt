@@ -15,9 +15,9 @@ use Rattle.machine_core.specs.declared.process.End.{End}
 use Rattle.machine_core.specs.declared.process.End.TheVariants.{Normal}
 use Rattle.machine_core.specs.Process.{new_process}
 use Rattle.machine_core.specs.Turn.{run_of}
-use Rattle.script_text.specs.declared.script.Script.{Script}
-use Rattle.script_text.specs.declared.script.ScriptCmd.{ScriptCmd}
-use Rattle.script_text.specs.declared.script.ScriptCmd.TheVariants as script
+use Rattle.script_core.specs.declared.script.Script.{Script}
+use Rattle.script_core.specs.declared.script.ScriptCmd.{ScriptCmd}
+use Rattle.script_core.specs.declared.script.ScriptCmd.TheVariants as script
 use Rattle.run_log.specs.declared.logs.Who.TheVariants.{Loader}
 use Rattle.run_log.specs.declared.logs.Entry.{Entry}
 use Rattle.run_log.specs.declared.logs.Span.{Span}
@@ -25,7 +25,8 @@ use Rattle.run_log.specs.declared.logs.ProcessLog.{ProcessLog}
 use Rattle.run_log.specs.declared.logs.RunLog.{RunLog}
 use Rattle.run_log.specs.FirstRun.{first_log, first_module, first_names, first_script, first_target, printed}
 use Rattle.run_log.specs.Journal.{state_after, next_state, state_at, published_before}
-use Rattle.run_log.specs.Legal.{Legal, Complete, LingersTold, LoadersInOrder, NothingRetired, PurgedUnnamed, ReleasedUnnamed, Replays, SpawnBeforeTurns, TurnsFollow, SpansFollow, SpawnLine, commands_in, commands_of, dropped_by, first_generation, state_before, turns_of}
+use Rattle.run_log.specs.Legal.{Legal, Complete, LingersTold, LoadersInOrder, NothingRetired, PurgedUnnamed, ReleasedUnnamed, Replays, SpawnBeforeTurns, TurnsFollow, SpansFollow, commands_in, commands_of, dropped_by, first_generation, state_before, turns_of}
+use Rattle.script_core.specs.Processes.{SpawnLine}
 use Rattle.run_log.proofs.Journals.{entry_follows}
 use Rattle.run_log.proofs.Snapshots.{unobserved}
 

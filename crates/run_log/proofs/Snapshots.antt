@@ -10,7 +10,7 @@ use Rattle.term_core.specs.declared.atom.Mfa.{Mfa}
 use Rattle.term_core.specs.TermText.{atom_text}
 use Rattle.mod_core.specs.declared.code.Module.{Module}
 use Rattle.server_core.specs.ServerState.{Entry, ServerState, code_of, current_of, export_of}
-use Rattle.script_text.specs.declared.script.Script.{Script}
+use Rattle.script_core.specs.declared.script.Script.{Script}
 use Rattle.run_log.specs.declared.logs.RunLog.{RunLog}
 use Rattle.run_log.specs.Legal.{SnapshotsTrue}
 use Rattle.run_log.specs.Snapshots.{AreExports, IsExport, mfa_cmp}

@@ -12,8 +12,8 @@ use Rattle.server_core.specs.declared.command.Cmd.TheVariants as cmds
 use Rattle.server_core.specs.declared.command.Reply.TheVariants as replies
 use Rattle.machine_core.specs.declared.process.Line.TheVariants as lines
 use Rattle.machine_core.specs.declared.process.End.TheVariants as ends
-use Rattle.script_text.specs.declared.script.Script.{Script}
-use Rattle.script_text.specs.declared.script.ScriptCmd.TheVariants as commands
+use Rattle.script_core.specs.declared.script.Script.{Script}
+use Rattle.script_core.specs.declared.script.ScriptCmd.TheVariants as commands
 use Rattle.run_log.specs.declared.logs.Who.TheVariants.{Loader}
 use Rattle.run_log.specs.declared.logs.Entry.{Entry}
 use Rattle.run_log.specs.declared.logs.Span.{Span}

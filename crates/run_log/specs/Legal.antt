@@ -1,11 +1,9 @@
 -- Which logs are lawful for a script: those of a history of one code server.
 -- Source: this project's profile, as the sequential reading of erts internal documentation, CodeLoading, and of the manual page `persistent_term`.
 -- The definition replays the journal and the turns; the run keeps one server and its processes.
-use Rattle.std.specs.Prelude.{◌≡◌, ◌≢◌, ℕ, zero, suc, ◌+◌, ◌≤◌, ◌==◌, nat_le, Bool, true, false, List, [], ◌∷◌, ◌++◌, length, take, slice_get, Option, Some, None, is_some, IfSome, IsSomeAnd, unwrap_or, All, if◌then◌else◌}
+use Rattle.std.specs.Prelude.{◌≡◌, ◌≢◌, ℕ, zero, suc, ◌+◌, ◌≤◌, ◌==◌, nat_le, Bool, true, false, List, [], ◌∷◌, ◌++◌, length, take, slice_get, Option, Some, None, is_some, IfSome, IsSomeAnd, All, if◌then◌else◌}
 use Rattle.std.specs.List.{AllByRecursion, flat_map, list_any}
 use Rattle.term_core.specs.declared.atom.AtomId.{AtomId}
-use Rattle.term_core.specs.declared.atom.Mfa.{Mfa}
-use Rattle.term_core.specs.PlainTerm.{PlainTerm}
 use Rattle.mod_core.specs.declared.code.Module.{Module}
 use Rattle.server_core.specs.declared.command.Cmd.{Cmd}
 use Rattle.server_core.specs.declared.command.Cmd.TheVariants as cmds
@@ -20,9 +18,10 @@ use Rattle.machine_core.specs.declared.process.TurnEnd.TheVariants.{Again, Ended
 use Rattle.machine_core.specs.Holds.{is_among}
 use Rattle.machine_core.specs.Process.{PlainProcess, names_of, new_process}
 use Rattle.machine_core.specs.Turn.{Turn, turn_of}
-use Rattle.script_text.specs.declared.script.Script.{Script}
-use Rattle.script_text.specs.declared.script.ScriptCmd.{ScriptCmd}
-use Rattle.script_text.specs.declared.script.ScriptCmd.TheVariants as script
+use Rattle.script_core.specs.declared.script.Script.{Script}
+use Rattle.script_core.specs.declared.script.ScriptCmd.{ScriptCmd}
+use Rattle.script_core.specs.declared.script.ScriptCmd.TheVariants as script
+use Rattle.script_core.specs.Processes.{SpawnLine, commands_at, spawns_of}
 use Rattle.run_log.specs.declared.logs.Who.{Who}
 use Rattle.run_log.specs.declared.logs.Who.TheVariants.{Loader, Runtime}
 use Rattle.run_log.specs.declared.logs.Entry.{Entry}
@@ -64,7 +63,7 @@ Replays texts s (e ∷ journal) = EntryFollows texts s e × Replays texts (next_
 
 -- the commands of a loader of the script, or none where there is no such loader
 abbrev pub commands_of : Script → ℕ → List ScriptCmd
-commands_of s loader = unwrap_or (slice_get s.loaders loader) []
+commands_of s loader = commands_at s.loaders loader
 
 -- the command of the script that a command of the server ends: a doom ends none, since its purge is still to come; which process lingered and
 -- whether one was killed is not in the script
@@ -148,31 +147,6 @@ PurgesGo texts s half (e ∷ journal) last = MayStand s half e × PurgesGo texts
 pub record LoadersInOrder (s : Script) (journal : List Entry) : Type 0 where
   pub commands : (loader : ℕ) → commands_in loader journal ≡ commands_of s loader
   pub purges : PurgesGo s.modules empty_state None journal None
-
--- a spawn line of the script: its loader, its place among the loader's commands, and its call
-pub record SpawnLine : Type 0 where
-  pub loader : ℕ
-  pub place : ℕ
-  pub target : Mfa
-  pub args : List PlainTerm
-
--- the spawn lines among the commands of a loader, from a place on
-abbrev pub spawns_from : ℕ → ℕ → List ScriptCmd → List SpawnLine
-spawns_from loader place [] = []
-spawns_from loader place (script.Load refs ∷ cmds) = spawns_from loader (suc place) cmds
-spawns_from loader place (script.Delete name ∷ cmds) = spawns_from loader (suc place) cmds
-spawns_from loader place (script.SoftPurge name ∷ cmds) = spawns_from loader (suc place) cmds
-spawns_from loader place (script.Purge name ∷ cmds) = spawns_from loader (suc place) cmds
-spawns_from loader place (script.CheckOld name ∷ cmds) = spawns_from loader (suc place) cmds
-spawns_from loader place (script.Put key term ∷ cmds) = spawns_from loader (suc place) cmds
-spawns_from loader place (script.Erase key ∷ cmds) = spawns_from loader (suc place) cmds
-spawns_from loader place (script.Trace target on ∷ cmds) = spawns_from loader (suc place) cmds
-spawns_from loader place (script.Spawn target args ∷ cmds) = record { loader = loader; place = place; target = target; args = args } ∷ spawns_from loader (suc place) cmds
-
--- the spawn lines of loaders that are numbered from here on, in the order of the text
-abbrev pub spawns_of : ℕ → List (List ScriptCmd) → List SpawnLine
-spawns_of loader [] = []
-spawns_of loader (commands ∷ loaders) = spawns_from loader 0 commands ++ spawns_of (suc loader) loaders
 
 -- the generation of the first turn, if there is one
 abbrev pub first_generation : List Span → Option ℕ

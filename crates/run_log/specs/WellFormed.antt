@@ -17,7 +17,7 @@ use Rattle.machine_core.specs.declared.process.Line.{Line}
 use Rattle.machine_core.specs.declared.process.Line.TheVariants as lines
 use Rattle.machine_core.specs.declared.process.End.{End}
 use Rattle.machine_core.specs.declared.process.End.TheVariants as ends
-use Rattle.script_text.specs.Sound.{IsTermOf, IsPutOf}
+use Rattle.script_core.specs.Sound.{IsTermOf, IsPutOf}
 use Rattle.run_log.specs.declared.logs.Who.{Who}
 use Rattle.run_log.specs.declared.logs.Who.TheVariants.{Loader, Runtime}
 use Rattle.run_log.specs.declared.logs.Entry.{Entry}

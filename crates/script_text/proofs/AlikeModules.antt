@@ -9,7 +9,8 @@ use Rattle.mod_text.specs.declared.fault.LineFault.{LineFault}
 use Rattle.mod_text.specs.declared.fault.LineFault.TheVariants as faults
 use Rattle.mod_text.specs.Canonical.{label_text, written_instr, goes_to, labels_at, lines_from, function_lines, canonical}
 use Rattle.mod_text.specs.LineFaults.{is_open, may_follow, last_line, has_high_register, has_wide_integer, names_after, line_atoms}
-use Rattle.mod_text.specs.ModuleLine.{InstrForm, LineForm, title, header, label, instr, end, number_value, is_version_text, is_arity_text, is_line_form}
+use Rattle.term_core.specs.Text.Numbers.{number_value}
+use Rattle.mod_text.specs.ModuleLine.{InstrForm, LineForm, title, header, label, instr, end, is_version_text, is_arity_text, is_line_form}
 use Rattle.mod_text.specs.ModuleText.{FollowOn, names_behind}
 use Rattle.mod_text.specs.ModuleValue.{FunctionForm, HeaderForm, body_of, functions_in, headers_in, instrs_in, instr_in, function_in, module_of, IsTitled, is_settled_line, unsettled_at, unsettled_below, earlier, first_unsettled, unsettled_line}
 use Rattle.mod_text.proofs.Keepings.{last_line-push}

@@ -2,13 +2,13 @@
 use Rattle.std.proofs.Common.{◌≡◌, ℕ, List, Result, Ok, Err, sym, ◌∙◌, subst, inl, inr, ◌⊎◌, refl}
 use Rattle.std.specs.Prelude.{IfOk, IfErr}
 use Rattle.term_core.specs.Gives.{GivesUnless, RefusesUnless}
-use Rattle.script_text.specs.declared.script.Script.{Script}
+use Rattle.script_core.specs.declared.script.Script.{Script}
 use Rattle.script_text.specs.declared.fault.ScriptFault.{ScriptFault}
 use Rattle.script_text.specs.declared.fault.ScriptFault.TheVariants.{FileTooLong, LineTooLong, Syntax, UnknownName, Duplicate, Limit, NoMemory}
 use Rattle.script_text.specs.Causes.{FailsWith, GivesText}
 use Rattle.script_text.specs.Reading.{script_reading}
 use Rattle.script_text.specs.ScriptText.{ScriptText, FaultOf}
-use Rattle.script_text.specs.Sound.{IsScript}
+use Rattle.script_core.specs.Sound.{IsScript}
 use Rattle.script_text.proofs.Findings.{script_found, fault_found}
 use Rattle.script_text.proofs.Outcomes.{Comes, comes}
 use Rattle.script_text.proofs.Soundness.{sound_of}

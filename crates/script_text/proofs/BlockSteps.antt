@@ -5,13 +5,13 @@ use Rattle.std.proofs.lemmas.List.{length-map}
 use Rattle.term_core.specs.Names.{IsNames}
 use Rattle.term_core.specs.Written.{WrittenTerm}
 use Rattle.mod_text.specs.ModuleLine.{LineForm}
-use Rattle.mod_text.proofs.Options.{same_bytes}
+use Rattle.term_core.proofs.Text.Options.{same_bytes}
 use Rattle.script_text.specs.declared.fault.Which.TheVariants as which
 use Rattle.script_text.specs.declared.fault.ScriptFault.TheVariants as faults
 use Rattle.script_text.specs.declared.reading.cause.LineCause.TheVariants as causes
 use Rattle.script_text.specs.declared.reading.reader.Place.TheVariants.{Loading}
 use Rattle.script_text.specs.declared.reading.reader.ScriptReader.{ScriptReader}
-use Rattle.script_text.specs.declared.script.ScriptCmd.{ScriptCmd}
+use Rattle.script_core.specs.declared.script.ScriptCmd.{ScriptCmd}
 use Rattle.script_text.specs.ScriptLine.{RefForm, AtomCommand, ScriptLine, head, code, observer, loader, load, on_atom, put, trace, spawn, go, IsLine}
 use Rattle.script_text.specs.ScriptValue.{commands_of}
 use Rattle.script_text.specs.LineFaults.{may_stand_loading, may_stand}

@@ -8,17 +8,19 @@ use Rattle.std.proofs.lemmas.Grind.{flat_map-append}
 use Rattle.std.proofs.lemmas.List.Elements.{All-nil, All-cons}
 use Rattle.term_core.specs.Names.{IsNames}
 use Rattle.mod_core.specs.declared.code.Module.{Module}
-use Rattle.mod_text.specs.Canonical.{canonical as module_lines, IsModuleHeld}
+use Rattle.mod_text.specs.Canonical.{canonical as module_lines}
+use Rattle.mod_core.specs.HeldNames.{IsModuleHeld}
 use Rattle.mod_core.specs.Module.{IsModule}
-use Rattle.mod_text.specs.ModuleLine.{LineForm, number_value, lines_written, line_bytes, is_line_form, line_written}
+use Rattle.term_core.specs.Text.Numbers.{number_value}
+use Rattle.mod_text.specs.ModuleLine.{LineForm, lines_written, line_bytes, is_line_form, line_written}
 use Rattle.mod_text.specs.ModuleText.{FollowOn}
 use Rattle.mod_text.specs.LineFaults.{names_after}
 use Rattle.mod_text.specs.ModuleValue.{module_of}
-use Rattle.mod_text.specs.Reading.{Lines, lines as parts_of, lines_of}
-use Rattle.mod_text.proofs.Cuts.{lacks}
+use Rattle.term_core.specs.Text.Cuts.{Lines, lines as parts_of, lines_of}
+use Rattle.term_core.proofs.Text.Cuts.{lacks}
 use Rattle.mod_text.proofs.LineAgain.{line_lacks}
 use Rattle.mod_text.proofs.ModuleHeld.{module_held, some_names, sound_lines}
-use Rattle.script_text.specs.declared.script.Script.{Script}
+use Rattle.script_core.specs.declared.script.Script.{Script}
 use Rattle.script_text.specs.ScriptLine.{RefForm, ScriptLine, head, code, observer, go, script_line_written, is_snapshots_text, is_script_line}
 use Rattle.script_text.specs.Groups.{groups_of}
 use Rattle.script_text.specs.Counts.{names_of, functions_of, code_lines, is_title, module_texts, line_titles, titles_of, observers_of, is_loader, is_spawn, block_lines, loader_blocks}

@@ -10,12 +10,13 @@ use Rattle.term_core.specs.TermText.{names_with_all}
 use Rattle.term_core.proofs.NameTables.{names_with-IsNames}
 use Rattle.mod_text.specs.declared.fault.LineFault.{LineFault}
 use Rattle.mod_text.specs.declared.fault.LineFault.TheVariants as line_faults
-use Rattle.mod_text.specs.ModuleLine.{LineForm, title, header, label, instr, end, number_value, is_line_form, LineText}
+use Rattle.term_core.specs.Text.Numbers.{number_value}
+use Rattle.mod_text.specs.ModuleLine.{LineForm, title, header, label, instr, end, is_line_form, LineText}
 use Rattle.mod_text.specs.LineReading.{line_reading}
 use Rattle.mod_text.specs.LineFaults.{last_line, may_follow, has_high_register, has_wide_integer, has_long_term, line_atoms, names_after, overfills_names, is_seventeenth, ends_too_long, is_repeated, fault_of_line, counted_name, counted_by, counted_of}
 use Rattle.mod_text.specs.ModuleValue.{HeaderForm, headers_in, is_header, IsTitled, title_of, module_of}
 use Rattle.mod_text.specs.Reading.{Step, kept, judged, line_step}
-use Rattle.mod_text.proofs.Options.{some_is, passed, failed, bytes_are}
+use Rattle.term_core.proofs.Text.Options.{some_is, passed, failed, bytes_are}
 use Rattle.mod_text.proofs.LineLaws.{line_is}
 use Rattle.mod_text.proofs.LineAgain.{text_again}
 use Rattle.mod_text.proofs.LineNames.{are_atoms, line_atoms_are, more_names_all}

@@ -11,11 +11,13 @@ use Rattle.term_core.specs.Written.{WrittenTerm, written, parted, behind}
 use Rattle.term_core.proofs.PartedTerms.{joined_parts_of_terms, joined_written}
 use Rattle.term_core.proofs.TermBytes.{is_term_byte}
 use Rattle.term_core.proofs.TermForms.{is_term_text-form, nonempty-is_term_text}
-use Rattle.mod_text.specs.ModuleLine.{is_version_text, is_number_text}
-use Rattle.mod_text.specs.LineReading.{◌>>=◌, cut_at, tested}
-use Rattle.mod_text.proofs.Options.{some, some_is, bind_some, bind_at, map_some, guard_some, guarded, passed, failed, same_bytes, bytes_are, tested_is, tested_at}
-use Rattle.mod_text.proofs.Cuts.{lacks, lacks-all, lacks-append, lacks-cons, cut_here, IsCut, cut_is, uncut_is, uncut}
-use Rattle.mod_text.proofs.LineAgain.{IsApart, atom_lacks, number_lacks}
+use Rattle.term_core.specs.Text.Numbers.{is_number_text}
+use Rattle.mod_text.specs.ModuleLine.{is_version_text}
+use Rattle.term_core.specs.Text.Steps.{◌>>=◌, tested}
+use Rattle.term_core.specs.Text.Cuts.{cut_at}
+use Rattle.term_core.proofs.Text.Options.{some, some_is, bind_some, bind_at, map_some, guard_some, guarded, passed, failed, same_bytes, bytes_are, tested_is, tested_at}
+use Rattle.term_core.proofs.Text.Cuts.{lacks, lacks-all, lacks-append, lacks-cons, cut_here, IsCut, cut_is, uncut_is, uncut, atom_lacks, number_lacks}
+use Rattle.mod_text.proofs.LineAgain.{IsApart}
 use Rattle.script_text.specs.ScriptLine.{RefForm, ScriptLine, load, spawn, ref_written, call_written, is_ref_form, is_term_form, is_script_line, IsLine}
 use Rattle.script_text.specs.LineReading.{parts_of, ref_reading, each_reading, refs_reading, argument_reading, arguments_reading, CallForm, closed_arguments, call_reading}
 use Rattle.script_text.proofs.TermLines.{text_of_form, term_lacks, argument_again, argument_is}

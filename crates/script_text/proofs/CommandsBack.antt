@@ -11,7 +11,7 @@ use Rattle.term_core.proofs.PlainTerms.{plain-term_of}
 use Rattle.mod_text.specs.ModuleLine.{is_version_text, is_arity_text, is_function_form}
 use Rattle.mod_text.specs.ModuleValue.{atom_in}
 use Rattle.term_core.specs.Names.{is_atom_text}
-use Rattle.script_text.specs.declared.script.ScriptCmd.{ScriptCmd}
+use Rattle.script_core.specs.declared.script.ScriptCmd.{ScriptCmd}
 use Rattle.script_text.specs.ScriptLine.{RefForm, AtomCommand, delete, soft_purge, purge, check_old, erase, ScriptLine, head, code, observer, loader, load, on_atom, put, trace, spawn, go, is_ref_form, is_term_form, is_script_line}
 use Rattle.script_text.specs.Groups.{onto_last, groups_with, groups_of}
 use Rattle.script_text.specs.Counts.{is_loader}

@@ -3,9 +3,10 @@ use Rattle.std.proofs.Common.{◌≡◌, ℕ, ◌+◌, ◌<◌, ◌≤◌, ◌==
 use Rattle.std.specs.Prelude.{map}
 use Rattle.std.proofs.lemmas.Bool.Decides.{nat_tests}
 use Rattle.std.proofs.lemmas.List.{length-map, take-append-drop}
-use Rattle.mod_text.specs.Reading.{lines_of, is_end}
-use Rattle.mod_text.proofs.Options.{some_is, failed, passed, bytes_are, same_bytes}
-use Rattle.script_text.specs.declared.script.Script.{Script}
+use Rattle.term_core.specs.Text.Cuts.{lines_of}
+use Rattle.mod_text.specs.Reading.{is_end}
+use Rattle.term_core.proofs.Text.Options.{some_is, failed, passed, bytes_are, same_bytes}
+use Rattle.script_core.specs.declared.script.Script.{Script}
 use Rattle.script_text.specs.declared.fault.Which.{Which}
 use Rattle.script_text.specs.declared.fault.ScriptFault.{ScriptFault}
 use Rattle.script_text.specs.declared.fault.ScriptFault.TheVariants as faults

@@ -8,7 +8,7 @@ use Rattle.term_core.specs.TermText.{number_in, names_with_all}
 use Rattle.term_core.proofs.Places.{position-append_found, position-append_one}
 use Rattle.term_core.proofs.NameTables.{slice_get-number_of}
 use Rattle.term_core.proofs.GrownNames.{Extends-refl, Extends-trans, names_with-Extends}
-use Rattle.mod_text.proofs.Options.{some_is}
+use Rattle.term_core.proofs.Text.Options.{some_is}
 
 -- the table holds the text
 pub record IsHeldText (names : List (List ℕ)) (text : List ℕ) : Type 0 where

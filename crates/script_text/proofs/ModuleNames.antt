@@ -7,7 +7,8 @@ use Rattle.term_core.specs.declared.term.Term.TheVariants.{Atom}
 use Rattle.term_core.specs.Plain.{term_of}
 use Rattle.mod_core.specs.declared.code.Operand.TheVariants.{Const}
 use Rattle.mod_core.specs.declared.code.Instr.TheVariants.{Move, Add, Sub, Eq, Less, CallExt, Ret, Pget, PgetOr, Elem, Print}
-use Rattle.mod_text.specs.ModuleLine.{OperandForm, register, integer, atom, complex, InstrForm, move, add, sub, eq, less, jump, call, call_ext, ret, pget, pget_or, elem, print, yield, LineForm, title, header, label, instr, end, number_value}
+use Rattle.term_core.specs.Text.Numbers.{number_value}
+use Rattle.mod_text.specs.ModuleLine.{OperandForm, register, integer, atom, complex, InstrForm, move, add, sub, eq, less, jump, call, call_ext, ret, pget, pget_or, elem, print, yield, LineForm, title, header, label, instr, end}
 use Rattle.mod_text.specs.LineFaults.{operand_atoms, instr_atoms, line_atoms}
 use Rattle.mod_text.specs.ModuleValue.{body_of, functions_in, HeaderForm, headers_in, instrs_in, atom_in, operand_in, target_in, instr_in, function_in, title_of, IsTitled, module_of}
 use Rattle.script_text.proofs.HeldNames.{IsHeldText, number_in-more}

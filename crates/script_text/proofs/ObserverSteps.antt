@@ -2,10 +2,11 @@
 use Rattle.std.proofs.Common.{◌≡◌, ℕ, ◌+◌, Bool, true, false, cond, not, ◌||◌, nat_le, nat_lt, List, [], ◌∷◌, ◌++◌, length, Option, Some, None, option_map, Ok, Err, bytes_eq, codes, refl, sym, ap, ◌∙◌, subst, arith, length-append}
 use Rattle.std.proofs.lemmas.Bool.Decides.{nat_tests}
 use Rattle.std.proofs.lemmas.List.{length-map}
-use Rattle.mod_text.specs.ModuleLine.{LineForm, number_value}
-use Rattle.mod_text.specs.LineReading.{cut_at}
-use Rattle.mod_text.proofs.Cuts.{cut_is}
-use Rattle.mod_text.proofs.Options.{some_is, bytes_are}
+use Rattle.term_core.specs.Text.Numbers.{number_value}
+use Rattle.mod_text.specs.ModuleLine.{LineForm}
+use Rattle.term_core.specs.Text.Cuts.{cut_at}
+use Rattle.term_core.proofs.Text.Cuts.{cut_is}
+use Rattle.term_core.proofs.Text.Options.{some_is, bytes_are}
 use Rattle.script_text.specs.declared.fault.Which.TheVariants as which
 use Rattle.script_text.specs.declared.fault.ScriptFault.TheVariants as faults
 use Rattle.script_text.specs.declared.reading.cause.LineCause.TheVariants as causes

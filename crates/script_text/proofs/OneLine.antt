@@ -2,9 +2,11 @@
 use Rattle.std.proofs.Common.{◌≡◌, ℕ, Bool, true, false, cond, List, Option, Some, None, option_map, bytes_eq, codes, refl, sym, ap, ◌∙◌}
 use Rattle.term_core.specs.Names.{is_atom_text}
 use Rattle.mod_text.specs.ModuleLine.{LineForm}
-use Rattle.mod_text.specs.LineReading.{cut_at, tested, parts_reading, line_split, has_sound_terms, sound_reading, line_reading}
+use Rattle.term_core.specs.Text.Cuts.{cut_at}
+use Rattle.term_core.specs.Text.Steps.{tested}
+use Rattle.mod_text.specs.LineReading.{parts_reading, line_split, has_sound_terms, sound_reading, line_reading}
 use Rattle.mod_text.proofs.LineAgain.{text_again}
-use Rattle.mod_text.proofs.Options.{some_is, failed, bytes_are, tested_at}
+use Rattle.term_core.proofs.Text.Options.{some_is, failed, bytes_are, tested_at}
 use Rattle.script_text.specs.ScriptLine.{AtomCommand, delete, soft_purge, purge, check_old, erase, ScriptLine, head, code, observer, loader, load, on_atom, put, trace, spawn, go, command_word, is_snapshots_text, IsLine}
 use Rattle.script_text.specs.LineReading.{CallForm, refs_reading, command_reading, PutForm, put_reading, TraceForm, trace_reading, call_reading}
 use Rattle.script_text.proofs.CommandLaws.{load_cut, spawn_cut}

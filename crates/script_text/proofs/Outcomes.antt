@@ -5,10 +5,11 @@ use Rattle.std.proofs.lemmas.Bool.Decides.{nat_tests}
 use Rattle.mod_core.specs.declared.code.Module.{Module}
 use Rattle.mod_text.specs.ModuleLine.{LineForm, title, header, label, instr, end}
 use Rattle.mod_text.specs.ModuleValue.{module_of}
-use Rattle.mod_text.specs.Reading.{lines_of, is_end}
-use Rattle.mod_text.proofs.Options.{some_is, bytes_are, same_bytes}
-use Rattle.script_text.specs.declared.script.Script.{Script}
-use Rattle.script_text.specs.declared.script.ScriptCmd.{ScriptCmd}
+use Rattle.term_core.specs.Text.Cuts.{lines_of}
+use Rattle.mod_text.specs.Reading.{is_end}
+use Rattle.term_core.proofs.Text.Options.{some_is, bytes_are, same_bytes}
+use Rattle.script_core.specs.declared.script.Script.{Script}
+use Rattle.script_core.specs.declared.script.ScriptCmd.{ScriptCmd}
 use Rattle.script_text.specs.declared.fault.ScriptFault.{ScriptFault}
 use Rattle.script_text.specs.declared.fault.ScriptFault.TheVariants as faults
 use Rattle.script_text.specs.declared.reading.cause.LineCause.{LineCause}

@@ -4,7 +4,8 @@ use Rattle.std.specs.Prelude.{map}
 use Rattle.std.specs.List.{AllByRecursion}
 use Rattle.std.proofs.lemmas.Bool.Decides.{nat_tests}
 use Rattle.std.proofs.lemmas.List.{map-append, length-map}
-use Rattle.mod_text.specs.Reading.{lines, before_lines, lines_of, is_end}
+use Rattle.term_core.specs.Text.Cuts.{lines, before_lines, lines_of}
+use Rattle.mod_text.specs.Reading.{is_end}
 use Rattle.script_text.specs.declared.fault.ScriptFault.{ScriptFault}
 use Rattle.script_text.specs.declared.fault.ScriptFault.TheVariants as faults
 use Rattle.script_text.specs.ScriptLine.{ScriptLine, script_line_written, is_script_line, IsLine}

@@ -13,13 +13,12 @@ use Rattle.term_core.specs.PlainTerm.{row_of}
 use Rattle.term_core.specs.TermText.{term_text}
 use Rattle.term_core.specs.Written.{parted, behind}
 use Rattle.mod_text.specs.Canonical.{canonical as module_lines}
-use Rattle.mod_text.specs.LineReading.{cut_at}
+use Rattle.term_core.specs.Text.Cuts.{cut_at, Lines, lines_of}
 use Rattle.mod_text.specs.ModuleLine.{lines_written}
-use Rattle.mod_text.specs.Reading.{Lines, lines_of}
-use Rattle.mod_text.proofs.Cuts.{lines_of_cut, lines_of_tail, uncut_is}
+use Rattle.term_core.proofs.Text.Cuts.{lines_of_cut, lines_of_tail, uncut_is}
 use Rattle.server_core.specs.declared.command.ModRef.{ModRef}
-use Rattle.script_text.specs.declared.script.Script.{Script}
-use Rattle.script_text.specs.declared.script.ScriptCmd.{ScriptCmd}
+use Rattle.script_core.specs.declared.script.Script.{Script}
+use Rattle.script_core.specs.declared.script.ScriptCmd.{ScriptCmd}
 use Rattle.script_text.specs.ScriptLine.{observer, load, go, ref_written, script_line_written}
 use Rattle.script_text.specs.Canonical.{ref_form, argument_form, command_line, observer_form, block_form, observer_bytes, block_bytes, script_line_bytes, canonical_text, is_long_line}
 use Rattle.script_text.proofs.LinesJoined.{codes_bytes, modules_written}

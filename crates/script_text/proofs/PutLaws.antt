@@ -3,11 +3,11 @@ use Rattle.std.proofs.Common.{◌≡◌, ℕ, Bool, true, false, ◌&&◌, List,
 use Rattle.std.proofs.lemmas.Bool.{and_parts, and_from}
 use Rattle.term_core.specs.Names.{is_atom_text}
 use Rattle.term_core.specs.Written.{WrittenTerm, written}
-use Rattle.mod_text.specs.LineReading.{◌>>=◌ as ◌>>?◌, cut_at, tested}
+use Rattle.term_core.specs.Text.Steps.{◌>>=◌ as ◌>>?◌, tested}
+use Rattle.term_core.specs.Text.Cuts.{cut_at}
 use Rattle.mod_text.specs.ModuleLine.{spaced}
-use Rattle.mod_text.proofs.Options.{some, some_is, bind_some, bind_at, same_bytes, tested_is, tested_at}
-use Rattle.mod_text.proofs.Cuts.{cut_here, cut_is}
-use Rattle.mod_text.proofs.LineAgain.{atom_lacks}
+use Rattle.term_core.proofs.Text.Options.{some, some_is, bind_some, bind_at, same_bytes, tested_is, tested_at}
+use Rattle.term_core.proofs.Text.Cuts.{cut_here, cut_is, atom_lacks}
 use Rattle.script_text.specs.declared.reading.cause.LineCause.{LineCause}
 use Rattle.script_text.specs.declared.reading.cause.LineCause.TheVariants as causes
 use Rattle.script_text.specs.Causes.{◌>>=◌, Fails}

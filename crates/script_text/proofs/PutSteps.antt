@@ -6,10 +6,10 @@ use Rattle.term_core.specs.Plain.{term_of}
 use Rattle.term_core.specs.PlainTerm.{PlainTerm, atoms_of}
 use Rattle.term_core.specs.TermText.{number_in, names_with_all}
 use Rattle.term_core.specs.Written.{WrittenTerm}
-use Rattle.mod_text.specs.LineReading.{cut_at}
+use Rattle.term_core.specs.Text.Cuts.{cut_at}
 use Rattle.mod_text.specs.ModuleLine.{LineForm}
-use Rattle.mod_text.proofs.Cuts.{cut_is}
-use Rattle.mod_text.proofs.Options.{some_is}
+use Rattle.term_core.proofs.Text.Cuts.{cut_is}
+use Rattle.term_core.proofs.Text.Options.{some_is}
 use Rattle.script_text.specs.declared.fault.Which.TheVariants as which
 use Rattle.script_text.specs.declared.fault.ScriptFault.{ScriptFault}
 use Rattle.script_text.specs.declared.fault.ScriptFault.TheVariants as faults
@@ -17,8 +17,8 @@ use Rattle.script_text.specs.declared.reading.cause.LineCause.{LineCause}
 use Rattle.script_text.specs.declared.reading.cause.LineCause.TheVariants as causes
 use Rattle.script_text.specs.declared.reading.reader.Place.TheVariants.{Loading}
 use Rattle.script_text.specs.declared.reading.reader.ScriptReader.{ScriptReader}
-use Rattle.script_text.specs.declared.script.ScriptCmd.{ScriptCmd}
-use Rattle.script_text.specs.declared.script.ScriptCmd.TheVariants.{Put}
+use Rattle.script_core.specs.declared.script.ScriptCmd.{ScriptCmd}
+use Rattle.script_core.specs.declared.script.ScriptCmd.TheVariants.{Put}
 use Rattle.script_text.specs.ScriptLine.{ScriptLine, put, is_term_form, IsLine}
 use Rattle.script_text.specs.ScriptValue.{argument_in}
 use Rattle.script_text.specs.LineFaults.{is_wide_term, is_long_term, may_stand}

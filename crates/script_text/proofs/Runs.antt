@@ -4,8 +4,8 @@ use Rattle.std.specs.Prelude.{map}
 use Rattle.std.specs.List.{AllByRecursion}
 use Rattle.std.proofs.lemmas.Bool.Decides.{nat_tests}
 use Rattle.mod_text.specs.Reading.{is_end}
-use Rattle.mod_text.proofs.Options.{some_is, failed, same_bytes}
-use Rattle.script_text.specs.declared.script.Script.{Script}
+use Rattle.term_core.proofs.Text.Options.{some_is, failed, same_bytes}
+use Rattle.script_core.specs.declared.script.Script.{Script}
 use Rattle.script_text.specs.declared.fault.ScriptFault.{ScriptFault}
 use Rattle.script_text.specs.declared.fault.ScriptFault.TheVariants as faults
 use Rattle.script_text.specs.declared.reading.cause.LineCause.{LineCause}

@@ -16,17 +16,19 @@ use Rattle.term_core.proofs.LeafFacts.{term_words-map}
 use Rattle.term_core.proofs.NameTables.{slice_get-number_of}
 use Rattle.term_core.proofs.PlainTerms.{plain-term_of}
 use Rattle.mod_core.specs.declared.code.Module.{Module}
-use Rattle.mod_text.specs.ModuleLine.{LineForm, title, header, label, instr, end, number_value}
+use Rattle.term_core.specs.Text.Numbers.{number_value}
+use Rattle.mod_text.specs.ModuleLine.{LineForm, title, header, label, instr, end}
 use Rattle.mod_text.specs.ModuleValue.{atom_in, mfa_in, module_of}
 use Rattle.server_core.specs.CommandTable.{text_of}
-use Rattle.script_text.specs.declared.script.ScriptCmd.TheVariants.{Load, Put, Trace, Spawn}
+use Rattle.script_core.specs.declared.script.ScriptCmd.TheVariants.{Load, Put, Trace, Spawn}
 use Rattle.script_text.specs.ScriptLine.{RefForm, AtomCommand, delete, soft_purge, purge, check_old, erase, ScriptLine, head, code, observer, loader, load, on_atom, put, trace, spawn, go, is_script_line}
 use Rattle.script_text.specs.Groups.{onto_last}
 use Rattle.script_text.specs.Counts.{script_line_atoms, is_given, is_loader, is_spawn, block_lines, loader_blocks}
 use Rattle.script_text.specs.LineFaults.{may_stand_between, may_stand_within, may_stand_observing, may_stand, is_head, is_wide_term, is_long_term, is_lacking, lack_in_loads}
 use Rattle.script_text.specs.ScriptText.{HaveNoFault}
 use Rattle.script_text.specs.ScriptValue.{ref_in, argument_in, command_of, commands_on, commands_of}
-use Rattle.script_text.specs.Sound.{IsTermOf, IsCmdOf, spawns_in}
+use Rattle.script_core.specs.Sound.{IsTermOf, IsCmdOf}
+use Rattle.script_core.specs.Processes.{spawns_in}
 use Rattle.script_text.proofs.HeldNames.{IsHeldText, number_is}
 use Rattle.script_text.proofs.ModuleNames.{AreHeld, held_first, held_second}
 use Rattle.script_text.proofs.TermNames.{narrow_fits}

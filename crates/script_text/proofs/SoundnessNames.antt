@@ -9,7 +9,8 @@ use Rattle.term_core.specs.PlainTerm.{atoms_of}
 use Rattle.term_core.specs.TermText.{names_with_all}
 use Rattle.term_core.specs.Written.{WrittenTerm}
 use Rattle.term_core.proofs.NameTables.{given_names-IsNames, names_with-IsNames}
-use Rattle.mod_text.specs.ModuleLine.{is_number_text, number_value, is_arity_text, is_function_form}
+use Rattle.term_core.specs.Text.Numbers.{is_number_text, number_value}
+use Rattle.mod_text.specs.ModuleLine.{is_arity_text, is_function_form}
 use Rattle.mod_text.proofs.LineNames.{are_atoms, line_atoms_are, more_names_all}
 use Rattle.script_text.specs.ScriptLine.{RefForm, ScriptLine, head, code, observer, loader, load, on_atom, put, trace, spawn, go, is_ref_form, is_term_form, is_script_line}
 use Rattle.script_text.specs.Counts.{script_line_atoms, names_of}

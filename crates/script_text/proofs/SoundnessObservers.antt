@@ -3,7 +3,7 @@ use Rattle.std.proofs.Common.{◌≡◌, ◌<◌, ◌≤◌, true, List, [], len
 use Rattle.std.specs.Prelude.{IsTrue}
 use Rattle.std.specs.List.{AllByRecursion}
 use Rattle.std.proofs.lemmas.List.{length-map}
-use Rattle.mod_text.specs.ModuleLine.{number_value}
+use Rattle.term_core.specs.Text.Numbers.{number_value}
 use Rattle.script_text.specs.ScriptLine.{ScriptLine, head, code, observer, loader, load, on_atom, put, trace, spawn, go, is_snapshots_text, is_script_line}
 use Rattle.script_text.specs.Counts.{line_observers, observers_of}
 use Rattle.script_text.specs.ScriptText.{HaveNoFault}

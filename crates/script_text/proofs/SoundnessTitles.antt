@@ -8,12 +8,13 @@ use Rattle.term_core.specs.declared.atom.AtomId.{AtomId}
 use Rattle.term_core.specs.Names.{Extends}
 use Rattle.term_core.specs.TermText.{number_in}
 use Rattle.mod_core.specs.declared.code.Module.{Module}
-use Rattle.mod_text.specs.ModuleLine.{LineForm, title, header, label, instr, end, number_value}
+use Rattle.term_core.specs.Text.Numbers.{number_value}
+use Rattle.mod_text.specs.ModuleLine.{LineForm, title, header, label, instr, end}
 use Rattle.mod_text.specs.LineFaults.{may_follow, last_line, names_after}
 use Rattle.mod_text.specs.ModuleValue.{title_of, IsTitled, module_of}
 use Rattle.mod_text.specs.ModuleText.{FollowOn, names_behind}
 use Rattle.mod_text.proofs.Keepings.{last_line-push}
-use Rattle.mod_text.proofs.Options.{some_is, bytes_are}
+use Rattle.term_core.proofs.Text.Options.{some_is, bytes_are}
 use Rattle.server_core.specs.CommandTable.{text_of}
 use Rattle.script_text.specs.ScriptLine.{RefForm, ScriptLine, head, code, observer, loader, load, on_atom, put, trace, spawn, go, is_script_line}
 use Rattle.script_text.specs.Counts.{code_lines, is_title, module_texts, line_titles, titles_of, is_same_ref, is_given}

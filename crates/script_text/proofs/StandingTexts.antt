@@ -15,7 +15,7 @@ use Rattle.mod_text.specs.ModuleValue.{IsTitled}
 use Rattle.mod_text.proofs.Constants.{IsSound}
 use Rattle.mod_text.proofs.LineWords.{too_long_is}
 use Rattle.mod_text.proofs.Keepings.{last_line-push}
-use Rattle.mod_text.proofs.Options.{some_is}
+use Rattle.term_core.proofs.Text.Options.{some_is}
 use Rattle.script_text.specs.ScriptLine.{RefForm, ScriptLine, head, code, observer, loader, load, on_atom, put, trace, spawn, go}
 use Rattle.script_text.specs.Groups.{onto_last, last_group}
 use Rattle.script_text.specs.Counts.{names_of, code_lines, module_texts, line_titles, titles_of, is_same_ref, is_given}

@@ -5,13 +5,14 @@ use Rattle.std.specs.List.{AllByRecursion, flat_map}
 use Rattle.std.proofs.lemmas.List.{map-append}
 use Rattle.term_core.specs.Names.{IsNames, Extends}
 use Rattle.mod_core.specs.declared.code.Module.{Module}
-use Rattle.mod_text.specs.ModuleLine.{LineForm, title, header, label, instr, end, number_value}
+use Rattle.term_core.specs.Text.Numbers.{number_value}
+use Rattle.mod_text.specs.ModuleLine.{LineForm, title, header, label, instr, end}
 use Rattle.mod_text.specs.LineFaults.{last_line}
 use Rattle.mod_text.specs.ModuleValue.{IsTitled, module_of, unsettled_line}
 use Rattle.script_text.specs.declared.reading.reader.Place.{Place}
 use Rattle.script_text.specs.declared.reading.reader.Place.TheVariants.{Unread, Between, Within, Observing, Loading, Finished}
 use Rattle.script_text.specs.declared.reading.reader.ScriptReader.{ScriptReader}
-use Rattle.script_text.specs.declared.script.ScriptCmd.{ScriptCmd}
+use Rattle.script_core.specs.declared.script.ScriptCmd.{ScriptCmd}
 use Rattle.script_text.specs.ScriptLine.{ScriptLine, head, code, observer, loader, load, spawn, go}
 use Rattle.script_text.specs.Groups.{onto_last}
 use Rattle.script_text.specs.ScriptValue.{commands_on, commands_of}

@@ -8,7 +8,7 @@ use Rattle.term_core.specs.TermParts.{depth_behind, is_part_end, CutText, with_b
 use Rattle.term_core.specs.Written.{WrittenTerm, written, parted}
 use Rattle.term_core.proofs.PartedTerms.{parts_by_cut, parts_of_parted}
 use Rattle.term_core.proofs.TokenLaws.{terms_of-row_of}
-use Rattle.mod_text.proofs.Options.{some_is}
+use Rattle.term_core.proofs.Text.Options.{some_is}
 use Rattle.script_text.specs.ScriptLine.{is_term_form, is_row_form}
 use Rattle.script_text.proofs.TermLines.{leaf_texts}
 

@@ -7,15 +7,17 @@ use Rattle.std.proofs.lemmas.List.{map-append}
 use Rattle.term_core.specs.Names.{IsNames, Extends, number_of}
 use Rattle.term_core.specs.TermText.{number_in}
 use Rattle.mod_text.specs.declared.fault.LineFault.TheVariants as line_faults
-use Rattle.mod_text.specs.ModuleLine.{LineForm, title, header, label, instr, end, number_value}
-use Rattle.mod_text.specs.LineReading.{cut_at, line_reading}
+use Rattle.term_core.specs.Text.Numbers.{number_value}
+use Rattle.mod_text.specs.ModuleLine.{LineForm, title, header, label, instr, end}
+use Rattle.term_core.specs.Text.Cuts.{cut_at}
+use Rattle.mod_text.specs.LineReading.{line_reading}
 use Rattle.mod_text.specs.LineFaults.{names_after}
 use Rattle.mod_text.specs.ModuleValue.{module_of}
 use Rattle.mod_text.specs.Reading.{kept, judged}
-use Rattle.mod_text.proofs.Cuts.{cut_here, cut_is}
+use Rattle.term_core.proofs.Text.Cuts.{cut_here, cut_is}
 use Rattle.mod_text.proofs.LineAgain.{text_again}
 use Rattle.mod_text.proofs.LineNames.{line_atoms_are}
-use Rattle.mod_text.proofs.Options.{guarded, bytes_are}
+use Rattle.term_core.proofs.Text.Options.{guarded, bytes_are}
 use Rattle.server_core.specs.declared.command.ModRef.{ModRef}
 use Rattle.script_text.specs.declared.fault.Which.TheVariants as which
 use Rattle.script_text.specs.declared.reading.cause.LineCause.{LineCause}

@@ -13,7 +13,7 @@ use Rattle.mod_text.specs.LineReading.{line_reading}
 use Rattle.mod_text.specs.LineFaults.{last_line, may_follow, line_atoms, names_after, is_repeated, overfills_names, is_seventeenth, ends_too_long, has_high_register, has_wide_integer, has_long_term, fault_of_line, counted_name, counted_by, counted_of}
 use Rattle.mod_text.specs.ModuleValue.{headers_in, is_header, IsTitled, module_of}
 use Rattle.mod_text.specs.Reading.{judged, kept}
-use Rattle.mod_text.proofs.Options.{some_is, passed, failed, bytes_are}
+use Rattle.term_core.proofs.Text.Options.{some_is, passed, failed, bytes_are}
 use Rattle.mod_text.proofs.LineLaws.{line_is}
 use Rattle.mod_text.proofs.LineAgain.{text_again}
 use Rattle.mod_text.proofs.LineNames.{line_atoms_are}

@@ -10,7 +10,7 @@ use Rattle.term_core.specs.Written.{WrittenTerm, outside_of}
 use Rattle.mod_text.specs.ModuleLine.{LineForm, title, header, label, instr, end}
 use Rattle.mod_text.specs.ModuleValue.{unsettled_line}
 use Rattle.mod_text.specs.LineFaults.{may_follow, has_high_register, has_wide_integer, has_long_term, is_seventeenth, ends_too_long, is_repeated}
-use Rattle.script_text.specs.declared.script.TheConstants.{MOST_FUNCTION_NAMES, MOST_LOADERS, MOST_PROCESSES, MOST_OBSERVERS}
+use Rattle.script_core.specs.declared.script.TheConstants.{MOST_FUNCTION_NAMES, MOST_LOADERS, MOST_PROCESSES, MOST_OBSERVERS}
 use Rattle.script_text.specs.declared.fault.Which.TheVariants as which
 use Rattle.script_text.specs.declared.fault.ScriptFault.{ScriptFault}
 use Rattle.script_text.specs.declared.fault.ScriptFault.TheVariants as faults

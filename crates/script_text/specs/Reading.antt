@@ -8,14 +8,14 @@ use Rattle.term_core.specs.Plain.{term_of}
 use Rattle.mod_text.specs.declared.fault.LineFault.TheVariants as line_faults
 use Rattle.mod_text.specs.ModuleLine.{LineForm, title, header, label, instr, end}
 use Rattle.mod_text.specs.LineFaults.{last_line, counted_of}
-use Rattle.mod_text.specs.LineReading.{cut_at}
+use Rattle.term_core.specs.Text.Cuts.{cut_at}
 use Rattle.mod_text.specs.ModuleValue.{IsTitled, module_of, unsettled_line}
 use Rattle.mod_text.specs.Reading.{Step, line_step, is_end}
 use Rattle.server_core.specs.declared.command.ModRef.{ModRef}
-use Rattle.script_text.specs.declared.script.TheConstants.{LONGEST_SCRIPT, LONGEST_LINE, MOST_LOADERS, MOST_PROCESSES, MOST_OBSERVERS}
-use Rattle.script_text.specs.declared.script.ScriptCmd.{ScriptCmd}
-use Rattle.script_text.specs.declared.script.ScriptCmd.TheVariants.{Load, Put, Trace, Spawn}
-use Rattle.script_text.specs.declared.script.Script.{Script}
+use Rattle.script_core.specs.declared.script.TheConstants.{LONGEST_SCRIPT, LONGEST_LINE, MOST_LOADERS, MOST_PROCESSES, MOST_OBSERVERS}
+use Rattle.script_core.specs.declared.script.ScriptCmd.{ScriptCmd}
+use Rattle.script_core.specs.declared.script.ScriptCmd.TheVariants.{Load, Put, Trace, Spawn}
+use Rattle.script_core.specs.declared.script.Script.{Script}
 use Rattle.script_text.specs.declared.fault.Which.TheVariants as which
 use Rattle.script_text.specs.declared.fault.ScriptFault.{ScriptFault}
 use Rattle.script_text.specs.declared.fault.ScriptFault.TheVariants as faults

@@ -7,12 +7,12 @@ use Rattle.term_core.specs.Plain.{term_of}
 use Rattle.term_core.specs.PlainTerm.{PlainTerm, map_leaves}
 use Rattle.term_core.specs.Written.{WrittenTerm, integer_of}
 use Rattle.term_core.specs.TermText.{number_in}
-use Rattle.mod_text.specs.ModuleLine.{number_value}
+use Rattle.term_core.specs.Text.Numbers.{number_value}
 use Rattle.mod_text.specs.ModuleValue.{atom_in, mfa_in, module_of}
 use Rattle.server_core.specs.declared.command.ModRef.{ModRef}
-use Rattle.script_text.specs.declared.script.ScriptCmd.{ScriptCmd}
-use Rattle.script_text.specs.declared.script.ScriptCmd.TheVariants.{Load, Delete, SoftPurge, Purge, CheckOld, Put, Erase, Trace, Spawn}
-use Rattle.script_text.specs.declared.script.Script.{Script}
+use Rattle.script_core.specs.declared.script.ScriptCmd.{ScriptCmd}
+use Rattle.script_core.specs.declared.script.ScriptCmd.TheVariants.{Load, Delete, SoftPurge, Purge, CheckOld, Put, Erase, Trace, Spawn}
+use Rattle.script_core.specs.declared.script.Script.{Script}
 use Rattle.script_text.specs.ScriptLine.{RefForm, AtomCommand, delete, soft_purge, purge, check_old, erase, ScriptLine, head, code, observer, loader, load, on_atom, put, trace, spawn, go}
 use Rattle.script_text.specs.Counts.{names_of, module_texts, observers_of, loader_blocks}
 

@@ -8,10 +8,11 @@ ghost use Rattle.term_core.specs.Plain.{plain};
 ghost use Rattle.term_core.specs.PlainTerm.{row_of};
 ghost use Rattle.term_core.specs.TermText.{atom_text, term_text};
 ghost use Rattle.term_core.specs.Written.{parted};
-ghost use Rattle.mod_text.specs.Canonical.{canonical as module_lines, IsModuleHeld};
+ghost use Rattle.mod_text.specs.Canonical.{canonical as module_lines};
+ghost use Rattle.mod_core.specs.HeldNames.{IsModuleHeld};
 ghost use Rattle.mod_core.specs.Module.{IsModule};
 ghost use Rattle.mod_text.specs.ModuleLine.{spaced, function_written, lines_written};
-ghost use Rattle.script_text.specs.declared.script.Script.{Script as ScriptValue};
+ghost use Rattle.script_core.specs.declared.script.Script.{Script as ScriptValue};
 ghost use Rattle.script_text.specs.ScriptLine.{ref_written, switch_word, trace_written, call_written, script_line_written, load};
 ghost use Rattle.script_text.specs.ScriptText.{ScriptText};
 ghost use Rattle.script_text.specs.TextLines.{lines_of};
@@ -19,7 +20,7 @@ ghost use Rattle.script_text.specs.Canonical.{IsOfSomeText, ref_form, argument_f
 
 use crate::fault::PrintFault;
 use crate::reading::words::cut_at;
-use crate::script::{CommandList, LONGEST_LINE, LONGEST_SCRIPT, Script, ScriptCmd};
+use script_core::{CommandList, LONGEST_LINE, LONGEST_SCRIPT, Script, ScriptCmd};
 use mod_core::Module;
 use mod_text::print_module;
 use server_core::ModRef;

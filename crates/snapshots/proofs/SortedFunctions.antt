@@ -23,10 +23,10 @@ use Rattle.term_core.proofs.GrownNames.{number_of-at}
 use Rattle.term_core.proofs.Places.{is_some-position}
 use Rattle.mod_core.specs.declared.code.Function.{Function}
 use Rattle.mod_core.specs.declared.code.Module.{Module}
-use Rattle.mod_text.specs.Canonical.{IsFunctionHeld, IsModuleHeld}
+use Rattle.mod_core.specs.HeldNames.{IsFunctionHeld, IsModuleHeld}
 use Rattle.server_core.specs.ServerState.{export_of, is_export}
-use Rattle.script_text.specs.declared.script.Script.{Script}
-use Rattle.script_text.specs.Sound.{IsScript}
+use Rattle.script_core.specs.declared.script.Script.{Script}
+use Rattle.script_core.specs.Sound.{IsScript}
 use Rattle.run_log.specs.Snapshots.{mfa_cmp, name_cmp}
 use Rattle.snapshots.specs.Functions.{AreExportedFunctions, exports_in, full_name}
 use Rattle.snapshots.specs.Texts.{IsExportedBy}

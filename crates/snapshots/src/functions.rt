@@ -1,10 +1,10 @@
 ghost use Rattle.std.specs.Prelude.{◌≡◌, ◌++◌, IfOk, OnOk};
-ghost use Rattle.script_text.specs.Sound.{IsScript};
+ghost use Rattle.script_core.specs.Sound.{IsScript};
 ghost use Rattle.snapshots.specs.Functions.{AreExportedFunctions, exports_in};
 
 use crate::order::compare;
 use mod_core::Module;
-use script_text::Script;
+use script_core::Script;
 use std::alloc::Global;
 use term_core::{Items, Mfa, NoMemory};
 

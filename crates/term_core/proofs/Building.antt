@@ -1,7 +1,7 @@
 -- Lemmas on the terms and names that the tokens of a text make, as the loop takes them.
 use Rattle.std.proofs.Common.{◌≡◌, ℕ, ◌+◌, ◌-◌, ◌<◌, ◌≤◌, Bool, true, false, cond, List, [], ◌∷◌, ◌++◌, length, drop, take, get_or, refl, sym, ap, ◌∙◌, arith}
 use Rattle.term_core.specs.declared.byte_kind.ByteKind.{ByteKind}
-use Rattle.term_core.specs.declared.byte_kind.ByteKind.TheVariants.{Open, Close, Comma, Minus, Zero, Digit, Letter, NameByte, Foreign}
+use Rattle.term_core.specs.declared.byte_kind.ByteKind.TheVariants.{Open, Close, Comma}
 use Rattle.term_core.specs.Bytes.{kind_of, is_leaf_kind, leaf_front}
 use Rattle.term_core.specs.Names.{Extends, is_atom_text, names_with}
 use Rattle.term_core.specs.TermText.{names_with_all}
@@ -15,18 +15,8 @@ pub begun_leaf : (inside : Bool) (kind : ByteKind) (front : List ℕ) → begins
 begun_leaf inside (Open b) front begun h = cc
 begun_leaf inside (Close b) front begun h = cc
 begun_leaf inside Comma front begun h = cc
-begun_leaf false Minus front begun h = h.0
-begun_leaf false Zero front begun h = h.0
-begun_leaf false Digit front begun h = h.0
-begun_leaf false Letter front begun h = h.0
-begun_leaf false NameByte front begun h = h.0
-begun_leaf false Foreign front begun h = h.0
-begun_leaf true Minus front begun h = cc
-begun_leaf true Zero front begun h = cc
-begun_leaf true Digit front begun h = cc
-begun_leaf true Letter front begun h = cc
-begun_leaf true NameByte front begun h = cc
-begun_leaf true Foreign front begun h = cc
+begun_leaf false kind front begun h = h.0
+begun_leaf true kind front begun h = cc
 
 -- by whether a leaf is an atom
 leaf_joins : (b : Bool) (names : List (List ℕ)) (text : List ℕ) → Extends names (cond b (names_with names text) names)

@@ -91,9 +91,7 @@ mutual
 -- a term has a word
 pub some_words : {Z A : Type 0} (t : TermOf Z A) → 1 ≤ term_words t
 some_words (integer_leaf z) = omega arith
-some_words (atom_leaf a) = omega arith
-some_words (tuple_of row) = omega arith
-some_words (list_of row) = omega arith
+some_words t = omega arith
 
 -- so a row has no more terms than words
 pub count_le-words : {Z A : Type 0} (row : RowOf Z A) → row_count row ≤ row_words row

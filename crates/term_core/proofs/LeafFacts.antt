@@ -113,11 +113,6 @@ pub EachOf-append : {A : Type 0} (P : A → Type 0) (xs ys : List A) → EachOf 
 EachOf-append P [] ys h k = k
 EachOf-append P (x ∷ xs) ys h k = (h.0, EachOf-append P xs ys h.1 k)
 
--- by another fact
-pub EachOf-weaker : {A : Type 0} (P Q : A → Type 0) → ((a : A) → P a → Q a) → (xs : List A) → EachOf P xs → EachOf Q xs
-EachOf-weaker P Q f [] h = tt
-EachOf-weaker P Q f (x ∷ xs) h = (f x h.0, EachOf-weaker P Q f xs h.1)
-
 -- what holds of each atom holds of the leaves
 mutual
   pub EachLeaf-atoms : {Z A : Type 0} (P : Z → Type 0) (Q S : A → Type 0) (t : TermOf Z A) → EachLeaf P Q t → EachOf S (atoms_of t) → EachLeaf P S t

@@ -36,6 +36,7 @@ pub mod TakenTerms
 pub mod TermBytes
 pub mod TermForms
 pub mod TermTexts
+pub mod Text
 pub mod TextForms
 pub mod TokenLaws
 pub mod TokenSteps

@@ -5,7 +5,7 @@ use Rattle.std.proofs.lemmas.List.{append_assoc, append-nil}
 use Rattle.term_core.specs.declared.byte_kind.Bracket.{Bracket}
 use Rattle.term_core.specs.declared.byte_kind.Bracket.TheVariants.{Curly, Square}
 use Rattle.term_core.specs.declared.byte_kind.ByteKind.{ByteKind}
-use Rattle.term_core.specs.declared.byte_kind.ByteKind.TheVariants.{Open, Close, Comma, Minus, Zero, Digit, Letter, NameByte, Foreign}
+use Rattle.term_core.specs.declared.byte_kind.ByteKind.TheVariants.{Open, Close, Comma}
 use Rattle.term_core.specs.Bytes.{kind_of, is_leaf_kind, leaf_front}
 use Rattle.term_core.specs.PlainTerm.{TermOf, RowOf, integer_leaf, atom_leaf, tuple_of, list_of, no_terms, term_then}
 use Rattle.term_core.specs.Tokens.{begins, is_outside, outside_at}
@@ -20,38 +20,21 @@ use Rattle.term_core.proofs.WrittenTokens.{RowHasLeafTexts, delimited_behind}
 -- inside of a leaf no integer begins
 inside_none : (kind : ByteKind) → (b : Bool) → (begins true kind && b) ≡ false
 inside_none (Open c) b = refl
-inside_none (Close c) b = refl
-inside_none Comma b = refl
-inside_none Minus b = refl
-inside_none Zero b = refl
-inside_none Digit b = refl
-inside_none Letter b = refl
-inside_none NameByte b = refl
-inside_none Foreign b = refl
+inside_none kind b = refl
 
 -- nor with a byte between terms
 between_none : (kind : ByteKind) → is_leaf_kind kind ≡ false → (b : Bool) → (begins false kind && b) ≡ false
 between_none (Open c) h b = refl
 between_none (Close c) h b = refl
 between_none Comma h b = refl
-between_none Minus h b = cc
-between_none Zero h b = cc
-between_none Digit h b = cc
-between_none Letter h b = cc
-between_none NameByte h b = cc
-between_none Foreign h b = cc
+between_none kind h b = cc
 
 -- with a byte of a leaf one begins where the leaf is outside
 leaf_begins : (kind : ByteKind) → is_leaf_kind kind ≡ true → (b : Bool) → (begins false kind && b) ≡ b
 leaf_begins (Open c) h b = cc
 leaf_begins (Close c) h b = cc
 leaf_begins Comma h b = cc
-leaf_begins Minus h b = refl
-leaf_begins Zero h b = refl
-leaf_begins Digit h b = refl
-leaf_begins Letter h b = refl
-leaf_begins NameByte h b = refl
-leaf_begins Foreign h b = refl
+leaf_begins kind h b = refl
 
 -- one byte further
 step_none : (inside : Bool) (c : ℕ) (rest : List ℕ) → (begins inside (kind_of c) && is_outside (leaf_front (c ∷ rest))) ≡ false → outside_at inside (c ∷ rest) ≡ place_or None 1 (outside_at (is_leaf_byte c) rest)

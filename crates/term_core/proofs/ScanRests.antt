@@ -8,7 +8,7 @@ use Rattle.std.proofs.lemmas.List.{append_assoc}
 use Rattle.term_core.specs.declared.byte_kind.Bracket.{Bracket}
 use Rattle.term_core.specs.declared.byte_kind.Bracket.TheVariants.{Curly, Square}
 use Rattle.term_core.specs.declared.byte_kind.ByteKind.{ByteKind}
-use Rattle.term_core.specs.declared.byte_kind.ByteKind.TheVariants.{Open, Close, Comma, Minus, Zero, Digit, Letter, NameByte, Foreign}
+use Rattle.term_core.specs.declared.byte_kind.ByteKind.TheVariants.{Open, Close, Comma, Minus, Zero, Digit, Letter}
 use Rattle.term_core.specs.declared.scan.Place.{Place}
 use Rattle.term_core.specs.declared.scan.Place.TheVariants.{TermStart, AfterOpen, AfterMinus, InDigits, InName, AfterTerm}
 use Rattle.term_core.specs.declared.scan.Move.{Move}
@@ -103,8 +103,6 @@ atom_cons c bytes first h =
 -- what begins a term, and what follows, are a term and what follows it
 pub begun_back : (brackets : List Bracket) (kind : ByteKind) (c : ℕ) (rest : List ℕ) → IsOfKind c kind → RestMoved brackets (begun kind) rest → TermThen brackets (c ∷ rest)
 begun_back brackets (Open b) c rest is h = bracket_back b brackets c rest is h
-begun_back brackets (Close b) c rest is h = absurd h
-begun_back brackets Comma c rest is h = absurd h
 begun_back brackets Minus c rest is h = record {
   form = integer_leaf (45 ∷ h.bytes);
   leaves = h.good;
@@ -127,8 +125,7 @@ begun_back brackets Letter c rest is h = record {
   whole = ap (λ t. c ∷ t) h.whole;
   closes = h.closes;
 }
-begun_back brackets NameByte c rest is h = absurd h
-begun_back brackets Foreign c rest is h = absurd h
+begun_back brackets kind c rest is h = absurd h
 
 -- a closing bracket that stands where it may
 pub closed_back : (b d : Bracket) (outer : List Bracket) (c : ℕ) (rest : List ℕ) → c ≡ closing d → RestMoved (b ∷ outer) (closed (Some b) d) rest → (c ∷ rest ≡ closing b ∷ rest) × Closes outer rest
@@ -150,24 +147,9 @@ comma_back b outer c rest e h =
 
 -- what stands behind a term
 pub ended_back : (brackets : List Bracket) (kind : ByteKind) (c : ℕ) (rest : List ℕ) → IsOfKind c kind → RestMoved brackets (ended (top_of brackets) kind) rest → Closes brackets (c ∷ rest)
-ended_back [] (Open b) c rest is h = absurd h
-ended_back [] (Close b) c rest is h = absurd h
-ended_back [] Comma c rest is h = absurd h
-ended_back [] Minus c rest is h = absurd h
-ended_back [] Zero c rest is h = absurd h
-ended_back [] Digit c rest is h = absurd h
-ended_back [] Letter c rest is h = absurd h
-ended_back [] NameByte c rest is h = absurd h
-ended_back [] Foreign c rest is h = absurd h
-ended_back (b ∷ outer) (Open d) c rest is h = absurd h
 ended_back (b ∷ outer) (Close d) c rest is h = let back = closed_back b d outer c rest is h in (no_terms, rest, tt, back.0, back.1)
 ended_back (b ∷ outer) Comma c rest is h = comma_back b outer c rest is h
-ended_back (b ∷ outer) Minus c rest is h = absurd h
-ended_back (b ∷ outer) Zero c rest is h = absurd h
-ended_back (b ∷ outer) Digit c rest is h = absurd h
-ended_back (b ∷ outer) Letter c rest is h = absurd h
-ended_back (b ∷ outer) NameByte c rest is h = absurd h
-ended_back (b ∷ outer) Foreign c rest is h = absurd h
+ended_back brackets kind c rest is h = absurd h
 
 -- nothing more of a leaf
 pub no_more : (P : List ℕ → Type 0) (brackets : List Bracket) (text : List ℕ) → P [] → Closes brackets text → LeafThen P brackets text

@@ -6,7 +6,7 @@ use Rattle.std.specs.List.{list_all}
 use Rattle.std.proofs.lemmas.Bool.Decides.{nat_tests}
 use Rattle.term_core.specs.declared.byte_kind.Bracket.{Bracket}
 use Rattle.term_core.specs.declared.byte_kind.ByteKind.{ByteKind}
-use Rattle.term_core.specs.declared.byte_kind.ByteKind.TheVariants.{Open, Close, Comma, Minus, Zero, Digit, Letter, NameByte, Foreign}
+use Rattle.term_core.specs.declared.byte_kind.ByteKind.TheVariants.{Open, Close, Comma, Zero, Digit, Letter, NameByte}
 use Rattle.term_core.specs.declared.scan.Place.{Place}
 use Rattle.term_core.specs.declared.scan.Place.TheVariants.{TermStart, AfterMinus, InDigits, InName, AfterTerm}
 use Rattle.term_core.specs.declared.scan.Move.{Move}
@@ -38,24 +38,14 @@ digits_end : (kind : ByteKind) (top : Option Bracket) → is_leaf_kind kind ≡ 
 digits_end (Open b) top h = refl
 digits_end (Close b) top h = refl
 digits_end Comma top h = refl
-digits_end Minus top h = cc
-digits_end Zero top h = cc
-digits_end Digit top h = cc
-digits_end Letter top h = cc
-digits_end NameByte top h = cc
-digits_end Foreign top h = cc
+digits_end kind top h = cc
 
 -- and so behind a name
 name_end : (kind : ByteKind) (top : Option Bracket) (count : ℕ) → is_leaf_kind kind ≡ false → next (InName count) top kind ≡ next AfterTerm top kind
 name_end (Open b) top count h = refl
 name_end (Close b) top count h = refl
 name_end Comma top count h = refl
-name_end Minus top count h = cc
-name_end Zero top count h = cc
-name_end Digit top count h = cc
-name_end Letter top count h = cc
-name_end NameByte top count h = cc
-name_end Foreign top count h = cc
+name_end kind top count h = cc
 
 -- nothing follows
 nothing_follows : (place : Place) (brackets : List Bracket) → is_end_place place ≡ true → is_end place brackets ≡ is_end AfterTerm brackets
@@ -74,15 +64,9 @@ accepts_name_end brackets count (c ∷ rest) d = ap (λ move. accepts_moved brac
 
 -- a digit more
 digit_on : (kind : ByteKind) (top : Option Bracket) → is_digit_kind kind ≡ true → next InDigits top kind ≡ Some (To InDigits)
-digit_on (Open b) top h = cc
-digit_on (Close b) top h = cc
-digit_on Comma top h = cc
-digit_on Minus top h = cc
 digit_on Zero top h = refl
 digit_on Digit top h = refl
-digit_on Letter top h = cc
-digit_on NameByte top h = cc
-digit_on Foreign top h = cc
+digit_on kind top h = cc
 
 -- where there is room
 named_more : (count : ℕ) → count < 32 → named count ≡ Some (To (InName (count + 1)))
@@ -90,15 +74,11 @@ named_more count less = let test : nat_lt count 32 ≡ true = grind (arith, nat_
 
 -- a byte of a name more
 name_on : (kind : ByteKind) (top : Option Bracket) (count : ℕ) → is_name_kind kind ≡ true → count < 32 → next (InName count) top kind ≡ Some (To (InName (count + 1)))
-name_on (Open b) top count h less = cc
-name_on (Close b) top count h less = cc
-name_on Comma top count h less = cc
-name_on Minus top count h less = cc
 name_on Zero top count h less = named_more count less
 name_on Digit top count h less = named_more count less
 name_on Letter top count h less = named_more count less
 name_on NameByte top count h less = named_more count less
-name_on Foreign top count h less = cc
+name_on kind top count h less = cc
 
 -- the digits of an integer
 accepts_digits : (brackets : List Bracket) (digits rest : List ℕ) → list_all is_ascii_digit digits ≡ true → IsDelimited rest → accepts InDigits brackets (digits ++ rest) ≡ accepts AfterTerm brackets rest

@@ -6,7 +6,7 @@ use Rattle.std.proofs.lemmas.Bool.Decides.{nat_tests}
 use Rattle.std.proofs.lemmas.List.{append_assoc, append-nil}
 use Rattle.term_core.specs.declared.byte_kind.Bracket.{Bracket}
 use Rattle.term_core.specs.declared.byte_kind.ByteKind.{ByteKind}
-use Rattle.term_core.specs.declared.byte_kind.ByteKind.TheVariants.{Open, Close, Comma, Minus, Zero, Digit, Letter, NameByte, Foreign}
+use Rattle.term_core.specs.declared.byte_kind.ByteKind.TheVariants.{Close, Zero, Digit, Letter, NameByte}
 use Rattle.term_core.specs.declared.scan.Place.{Place}
 use Rattle.term_core.specs.declared.scan.Place.TheVariants.{TermStart, AfterOpen, AfterMinus, InDigits, InName, AfterTerm}
 use Rattle.term_core.specs.declared.scan.Move.TheVariants.{To}
@@ -33,26 +33,12 @@ row_back (b ∷ outer) text h =
 open_back : (brackets : List Bracket) (kind : ByteKind) (c : ℕ) (rest : List ℕ) → IsOfKind c kind → RestMoved brackets (after_open (top_of brackets) kind) rest → RowThen brackets (c ∷ rest)
 open_back [] (Close d) c rest is h = absurd h
 open_back (b ∷ outer) (Close d) c rest is h = let back = closed_back b d outer c rest is h in (no_terms, rest, tt, back.0, back.1)
-open_back brackets (Open d) c rest is h = row_back brackets (c ∷ rest) (begun_back brackets (Open d) c rest is h)
-open_back brackets Comma c rest is h = row_back brackets (c ∷ rest) (begun_back brackets Comma c rest is h)
-open_back brackets Minus c rest is h = row_back brackets (c ∷ rest) (begun_back brackets Minus c rest is h)
-open_back brackets Zero c rest is h = row_back brackets (c ∷ rest) (begun_back brackets Zero c rest is h)
-open_back brackets Digit c rest is h = row_back brackets (c ∷ rest) (begun_back brackets Digit c rest is h)
-open_back brackets Letter c rest is h = row_back brackets (c ∷ rest) (begun_back brackets Letter c rest is h)
-open_back brackets NameByte c rest is h = row_back brackets (c ∷ rest) (begun_back brackets NameByte c rest is h)
-open_back brackets Foreign c rest is h = row_back brackets (c ∷ rest) (begun_back brackets Foreign c rest is h)
+open_back brackets kind c rest is h = row_back brackets (c ∷ rest) (begun_back brackets kind c rest is h)
 
 -- what stands behind a minus
 minus_back : (brackets : List Bracket) (kind : ByteKind) (c : ℕ) (rest : List ℕ) → IsOfKind c kind → RestMoved brackets (after_minus kind) rest → LeafThen (λ digits. is_positive_text digits ≡ true) brackets (c ∷ rest)
 minus_back brackets Digit c rest is h = one_more (λ digits. list_all is_ascii_digit digits ≡ true) (λ digits. is_positive_text digits ≡ true) brackets c rest (λ digits all. ap (λ b. b && list_all is_ascii_digit digits) is ∙ all) h
-minus_back brackets (Open b) c rest is h = absurd h
-minus_back brackets (Close b) c rest is h = absurd h
-minus_back brackets Comma c rest is h = absurd h
-minus_back brackets Minus c rest is h = absurd h
-minus_back brackets Zero c rest is h = absurd h
-minus_back brackets Letter c rest is h = absurd h
-minus_back brackets NameByte c rest is h = absurd h
-minus_back brackets Foreign c rest is h = absurd h
+minus_back brackets kind c rest is h = absurd h
 
 -- digits that may follow
 abbrev AllDigits : List ℕ → Type 0
@@ -66,13 +52,7 @@ digit_back brackets c rest is h = one_more AllDigits AllDigits brackets c rest (
 digits_back : (brackets : List Bracket) (kind : ByteKind) (c : ℕ) (rest : List ℕ) → IsOfKind c kind → is_ascii_digit c ≡ is_digit_kind kind → RestMoved brackets (after_digit (top_of brackets) kind) rest → LeafThen AllDigits brackets (c ∷ rest)
 digits_back brackets Zero c rest is digit h = digit_back brackets c rest digit h
 digits_back brackets Digit c rest is digit h = digit_back brackets c rest digit h
-digits_back brackets (Open b) c rest is digit h = no_more AllDigits brackets (c ∷ rest) refl (ended_back brackets (Open b) c rest is h)
-digits_back brackets (Close b) c rest is digit h = no_more AllDigits brackets (c ∷ rest) refl (ended_back brackets (Close b) c rest is h)
-digits_back brackets Comma c rest is digit h = no_more AllDigits brackets (c ∷ rest) refl (ended_back brackets Comma c rest is h)
-digits_back brackets Minus c rest is digit h = no_more AllDigits brackets (c ∷ rest) refl (ended_back brackets Minus c rest is h)
-digits_back brackets Letter c rest is digit h = no_more AllDigits brackets (c ∷ rest) refl (ended_back brackets Letter c rest is h)
-digits_back brackets NameByte c rest is digit h = no_more AllDigits brackets (c ∷ rest) refl (ended_back brackets NameByte c rest is h)
-digits_back brackets Foreign c rest is digit h = no_more AllDigits brackets (c ∷ rest) refl (ended_back brackets Foreign c rest is h)
+digits_back brackets kind c rest is digit h = no_more AllDigits brackets (c ∷ rest) refl (ended_back brackets kind c rest is h)
 
 -- no byte more
 no_name : (count : ℕ) → NameMore count []
@@ -95,11 +75,7 @@ name_back brackets count Zero c rest is name h = named_back brackets count c res
 name_back brackets count Digit c rest is name h = named_back brackets count c rest name (nat_lt count 32) refl h
 name_back brackets count Letter c rest is name h = named_back brackets count c rest name (nat_lt count 32) refl h
 name_back brackets count NameByte c rest is name h = named_back brackets count c rest name (nat_lt count 32) refl h
-name_back brackets count (Open b) c rest is name h = no_more (NameMore count) brackets (c ∷ rest) (no_name count) (ended_back brackets (Open b) c rest is h)
-name_back brackets count (Close b) c rest is name h = no_more (NameMore count) brackets (c ∷ rest) (no_name count) (ended_back brackets (Close b) c rest is h)
-name_back brackets count Comma c rest is name h = no_more (NameMore count) brackets (c ∷ rest) (no_name count) (ended_back brackets Comma c rest is h)
-name_back brackets count Minus c rest is name h = no_more (NameMore count) brackets (c ∷ rest) (no_name count) (ended_back brackets Minus c rest is h)
-name_back brackets count Foreign c rest is name h = no_more (NameMore count) brackets (c ∷ rest) (no_name count) (ended_back brackets Foreign c rest is h)
+name_back brackets count kind c rest is name h = no_more (NameMore count) brackets (c ∷ rest) (no_name count) (ended_back brackets kind c rest is h)
 
 -- a byte, and what may follow it, may follow
 step_back : (place : Place) (brackets : List Bracket) (c : ℕ) (rest : List ℕ) → RestOn (stepped place brackets c) rest → Rest place brackets (c ∷ rest)
@@ -112,12 +88,10 @@ step_back AfterTerm brackets c rest h = ended_back brackets (kind_of c) c rest (
 
 -- the end may follow where a term ends
 end_back : (place : Place) → is_end_place place ≡ true → Rest place [] []
-end_back TermStart h = cc
-end_back AfterOpen h = cc
-end_back AfterMinus h = cc
 end_back InDigits h = no_more AllDigits [] [] refl refl
 end_back (InName count) h = no_more (NameMore count) [] [] (no_name count) refl
 end_back AfterTerm h = refl
+end_back place h = cc
 
 -- where it has stopped, nothing is accepted
 pub run-none : (text : List ℕ) → run None text ≡ None

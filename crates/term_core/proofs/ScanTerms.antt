@@ -5,7 +5,7 @@ use Rattle.std.proofs.lemmas.List.{append_assoc, append-nil}
 use Rattle.term_core.specs.declared.byte_kind.Bracket.{Bracket}
 use Rattle.term_core.specs.declared.byte_kind.Bracket.TheVariants.{Curly, Square}
 use Rattle.term_core.specs.declared.byte_kind.ByteKind.{ByteKind}
-use Rattle.term_core.specs.declared.byte_kind.ByteKind.TheVariants.{Open, Close, Comma, Minus, Zero, Digit, Letter, NameByte, Foreign}
+use Rattle.term_core.specs.declared.byte_kind.ByteKind.TheVariants.{Open, Close, Comma}
 use Rattle.term_core.specs.declared.scan.Place.TheVariants.{TermStart, AfterOpen, AfterTerm}
 use Rattle.term_core.specs.Bytes.{kind_of, is_leaf_kind}
 use Rattle.term_core.specs.PlainTerm.{TermOf, RowOf, integer_leaf, atom_leaf, tuple_of, list_of, no_terms, term_then}
@@ -23,12 +23,7 @@ leaf_start : (kind : ByteKind) (top : Option Bracket) → is_leaf_kind kind ≡ 
 leaf_start (Open b) top h = cc
 leaf_start (Close b) top h = cc
 leaf_start Comma top h = cc
-leaf_start Minus top h = refl
-leaf_start Zero top h = refl
-leaf_start Digit top h = refl
-leaf_start Letter top h = refl
-leaf_start NameByte top h = refl
-leaf_start Foreign top h = refl
+leaf_start kind top h = refl
 
 -- so does each leaf
 start_leaf : (brackets : List Bracket) (text rest : List ℕ) → LeafText text → accepts AfterOpen brackets (text ++ rest) ≡ accepts TermStart brackets (text ++ rest)

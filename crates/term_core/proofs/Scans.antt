@@ -11,9 +11,3 @@ fault_behind text at c s t is less step =
     ap (λ rest. place_or None at (syntax_fault (Some s) rest)) (left_byte text at c is less)
     ∙ ap (λ o. place_or None at (place_behind o (syntax_fault o (drop (at + 1) text)))) step
     ∙ place_or-twice at 1 (syntax_fault (Some t) (drop (at + 1) text))
-
--- where it leads nowhere, the fault is here
-pub fault_here : (text : List ℕ) (at c : ℕ) (s : Scanned) → c ≡ get_or text at 0 → at < length text → stepped s.place s.brackets c ≡ None → place_or None at (syntax_fault (Some s) (drop at text)) ≡ Some (at + 0)
-fault_here text at c s is less step =
-    ap (λ rest. place_or None at (syntax_fault (Some s) rest)) (left_byte text at c is less)
-    ∙ ap (λ o. place_or None at (place_behind o (syntax_fault o (drop (at + 1) text)))) step

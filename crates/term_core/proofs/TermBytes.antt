@@ -1,16 +1,14 @@
 -- Lemmas on the bytes of the texts of atoms, numbers and terms: names' bytes, the minus, the comma and the brackets of terms.
-use Rattle.std.proofs.Common.{◌≡◌, ℕ, ◌<◌, ◌≤◌, ◌^◌, Bool, true, false, ◌&&◌, ◌||◌, ◌==◌, ◌⊎◌, ◌++◌, List, [], ◌∷◌, length, get_or, decimal, slice_get, IsSome, IsTrue, refl, ap, ◌∙◌, arith}
+use Rattle.std.proofs.Common.{◌≡◌, ℕ, ◌<◌, ◌^◌, Bool, true, false, ◌&&◌, ◌||◌, ◌==◌, ◌++◌, List, [], ◌∷◌, length, decimal, IsTrue, refl, ap, ◌∙◌, arith}
 use Rattle.std.specs.Char.{is_ascii_digit, is_ascii_lowercase}
 use Rattle.std.specs.List.{list_all}
 use Rattle.std.proofs.lemmas.Bool.Decides.{nat_tests}
 use Rattle.std.proofs.lemmas.Fmt.{digits_decimal}
-use Rattle.std.proofs.lemmas.List.Sums.{AllPass-from_list_all}
 use Rattle.term_core.specs.declared.term.Term.{Term}
-use Rattle.term_core.specs.Names.{IsNames, AtomText, is_name_byte, is_atom_text}
+use Rattle.term_core.specs.Names.{IsNames, is_name_byte, is_atom_text}
 use Rattle.term_core.specs.PlainTerm.{TermOf, RowOf, integer_leaf, atom_leaf, tuple_of, list_of, no_terms, term_then}
-use Rattle.term_core.specs.TermText.{TermText, IsTerm, atom_text, term_text}
+use Rattle.term_core.specs.TermText.{TermText, IsTerm, term_text}
 use Rattle.term_core.specs.Written.{WrittenTerm, written, parted, behind, is_integer_text, HasLeafTexts}
-use Rattle.term_core.proofs.GrownNames.{AtomText-atom_text}
 use Rattle.term_core.proofs.GrownTerms.{TermText-term_text}
 use Rattle.term_core.proofs.IntegerTexts.{own, Zero, Minus, Plain, shape_of, Positive-from}
 use Rattle.term_core.proofs.WrittenTokens.{RowHasLeafTexts}
@@ -19,26 +17,6 @@ use Rattle.term_core.proofs.Truths.{both}
 -- what may stand in a term's text
 abbrev pub is_term_byte : ℕ → Bool
 is_term_byte b = is_name_byte b || (b == 45 || (b == 44 || (b == 91 || (b == 93 || (b == 123 || b == 125)))))
-
--- such a byte is the comma, the minus or from 48 on, and no colon
-pub record TermByte (b : ℕ) : Type 0 where
-  pub low : b < 48 → (b ≡ 44) ⊎ (b ≡ 45)
-  pub no_colon : b ≡ 58 → ⊥
-  pub high : b < 126
-
--- by the test of a byte
-pub TermByte-from : (b : ℕ) → is_term_byte b ≡ true → TermByte b
-TermByte-from b h = record { low = λ less. grind (arith, nat_tests); no_colon = λ e. grind (arith, nat_tests); high = grind (arith, nat_tests) }
-
--- a byte of an atom's text is no minus either
-pub record NameByte (b : ℕ) : Type 0 where
-  pub low : 48 ≤ b
-  pub no_colon : b ≡ 58 → ⊥
-  pub high : b < 123
-
--- by the test of a byte
-pub NameByte-from : (b : ℕ) → is_name_byte b ≡ true → NameByte b
-NameByte-from b h = record { low = grind (arith, nat_tests); no_colon = λ e. grind (arith, nat_tests); high = grind (arith, nat_tests) }
 
 -- a small letter may stand in a name
 letter_is_name_byte : (c : ℕ) → is_ascii_lowercase c ≡ true → is_name_byte c ≡ true
@@ -124,18 +102,6 @@ term_bytes-TermText before text term after t = ap (list_all is_term_byte) t.whol
 pub term_bytes-term_text : (names : List (List ℕ)) (term : Term) → IsNames names → IsTerm names term → list_all is_term_byte (term_text names term) ≡ true
 term_bytes-term_text names term sound is = term_bytes-TermText names (term_text names term) term names (TermText-term_text names term sound is)
 
--- and of an atom
-pub name_bytes-atom_text : (names : List (List ℕ)) (atom : ℕ) → IsNames names → IsSome (slice_get names atom) → list_all is_name_byte (atom_text names atom) ≡ true
-name_bytes-atom_text names atom sound held = name_bytes-atom (atom_text names atom) (AtomText-atom_text names atom sound held).form
-
--- the fact on each byte, by its place
-pub TermByte-at : (text : List ℕ) (i : ℕ) → list_all is_term_byte text ≡ true → i < length text → TermByte (get_or text i 0)
-TermByte-at text i h within = TermByte-from (get_or text i 0) (AllPass-from_list_all is_term_byte text h i 0 within)
-
--- and so on each byte of an atom's or a number's text
-pub NameByte-at : (text : List ℕ) (i : ℕ) → list_all is_name_byte text ≡ true → i < length text → NameByte (get_or text i 0)
-NameByte-at text i h within = NameByte-from (get_or text i 0) (AllPass-from_list_all is_name_byte text h i 0 within)
-
 -- an atom has a byte
 atom_is_some : (text : List ℕ) → IsTrue (is_atom_text text) → 0 < length text
 atom_is_some [] h = cc
@@ -152,11 +118,3 @@ nonempty-written (integer_leaf text) h = integer_is_some text h
 nonempty-written (atom_leaf text) h = atom_is_some text h
 nonempty-written (tuple_of row) h = omega arith
 nonempty-written (list_of row) h = omega arith
-
--- no term's text is empty
-pub nonempty-TermText : (before : List (List ℕ)) (text : List ℕ) (term : Term) (after : List (List ℕ)) → TermText before text term after → 0 < length text
-nonempty-TermText before text term after t = omega (arith, ap length t.whole, nonempty-written t.form t.leaves)
-
--- nor is an atom's
-pub nonempty-AtomText : (before : List (List ℕ)) (text : List ℕ) (atom : ℕ) (after : List (List ℕ)) → AtomText before text atom after → 0 < length text
-nonempty-AtomText before text atom after t = atom_is_some text t.form

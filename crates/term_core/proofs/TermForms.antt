@@ -103,11 +103,6 @@ tree_is text h =
     let found = form_if text h in
     subst (IsFormOf text) (sym (tree_of-form text found.form found.is_text)) (form_is text found.form found.is_text)
 
--- twice not is as before
-not_not : (b : Bool) → not (not b) ≡ b
-not_not true = refl
-not_not false = refl
-
 -- by one of two tests
 either_test : {P : Type 0} (a b : Bool) → (a ≡ true → P) → (b ≡ true → P) → (a || b) ≡ true → P
 either_test true b f g h = f refl
@@ -135,9 +130,7 @@ bracketed_written (list_of row) h = refl
 -- one word stands for a term that is in no brackets
 immediate_of : (f : List ℕ → ℤ) (g : List ℕ → ℕ) (form : WrittenTerm) → is_immediate (map_leaves f g form) ≡ not (is_in_brackets form)
 immediate_of f g (integer_leaf text) = refl
-immediate_of f g (atom_leaf text) = refl
-immediate_of f g (tuple_of row) = refl
-immediate_of f g (list_of row) = refl
+immediate_of f g form = refl
 
 -- a text begins with a bracket exactly where its term stands in brackets
 pub is_bracketed-form : (text : List ℕ) (form : WrittenTerm) → IsTextOf text form → is_bracketed text ≡ is_in_brackets form
@@ -178,10 +171,3 @@ printed_is names term sound is =
       held = held_by names (term_atoms text) (subst (λ (ns : List (List ℕ)). EachOf (HasNumber ns) (term_atoms text)) kept (HasNumber-all names (term_atoms text)));
       kept = kept;
     }
-
--- the text of a tuple or a list begins with a bracket
-pub is_bracketed-term_text : (names : List (List ℕ)) (term : Term) → IsNames names → IsTerm names term → is_bracketed (term_text names term) ≡ not (is_immediate (plain term))
-is_bracketed-term_text names term sound is =
-    let t = TermText-term_text names term sound is in
-    is_bracketed-form (term_text names term) t.form (TermText-is_text names (term_text names term) term names t)
-    ∙ sym (not_not (is_in_brackets t.form)) ∙ ap not (sym (ap is_immediate t.value ∙ immediate_of integer_of (number_in names) t.form))

@@ -1,5 +1,5 @@
 -- Lemmas on the words of integers and atoms.
-use Rattle.std.proofs.Common.{◌≡◌, ℕ, ◌+◌, ◌-◌, ◌*◌, ◌/◌, ◌%◌, ◌<◌, ◌≤◌, true, false, cond, ◌==◌, nat_lt, ℤ, pos, negsuc, refl, sym, ap, ◌∙◌, arith}
+use Rattle.std.proofs.Common.{◌≡◌, ℕ, ◌+◌, ◌-◌, ◌*◌, ◌/◌, ◌%◌, ◌<◌, ◌≤◌, true, false, cond, ◌==◌, nat_lt, ℤ, pos, negsuc, refl, ap, ◌∙◌, arith}
 use Rattle.std.proofs.lemmas.Bool.Decides.{nat_tests}
 use Rattle.term_core.specs.declared.term.Term.{Term}
 use Rattle.term_core.specs.declared.term.Term.TheVariants.{Int, Atom, Tuple, List as ListOf}
@@ -50,8 +50,3 @@ term_of_word-immediate_word (Atom a) is small =
     atom_tag (immediate_word (Atom a)) a.0 parts.0 parts.1 small
 term_of_word-immediate_word (Tuple ts) is small = absurd is
 term_of_word-immediate_word (ListOf ts) is small = absurd is
-
--- two terms with one word are the same
-pub immediate_word-injective : (t u : Term) → IsImmediate t → IsImmediate u → HasSmallAtoms t → HasSmallAtoms u → immediate_word t ≡ immediate_word u → t ≡ u
-immediate_word-injective t u is are small less e =
-    sym (term_of_word-immediate_word t is small) ∙ ap term_of_word e ∙ term_of_word-immediate_word u are less

@@ -10,21 +10,10 @@ use Rattle.term_core.specs.PlainTerm.{TermOf, RowOf, integer_leaf, atom_leaf, tu
 abbrev mutual
   pub is_same : TermOf ℤ ℕ → TermOf ℤ ℕ → Bool
   is_same (integer_leaf y) (integer_leaf z) = int_eq y z
-  is_same (integer_leaf y) (atom_leaf b) = false
-  is_same (integer_leaf y) (tuple_of s) = false
-  is_same (integer_leaf y) (list_of s) = false
-  is_same (atom_leaf a) (integer_leaf z) = false
   is_same (atom_leaf a) (atom_leaf b) = a == b
-  is_same (atom_leaf a) (tuple_of s) = false
-  is_same (atom_leaf a) (list_of s) = false
-  is_same (tuple_of r) (integer_leaf z) = false
-  is_same (tuple_of r) (atom_leaf b) = false
   is_same (tuple_of r) (tuple_of s) = is_same_row r s
-  is_same (tuple_of r) (list_of s) = false
-  is_same (list_of r) (integer_leaf z) = false
-  is_same (list_of r) (atom_leaf b) = false
-  is_same (list_of r) (tuple_of s) = false
   is_same (list_of r) (list_of s) = is_same_row r s
+  is_same _ _ = false
 
   -- the same terms in the same order
   pub is_same_row : RowOf ℤ ℕ → RowOf ℤ ℕ → Bool
@@ -46,21 +35,10 @@ both_true false b h = cc
 mutual
   same_is : (t u : TermOf ℤ ℕ) → is_same t u ≡ true → t ≡ u
   same_is (integer_leaf y) (integer_leaf z) h = ap integer_leaf ((signed_Decides y z).0 h)
-  same_is (integer_leaf y) (atom_leaf b) h = cc
-  same_is (integer_leaf y) (tuple_of s) h = cc
-  same_is (integer_leaf y) (list_of s) h = cc
-  same_is (atom_leaf a) (integer_leaf z) h = cc
   same_is (atom_leaf a) (atom_leaf b) h = ap atom_leaf ((unsigned_Decides a b).0 h)
-  same_is (atom_leaf a) (tuple_of s) h = cc
-  same_is (atom_leaf a) (list_of s) h = cc
-  same_is (tuple_of r) (integer_leaf z) h = cc
-  same_is (tuple_of r) (atom_leaf b) h = cc
   same_is (tuple_of r) (tuple_of s) h = ap tuple_of (same_row_is r s h)
-  same_is (tuple_of r) (list_of s) h = cc
-  same_is (list_of r) (integer_leaf z) h = cc
-  same_is (list_of r) (atom_leaf b) h = cc
-  same_is (list_of r) (tuple_of s) h = cc
   same_is (list_of r) (list_of s) h = ap list_of (same_row_is r s h)
+  same_is t u h = cc
 
   -- the same of rows
   same_row_is : (r s : RowOf ℤ ℕ) → is_same_row r s ≡ true → r ≡ s

@@ -7,6 +7,7 @@ mod builder;
 mod byte_kind;
 mod copy;
 mod form;
+mod generation;
 mod hold;
 mod image_fault;
 mod image_reading;
@@ -33,6 +34,10 @@ mod tests;
 pub use area::{AreaRef, CodeRef, Found};
 pub use atom::{AtomId, Mfa};
 pub use form::{is_term_text, is_wide_text, term_in, text_words, texts_are_forms};
+pub use generation::{
+    AreaRefList, AreaWords, AreaWordsList, ExportList, FunctionRef, FunctionRefList, Generation,
+    Holding, KeyTerm, KeyTermList, Next,
+};
 pub use hold::{Full, Kind, MOST_AREAS};
 pub use image_fault::ImageFault;
 pub use image_reading::read_image;

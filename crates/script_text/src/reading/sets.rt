@@ -5,7 +5,7 @@ ghost use Rattle.script_text.specs.Sets.{mfa_of_key, ref_of_key};
 
 use crate::fault::Which;
 use crate::reading::cause::LineCause;
-use crate::script::MOST_FUNCTION_NAMES;
+use script_core::MOST_FUNCTION_NAMES;
 use indexmap::IndexSet;
 use server_core::ModRef;
 use std::alloc::Global;

@@ -1,7 +1,8 @@
 use Rattle.std.proofs.Common.{◌+◌, ◌++◌, drop}
 use Rattle.std.proofs.lemmas.List.{drop_all}
 use Rattle.term_core.proofs.Lefts.{left_from}
-use Rattle.run_log.specs.Legal.{LogsMatch, spawns_from}
+use Rattle.run_log.specs.Legal.{LogsMatch}
+use Rattle.script_core.specs.Processes.{spawns_from}
 use Rattle.log_shape.proofs.Equivalences.{through, of_equal}
 use Rattle.log_shape.proofs.LogsMatching.{anywhere}
 use Rattle.log_shape.proofs.matching.after_logs.Goals as goal

@@ -1,5 +1,6 @@
 use Rattle.std.proofs.Common.{◌↔◌, ◌++◌, List, drop}
-use Rattle.run_log.specs.Legal.{SpawnLine, LogsMatch, spawns_from}
+use Rattle.script_core.specs.Processes.{SpawnLine, spawns_from}
+use Rattle.run_log.specs.Legal.{LogsMatch}
 use Rattle.log_shape.proofs.matching.after_logs.Given as goal
 
 -- the logs fit where those that are left fit the commands that are left

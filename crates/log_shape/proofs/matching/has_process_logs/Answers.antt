@@ -1,6 +1,7 @@
 use Rattle.std.proofs.Common.{◌+◌, drop, sym}
 use Rattle.std.proofs.lemmas.List.{drop_all}
-use Rattle.run_log.specs.Legal.{LogsMatch, spawns_of}
+use Rattle.run_log.specs.Legal.{LogsMatch}
+use Rattle.script_core.specs.Processes.{spawns_of}
 use Rattle.log_shape.proofs.Equivalences.{through, of_equal, never}
 use Rattle.log_shape.proofs.LogsMatching.{loader_next, none_over}
 use Rattle.log_shape.proofs.matching.has_process_logs.Goals as goal

@@ -1,5 +1,6 @@
 use Rattle.std.proofs.Common.{◌↔◌, drop}
-use Rattle.run_log.specs.Legal.{LogsMatch, spawns_of}
+use Rattle.run_log.specs.Legal.{LogsMatch}
+use Rattle.script_core.specs.Processes.{spawns_of}
 use Rattle.log_shape.proofs.matching.has_process_logs.Given as goal
 
 -- the logs fit where those that are left fit the loaders that are left

@@ -1,5 +1,6 @@
 use Rattle.std.proofs.Common.{ℕ, ◌<◌, ◌≤◌, length}
-use Rattle.log_shape.specs.Places.{commands_at, place_of}
+use Rattle.script_core.specs.Processes.{commands_at}
+use Rattle.log_shape.specs.Places.{place_of}
 use Rattle.log_shape.proofs.order.are_all_taken.Given as goal
 
 -- the commands of the loaders so far were taken

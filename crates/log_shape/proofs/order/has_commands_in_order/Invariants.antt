@@ -1,6 +1,7 @@
 use Rattle.std.proofs.Common.{◌≡◌, ◌↔◌, ℕ, drop}
 use Rattle.run_log.specs.Legal.{commands_in}
-use Rattle.log_shape.specs.Places.{AreLeft, commands_at}
+use Rattle.log_shape.specs.Places.{AreLeft}
+use Rattle.script_core.specs.Processes.{commands_at}
 use Rattle.log_shape.proofs.order.has_commands_in_order.Given as goal
 
 -- the journal has each loader's commands where the entries that are left have those that are left

@@ -2,8 +2,8 @@
 use Rattle.std.proofs.Common.{◌≡◌, ℕ, Some, None, ◌∷◌, refl, ap, pos, Option, List, arith}
 use Rattle.std.specs.Fmt.{digits}
 use Rattle.term_core.specs.declared.term.Term.TheVariants.{Int}
-use Rattle.script_text.specs.declared.script.ScriptCmd.{ScriptCmd}
-use Rattle.script_text.specs.declared.script.ScriptCmd.TheVariants as script
+use Rattle.script_core.specs.declared.script.ScriptCmd.{ScriptCmd}
+use Rattle.script_core.specs.declared.script.ScriptCmd.TheVariants as script
 use Rattle.server_core.specs.CommandTable.{Outcome}
 use Rattle.machine_core.specs.declared.process.Line.{Line}
 use Rattle.machine_core.specs.declared.process.Line.TheVariants as lines

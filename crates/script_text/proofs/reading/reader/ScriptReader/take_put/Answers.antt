@@ -2,7 +2,7 @@ use Rattle.std.proofs.Common.{◌≡◌, ℕ, List, Result, Ok, Err, refl, sym, 
 use Rattle.term_core.specs.Plain.{plain, term_of}
 use Rattle.term_core.specs.PlainTerm.{PlainTerm}
 use Rattle.term_core.proofs.PlainTerms.{term_of-plain}
-use Rattle.script_text.specs.declared.script.ScriptCmd.TheVariants.{Put}
+use Rattle.script_core.specs.declared.script.ScriptCmd.TheVariants.{Put}
 use Rattle.script_text.specs.declared.reading.cause.LineCause.{LineCause}
 use Rattle.script_text.specs.Causes.{◌>>=◌}
 use Rattle.script_text.specs.Groups.{onto_last}

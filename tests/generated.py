@@ -1,0 +1,215 @@
+"""Cases whose texts are long: each is worked out from a rule, and none from what the program wrote."""
+
+RUN = ["run", "--schedulers", "1"]
+LINES_OF_16_BYTES = "0123456789abcde\n" * 65_536
+EMPTY = "beam report 1\ngenerations 0\nend report\n"
+
+
+def script(lines):
+    return f"beam script 1\n{lines}go\n"
+
+
+def report(generations, lines):
+    return f"beam report 1\ngenerations {generations}\n{lines}end report\n"
+
+
+def joined(pattern, numbers):
+    """The pattern once a number, which stands for `#`, and its successor for `%`."""
+    return "".join(pattern.replace("#", str(n)).replace("%", str(n + 1)) for n in numbers)
+
+
+def runs(name, lines, generations, told):
+    return name, RUN, script(lines), report(generations, told), 0
+
+
+def is_refused(name, text, fault):
+    return name, RUN, text, f"refused {fault}\n", 3
+
+
+def texts_over_the_limit():
+    """A text has at most 1,048,576 bytes."""
+    long = "a" * 1025 * 1024
+    for words in (RUN, ["check"], ["progress"]):
+        yield f"{words[0]}_of_a_text_over_the_limit", words, long, "refused 0 file_too_long\n", 3
+    yield is_refused("text_at_the_limit", LINES_OF_16_BYTES, "1 syntax")
+    yield is_refused("byte_past_the_limit", LINES_OF_16_BYTES + "\n", "0 file_too_long")
+
+
+def lines_at_the_limit():
+    """A line has at most 4,096 bytes, as this load of 1,023 modules."""
+    load = "load" + " m.1" * 1023
+    front = "module m.1\nend\nloader\n"
+    yield runs("line_of_4096_bytes", f"{front}{load}\n", 0, f"entry L0 {load} = duplicated m -\n")
+    for name, digit in (("line_of_4097_bytes", "0"), ("line_of_4097_bytes_with_a_given_digit", "1")):
+        yield is_refused(name, script(f"{front}{load}{digit}\n"), "5 line_too_long")
+
+
+def turns():
+    """A turn has at most 200 instructions, and the return is one of them."""
+    for prints, count in ((199, 1), (200, 2), (250, 2)):
+        lines = "print 1\n" * prints
+        yield runs(
+            f"{prints}_lines_in_{count}_turns",
+            f"module m.1\nexport main/0\n{lines}end\nloader\nload m.1\nspawn m:main()\n",
+            1,
+            "entry L0 load m.1 = ok @1\nentry L0 spawn m:main() = ok -\nprocess 0 m:main()\n"
+            f"span 1 {count}\n{lines}end normal\n",
+        )
+
+
+def frames():
+    """The frame past the last one is refused before its call is told: 64 frames, 64 lines."""
+    yield runs(
+        "refused_frame_has_no_line",
+        "module m.1\nexport f/1\ncall f/1 $0\nend\nloader\nload m.1\ntrace m:f/1 on\nspawn m:f(7)\n",
+        2,
+        "entry L0 load m.1 = ok @1\nentry L0 trace m:f/1 on = true @2\nentry L0 spawn m:f(7) = ok -\n"
+        "process 0 m:f(7)\nspan 2 1\n" + "trace m:f(7)\n" * 64 + "end system_limit\n",
+    )
+
+
+def chains():
+    """Each module calls the next one: a frame in each holds an area, and 16 are held."""
+    for last, end in ((15, "normal"), (16, "system_limit")):
+        refs = joined(" c#.1", range(last + 1))
+        yield runs(
+            f"chain_of_{last + 1}_modules",
+            joined("module c#.1\nexport f/0\ncall_ext c%:f/0 $0\nend\n", range(last))
+            + f"module c{last}.1\nexport f/0\nend\nloader\nload{refs}\nspawn c0:f()\n",
+            1,
+            f"entry L0 load{refs} = ok @1\nentry L0 spawn c0:f() = ok -\n"
+            f"process 0 c0:f()\nspan 1 1\nend {end}\n",
+        )
+
+
+def instances():
+    """55 instances are live at most; one that is deleted still is, and one that is purged is not."""
+    lines = joined("module i#.1\nend\n", range(56)) + "loader\n" + joined("load i#.1\n", range(55)) + "load i55.1\n"
+    told = joined("entry L0 load i#.1 = ok @%\n", range(55)) + "entry L0 load i55.1 = system_limit instances -\n"
+    yield runs("fifty_six_instances", lines, 55, told)
+    yield runs(
+        "purged_instance_makes_room",
+        lines + "delete i0\nsoft_purge i0\nload i55.1\n",
+        58,
+        told + "entry L0 delete i0 = true @56\nentry L0 soft_purge i0 = true @57\n"
+        "entry rt release 1 = ok -\nentry L0 load i55.1 = ok @58\n",
+    )
+
+
+def areas_of_a_process():
+    """The frame's instance and 15 terms are 16 areas; a constant of the frame's instance is none more."""
+    ways = (
+        ("by_pget", "pget k15 $15", "end system_limit\n"),
+        ("by_pget_or", "pget_or k15 0 $15", "end system_limit\n"),
+        ("by_call_ext", "call_ext n:f/0 $15", "end system_limit\n"),
+        ("fits", "move {m} $15\nprint $15", "print {m}\nend normal\n"),
+    )
+    lines, told, processes = "module m.1\n", joined("entry L0 put k# {#} = ok @%\n", range(16)), ""
+    for number, (way, last, body) in enumerate(ways):
+        lines += f"export {way}/0\n" + joined("pget k# $#\n", range(15)) + f"{last}\n"
+        processes += f"process {number} m:{way}()\nspan 17 1\n{body}"
+    lines += "end\nmodule n.1\nexport f/0\nend\nloader\n" + joined("put k# {#}\n", range(16)) + "load m.1 n.1\n"
+    told += "entry L0 load m.1 n.1 = ok @17\n"
+    for way, _, _ in ways:
+        lines += f"spawn m:{way}()\n"
+        told += f"entry L0 spawn m:{way}() = ok -\n"
+    yield runs("seventeenth_area_by_each_way", lines, 17, told + processes)
+
+
+def keys_and_areas():
+    """384 keys at most hold terms, and 256 areas at most hold those that are tuples and lists."""
+    yield runs(
+        "keys_at_their_limit",
+        "loader\n" + joined("put k# 1\n", range(384)) + "put z 1\nput k7 2\nerase k0\nput z 1\n",
+        387,
+        joined("entry L0 put k# 1 = ok @%\n", range(384)) + "entry L0 put z 1 = system_limit keys -\n"
+        "entry L0 put k7 2 = ok @385\nentry L0 erase k0 = true @386\nentry L0 put z 1 = ok @387\n",
+    )
+    yield runs(
+        "areas_at_their_limit",
+        "loader\n" + joined("put k# {0}\n", range(256))
+        + "put z {0}\nput z 1\nput k0 {0}\nput k0 {1}\nput k0 1\nput z {0}\n",
+        259,
+        joined("entry L0 put k# {0} = ok @%\n", range(256)) + "entry L0 put z {0} = system_limit areas -\n"
+        "entry L0 put z 1 = ok @257\nentry L0 put k0 {0} = ok -\nentry L0 put k0 {1} = system_limit areas -\n"
+        "entry L0 put k0 1 = ok @258\nentry rt release 1 = ok -\nentry L0 put z {0} = ok @259\n",
+    )
+
+
+def loaders_and_processes():
+    """A script has at most 8 loaders and 64 processes."""
+    yield runs("eight_loaders", "loader\n" * 8, 0, "")
+    yield is_refused("nine_loaders", script("loader\n" * 9), "10 limit loaders")
+    spawns = "loader\n" + "spawn m:f()\n" * 64
+    ended = joined("process # m:f()\nspan 0 1\nend undef m:f/0\n", range(64))
+    yield runs("sixty_four_processes", spawns, 0, "entry L0 spawn m:f() = ok -\n" * 64 + ended)
+    yield is_refused("sixty_five_processes", script(f"{spawns}spawn m:f()\n"), "67 limit processes")
+
+
+def names():
+    """A table has at most 4,096 atoms; a wide integer is told before a long term, and that before a name too many."""
+    front = joined("module n#.1\nend\n", range(3, 4095)) + "loader\n"
+    yield runs("atom_4096", f"{front}put n3 {{a,[n4,a]}}\n", 1, "entry L0 put n3 {a,[n4,a]} = ok @1\n")
+    long = "[b" + ",1" * 64 + "]"
+    for name, lines, fault in (
+        ("atom_4097_in_a_term", "put n3 {a,[n4,b]}", "8187 limit names"),
+        ("atom_4097_in_a_long_term", f"put n3 {long}", "8187 limit term"),
+        ("atom_4097_beside_a_wide_integer", f"spawn a:b({long},-576460752303423489)", "8187 limit integer"),
+        ("atom_4097_in_a_later_line", "erase a\nerase b", "8188 limit names"),
+    ):
+        yield is_refused(name, script(f"{front}{lines}\n"), fault)
+    modules = joined("module n#.1\nend\n", range(3, 4094))
+    text = script(f"{modules}module m.1\nexport f/0\nret {{f,[x]}}\nend\n")
+    yield is_refused("atom_4097_in_a_module", text, "8186 limit names")
+
+
+def functions():
+    """At most 1,024 functions are named, and a module has at most 16."""
+    calls = ""
+    for number in range(64):
+        calls += f"module m{number}.1\nlocal f/0\n" + joined(f"call_ext n:f{number}/# $0\n", range(16)) + "end\n"
+    headers = "module m.1\n" + joined("local f/#\n", range(16))
+    yield runs(
+        "spawn_of_a_named_function",
+        f"{calls}loader\nspawn n:f0()\ntrace n:g/1 on\n",
+        0,
+        "entry L0 spawn n:f0() = ok -\nentry L0 trace n:g/1 on = false -\n"
+        "process 0 n:f0()\nspan 0 1\nend undef n:f0/0\n",
+    )
+    yield is_refused("function_1025", script(f"{calls}loader\nspawn n:f()\n"), "1219 limit exports")
+    yield runs("sixteen_functions_behind_all_names", f"{calls}{headers}end\n", 0, "")
+    more = f"{headers}local g/0\nend\n"
+    yield is_refused("seventeen_functions_behind_all_names", script(calls + more), "1235 limit functions")
+    yield is_refused("seventeen_functions", script(f"{headers}local f/0\nend\n"), "19 limit functions")
+
+
+def images():
+    """An image has at most 1,024 words: 10 of head and function, 2 a return, and 2 more where it gives a tuple of one."""
+    front = "module m.1\nexport f/0\n"
+    for name, lines, line in (("returns", "ret 1\n" * 507, 512), ("tuples", "ret {1}\n" * 253 + "ret 1\n", 259)):
+        yield runs(f"image_of_{name}", f"{front}{lines}end\n", 0, "")
+        text = script(f"{front}{lines}yield\nend\n")
+        yield is_refused(f"image_of_{name}_and_a_yield", text, f"{line} limit module")
+
+
+GROUPS = (
+    texts_over_the_limit,
+    lines_at_the_limit,
+    turns,
+    frames,
+    chains,
+    instances,
+    areas_of_a_process,
+    keys_and_areas,
+    loaders_and_processes,
+    names,
+    functions,
+    images,
+)
+
+
+def cases():
+    """The name, words, input, output and status of each case."""
+    for group in GROUPS:
+        for name, words, text, output, status in group():
+            yield f"{group.__name__}/{name}", words, text.encode(), output.encode(), status
