@@ -40,20 +40,6 @@ module _ (texts : List Module) (journal : List Entry) (histories : List History)
     processes = histories_after (newest texts journal) histories after steps known.processes;
   }
 
-  -- where one process had a turn, each is as it was, or had a turn
-  turned_at : (number : ℕ) (h g : History) → slice_get histories number ≡ Some h → HasTurned (newest texts journal) h g → (k : ℕ) (x y : History) → slice_get histories k ≡ Some x → SetAt histories number g k y
-      → RestsOrTurns (newest texts journal) x y
-  turned_at number h g at t k x y was (here e is) =
-      turns (subst (λ z. HasTurned (newest texts journal) x z) is (subst (λ z. HasTurned (newest texts journal) z g) (same_Some h x (sym at ∙ ap (slice_get histories) (sym e) ∙ was)) t))
-  turned_at number h g at t k x y was (there n is) = rests (same_Some y x (sym is ∙ was))
-
-  -- after a turn of one process it is known too
-  pub turn_passes : (number : ℕ) (h g : History) → IsSound (newest texts journal) → slice_get histories number ≡ Some h → HasTurned (newest texts journal) h g → AreKnown texts journal histories
-      → AreKnown texts journal (slice_set histories number g)
-  turn_passes number h g sound at t known =
-      steps_pass (slice_set histories number g) sound
-      (record { many = length-set histories number g; each = λ k x y was is. turned_at number h g at t k x y was (set_at histories number g k y is) }) known
-
   -- the answers of a journal and of an entry that joins stand under the state after the entry
   entry_stands : (e : Entry) → AnswersStand texts journal histories → AnswerStands (next_state texts (newest texts journal) e.cmd) (newest texts journal) (published_count journal) histories e.cmd
       → (place : ℕ) (x : Entry) → PushedAt journal e place x
@@ -83,18 +69,11 @@ module _ (texts : List Module) (journal : List Entry) (histories : List History)
 
   -- what tells nothing stands
   silent_stands : (s : ServerState) (cmd : Cmd) → IsSilent (newest texts journal) cmd → AnswerStands s (newest texts journal) (published_count journal) histories cmd
-  silent_stands s (cmds.Load refs) h = tt
-  silent_stands s (cmds.Delete name) h = tt
   silent_stands s (cmds.SoftPurge name None) h = subst (λ old. IfSome old (λ serial. StaysDropped s (published_count journal) serial histories)) (sym h) tt
   silent_stands s (cmds.SoftPurge name (Some linger)) h = subst (λ old. IfSome old (λ serial. StaysLingering s (published_count journal) serial linger histories)) (sym h) tt
-  silent_stands s (cmds.Doom name) h = tt
   silent_stands s (cmds.Purge name killed) h = subst (λ old. IfSome old (λ serial. StaysPurged s (published_count journal) serial killed histories)) (sym h) tt
-  silent_stands s (cmds.CheckOld name) h = tt
-  silent_stands s (cmds.Put key term) h = tt
-  silent_stands s (cmds.Erase key) h = tt
-  silent_stands s (cmds.Trace target on) h = tt
-  silent_stands s (cmds.Spawn target args) h = tt
   silent_stands s (cmds.Release serial) h = absurd h
+  silent_stands s cmd h = tt
 
   -- an entry joins whose command tells nothing of the processes
   pub silent_joins : (e : Entry) → AreKnown texts journal histories → IsSilent (newest texts journal) e.cmd → AreKnown texts (journal ++ e ∷ []) histories

@@ -18,18 +18,9 @@ use Rattle.lap_runner.proofs.Lists.{get_within}
 
 -- an instance that a command dropped stays dropped
 dropped_stands : (now s : ServerState) (published : ℕ) (hs : List History) (cmd : Cmd) (serial : ℕ) → dropped_by s cmd ≡ Some serial → AnswerStands now s published hs cmd → StaysDropped now published serial hs
-dropped_stands now s published hs (cmds.Load refs) serial is h = absurd (none-some serial is)
-dropped_stands now s published hs (cmds.Delete name) serial is h = absurd (none-some serial is)
 dropped_stands now s published hs (cmds.SoftPurge name None) serial is h = MatchOption-at_some ⊤ (λ n. StaysDropped now published n hs) serial is h
-dropped_stands now s published hs (cmds.SoftPurge name (Some linger)) serial is h = absurd (none-some serial is)
-dropped_stands now s published hs (cmds.Doom name) serial is h = absurd (none-some serial is)
 dropped_stands now s published hs (cmds.Purge name killed) serial is h = (MatchOption-at_some ⊤ (λ n. StaysPurged now published n killed hs) serial is h).dropped
-dropped_stands now s published hs (cmds.CheckOld name) serial is h = absurd (none-some serial is)
-dropped_stands now s published hs (cmds.Put key term) serial is h = absurd (none-some serial is)
-dropped_stands now s published hs (cmds.Erase key) serial is h = absurd (none-some serial is)
-dropped_stands now s published hs (cmds.Trace target on) serial is h = absurd (none-some serial is)
-dropped_stands now s published hs (cmds.Spawn target args) serial is h = absurd (none-some serial is)
-dropped_stands now s published hs (cmds.Release other) serial is h = absurd (none-some serial is)
+dropped_stands now s published hs cmd serial is h = absurd (none-some serial is)
 
 module _ (s : Script) (log : RunLog) (hs : List History) (stand : AnswersStand s.modules log.journal hs) (histories : AreHistoriesOf s log hs) where
   -- the history of a process of the log

@@ -32,18 +32,6 @@ any_alike f g (x ∷ xs) (y ∷ ys) many alike =
     let rest : list_any f xs ≡ list_any g ys = any_alike f g xs ys (omega (arith, many)) (λ k. alike (suc k)) in
     λ i. first i || rest i
 
--- where no element passes a test, each fails it
-pub any_none : {X : Type 0} (f : X → Bool) (xs : List X) → list_any f xs ≡ false → Each xs (λ x. f x ≡ false)
-any_none f [] h k x at = absurd (none-some x at)
-any_none f (y ∷ xs) h zero x at = ap f (sym (same_Some y x at)) ∙ (or_parts (f y) (list_any f xs) h).0
-any_none f (y ∷ xs) h (suc k) x at = any_none f xs (or_parts (f y) (list_any f xs) h).1 k x at
-
--- a test of a list where one element was written that passes it as the one before did
-pub any_set : {X : Type 0} (f : X → Bool) (xs : List X) (i : ℕ) (x y : X) → slice_get xs i ≡ Some x → f y ≡ f x → list_any f (slice_set xs i y) ≡ list_any f xs
-any_set f [] i x y at same = refl
-any_set f (z ∷ xs) zero x y at same = ap (λ b. b || list_any f xs) (same ∙ ap f (sym (same_Some z x at)))
-any_set f (z ∷ xs) (suc i) x y at same = ap (λ b. f z || b) (any_set f xs i x y at same)
-
 -- a test of a list that was made from another
 pub any_map : {X Y : Type 0} (f : Y → Bool) (g : X → Y) (xs : List X) → list_any f (map g xs) ≡ list_any (λ x. f (g x)) xs
 any_map f g [] = refl
@@ -61,23 +49,3 @@ get_map g xs k y h = mapped_some g (slice_get xs k) y (sym (slice_get-map g xs k
 -- a fact of each element of a list that was made from another
 pub each_map : {X Y : Type 0} (P : Y → Type 0) (g : X → Y) (xs : List X) → Each xs (λ x. P (g x)) → Each (map g xs) P
 each_map P g xs each k y h = let x = get_map g xs k y h in subst P x.1.1 (each k x.0 x.1.0)
-
--- a write to a list that was made from another
-pub map-set : {X Y : Type 0} (g : X → Y) (xs : List X) (i : ℕ) (x : X) → map g (slice_set xs i x) ≡ slice_set (map g xs) i (g x)
-map-set g [] i x = refl
-map-set g (z ∷ xs) zero x = refl
-map-set g (z ∷ xs) (suc i) x = ap (λ ys. g z ∷ ys) (map-set g xs i x)
-
--- two ways to make a list that agree on its elements
-pub map_alike : {X Y : Type 0} (f g : X → Y) (xs : List X) → Each xs (λ x. f x ≡ g x) → map f xs ≡ map g xs
-map_alike f g [] same = refl
-map_alike f g (x ∷ xs) same =
-    let first : f x ≡ g x = same 0 x refl in
-    let rest : map f xs ≡ map g xs = map_alike f g xs (λ k. same (suc k)) in
-    λ i. first i ∷ rest i
-
--- a write of what stands there
-pub set_same : {X : Type 0} (xs : List X) (i : ℕ) (x : X) → slice_get xs i ≡ Some x → slice_set xs i x ≡ xs
-set_same [] i x at = refl
-set_same (y ∷ xs) zero x at = ap (λ z. z ∷ xs) (sym (same_Some y x at))
-set_same (y ∷ xs) (suc i) x at = ap (λ ys. y ∷ ys) (set_same xs i x at)

@@ -118,10 +118,6 @@ pub stands_going : (serial : ℕ) (fin : Option End) (p : PlainProcess) → (IsS
 stands_going serial None p over stands = refl
 stands_going serial (Some end) p over stands = absurd (both_ways (is_among (names_of p).frames serial) (ap (λ fs. is_among (frame_names fs).frames serial) (over refl)) stands)
 
--- a process without frames names nothing
-pub names_nothing : (serial : ℕ) (p : PlainProcess) → p.frames ≡ [] → NamesNot serial p
-names_nothing serial p h = record { frames = ap (λ fs. is_among (frame_names fs).frames serial) h; literals = ap (λ fs. is_among (frame_names fs).literals serial) h }
-
 -- a process that is new has no turn, no frame and no end
 pub new_history : (newest : ℕ) (h : History) → h.marks ≡ [] → h.now.frames ≡ [] → h.now.turns ≡ 0 → IsHistory newest h
 new_history newest h marks frames turns = record {

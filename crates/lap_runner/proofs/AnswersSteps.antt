@@ -33,29 +33,17 @@ module _ (s t : ServerState) (keeps : KeepsDropped s t) (published : ℕ) (hs : 
 
   -- an answer stands under each later state
   pub answer_later : (before : ServerState) (cmd : Cmd) → AnswerStands s before published hs cmd → AnswerStands t before published hs cmd
-  answer_later before (cmds.Load refs) h = tt
-  answer_later before (cmds.Delete name) h = tt
   answer_later before (cmds.SoftPurge name None) h = IfSome_then (old_of before name.0) {P = λ serial. StaysDropped s published serial hs} {Q = λ serial. StaysDropped t published serial hs} h dropped_later
   answer_later before (cmds.SoftPurge name (Some linger)) h = IfSome_then (old_of before name.0) {P = λ serial. StaysLingering s published serial linger hs} {Q = λ serial. StaysLingering t published serial linger hs} h (λ serial. lingering_later serial linger)
-  answer_later before (cmds.Doom name) h = tt
   answer_later before (cmds.Purge name killed) h = IfSome_then (old_of before name.0) {P = λ serial. StaysPurged s published serial killed hs} {Q = λ serial. StaysPurged t published serial killed hs} h (λ serial. purged_later serial killed)
-  answer_later before (cmds.CheckOld name) h = tt
-  answer_later before (cmds.Put key term) h = tt
-  answer_later before (cmds.Erase key) h = tt
-  answer_later before (cmds.Trace target on) h = tt
-  answer_later before (cmds.Spawn target args) h = tt
   answer_later before (cmds.Release serial) h = released_later serial h
+  answer_later before cmd h = tt
 
 -- a process that is not doomed by this instance's purge does not end by it
 not_ended_by : (s : ServerState) (serial : ℕ) (fin : Option End) → ((other : ℕ) → fin ≡ Some (ends.Killed other) → IsTrue (is_doomed s other)) → is_doomed s serial ≡ false → has_ended_by serial fin ≡ false
-not_ended_by s serial None killed spared = refl
-not_ended_by s serial (Some ends.Normal) killed spared = refl
-not_ended_by s serial (Some (ends.Undef to)) killed spared = refl
-not_ended_by s serial (Some ends.Badarg) killed spared = refl
-not_ended_by s serial (Some ends.Badarith) killed spared = refl
-not_ended_by s serial (Some ends.SystemLimit) killed spared = refl
 not_ended_by s serial (Some (ends.Killed by)) killed spared =
     false_from_ne_true (by == serial) (λ same. both_ways (is_doomed s serial) spared (subst (λ n. is_doomed s n ≡ true) (eqb-true by serial same) (killed by refl)))
+not_ended_by s serial fin killed spared = refl
 
 -- what is out of use is not doomed
 pub not_doomed : (s : ServerState) (serial : ℕ) → IsSound s → IsDropped s serial → is_doomed s serial ≡ false
@@ -143,17 +131,10 @@ module _ (s : ServerState) (hs gs : List History) (steps : AllRestOrTurn s hs gs
 
   -- an answer stands after the turns
   pub answer_after : IsSound s → (before : ServerState) (published : ℕ) (cmd : Cmd) → AnswerStands s before published hs cmd → AnswerStands s before published gs cmd
-  answer_after sound before published (cmds.Load refs) h = tt
-  answer_after sound before published (cmds.Delete name) h = tt
   answer_after sound before published (cmds.SoftPurge name None) h = IfSome_then (old_of before name.0) {P = λ serial. StaysDropped s published serial hs} {Q = λ serial. StaysDropped s published serial gs} h (dropped_after published)
   answer_after sound before published (cmds.SoftPurge name (Some linger)) h =
       IfSome_then (old_of before name.0) {P = λ serial. StaysLingering s published serial linger hs} {Q = λ serial. StaysLingering s published serial linger gs} h (λ serial. lingering_after published serial linger)
-  answer_after sound before published (cmds.Doom name) h = tt
   answer_after sound before published (cmds.Purge name killed) h =
       IfSome_then (old_of before name.0) {P = λ serial. StaysPurged s published serial killed hs} {Q = λ serial. StaysPurged s published serial killed gs} h (λ serial. purged_after sound published serial killed)
-  answer_after sound before published (cmds.CheckOld name) h = tt
-  answer_after sound before published (cmds.Put key term) h = tt
-  answer_after sound before published (cmds.Erase key) h = tt
-  answer_after sound before published (cmds.Trace target on) h = tt
-  answer_after sound before published (cmds.Spawn target args) h = tt
   answer_after sound before published (cmds.Release serial) h = released_after published serial h
+  answer_after sound before published cmd h = tt

@@ -117,14 +117,7 @@ pub data Spawned (cmd : ScriptCmd) (next : ℕ) (before after : List ProcessRun)
 
 spawned_is : (cmd : ScriptCmd) (next : ℕ) (before after : List ProcessRun) → SpawnsNext cmd next before after → Spawned cmd next before after
 spawned_is (Spawn target args) next before after h = one_spawned target args refl h
-spawned_is (Load refs) next before after h = none_spawned refl h
-spawned_is (Delete name) next before after h = none_spawned refl h
-spawned_is (SoftPurge name) next before after h = none_spawned refl h
-spawned_is (Purge name) next before after h = none_spawned refl h
-spawned_is (CheckOld name) next before after h = none_spawned refl h
-spawned_is (Put key term) next before after h = none_spawned refl h
-spawned_is (Erase key) next before after h = none_spawned refl h
-spawned_is (Trace target on) next before after h = none_spawned refl h
+spawned_is cmd next before after h = none_spawned refl h
 
 -- a process that goes on from now has the history that it had
 going_same : (states : ℕ → ServerState) (s : ServerState) (p : ProcessRun) → p.phase ≡ Waiting → history_of states (stand_in s (record p { phase = Going })) ≡ history_of states (stand_in s p)
@@ -328,14 +321,7 @@ stands_between : (half : HalfPurge) (who : Who) (cmd : Cmd) → IsMeanwhile cmd 
 stands_between half who (cmds.CheckOld name) h n = n
 stands_between half who (cmds.Spawn target args) h n = n
 stands_between half who (cmds.Release serial) h n = n
-stands_between half who (cmds.Load refs) h n = absurd h
-stands_between half who (cmds.Delete name) h n = absurd h
-stands_between half who (cmds.SoftPurge name lingers) h n = absurd h
-stands_between half who (cmds.Doom name) h n = absurd h
-stands_between half who (cmds.Purge name killed) h n = absurd h
-stands_between half who (cmds.Put key term) h n = absurd h
-stands_between half who (cmds.Erase key) h n = absurd h
-stands_between half who (cmds.Trace target on) h n = absurd h
+stands_between half who cmd h n = absurd h
 
 -- while a purge waits, what is made meanwhile may stand, and the purge waits on
 pub meanwhile_stands : (newest : ServerState) (p : Purging) (purging : Option Purging) (e : Entry) (who : Who) (cmd : Cmd) → purging ≡ Some p → e.who ≡ who → e.cmd ≡ cmd → IsMeanwhile cmd → (who ≡ Loader p.loader → ⊥)

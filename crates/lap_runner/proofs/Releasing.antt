@@ -118,7 +118,3 @@ below_read first retired serials processes ps a b h = subst (λ qs. AreNamedBelo
 -- the least area that the code finds
 pub free_read : (retired serials : List ℕ) (processes ps : List ProcessRun) (serial : ℕ) → serials ≡ retired → ps ≡ processes → IsLeastFree serials ps serial → IsLeastFree retired processes serial
 free_read retired serials processes ps serial a b h = subst (λ xs. IsLeastFree xs processes serial) a (subst (λ qs. IsLeastFree serials qs serial) b h)
-
--- or that each is named
-pub named_read : (retired serials : List ℕ) (processes ps : List ProcessRun) → serials ≡ retired → ps ≡ processes → AreNamed serials ps → AreNamed retired processes
-named_read retired serials processes ps a b h = subst (λ xs. AreNamed xs processes) a (subst (AreNamed serials) b h)

@@ -75,18 +75,11 @@ pub record StaysPurged (now : ServerState) (published serial : ℕ) (killed : Bo
 
 -- what a command tells of the processes is so under the state now: it was made in that other state, when so many generations were published
 abbrev pub AnswerStands : ServerState → ServerState → ℕ → List History → Cmd → Type 0
-AnswerStands now s published histories (cmds.Load refs) = Unit {0}
-AnswerStands now s published histories (cmds.Delete name) = Unit {0}
 AnswerStands now s published histories (cmds.SoftPurge name None) = IfSome (old_of s name.0) (λ serial. StaysDropped now published serial histories)
 AnswerStands now s published histories (cmds.SoftPurge name (Some linger)) = IfSome (old_of s name.0) (λ serial. StaysLingering now published serial linger histories)
-AnswerStands now s published histories (cmds.Doom name) = Unit {0}
 AnswerStands now s published histories (cmds.Purge name killed) = IfSome (old_of s name.0) (λ serial. StaysPurged now published serial killed histories)
-AnswerStands now s published histories (cmds.CheckOld name) = Unit {0}
-AnswerStands now s published histories (cmds.Put key term) = Unit {0}
-AnswerStands now s published histories (cmds.Erase key) = Unit {0}
-AnswerStands now s published histories (cmds.Trace target on) = Unit {0}
-AnswerStands now s published histories (cmds.Spawn target args) = Unit {0}
 AnswerStands now s published histories (cmds.Release serial) = StaysReleased now published serial histories
+AnswerStands now s published histories cmd = Unit {0}
 
 -- the state after a journal
 abbrev pub newest : List Module → List Entry → ServerState
@@ -142,17 +135,10 @@ pub record AllRestOrTurn (s : ServerState) (before after : List History) : Type 
 
 -- a command that tells nothing of the processes: none but a release and a purge does, and no purge where there is no old code
 abbrev pub IsSilent : ServerState → Cmd → Type 0
-IsSilent s (cmds.Load refs) = Unit {0}
-IsSilent s (cmds.Delete name) = Unit {0}
 IsSilent s (cmds.SoftPurge name lingers) = old_of s name.0 ≡ None
-IsSilent s (cmds.Doom name) = Unit {0}
 IsSilent s (cmds.Purge name killed) = old_of s name.0 ≡ None
-IsSilent s (cmds.CheckOld name) = Unit {0}
-IsSilent s (cmds.Put key term) = Unit {0}
-IsSilent s (cmds.Erase key) = Unit {0}
-IsSilent s (cmds.Trace target on) = Unit {0}
-IsSilent s (cmds.Spawn target args) = Unit {0}
 IsSilent s (cmds.Release serial) = ⊥
+IsSilent s cmd = Unit {0}
 
 -- the histories are those of the processes of a log, which have all ended
 pub record AreHistoriesOf (s : Script) (log : RunLog) (histories : List History) : Type 0 where

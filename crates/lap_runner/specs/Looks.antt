@@ -95,15 +95,9 @@ closing name (Some serial) ps = if some_stands serial ps then None else Some (cm
 
 -- whether a loader may make this command while the purge of another one waits
 abbrev pub goes_meanwhile : ScriptCmd → Bool
-goes_meanwhile (Load refs) = false
-goes_meanwhile (Delete name) = false
-goes_meanwhile (SoftPurge name) = false
-goes_meanwhile (Purge name) = false
 goes_meanwhile (CheckOld name) = true
-goes_meanwhile (Put key term) = false
-goes_meanwhile (Erase key) = false
-goes_meanwhile (Trace target on) = false
 goes_meanwhile (Spawn target args) = true
+goes_meanwhile command = false
 
 -- what a loader's next command comes to in this lap, where this purge waits or none: none where the loader waits
 abbrev pub next_cmd : ServerState → List ProcessRun → Option Purging → ℕ → ScriptCmd → Option Cmd

@@ -197,15 +197,8 @@ log_of p = record { target = p.process.target; args = p.process.args; spans = p.
 
 -- a spawn has as many arguments as its arity
 abbrev pub HasArity : ScriptCmd → Type 0
-HasArity (Load refs) = Unit {0}
-HasArity (Delete name) = Unit {0}
-HasArity (SoftPurge name) = Unit {0}
-HasArity (Purge name) = Unit {0}
-HasArity (CheckOld name) = Unit {0}
-HasArity (Put key term) = Unit {0}
-HasArity (Erase key) = Unit {0}
-HasArity (Trace target on) = Unit {0}
 HasArity (Spawn target args) = length args ≡ target.arity
+HasArity command = Unit {0}
 
 -- a process whose spawn is still to come
 abbrev pub waiting_stand : ℕ → Mfa → List PlainTerm → Stand

@@ -15,11 +15,6 @@ cut_there byte text place end e h is l =
     let behind : drop place text ≡ byte ∷ drop end text = parts_at text place h ∙ ap (λ b. b ∷ drop (place + 1) text) is ∙ ap (λ n. byte ∷ drop n text) e in
     ap (cut_last byte) (sym (take-append-drop place text) ∙ ap (λ (t : List ℕ). take place text ++ t) behind) ∙ cut_last_here byte (take place text) (drop end text) l
 
--- another byte stands there
-pub lacks_there : (byte : ℕ) (text : List ℕ) (place end : ℕ) → place + 1 ≡ end → place < length text → (get_or text place 0 == byte) ≡ false → lacks byte (drop end text) ≡ true → lacks byte (drop place text) ≡ true
-lacks_there byte text place end e h is l =
-    ap (lacks byte) (parts_at text place h) ∙ lacks-cons byte (get_or text place 0) (drop (place + 1) text) is (ap (λ n. lacks byte (drop n text)) e ∙ l)
-
 -- the rest of a text, as a slice gives it
 pub rest_is : (text : List ℕ) (end : ℕ) → take (length text - end) (drop end text) ≡ drop end text
 rest_is text end = take_all (length text - end) (drop end text) (omega (arith, length-drop end text))

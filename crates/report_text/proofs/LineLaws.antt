@@ -79,12 +79,9 @@ end_is names sound text e h =
     (λ h4. longer_end_is names sound text e h4))))
 
 end_again : (names : List (List ℕ)) → IsNames names → (e : End) → IsEndOf names e → end_reading names (end_text names e) ≡ Some e
-end_again names sound ends.Normal h = refl
 end_again names sound (ends.Undef to) h = bind_at (function_reading names (mfa_text names to)) (λ f. Some (ends.Undef f)) to (some (ends.Undef to)) (function_again names to sound h) refl
-end_again names sound ends.Badarg h = refl
-end_again names sound ends.Badarith h = refl
-end_again names sound ends.SystemLimit h = refl
 end_again names sound (ends.Killed serial) h = bind_at (number_reading (decimal serial)) (λ n. Some (ends.Killed n)) serial (some (ends.Killed serial)) (number_again serial h) refl
+end_again names sound e h = refl
 
 -- ---- what is read has its text
 
@@ -214,11 +211,7 @@ line_is names sound text l h =
 -- an end's line is not the last one
 not_last : (names : List (List ℕ)) (e : End) → line_reading names (codes "end " ++ end_text names e) ≡ (end_reading names (end_text names e) >>= λ fin. Some (lines.End fin))
 not_last names ends.Normal = refl
-not_last names (ends.Undef to) = refl
-not_last names ends.Badarg = refl
-not_last names ends.Badarith = refl
-not_last names ends.SystemLimit = refl
-not_last names (ends.Killed serial) = refl
+not_last names e = refl
 
 number_line_again : (n : ℕ) (made : ℕ → ReportLine) → IsWide n → (number_reading (decimal n) >>= λ k. Some (made k)) ≡ Some (made n)
 number_line_again n made h = bind_at (number_reading (decimal n)) (λ k. Some (made k)) n (some (made n)) (number_again n h) refl

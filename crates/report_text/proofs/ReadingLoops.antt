@@ -33,10 +33,6 @@ pub reads_stop : {X T : Type 0} (view : T → X) (read : List ℕ → Option X) 
 reads_stop view read front all parts part whole faults.Form e none so_far = sym (split read front all parts part whole e so_far) ∙ ap (λ o. o >>= λ y. with_read (front ++ y ∷ []) (each_reading read parts)) none
 reads_stop view read front all parts part whole faults.NoMemory e none so_far = tt
 
--- all parts are read
-pub reads_end : {X : Type 0} (read : List ℕ → Option X) (front : List X) (whole : Option (List X)) → with_read front (each_reading read []) ≡ whole → whole ≡ Some front
-reads_end read front whole so_far = sym so_far ∙ ap (λ l. some l) (append-nil front)
-
 -- ---- parts between bytes
 
 -- the parts of what is left

@@ -309,13 +309,6 @@ call_again names to args sound h =
     (closed_again names sound args few h.each))
     ∙ ap some (made_is_call to args h.arity_is)
 
-pub call_lacks : (byte : ℕ) (names : List (List ℕ)) (to : Mfa) (args : List PlainTerm) → IsNames names → is_term_byte byte ≡ false → is_name_byte byte ≡ false → (58 == byte) ≡ false → (40 == byte) ≡ false → (41 == byte) ≡ false → (44 == byte) ≡ false → IsCallOf names to args → lacks byte (call_text names to args) ≡ true
-call_lacks byte names to args sound apart name colon going close comma h =
-    ap (lacks byte) (call_grouped names to args)
-    ∙ lacks-append byte (atom_text names to.«module».0) _ (named_lacks byte names to.«module» sound name h.function.module_named)
-    (lacks-cons byte 58 _ colon (lacks-append byte (atom_text names to.name.0) _ (named_lacks byte names to.name sound name h.function.name_named)
-    (lacks-cons byte 40 _ going (lacks-append byte (terms_text names args) (41 ∷ []) (terms_lack byte names args sound apart comma h.each) (lacks-cons byte 41 [] close refl)))))
-
 -- the text is that of this call
 pub record IsCallText (names : List (List ℕ)) (text : List ℕ) (c : Call) : Type 0 where
   pub text_is : text ≡ call_text names c.target c.args

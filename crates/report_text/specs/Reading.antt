@@ -33,13 +33,8 @@ numbered number (Some x) = Ok x
 
 -- the log, where the report has ended
 abbrev pub ended_log : ℕ → RunLog → Stage → Result RunLog ReportFault
-ended_log number log Head = Err (Syntax number)
-ended_log number log Count = Err (Syntax number)
-ended_log number log (Entries left) = Err (Syntax number)
-ended_log number log Processes = Err (Syntax number)
-ended_log number log (Process process going) = Err (Syntax number)
-ended_log number log (Observer shots going) = Err (Syntax number)
 ended_log number log Done = Ok log
+ended_log number log stage = Err (Syntax number)
 
 -- the number of the last line where the next one would have this number, or 1 where there is none
 abbrev pub last_number : ℕ → ℕ
