@@ -185,7 +185,7 @@ PARTS = [
     Fault("report_without_go", "check", FIRST[:-3] + HEAD, "refused 10 syntax", "lacks its last line `go`"),
 ]
 LIMITS = [
-    command("wide_integer", "put k {1,576460752303423488}", "576460752303423488 is out of range", "refused 3 limit integer"),
+    command("wide_integer", "put k {1,576460752303423488}", "out of range is 576460752303423488:", "refused 3 limit integer"),
     command("low_integer", "put k -576460752303423489", "out of range", "refused 3 limit integer"),
     command("long_term", f"put k {LIST_63}", "has 65 words", "refused 3 limit term"),
     script("functions", f"module m.1\n{SEVENTEEN}end", "refused 19 limit functions", "seventeenth function"),

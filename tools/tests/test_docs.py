@@ -30,7 +30,7 @@ class ExamplesOfTheDocs(unittest.TestCase):
 
     def test_timeline(self):
         command, said = self.blocks[1].split("\n", 1)
-        words = command.removeprefix("$ tools/timeline ").split(" ")
+        words = command.split(" ")[2:]
         done = subprocess.run([sys.executable, TOOLS / "timeline", *words], cwd=TOP, text=True, capture_output=True,
                               check=True)
         self.assertEqual(done.stdout, said)
