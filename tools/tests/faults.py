@@ -86,7 +86,7 @@ BYTES = [
     code("leading_space", "  print 1", "leading space"),
     code("double_space", "move 1  $0", "double space"),
     code("blank_line", "", "blank"),
-    code("line_of_spaces", "   ", "leading space"),
+    code("line_of_spaces", "   ", "the line is blank"),
     code("comment_percent", "% adds", "no comments"),
     code("comment_hash", "# adds", "no comments"),
     code("comment_behind", "print 1 % the one", "comment stands behind the line"),
@@ -185,7 +185,8 @@ PARTS = [
     Fault("report_without_go", "check", FIRST[:-3] + HEAD, "refused 10 syntax", "lacks its last line `go`"),
 ]
 LIMITS = [
-    command("wide_integer", "put k {1,576460752303423488}", "576460752303423488 is out of range", "refused 3 limit integer"),
+    command("wide_integer", "put k {1,576460752303423488}", "out of range is 576460752303423488:",
+            "refused 3 limit integer"),
     command("low_integer", "put k -576460752303423489", "out of range", "refused 3 limit integer"),
     command("long_term", f"put k {LIST_63}", "has 65 words", "refused 3 limit term"),
     script("functions", f"module m.1\n{SEVENTEEN}end", "refused 19 limit functions", "seventeenth function"),
@@ -215,7 +216,8 @@ REPORTS = [
     report("report_without_count", f"beam report 1\n{ENTRIES}end report\n", 2, "must be `generations N`"),
     report("report_count_zero", "beam report 1\ngenerations 01\nend report\n", 2, "leading zero"),
     report("report_stops", HEAD + ENTRIES, 4, "missing is the last line `end report`"),
-    report("report_stops_in_process", HEAD + ENTRIES + "process 0 m:main()\nspan 1 1\n", 6, "line `end END` of the process"),
+    report("report_stops_in_process", HEAD + ENTRIES + "process 0 m:main()\nspan 1 1\n", 6,
+           "line `end END` of the process"),
     report("report_last_line_feed", HEAD + ENTRIES + "end report", 5, "line feed at the end"),
     report("report_goes_on", HEAD + ENTRIES + PROCESS + "end report\n\n", 10, "nothing may"),
     report("report_too_few", HEAD + "end report\n", 3, "and only 0 stand above"),

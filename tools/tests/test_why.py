@@ -73,7 +73,9 @@ class NoReasonIsInvented(unittest.TestCase):
                 self.assertFalse(told.found, (path.name, told.lines))
 
     def test_another_text_than_the_program_read(self):
-        for fault in ("refused 99 syntax", "refused report 9 syntax", "not enabled 40", "refused 2 duplicate", "nonsense"):
+        for fault in ("refused 99 syntax", "refused report 9 syntax", "not enabled 40", "refused 2 duplicate", "nonsense",
+                      "refused 0 syntax", "refused 3 unknown_name", "refused 6 limit integers", "refused 6 noise",
+                      "refused 4 limit integer", "refused 4 limit term"):
             told = why.answer(FIRST, fault, "auto")
             self.assertFalse(told.found, told.lines)
 
@@ -108,7 +110,7 @@ class TheProgram(unittest.TestCase):
     def call(self, text, *words, given=""):
         with tempfile.TemporaryDirectory() as folder:
             path = pathlib.Path(folder) / "input"
-            path.write_text(text, encoding="latin-1", newline="")
+            path.write_bytes(text.encode("latin-1"))
             return subprocess.run([sys.executable, str(TOOLS / "why"), str(path), *words], input=given, text=True,
                                   capture_output=True, check=False)
 
