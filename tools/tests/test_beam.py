@@ -128,7 +128,7 @@ class Words(BeamTest):
 
 class Building(BeamTest):
     def test_builds_where_it_has_changed(self):
-        told = [b"2 crates", b"done with low, 1 left", b"done with beam_tool, 0 left", b"linking"]
+        told = [b"2 crates", b"done with low after 0 minutes, 1 left", b"beam_tool after 0 minutes, 0 left", b"linking"]
         ran = self.beam("run", BEAM_JOBS="3")
         self.is_answer(ran, 0, b"run\n", told)
         self.assertNotIn(b"words not understood", ran.stderr)
