@@ -176,6 +176,24 @@ class Hints(BeamTest):
                 ran = self.beam(*words.split(), given=b"given", FAKE_STATUS=str(status))
                 self.assertEqual((ran.returncode, ran.stderr), (status, b""))
 
+    def test_reasons_are_told_on_a_terminal(self):
+        self.beam("run")
+        for why, wanted in ((None, b"why: --kind script"), ("0", b"")):
+            with self.subTest(why):
+                ours, theirs = os.openpty()
+                where = {**os.environ, "FAKE_STATUS": "3"}
+                where.pop("BEAM_WHY", None)
+                if why:
+                    where["BEAM_WHY"] = why
+                ran = subprocess.run([self.top / "beam", "run", "a.script"], stdin=subprocess.DEVNULL, stdout=subprocess.PIPE,
+                                     stderr=theirs, cwd=self.room, env=where, timeout=60)
+                os.write(theirs, b".")
+                os.close(theirs)
+                said = os.read(ours, 4096)
+                os.close(ours)
+                self.assertEqual((ran.returncode, ran.stdout), (3, b"run\nscript\n"))
+                self.assertEqual(said[:len(wanted)] if wanted else said, wanted or b".")
+
     def test_a_long_run_is_told_of(self):
         self.beam("run")
         long = dict(FAKE_WAIT="2", BEAM_PATIENCE="1")
