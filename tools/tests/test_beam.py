@@ -128,7 +128,7 @@ class Words(BeamTest):
 
 class Building(BeamTest):
     def test_builds_where_it_has_changed(self):
-        told = [b"2 crates", b"done with low, 1 left", b"done with beam_tool, 0 left", b"linking"]
+        told = [b"2 crates", b"done with low after 0 minutes, 1 left", b"beam_tool after 0 minutes, 0 left", b"linking"]
         ran = self.beam("run", BEAM_JOBS="3")
         self.is_answer(ran, 0, b"run\n", told)
         self.assertNotIn(b"words not understood", ran.stderr)
@@ -175,6 +175,24 @@ class Hints(BeamTest):
                 self.assertEqual((ran.returncode, ran.stderr), (status, said))
                 ran = self.beam(*words.split(), given=b"given", FAKE_STATUS=str(status))
                 self.assertEqual((ran.returncode, ran.stderr), (status, b""))
+
+    def test_reasons_are_told_on_a_terminal(self):
+        self.beam("run")
+        for why, wanted in ((None, b"why: --kind script"), ("0", b"")):
+            with self.subTest(why):
+                ours, theirs = os.openpty()
+                where = {**os.environ, "FAKE_STATUS": "3"}
+                where.pop("BEAM_WHY", None)
+                if why:
+                    where["BEAM_WHY"] = why
+                ran = subprocess.run([self.top / "beam", "run", "a.script"], stdin=subprocess.DEVNULL, stdout=subprocess.PIPE,
+                                     stderr=theirs, cwd=self.room, env=where, timeout=60)
+                os.write(theirs, b".")
+                os.close(theirs)
+                said = os.read(ours, 4096)
+                os.close(ours)
+                self.assertEqual((ran.returncode, ran.stdout), (3, b"run\nscript\n"))
+                self.assertEqual(said[:len(wanted)] if wanted else said, wanted or b".")
 
     def test_a_long_run_is_told_of(self):
         self.beam("run")
