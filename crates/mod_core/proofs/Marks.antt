@@ -17,6 +17,7 @@ use Rattle.mod_core.specs.Decoding.{IsUnmarked, is_mark}
 use Rattle.mod_core.proofs.Lengths.{image_end}
 use Rattle.mod_core.proofs.Places.{code_behind_heads}
 use Rattle.mod_core.proofs.Heads.{first_function, head_word}
+use Rattle.term_core.proofs.Truths.{false_unless}
 
 -- ---- marks
 
@@ -57,10 +58,6 @@ not_marked m at fixed mark = ⊎_elim (λ e. fixed.no_serial e) (λ h. fixed.no_
 -- an image has the number of its functions
 has_count : (m : Module) → 3 < length (module_image m)
 has_count m = omega (arith, image_end m, code_behind_heads m)
-
-is_false : (b : Bool) → (b ≡ true → ⊥) → b ≡ false
-is_false true h = absurd (h refl)
-is_false false h = refl
 
 at_place : (words copy : List ℕ) (m : Module) (at : ℕ) → at < length words → IsImageOfModule m words → (mark : Bool) → is_mark (length m.functions) at ≡ mark → slice_index copy at ≡ cond (is_mark (length m.functions) at) 0 (slice_index words at) → get_or copy at 0 ≡ get_or (module_image m) at 0
 at_place words copy m at below image true e here = here ∙ ap (λ b. cond b 0 (slice_index words at)) e ∙ sym (marks_are_zero m at e)
@@ -114,7 +111,7 @@ marked_is words copy m unmarked same =
     record {
       whole = long;
       same = λ at fixed.
-          sym (unmarked.each at (omega (arith, long, fixed.within)) ∙ ap (λ n. cond (is_mark n at) 0 (slice_index words at)) count ∙ ap (λ b. cond b 0 (slice_index words at)) (is_false (is_mark (length m.functions) at) (not_marked m at fixed)))
+          sym (unmarked.each at (omega (arith, long, fixed.within)) ∙ ap (λ n. cond (is_mark n at) 0 (slice_index words at)) count ∙ ap (λ b. cond b 0 (slice_index words at)) (false_unless (is_mark (length m.functions) at) (not_marked m at fixed)))
           ∙ ap (λ ws. get_or ws at 0) same;
     }
 

@@ -5,7 +5,6 @@ use Rattle.std.proofs.lemmas.Bool.{and_parts}
 use Rattle.std.proofs.lemmas.List.Elements.{All-nil, All-cons, All-head, All-tail, All-weaker}
 use Rattle.std.proofs.lemmas.List.Sums.{sum_by-cons}
 use Rattle.term_core.specs.Names.{is_atom_text}
-use Rattle.term_core.specs.PlainTerm.{PlainTerm}
 use Rattle.mod_core.proofs.ImageWords.{image_len}
 use Rattle.mod_core.specs.ModuleImage.{code_len, instr_len, function_len, operand_constants, instr_constants, code_constants, constants_of, constants_len, module_image}
 use Rattle.term_core.specs.Text.Numbers.{is_number_text}
@@ -14,12 +13,9 @@ use Rattle.mod_text.specs.ModuleValue.{FunctionForm, HeaderForm, body_of, functi
 use Rattle.mod_text.specs.LineFaults.{is_in_function, ends_too_long}
 use Rattle.mod_text.specs.Keeping.{RowFrom, IsKept, operand_form_words, instr_form_words, line_words, lines_words}
 use Rattle.mod_text.proofs.Constants.{IsSound, operand_constant_words}
+use Rattle.mod_core.proofs.Lengths.{constants_len-append}
 
 -- ---- one instruction
-
-constants_len-append : (xs ys : List PlainTerm) → constants_len (xs ++ ys) ≡ constants_len xs + constants_len ys
-constants_len-append [] ys = omega arith
-constants_len-append (x ∷ xs) ys = omega (arith, constants_len-append xs ys)
 
 one_words : (names : List (List ℕ)) (o : OperandForm) (rest : Bool) (own : ℕ) → (is_operand_form o && rest) ≡ true → own + constants_len (operand_constants (operand_in names o)) ≡ own + operand_form_words o
 one_words names o rest own h = ap (λ n. own + n) (operand_constant_words names o (and_parts (is_operand_form o) rest h).0)

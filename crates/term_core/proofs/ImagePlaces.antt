@@ -8,6 +8,7 @@ use Rattle.term_core.specs.Written.{place_or}
 use Rattle.term_core.proofs.ImageTerms.{IsPlainRow, terms_in-image, images_len-image, some_words}
 use Rattle.term_core.proofs.WordTags.{integer_parts, atom_parts, tuple_parts, list_parts}
 use Rattle.term_core.proofs.Words.{term_of_word-immediate_word}
+use Rattle.term_core.proofs.Text.Options.{some_is}
 -- an image has the term's words
 pub use Rattle.term_core.proofs.ImageTerms.{length-image}
 
@@ -117,15 +118,11 @@ pub record IsPart (row : RowOf ℤ ℕ) (u : PlainTerm) : Type 0 where
   pub fits : IsPlainTerm u
   pub few : term_words u ≤ row_words row
 
--- a value
-same_some : (t u : PlainTerm) → Some t ≡ Some u → t ≡ u
-same_some t u e = cc
-
 -- each part is one
 pub part_of : (row : RowOf ℤ ℕ) (i : ℕ) (u : PlainTerm) → IsPlainRow row → slice_get (terms_of row) i ≡ Some u → IsPart row u
 part_of no_terms i u h at = cc
 part_of (term_then t row) zero u h at =
-    let e : t ≡ u = same_some t u at in
+    let e : t ≡ u = some_is t u at in
     record { fits = subst IsPlainTerm e h.0; few = omega (arith, ap (term_words {Z = ℤ} {A = ℕ}) e) }
 part_of (term_then t row) (suc i) u h at = let later = part_of row i u h.1 at in record { fits = later.fits; few = omega (arith, later.few) }
 
@@ -155,7 +152,7 @@ part_in (term_then t row) rest zero u at = record {
   skip = 0;
   behind = refl;
   left = row_image row ++ rest;
-  whole = append_assoc (image_of t) (row_image row) rest ∙ ap (λ v. image_of v ++ (row_image row ++ rest)) (same_some t u at);
+  whole = append_assoc (image_of t) (row_image row) rest ∙ ap (λ v. image_of v ++ (row_image row ++ rest)) (some_is t u at);
 }
 part_in (term_then t row) rest (suc i) u at =
     let later = part_in row rest i u at in

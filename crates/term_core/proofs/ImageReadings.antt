@@ -14,6 +14,7 @@ use Rattle.term_core.proofs.Lefts.{rest_is}
 use Rattle.term_core.proofs.ImagePlaces.{IsImageAt-unique}
 use Rattle.term_core.proofs.PlainTerms.{term_of-plain}
 use Rattle.term_core.proofs.WordTags.{WordKind, integer_word, atom_word, tuple_word, list_word, word_kind, with_integer, with_atom, with_tuple, with_list, integer_parts, atom_parts, tuple_parts, list_parts, low_bits-back, integer_of_bits-fits}
+use Rattle.term_core.proofs.Text.Options.{some_is}
 
 -- what is said of two rows one behind the other
 row_append : (xs ys : List PlainTerm) → row_image (row_of (xs ++ ys)) ≡ row_image (row_of xs) ++ row_image (row_of ys)
@@ -118,13 +119,9 @@ record Step (b : Bool) (o : Option ℕ) (k : ℕ) : Type 0 where
   is : o ≡ Some rest
   next : suc rest ≡ k
 
--- one number
-same_some : (m n : ℕ) → Some m ≡ Some n → m ≡ n
-same_some m n e = cc
-
 -- by the test and what is found
 step_of : (b : Bool) (o : Option ℕ) (k : ℕ) → cond b (option_map suc o) None ≡ Some k → Step b o k
-step_of true (Some j) k h = record { fits = refl; rest = j; is = refl; next = same_some (suc j) k h }
+step_of true (Some j) k h = record { fits = refl; rest = j; is = refl; next = some_is (suc j) k h }
 step_of b o k h = cc
 
 -- what is found: images of as many terms, which are read back from them
@@ -138,9 +135,9 @@ found_none words k e = subst (λ (j : ℕ). IsFound 0 j words) e (record { withi
 
 -- so of any words
 found_back : (words : List ℕ) (n k : ℕ) → found_len n words ≡ Some k → IsFound n k words
-found_back [] zero k h = found_none [] k (same_some 0 k h)
+found_back [] zero k h = found_none [] k (some_is 0 k h)
 found_back [] (suc n) k h = cc
-found_back (word ∷ words) zero k h = found_none (word ∷ words) k (same_some 0 k h)
+found_back (word ∷ words) zero k h = found_none (word ∷ words) k (some_is 0 k h)
 found_back (word ∷ words) (suc n) k h =
     let step = step_of (is_image_word word) (found_len (n + parts_of_word word) words) k h in
     let later = found_back words (n + parts_of_word word) step.rest step.is in
@@ -160,9 +157,9 @@ AllFit words = All (λ word. IsTrue (is_image_word word)) words
 
 -- so may each that is found
 pub found_fit : (words : List ℕ) (n k : ℕ) → found_len n words ≡ Some k → AllFit (take k words)
-found_fit [] zero k h = subst (λ (j : ℕ). AllFit (take j [])) (same_some 0 k h) (All-nil (λ word. IsTrue (is_image_word word)))
+found_fit [] zero k h = subst (λ (j : ℕ). AllFit (take j [])) (some_is 0 k h) (All-nil (λ word. IsTrue (is_image_word word)))
 found_fit [] (suc n) k h = cc
-found_fit (word ∷ words) zero k h = subst (λ (j : ℕ). AllFit (take j (word ∷ words))) (same_some 0 k h) (All-nil (λ word. IsTrue (is_image_word word)))
+found_fit (word ∷ words) zero k h = subst (λ (j : ℕ). AllFit (take j (word ∷ words))) (some_is 0 k h) (All-nil (λ word. IsTrue (is_image_word word)))
 found_fit (word ∷ words) (suc n) k h =
     let step = step_of (is_image_word word) (found_len (n + parts_of_word word) words) k h in
     subst (λ (j : ℕ). AllFit (take j (word ∷ words))) step.next

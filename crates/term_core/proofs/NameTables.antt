@@ -12,10 +12,8 @@ use Rattle.std.specs.HashSet.{HashSet}
 use Rattle.indexmap.specs.IndexSet.{insert_key}
 use Rattle.term_core.specs.Names.{IsNames, AtomText, is_name_byte, is_atom_text, number_of, names_with, given_names, texts_of}
 use Rattle.term_core.proofs.Places.{is_some-position, position-map, position-append_one, slice_get-append, slice_get-append_one}
-
--- a text is its own
-same_bytes : (xs : List ℕ) → bytes_eq xs xs ≡ true
-same_bytes xs = (bytes_eq-Decides xs xs).1 refl
+use Rattle.term_core.proofs.Text.Options.{same_bytes}
+use Rattle.term_core.proofs.Truths.{none_unless}
 
 -- what has a number stands at it
 pub slice_get-number_of : (names : List (List ℕ)) (text : List ℕ) (n : ℕ) → number_of names text ≡ Some n → slice_get names n ≡ Some text
@@ -33,11 +31,6 @@ pub number_of-slice_get : (names : List (List ℕ)) (text : List ℕ) (i : ℕ) 
 number_of-slice_get names text i at none =
     let here : bytes_eq text (get_or names i []) ≡ true = ap (bytes_eq text) (get_or_from_slice_get names i text [] at) ∙ same_bytes text in
     no_and_some (number_of names text) none (is_some-position (bytes_eq text) names ∙ list_any_at (bytes_eq text) names i [] (slice_get_within names i text at) here)
-
--- what is no value is none
-none_unless : (o : Option ℕ) → ((i : ℕ) → o ≡ Some i → ⊥) → o ≡ None
-none_unless None h = refl
-none_unless (Some i) h = absurd (h i refl)
 
 -- each text of a table is an atom's
 pub texts_are_atoms : (names : List (List ℕ)) (text : List ℕ) (n : ℕ) → IsNames names → slice_get names n ≡ Some text → IsTrue (is_atom_text text)

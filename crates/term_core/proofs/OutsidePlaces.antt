@@ -80,8 +80,9 @@ outside_leaf (c ∷ text) rest h d =
 
 -- the same of an integer's text
 integer_choice : (i b : Bool) → i ≡ true → cond {A = Option ℕ} (i && not b) (Some 0) None ≡ cond {A = Option ℕ} b None (Some 0)
+integer_choice true true h = refl
+integer_choice true false h = refl
 integer_choice false b h = cc
-integer_choice true b h = refl
 
 -- behind the brackets
 shut_in : (o later : Option ℕ) (n m : ℕ) → m ≡ 1 + n → place_or None 1 (place_or o n later) ≡ place_or (place_or None 1 o) m later

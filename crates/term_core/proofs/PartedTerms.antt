@@ -130,7 +130,8 @@ first_more c text (part ∷ parts) = refl
 -- there is a part of any text
 some_part : (b : Bool) (c : ℕ) (later here : List (List ℕ)) → front_first [] (cond b ([] ∷ later) (in_first c here)) ≡ cond b ([] ∷ later) (in_first c here)
 some_part true c later here = refl
-some_part false c later here = refl
+some_part false c later [] = refl
+some_part false c later (part ∷ parts) = refl
 
 -- so no text in front is none
 none_first : (depth : ℕ) (rest : List ℕ) → front_first [] (parts_at_depth depth rest) ≡ parts_at_depth depth rest
@@ -173,7 +174,8 @@ joined_more c (part ∷ parts) = refl
 -- by whether the first byte ends a part
 comma_by : (b : Bool) (c : ℕ) (later here : List (List ℕ)) → joined_behind (cond b ([] ∷ later) (in_first c here)) ≡ 44 ∷ joined (cond b ([] ∷ later) (in_first c here))
 comma_by true c later here = refl
-comma_by false c later here = refl
+comma_by false c later [] = refl
+comma_by false c later (part ∷ parts) = refl
 
 -- texts behind a comma, where there is one
 joined_comma : (depth : ℕ) (rest : List ℕ) → joined_behind (parts_at_depth depth rest) ≡ 44 ∷ joined (parts_at_depth depth rest)

@@ -14,6 +14,7 @@ use Rattle.term_core.proofs.ScanSound.{run-none, FormOf, accepted_text}
 use Rattle.term_core.proofs.ScanTerms.{accepts_is}
 use Rattle.term_core.proofs.WrittenTokens.{delimited_closing}
 use Rattle.term_core.proofs.Truths.{false_is_no_true}
+use Rattle.term_core.proofs.Text.Options.{some_is}
 
 -- two texts are run one after the other
 pub run-append : (s : Option Scanned) (text more : List ℕ) → run s (text ++ more) ≡ run (run s text) more
@@ -94,10 +95,6 @@ stops_next s t c rest j step h = record {
     | inr l ↦ inr (omega (arith, l.0), ap (λ n. run (Some s) (take n (c ∷ rest))) (add-one (suc j)) ∙ ap (λ n. run (stepped s.place s.brackets c) (take n rest)) (sym (add-one j)) ∙ ap (λ o. run o (take (j + 1) rest)) step ∙ l.1)
   ];
 }
-
--- one place
-some_is : (m n : ℕ) → Some m ≡ Some n → m ≡ n
-some_is m n e = cc
 
 -- a shifted place
 shifted : (o : Option ℕ) (i : ℕ) → place_or None 1 o ≡ Some i → (j : ℕ) × (o ≡ Some j) × (suc j ≡ i)

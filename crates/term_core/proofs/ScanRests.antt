@@ -146,6 +146,7 @@ comma_back b outer c rest e h =
 
 -- what stands behind a term
 pub ended_back : (brackets : List Bracket) (kind : ByteKind) (c : ℕ) (rest : List ℕ) → IsOfKind c kind → RestMoved brackets (ended (top_of brackets) kind) rest → Closes brackets (c ∷ rest)
+ended_back [] (Open b) c rest is h = absurd h
 ended_back (b ∷ outer) (Close d) c rest is h = let back = closed_back b d outer c rest is h in (no_terms, rest, tt, back.0, back.1)
 ended_back (b ∷ outer) Comma c rest is h = comma_back b outer c rest is h
 ended_back brackets kind c rest is h = absurd h

@@ -16,6 +16,11 @@ pub none_is_not_some : {X : Type 0} (o : Option X) (x : X) → o ≡ None → o 
 none_is_not_some None x e h = cc
 none_is_not_some (Some y) x e h = cc
 
+-- what is no value is none
+pub none_unless : {X : Type 0} (o : Option X) → ((x : X) → o ≡ Some x → ⊥) → o ≡ None
+none_unless None h = refl
+none_unless (Some x) h = absurd (h x refl)
+
 -- what is false is not true
 pub false_is_no_true : false ≡ true → ⊥
 false_is_no_true h = cc
