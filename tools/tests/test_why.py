@@ -27,6 +27,17 @@ class EachFaultHasItsReason(unittest.TestCase):
                 self.assertIn(fault.hint, reasons)
                 self.assertTrue(told.found)
 
+    def test_the_line_is_told(self):
+        for fault in FAULTS:
+            words = fault.line.split(" ")
+            if words[0] == "refused" and words[-1] != "file_too_long":
+                number = words[2] if words[1] == "report" else words[1]
+                text = {"report": "a report", "progress": "an event list"}.get(
+                    words[1] if words[1] == "report" else fault.words, "a script")
+                with self.subTest(fault.name):
+                    told = why.answer(fault.text, fault.line, "auto").lines[0]
+                    self.assertTrue(told.startswith(f"line {number} of {text}: "), told)
+
     def test_bytes_are_shown(self):
         for name, shown in [("crlf_one_line", "print 1<CR>"), ("tab_between", "move 1<TAB>$0"),
                             ("trailing_space", "print 1<SP>"), ("double_space", "move 1<SP><SP>$0"),
