@@ -34,6 +34,7 @@ esac
 
 # The program that stands in: it writes its words and what it read, after a wait, and ends as it is told.
 PROGRAM = """#!/bin/sh
+[ -n "$FAKE_WAIT" ] && echo $$ >"${FAKE:-/tmp}/pid"
 sleep "${FAKE_WAIT:-0}"
 printf '%s\\n' "$*"
 cat
@@ -81,6 +82,13 @@ class BeamTest(unittest.TestCase):
     def calls(self):
         noted = self.room / "calls"
         return noted.read_text().splitlines() if noted.exists() else []
+
+    def wait_for(self, is_so):
+        """Waits until it is so, ten seconds at most."""
+        end = time.monotonic() + 10
+        while not is_so() and time.monotonic() < end:
+            time.sleep(0.05)
+        self.assertTrue(is_so())
 
     def is_answer(self, ran, status, out, said=()):
         """Holds an answer against a status, the whole of standard output, and parts of standard error."""
@@ -211,12 +219,13 @@ class Hints(BeamTest):
 
     def test_a_signal_ends_the_program(self):
         self.beam("run")
-        where = {**os.environ, "FAKE_WAIT": "30"}
-        ran = subprocess.Popen([self.top / "beam", "run", "a.script"], cwd=self.room, env=where, stdout=subprocess.PIPE)
-        time.sleep(0.5)
+        where = {**os.environ, "FAKE_WAIT": "30", "FAKE": str(self.room)}
+        ran = subprocess.Popen([self.top / "beam", "run", "a.script"], cwd=self.room, env=where)
+        noted = self.room / "pid"
+        self.wait_for(lambda: noted.exists() and noted.read_text().endswith("\n"))
         ran.send_signal(signal.SIGTERM)
-        self.assertEqual(ran.wait(timeout=5), 143)
-        ran.stdout.close()
+        self.assertEqual(ran.wait(timeout=10), 143)
+        self.wait_for(lambda: not Path(f"/proc/{noted.read_text().strip()}/cmdline").exists())
 
 
 class Unproved(BeamTest):
@@ -226,6 +235,13 @@ class Unproved(BeamTest):
             self.is_answer(ran, status, b"run --schedulers 2\n" + given, [b"proves nothing"])
         self.is_answer(self.beam("--unproved", "check", "a.script", "a.report"), 0, b"check\nscript\nreport\n")
         self.assertEqual({it.split()[0] for it in self.calls()}, {"try"})
+
+    def test_a_reason_for_a_trial(self):
+        for words, given in (("run a.script", b""), ("run", b"script\n"), ("check a.script a.report", b"")):
+            ran = self.beam("--unproved", *words.split(), given=given, FAKE_STATUS="3", BEAM_WHY="1")
+            self.assertIn(b"why: --kind script [script", ran.stderr)
+            self.assertIn(b"] %s\n" % words.split()[0].encode(), ran.stderr)
+        self.assertEqual(len(self.calls()), 3)
 
     def test_a_trial_without_an_answer(self):
         put(self.room / "broken", "")
