@@ -27,7 +27,7 @@ class Docs(unittest.TestCase):
                     report = (TOP / f"{command[1]}.report").read_text()
                     with self.subTest(page.name, script=command[1]):
                         self.assertEqual(re.split(r"(?m)^\$ ", block[command.end():])[0], report)
-        self.assertGreaterEqual(len(seen), 17)
+        self.assertGreaterEqual(len(seen), 16)
 
     def test_scripts_are_examples(self):
         wholes = examples("script").values()
