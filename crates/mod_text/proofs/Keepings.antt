@@ -9,7 +9,7 @@ use Rattle.mod_text.specs.declared.fault.LineFault.{LineFault}
 use Rattle.mod_text.specs.declared.fault.LineFault.TheVariants as faults
 use Rattle.mod_text.specs.declared.written.WrittenLine.{WrittenLine}
 use Rattle.mod_text.specs.LineViews.{line_form, text_form, form_of, forms_of, headers_of, words_of}
-use Rattle.mod_text.specs.ModuleLine.{LineForm, title, header, label, instr, end}
+use Rattle.mod_text.specs.ModuleLine.{LineForm, header, label, end}
 use Rattle.mod_text.specs.ModuleValue.{HeaderForm, headers_in}
 use Rattle.mod_text.specs.LineReading.{line_split, line_reading}
 use Rattle.mod_text.specs.LineFaults.{may_follow, last_line, has_high_register, has_wide_integer, has_long_term, line_atoms, names_after, overfills_names, labels_after, labels_on, open_labels, ends_too_long, place_fault}
@@ -31,11 +31,8 @@ map-append f (x ∷ xs) ys = ap (λ l. f x ∷ l) (map-append f xs ys)
 
 pub headers_in-append : (xs ys : List LineForm) → headers_in (xs ++ ys) ≡ headers_in xs ++ headers_in ys
 headers_in-append [] ys = refl
-headers_in-append (title name version ∷ xs) ys = headers_in-append xs ys
 headers_in-append (header exported name arity ∷ xs) ys = ap (λ l. (name, arity) ∷ l) (headers_in-append xs ys)
-headers_in-append (label name ∷ xs) ys = headers_in-append xs ys
-headers_in-append (instr i ∷ xs) ys = headers_in-append xs ys
-headers_in-append (end ∷ xs) ys = headers_in-append xs ys
+headers_in-append (line ∷ xs) ys = headers_in-append xs ys
 
 pub labels_on-append : (labels : List (List ℕ)) (xs ys : List LineForm) → labels_on labels (xs ++ ys) ≡ labels_on (labels_on labels xs) ys
 labels_on-append labels [] ys = refl

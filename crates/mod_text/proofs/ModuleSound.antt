@@ -136,11 +136,9 @@ suc_by None n bound more e = absurd cc
 -- a label's instruction is one of its function's, or the place behind them
 pub label_within : (wanted : List ℕ) (body : List LineForm) (n : ℕ) → label_number wanted body ≡ Some n → n ≤ length (instrs_in body)
 label_within wanted [] n e = absurd cc
-label_within wanted (title name version ∷ lines) n e = label_within wanted lines n e
-label_within wanted (header exported name arity ∷ lines) n e = label_within wanted lines n e
 label_within wanted (label name ∷ lines) n e = label_by (bytes_eq name wanted) (label_number wanted lines) n (length (instrs_in lines)) (label_within wanted lines n) e
 label_within wanted (instr i ∷ lines) n e = suc_by (label_number wanted lines) n (length (instrs_in lines)) (label_within wanted lines) e
-label_within wanted (end ∷ lines) n e = label_within wanted lines n e
+label_within wanted (line ∷ lines) n e = label_within wanted lines n e
 
 target_by : (wanted : List ℕ) (body : List LineForm) (o : Option ℕ) → label_number wanted body ≡ o → unwrap_or o 0 ≤ length (instrs_in body)
 target_by wanted body None is = omega arith
@@ -157,11 +155,8 @@ head_of f = (f.name, f.arity)
 
 pub heads_are : (lines : List LineForm) → headers_in lines ≡ map head_of (functions_in lines)
 heads_are [] = refl
-heads_are (title name version ∷ lines) = heads_are lines
 heads_are (header exported name arity ∷ lines) = ap (λ hs. (name, arity) ∷ hs) (heads_are lines)
-heads_are (label name ∷ lines) = heads_are lines
-heads_are (instr i ∷ lines) = heads_are lines
-heads_are (end ∷ lines) = heads_are lines
+heads_are (line ∷ lines) = heads_are lines
 
 -- what each function of a text has
 pub record IsForm (headers : List HeaderForm) (f : FunctionForm) : Type 0 where
@@ -175,16 +170,13 @@ both_none a b h = absurd cc
 
 pub forms_are : (headers : List HeaderForm) (lines : List LineForm) → All IsKept lines → first_unsettled headers lines ≡ None → All (IsForm headers) (functions_in lines)
 forms_are headers [] kept none = All-nil (IsForm headers)
-forms_are headers (title name version ∷ lines) kept none = forms_are headers lines (All-tail IsKept (title name version) lines kept) (both_none None (first_unsettled headers lines) none).1
 forms_are headers (header exported name arity ∷ lines) kept none =
     let settled = both_none (unsettled_in headers (body_of lines)) (first_unsettled headers lines) none in
     let rest = All-tail IsKept (header exported name arity) lines kept in
     All-cons (IsForm headers) (record { exported = exported; name = name; arity = arity; body = body_of lines }) (functions_in lines)
     (record { sound = (All-head IsKept (header exported name arity) lines kept).sound; kept = kept_body lines rest; settled = settled.0 })
     (forms_are headers lines rest settled.1)
-forms_are headers (label name ∷ lines) kept none = forms_are headers lines (All-tail IsKept (label name) lines kept) (both_none None (first_unsettled headers lines) none).1
-forms_are headers (instr i ∷ lines) kept none = forms_are headers lines (All-tail IsKept (instr i) lines kept) (both_none None (first_unsettled headers lines) none).1
-forms_are headers (end ∷ lines) kept none = forms_are headers lines (All-tail IsKept end lines kept) (both_none None (first_unsettled headers lines) none).1
+forms_are headers (line ∷ lines) kept none = forms_are headers lines (All-tail IsKept line lines kept) (both_none None (first_unsettled headers lines) none).1
 
 -- each line was within its own limits
 pub kept_lines : (names : List (List ℕ)) (before lines : List LineForm) → FollowOn names before lines → All IsKept lines
@@ -275,16 +267,13 @@ module _ (names : List (List ℕ)) (forms : List FunctionForm) (room : length na
 
   code_is : (body rest : List LineForm) → All IsKept rest → unsettled_at (map head_of forms) body rest ≡ None → All (IsInstr (map (function_in names (map head_of forms)) forms) (length (instrs_in body))) (map (instr_in names (map head_of forms) body) (instrs_in rest))
   code_is body [] kept none = All-nil (IsInstr (map (function_in names (map head_of forms)) forms) (length (instrs_in body)))
-  code_is body (title name version ∷ rest) kept none = code_is body rest (All-tail IsKept (title name version) rest kept) (settled_by true (unsettled_at (map head_of forms) body rest) none).1
-  code_is body (header exported name arity ∷ rest) kept none = code_is body rest (All-tail IsKept (header exported name arity) rest kept) (settled_by true (unsettled_at (map head_of forms) body rest) none).1
-  code_is body (label name ∷ rest) kept none = code_is body rest (All-tail IsKept (label name) rest kept) (settled_by true (unsettled_at (map head_of forms) body rest) none).1
   code_is body (instr i ∷ rest) kept none =
       let both = settled_by (is_settled (map head_of forms) body i) (unsettled_at (map head_of forms) body rest) none in
       let is = All-head IsKept (instr i) rest kept in
       All-cons (IsInstr (map (function_in names (map head_of forms)) forms) (length (instrs_in body))) (instr_in names (map head_of forms) body i) (map (instr_in names (map head_of forms) body) (instrs_in rest))
       (instr_is body i (record { sound = is.sound; low = is.low; narrow = is.narrow; short = is.short }) both.0)
       (code_is body rest (All-tail IsKept (instr i) rest kept) both.1)
-  code_is body (end ∷ rest) kept none = code_is body rest (All-tail IsKept end rest kept) (settled_by true (unsettled_at (map head_of forms) body rest) none).1
+  code_is body (line ∷ rest) kept none = code_is body rest (All-tail IsKept line rest kept) (settled_by true (unsettled_at (map head_of forms) body rest) none).1
 
   function_is : (f : FunctionForm) → IsForm (map head_of forms) f → IsFunction (map (function_in names (map head_of forms)) forms) (function_in names (map head_of forms) f)
   function_is f is =
