@@ -156,11 +156,8 @@ alone_is lines None line is = absurd cc
 alone_is lines (Some read) line is = ap (λ l. Some l) (by_tests (may_follow (last_line lines) read) (has_high_register read) (has_wide_integer read) (has_long_term read) is)
   where
     by_tests : (follows high wide long : Bool) → cond {A = Result LineForm LineFault} follows (cond high (Err faults.Register) (cond wide (Err faults.Int) (cond long (Err faults.Term) (Ok read)))) (Err faults.Syntax) ≡ Ok line → read ≡ line
-    by_tests false high wide long e = absurd cc
-    by_tests true true wide long e = absurd cc
-    by_tests true false true long e = absurd cc
-    by_tests true false false true e = absurd cc
     by_tests true false false false e = cc
+    by_tests follows high wide long e = absurd cc
 
 -- a text that was judged is that of its line
 pub said_alone : (lines : List LineForm) (text : List ℕ) (line : LineForm) → judged_alone lines (line_reading text) ≡ Ok line → text_form text ≡ line
@@ -217,15 +214,8 @@ fails_first (Ok x) more fault h = subst (λ f. Fails (more x) f) (sym (ok_fails 
 fails_first {A} {B} (Err e) more fault h = same_fault A B e fault h
   where
     same_fault : (A B : Type 0) (e fault : LineFault) → Fails {A = A} (Err e) fault → Fails {A = B} (Err e) fault
-    same_fault A B e faults.Syntax h = ap (λ f. Err f) (err_is e faults.Syntax h)
-    same_fault A B e faults.Register h = ap (λ f. Err f) (err_is e faults.Register h)
-    same_fault A B e faults.Int h = ap (λ f. Err f) (err_is e faults.Int h)
-    same_fault A B e faults.Term h = ap (λ f. Err f) (err_is e faults.Term h)
-    same_fault A B e faults.Names h = ap (λ f. Err f) (err_is e faults.Names h)
-    same_fault A B e faults.TooManyFunctions h = ap (λ f. Err f) (err_is e faults.TooManyFunctions h)
-    same_fault A B e faults.TooLong h = ap (λ f. Err f) (err_is e faults.TooLong h)
-    same_fault A B e faults.Duplicate h = ap (λ f. Err f) (err_is e faults.Duplicate h)
     same_fault A B e faults.NoMemory h = tt
+    same_fault A B e fault h = ap (λ f. Err f) (err_is e fault h)
 
 -- a fault of what the line is alone
 pub line_fails_alone : (names : List (List ℕ)) (lines : List LineForm) (text : List ℕ) (fault : LineFault) → Fails (judged_alone lines (line_reading text)) fault → Fails (line_step names lines text) fault

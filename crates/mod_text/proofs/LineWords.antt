@@ -143,11 +143,9 @@ functions_in-end (header exported name arity ∷ lines) = λ i. record { exporte
   where
     body_of-end : (ls : List LineForm) → body_of (ls ++ end ∷ []) ≡ body_of ls
     body_of-end [] = refl
-    body_of-end (title n v ∷ ls) = refl
-    body_of-end (header e n a ∷ ls) = refl
     body_of-end (label n ∷ ls) = ap (λ l. label n ∷ l) (body_of-end ls)
     body_of-end (instr i ∷ ls) = ap (λ l. instr i ∷ l) (body_of-end ls)
-    body_of-end (end ∷ ls) = refl
+    body_of-end (line ∷ ls) = refl
 functions_in-end (line ∷ lines) = functions_in-end lines
 
 -- the end adds no words

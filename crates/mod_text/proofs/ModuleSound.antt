@@ -49,14 +49,8 @@ pub record PassesAll (names : List (List ℕ)) (before : List LineForm) (line : 
   pub new : is_repeated before line ≡ false
 
 passes_by : (names : List (List ℕ)) (before : List LineForm) (line : LineForm) (a b l c d e f : Bool) → has_high_register line ≡ a → has_wide_integer line ≡ b → has_long_term line ≡ l → overfills_names names line ≡ c → is_seventeenth before line ≡ d → ends_too_long names before line ≡ e → is_repeated before line ≡ f → cond a (Some faults.Register) (cond b (Some faults.Int) (cond l (Some faults.Term) (cond c (Some faults.Names) (cond d (Some faults.TooManyFunctions) (cond e (Some faults.TooLong) (cond f (Some faults.Duplicate) None)))))) ≡ None → PassesAll names before line
-passes_by names before line true b l c d e f ha hb hl hc hd he hf none = absurd cc
-passes_by names before line false true l c d e f ha hb hl hc hd he hf none = absurd cc
-passes_by names before line false false true c d e f ha hb hl hc hd he hf none = absurd cc
-passes_by names before line false false false true d e f ha hb hl hc hd he hf none = absurd cc
-passes_by names before line false false false false true e f ha hb hl hc hd he hf none = absurd cc
-passes_by names before line false false false false false true f ha hb hl hc hd he hf none = absurd cc
-passes_by names before line false false false false false false true ha hb hl hc hd he hf none = absurd cc
 passes_by names before line false false false false false false false ha hb hl hc hd he hf none = record { low = ha; narrow = hb; long = hl; room = hc; few = hd; short = he; new = hf }
+passes_by names before line a b l c d e f ha hb hl hc hd he hf none = absurd cc
 
 pub passes : (names : List (List ℕ)) (before : List LineForm) (line : LineForm) → fault_of_line names before line ≡ None → PassesAll names before line
 passes names before line none = passes_by names before line (has_high_register line) (has_wide_integer line) (has_long_term line) (overfills_names names line) (is_seventeenth before line) (ends_too_long names before line) (is_repeated before line) refl refl refl refl refl refl refl none
