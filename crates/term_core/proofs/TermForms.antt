@@ -20,8 +20,8 @@ use Rattle.term_core.proofs.LeafFacts.{EachOf, map_leaves-id}
 use Rattle.term_core.proofs.LeafTexts.{is_leaf_byte, LeafText, LeafText-integer, LeafText-atom}
 use Rattle.term_core.proofs.Ranges.{none_of_fits}
 use Rattle.term_core.proofs.ReadingLaws.{TermText-is_text, TermText-words}
-use Rattle.term_core.proofs.ScanFaults.{text_if}
-use Rattle.term_core.proofs.ScanSound.{FormOf}
+use Rattle.term_core.proofs.Scanning.Faults.{text_if}
+use Rattle.term_core.proofs.Scanning.Sound.{FormOf}
 use Rattle.term_core.proofs.TermBytes.{is_term_byte, term_bytes-written, nonempty-written}
 use Rattle.term_core.proofs.TextForms.{text_words as words_of_text, text_atoms, text_built, text_outside, text_no_fault}
 use Rattle.term_core.proofs.Truths.{both, false_is_no_true, false_unless, is_some_at}

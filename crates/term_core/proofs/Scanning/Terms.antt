@@ -14,7 +14,7 @@ use Rattle.term_core.specs.Tops.{top_of}
 use Rattle.term_core.specs.Written.{WrittenTerm, written, parted, behind, HasLeafTexts}
 use Rattle.term_core.proofs.ByteKinds.{closing}
 use Rattle.term_core.proofs.LeafTexts.{is_leaf_byte, LeafText, IsDelimited, LeafText-integer, LeafText-atom}
-use Rattle.term_core.proofs.ScanRuns.{accepts, accepts_moved, accepts_integer, accepts_atom}
+use Rattle.term_core.proofs.Scanning.Runs.{accepts, accepts_moved, accepts_integer, accepts_atom}
 use Rattle.term_core.proofs.Truths.{both}
 use Rattle.term_core.proofs.WrittenTokens.{RowHasLeafTexts, delimited_behind}
 
