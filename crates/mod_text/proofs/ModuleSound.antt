@@ -2,7 +2,7 @@
 use Rattle.std.proofs.Common.{◌≡◌, ℕ, zero, suc, ◌+◌, ◌<◌, ◌≤◌, Bool, true, false, cond, not, ◌&&◌, ◌||◌, ◌^◌, nat_lt, nat_le, List, [], ◌∷◌, ◌++◌, length, map, Option, Some, None, option_map, is_some, position, unwrap_or, bytes_eq, decimal, ℤ, pos, negsuc, ◌⊎◌, inl, inr, add-one, refl, sym, ap, ◌∙◌, subst, arith, length-append, append_assoc}
 use Rattle.std.specs.Prelude.{All, slice_get, IsSomeAnd}
 use Rattle.std.specs.List.{list_any}
-use Rattle.std.proofs.lemmas.Bool.{and_parts, and_from, or_parts, or_cases}
+use Rattle.std.proofs.lemmas.Bool.{and_parts, and_from, or_parts, or_cases, or_right}
 use Rattle.std.proofs.lemmas.Int.{ints}
 use Rattle.std.proofs.lemmas.Fmt.{decimal_digit, decimal-digits_value}
 use Rattle.std.proofs.lemmas.Option.{slice_get_within, slice_get-map}
@@ -16,7 +16,7 @@ use Rattle.term_core.specs.TermText.{number_in, names_with_all}
 use Rattle.term_core.specs.Written.{IsTermInteger, integer_of, is_term_integer, is_positive_text}
 use Rattle.term_core.proofs.IntegerTexts.{own, Positive-from}
 use Rattle.term_core.proofs.NameTables.{slice_get-number_of}
-use Rattle.term_core.proofs.Places.{position-cons, is_some-position}
+use Rattle.term_core.proofs.Places.{position-cons, is_some-position, all_at}
 use Rattle.term_core.proofs.Truths.{not_both}
 use Rattle.mod_core.specs.declared.code.Function.{Function}
 use Rattle.mod_core.specs.declared.code.Module.{Module}
@@ -377,11 +377,7 @@ named_new : (names : List (List ℕ)) (text : List ℕ) (t : Bool) → is_some (
 named_new names text true is = is
 named_new names text false is =
     is_some-position (bytes_eq text) (names ++ text ∷ []) ∙ list_any-append (bytes_eq text) names (text ∷ [])
-    ∙ ap (λ t. list_any (bytes_eq text) names || (t || false)) (same_bytes text) ∙ or_true (list_any (bytes_eq text) names)
-  where
-    or_true : (t : Bool) → (t || true) ≡ true
-    or_true true = refl
-    or_true false = refl
+    ∙ ap (λ t. list_any (bytes_eq text) names || (t || false)) (same_bytes text) ∙ or_right (list_any (bytes_eq text) names) true refl
 
 named_all : (names texts : List (List ℕ)) (text : List ℕ) → IsNamed names text → IsNamed (names_with_all names texts) text
 named_all names [] text named = named
@@ -473,12 +469,6 @@ version_is (title name version ∷ lines) titled kept =
     (grind (arith, nat_tests), grind (arith, nat_tests))
 version_is lines titled kept = absurd titled
 
--- what all are, one of them is
-All-at : {X : Type 0} (P : X → Type 0) (xs : List X) (i : ℕ) (x : X) → All P xs → slice_get xs i ≡ Some x → P x
-All-at P [] i x all e = absurd cc
-All-at P (y ∷ ys) zero x all e = subst P (some_is y x e) (All-head P y ys all)
-All-at P (y ∷ ys) (suc i) x all e = All-at P ys i x (All-tail P y ys all) e
-
 functions_apart : (names : List (List ℕ)) (headers : List HeaderForm) (forms : List FunctionForm) → All (IsForm headers) forms → All (λ h. IsNamed names h.0) (map head_of forms) → HeadsApart (map head_of forms) → (i j : ℕ) → i < j → SameFunction (map (function_in names headers) forms) i j → ⊥
 unfolding HeadsApart
 functions_apart names headers forms are named apart i j below same =
@@ -492,11 +482,11 @@ functions_apart names headers forms are named apart i j below same =
         let second : function_in names headers g ≡ same.second = some_is (function_in names headers g) same.second (sym (slice_get-map (function_in names headers) forms j ∙ ap (option_map (function_in names headers)) at_j) ∙ same.second_at) in
         let name_is : number_in names f.name ≡ number_in names g.name = ap (λ (x : Function). x.name.0) first ∙ ap (λ (a : AtomId). a.0) same.name ∙ sym (ap (λ (x : Function). x.name.0) second) in
         let arity_is : number_value f.arity ≡ number_value g.arity = ap (λ (x : Function). x.arity) first ∙ same.arity ∙ sym (ap (λ (x : Function). x.arity) second) in
-        let form_f = All-at (IsForm headers) forms i f are at_i in
-        let form_g = All-at (IsForm headers) forms j g are at_j in
+        let form_f = all_at (IsForm headers) forms i f are at_i in
+        let form_g = all_at (IsForm headers) forms j g are at_j in
         let head_i = slice_get-map head_of forms i ∙ ap (option_map head_of) at_i in
         let head_j = slice_get-map head_of forms j ∙ ap (option_map head_of) at_j in
-        let names_are = names_one names f.name g.name (All-at (λ h. IsNamed names h.0) (map head_of forms) i (head_of f) named head_i) (All-at (λ h. IsNamed names h.0) (map head_of forms) j (head_of g) named head_j) name_is in
+        let names_are = names_one names f.name g.name (all_at (λ h. IsNamed names h.0) (map head_of forms) i (head_of f) named head_i) (all_at (λ h. IsNamed names h.0) (map head_of forms) j (head_of g) named head_j) name_is in
         let arities_are = arities_one f.arity g.arity (and_parts (is_atom_text f.name) (is_arity_text f.arity) form_f.sound).1 (and_parts (is_atom_text g.name) (is_arity_text g.arity) form_g.sound).1 arity_is in
         apart i j (head_of f) (head_of g) below head_i head_j (λ k. (names_are k, arities_are k))
 

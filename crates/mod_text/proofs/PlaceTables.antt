@@ -3,13 +3,12 @@ use Rattle.std.proofs.Common.{◌≡◌, ℕ, suc, ◌+◌, ◌<◌, Bool, true,
 use Rattle.std.specs.Borrow.{Bor}
 use Rattle.std.specs.HashMap.{UpdatesBy}
 use Rattle.std.proofs.lemmas.Map.Text.{hash_map_updates_str}
-use Rattle.std.proofs.lemmas.List.{take_more}
+use Rattle.std.proofs.lemmas.List.{take_more, map-append}
 use Rattle.std.proofs.lemmas.Slice.Eq.{bytes_eq-Decides}
 use Rattle.mod_text.specs.LineViews.{form_of, forms_of}
 use Rattle.mod_text.specs.ModuleLine.{LineForm, title, label, instr}
 use Rattle.mod_text.specs.ModuleValue.{instrs_in, label_number, earlier}
 use Rattle.mod_text.specs.Settling.{Places, place_in, ArePlaces, HasPlace, label_at, TakesLine, number_after}
-use Rattle.mod_text.proofs.Keepings.{map-append}
 
 no_place : (o : Option ℕ) → is_some o ≡ false → o ≡ None
 no_place None h = refl

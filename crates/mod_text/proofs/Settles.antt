@@ -2,7 +2,7 @@
 use Rattle.std.proofs.Common.{◌≡◌, ℕ, suc, ◌+◌, ◌-◌, ◌<◌, ◌≤◌, Bool, true, false, cond, ◌&&◌, ◌^◌, nat_le, List, [], ◌∷◌, ◌++◌, length, take, drop, get_or, map, Option, Some, None, option_map, refl, sym, ap, ◌∙◌, subst, arith, add-one, add-zero, append_assoc, drop-cons, length-drop}
 use Rattle.std.specs.Borrow.{Bor}
 use Rattle.std.specs.Prelude.{All}
-use Rattle.std.proofs.lemmas.List.{append-nil, length-map, get_or-map, drop-map, take_more, take_all, drop_all}
+use Rattle.std.proofs.lemmas.List.{append-nil, length-map, get_or-map, drop-map, take_more, take_all, drop_all, map-append}
 use Rattle.std.proofs.lemmas.List.Elements.{All-get_or, All-drop, All-nil, All-cons, All-head, All-tail}
 use Rattle.std.proofs.lemmas.Bool.{and_parts}
 use Rattle.std.proofs.lemmas.Bool.Decides.{nat_tests}
@@ -19,7 +19,6 @@ use Rattle.mod_text.specs.ModuleLine.{InstrForm, LineForm, title, header, label,
 use Rattle.mod_text.specs.ModuleValue.{HeaderForm, body_of, functions_in, instrs_in, instr_in, function_in, is_settled, is_settled_line, unsettled_at, unsettled_in, unsettled_below, earlier, first_unsettled, atom_in, title_of, IsTitled}
 use Rattle.mod_text.specs.Keeping.{IsKept}
 use Rattle.mod_text.specs.Settling.{settled_instr, later_by, function_at, is_body_line, IsUnsettled, IsUnsettledBelow, IsLater}
-use Rattle.mod_text.proofs.Keepings.{map-append}
 
 -- ---- lines
 
