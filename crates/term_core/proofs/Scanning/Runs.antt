@@ -19,7 +19,7 @@ use Rattle.term_core.specs.Written.{is_positive_text, is_integer_text}
 use Rattle.term_core.proofs.ByteKinds.{is_digit_kind, is_name_kind, digit_kind, name_kind, positive_kind, letter_kind}
 use Rattle.term_core.proofs.IntegerTexts.{Zero as ZeroShape, Minus as MinusShape, Plain, shape_of}
 use Rattle.term_core.proofs.LeafTexts.{IsDelimited}
-use Rattle.term_core.proofs.Truths.{both}
+use Rattle.std.proofs.lemmas.Bool.{and_parts}
 
 -- whether a text is accepted from a place on
 abbrev pub accepts : Place → List Bracket → List ℕ → Bool
@@ -84,21 +84,21 @@ name_on kind top count h less = cc
 accepts_digits : (brackets : List Bracket) (digits rest : List ℕ) → list_all is_ascii_digit digits ≡ true → IsDelimited rest → accepts InDigits brackets (digits ++ rest) ≡ accepts AfterTerm brackets rest
 accepts_digits brackets [] rest h d = accepts_digits_end brackets rest d
 accepts_digits brackets (c ∷ digits) rest h d =
-    let parts = both (is_ascii_digit c) (list_all is_ascii_digit digits) h in
+    let parts = and_parts (is_ascii_digit c) (list_all is_ascii_digit digits) h in
     ap (λ move. accepts_moved brackets move (digits ++ rest)) (digit_on (kind_of c) (top_of brackets) (sym (digit_kind c) ∙ parts.0)) ∙ accepts_digits brackets digits rest parts.1 d
 
 -- the bytes of a name
 accepts_name : (brackets : List Bracket) (count : ℕ) (bytes rest : List ℕ) → list_all is_name_byte bytes ≡ true → count + length bytes ≤ 32 → IsDelimited rest → accepts (InName count) brackets (bytes ++ rest) ≡ accepts AfterTerm brackets rest
 accepts_name brackets count [] rest h room d = accepts_name_end brackets count rest d
 accepts_name brackets count (c ∷ bytes) rest h room d =
-    let parts = both (is_name_byte c) (list_all is_name_byte bytes) h in
+    let parts = and_parts (is_name_byte c) (list_all is_name_byte bytes) h in
     ap (λ move. accepts_moved brackets move (bytes ++ rest)) (name_on (kind_of c) (top_of brackets) count (sym (name_kind c) ∙ parts.0) (omega arith)) ∙ accepts_name brackets (count + 1) bytes rest parts.1 (omega arith) d
 
 -- digits with no zero in front, where they may begin
 accepts_positive : (place : Place) (brackets : List Bracket) (digits rest : List ℕ) → next place (top_of brackets) Digit ≡ Some (To InDigits) → is_positive_text digits ≡ true → IsDelimited rest → accepts place brackets (digits ++ rest) ≡ accepts AfterTerm brackets rest
 accepts_positive place brackets [] rest on h d = cc
 accepts_positive place brackets (c ∷ digits) rest on h d =
-    let parts = both (is_in_range 49 57 c) (list_all is_ascii_digit digits) h in
+    let parts = and_parts (is_in_range 49 57 c) (list_all is_ascii_digit digits) h in
     accepts_byte place brackets c Digit (digits ++ rest) (positive_kind c parts.0) ∙ ap (λ move. accepts_moved brackets move (digits ++ rest)) on ∙ accepts_digits brackets digits rest parts.1 d
 
 -- an integer
@@ -117,6 +117,6 @@ room_of rest h = grind (arith, nat_tests)
 pub accepts_atom : (brackets : List Bracket) (text rest : List ℕ) → IsTrue (is_atom_text text) → IsDelimited rest → accepts TermStart brackets (text ++ rest) ≡ accepts AfterTerm brackets rest
 accepts_atom brackets [] rest h d = cc
 accepts_atom brackets (c ∷ text) rest h d =
-    let parts = both (is_ascii_lowercase c) _ h in
-    let tail = both (list_all is_name_byte text) _ parts.1 in
+    let parts = and_parts (is_ascii_lowercase c) _ h in
+    let tail = and_parts (list_all is_name_byte text) _ parts.1 in
     accepts_byte TermStart brackets c Letter (text ++ rest) (letter_kind c parts.0) ∙ accepts_name brackets 1 text rest tail.0 (room_of text tail.1) d

@@ -14,9 +14,9 @@ use Rattle.term_core.specs.Tops.{top_of}
 use Rattle.term_core.specs.Written.{WrittenTerm, written, parted, behind, HasLeafTexts}
 use Rattle.term_core.proofs.ByteKinds.{closing}
 use Rattle.term_core.proofs.LeafTexts.{is_leaf_byte, LeafText, IsDelimited, LeafText-integer, LeafText-atom}
-use Rattle.term_core.proofs.ScanRuns.{accepts, accepts_moved, accepts_integer, accepts_atom}
-use Rattle.term_core.proofs.Truths.{both}
+use Rattle.term_core.proofs.Scanning.Runs.{accepts, accepts_moved, accepts_integer, accepts_atom}
 use Rattle.term_core.proofs.WrittenTokens.{RowHasLeafTexts, delimited_behind}
+use Rattle.std.proofs.lemmas.Bool.{and_parts}
 
 -- a leaf begins behind a bracket as it does elsewhere
 leaf_start : (kind : ByteKind) (top : Option Bracket) → is_leaf_kind kind ≡ true → next AfterOpen top kind ≡ next TermStart top kind
@@ -28,7 +28,7 @@ leaf_start kind top h = refl
 -- so does each leaf
 start_leaf : (brackets : List Bracket) (text rest : List ℕ) → LeafText text → accepts AfterOpen brackets (text ++ rest) ≡ accepts TermStart brackets (text ++ rest)
 start_leaf brackets [] rest h = absurd (omega (arith, h.some))
-start_leaf brackets (c ∷ text) rest h = ap (λ move. accepts_moved brackets move (text ++ rest)) (leaf_start (kind_of c) (top_of brackets) (both (is_leaf_byte c) (list_all is_leaf_byte text) h.bytes).0)
+start_leaf brackets (c ∷ text) rest h = ap (λ move. accepts_moved brackets move (text ++ rest)) (leaf_start (kind_of c) (top_of brackets) (and_parts (is_leaf_byte c) (list_all is_leaf_byte text) h.bytes).0)
 
 -- and each term
 start_term : (brackets : List Bracket) (t : WrittenTerm) (rest : List ℕ) → HasLeafTexts t → accepts AfterOpen brackets (written t ++ rest) ≡ accepts TermStart brackets (written t ++ rest)

@@ -18,8 +18,8 @@ use Rattle.term_core.specs.Scanning.{Scanned, after_open, after_minus, after_dig
 use Rattle.term_core.specs.Tops.{top_of}
 use Rattle.term_core.specs.Written.{WrittenTerm, written, behind, is_positive_text}
 use Rattle.term_core.proofs.ByteKinds.{closing, IsOfKind, kind_is, is_digit_kind, is_name_kind, digit_kind, name_kind}
-use Rattle.term_core.proofs.ScanRuns.{accepts}
-use Rattle.term_core.proofs.ScanRests.{TermThen, RowThen, LeafThen, NameMore, Rest, RestOn, RestMoved, begun_back, closed_back, ended_back, no_more, one_more}
+use Rattle.term_core.proofs.Scanning.Runs.{accepts}
+use Rattle.term_core.proofs.Scanning.Rests.{TermThen, RowThen, LeafThen, NameMore, Rest, RestOn, RestMoved, begun_back, closed_back, ended_back, no_more, one_more}
 use Rattle.term_core.proofs.Truths.{false_is_no_true}
 
 -- a term behind an opening bracket is the first of a row

@@ -9,9 +9,9 @@ use Rattle.term_core.specs.Scanning.{Scanned, stepped, stepped_on, run, ends, at
 use Rattle.term_core.specs.Written.{WrittenTerm, place_or}
 use Rattle.term_core.proofs.ByteKinds.{closing}
 use Rattle.term_core.proofs.LeafTexts.{IsDelimited}
-use Rattle.term_core.proofs.ScanRuns.{accepts, accepts_digits_end, accepts_name_end}
-use Rattle.term_core.proofs.ScanSound.{run-none, FormOf, accepted_text}
-use Rattle.term_core.proofs.ScanTerms.{accepts_is}
+use Rattle.term_core.proofs.Scanning.Runs.{accepts, accepts_digits_end, accepts_name_end}
+use Rattle.term_core.proofs.Scanning.Sound.{run-none, FormOf, accepted_text}
+use Rattle.term_core.proofs.Scanning.Terms.{accepts_is}
 use Rattle.term_core.proofs.WrittenTokens.{delimited_closing}
 use Rattle.term_core.proofs.Truths.{false_is_no_true}
 use Rattle.term_core.proofs.Text.Options.{some_is}
