@@ -1,7 +1,7 @@
 -- What the answers tell of the processes goes on to hold: with each entry that joins the journal and each turn of a process, up to the end of a run.
-use Rattle.std.proofs.Common.{◌≡◌, ℕ, ◌≤◌, Bool, List, [], ◌∷◌, ◌++◌, Option, Some, None, IfSome, IsSomeAnd, IsTrue, slice_get, slice_set, refl, sym, ap, subst, ◌∙◌, arith}
-use Rattle.std.proofs.lemmas.List.{length-set, take-append-le}
-use Rattle.std.proofs.lemmas.Option.{none-some, same_Some}
+use Rattle.std.proofs.Common.{◌≡◌, ℕ, ◌≤◌, Bool, List, [], ◌∷◌, ◌++◌, Option, Some, None, IfSome, IsSomeAnd, IsTrue, slice_get, refl, sym, subst, ◌∙◌, arith}
+use Rattle.std.proofs.lemmas.List.{take-append-le}
+use Rattle.std.proofs.lemmas.Option.{none-some}
 use Rattle.std.proofs.Math.Seq.{take-append_seam}
 use Rattle.std.specs.List.{AllByRecursion, list_any}
 use Rattle.term_core.specs.declared.atom.AtomId.{AtomId}
@@ -17,12 +17,11 @@ use Rattle.run_log.specs.declared.logs.Entry.{Entry}
 use Rattle.run_log.specs.Journal.{next_state, published_count}
 use Rattle.run_log.specs.Legal.{Lingers, NamesNot, StandsNotIn, last_up_to, published_to, state_before}
 use Rattle.run_log.proofs.Journals.{newest_more}
-use Rattle.lap_runner.specs.Answers.{AnswerStands, AnswersStand, AreKnown, AllRestOrTurn, Each, HasTurned, History, IsHistory, IsSilent, RestsOrTurns, rests, turns, StaysDropped, StaysLingering, StaysPurged, has_ended_by, newest}
+use Rattle.lap_runner.specs.Answers.{AnswerStands, AnswersStand, AreKnown, AllRestOrTurn, Each, History, IsHistory, IsSilent, StaysDropped, StaysLingering, StaysPurged, has_ended_by, newest}
 use Rattle.lap_runner.proofs.AnswersTable.{HasDropped, command_keeps, purge_drops, release_of_retired, soft_purge_drops}
 use Rattle.lap_runner.proofs.AnswersMarks.{later_history, lingers_now, now_is_last, stands_going}
 use Rattle.lap_runner.proofs.AnswersSteps.{answer_after, answer_later, histories_after}
 use Rattle.lap_runner.proofs.AnswersLists.{PushedAt, at_end, before, pushed_at}
-use Rattle.lap_runner.proofs.Lists.{SetAt, here, there, set_at}
 
 -- an empty journal tells nothing
 pub nothing_told : (texts : List Module) (histories : List History) → AnswersStand texts [] histories

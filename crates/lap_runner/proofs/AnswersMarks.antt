@@ -8,10 +8,11 @@ use Rattle.server_core.specs.ServerState.{ServerState}
 use Rattle.machine_core.specs.declared.process.End.{End}
 use Rattle.machine_core.specs.Holds.{is_among}
 use Rattle.machine_core.specs.Process.{PlainProcess, frame_names, names_of}
-use Rattle.run_log.specs.Legal.{Lingers, Mark, NamesNot, last_up_to}
+use Rattle.run_log.specs.Legal.{Lingers, Mark, last_up_to}
 use Rattle.run_log.proofs.Marks.{last_here, last_past}
+use Rattle.script_core.proofs.JoinedPlaces.{get_front}
 use Rattle.lap_runner.specs.Answers.{HasTurned, History, IsHistory, IsLeftBy}
-use Rattle.lap_runner.proofs.Lists.{all_at, all_push, all_weaker, get_front}
+use Rattle.lap_runner.proofs.Lists.{all_at, all_push, all_weaker}
 
 -- a value that is there is chosen
 chosen_some : (b : Bool) (x y : Option Mark) → b ≡ true → is_some x ≡ true → is_some (if b then x else y) ≡ true
