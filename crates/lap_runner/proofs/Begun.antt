@@ -17,6 +17,7 @@ use Rattle.script_core.specs.Processes.{spawns_in, SpawnLine, spawns_from, spawn
 use Rattle.mod_core.specs.declared.code.Module.{Module}
 use Rattle.run_log.specs.Journal.{newest_state, state_at}
 use Rattle.run_log.specs.Legal.{PurgesGo, Replays, commands_in, commands_of}
+use Rattle.script_core.proofs.JoinedPlaces.{JoinedAt, behind, get_behind, get_front, in_front, joined_at}
 use Rattle.lap_runner.specs.declared.process_run.ProcessRun.{ProcessRun}
 use Rattle.lap_runner.specs.declared.run.LoaderRun.{LoaderRun}
 use Rattle.lap_runner.specs.declared.run.Run.{Run}
@@ -26,7 +27,6 @@ use Rattle.lap_runner.specs.Steps.{Stand, stand_in, stand_of}
 use Rattle.run_log.proofs.History.{known_at_start}
 use Rattle.run_log.proofs.HistoryLists.{each_map}
 use Rattle.run_log.proofs.HistoryMarks.{new_history}
-use Rattle.script_core.proofs.JoinedPlaces.{JoinedAt, behind, get_behind, get_front, in_front, joined_at}
 use Rattle.run_log.proofs.ListPlaces.{all_weaker, get_within}
 use Rattle.script_core.proofs.SpawnLines.{lines_counted, number_further}
 

@@ -18,7 +18,7 @@ use Rattle.server_core.specs.declared.command.Linger.{Linger}
 use Rattle.server_core.specs.declared.command.ModRef.{ModRef}
 use Rattle.server_core.specs.declared.command.Reply.TheVariants as replies
 use Rattle.server_core.specs.ServerState.{ServerState, Entry, Persistent, current_of, is_doomed, is_retired, live_areas, live_count, old_of, persistent_of, traceable_of}
-use Rattle.server_core.specs.CommandTable.{Outcome, admitted, answered, apply_of, delete_of, doom_of, erase_of, holds_equal, load_of, loaded, names_of, not_purged, published, purge_of, put_of, repeated_after, soft_purge_of, text_of, texts_of, trace_of, unchanged, while_none_doomed, with_all, with_complex, with_deleted, with_immediate, with_loaded, with_purged, with_put, with_released, with_trace, without_number}
+use Rattle.server_core.specs.CommandTable.{Outcome, admitted, answered, apply_of, delete_of, doom_of, erase_of, holds_equal, load_of, loaded, names_of, not_purged, published, purge_of, put_of, repeated_after, soft_purge_of, text_of, texts_of, trace_of, unchanged, while_none_doomed, with_all, with_complex, with_deleted, with_immediate, with_loaded, with_purged, with_put, with_trace, without_number}
 
 -- an outcome leaves the doomed instances as they were
 abbrev Keeps : ServerState → Outcome → Type 0

@@ -79,8 +79,7 @@ none_lingers serial (p ∷ ps) h = none_or serial p ps (stands_in serial (unread
 
 killed_is : (serial : ℕ) (phase : Phase) → was_killed_by serial phase ≡ has_ended_by serial (fin_in phase)
 killed_is serial Waiting = refl
-killed_is serial Going = refl
-killed_is serial (Ended fin) = refl
+killed_is serial phase = refl
 
 -- a process has its number
 numbered_in : (journal : List Entry) (states : ℕ → ServerState) (newest : ServerState) (done number : ℕ) (line : SpawnLine) (p : ProcessRun) (phase : Phase) → StandsIn journal states newest done number line p phase → p.process.number ≡ number
@@ -163,18 +162,11 @@ module _ (s : Script) (run : Run) (known : IsRun s run) (who : Who) (cmd : Cmd) 
       ∙ sym (any_map (λ h. has_ended_by serial h.fin) history ps)))
 
   told_by : (c : Cmd) → joined.entry.cmd ≡ c → Looked run.server ps c → Told
-  told_by (cmds.Load refs) is looked = silent (cmds.Load refs) is tt
-  told_by (cmds.Delete name) is looked = silent (cmds.Delete name) is tt
   told_by (cmds.SoftPurge name lingers) is looked = soft_purge_told name lingers (old_of run.server name.0) is refl looked
-  told_by (cmds.Doom name) is looked = silent (cmds.Doom name) is tt
   told_by (cmds.Purge name killed) is looked = purge_told name killed (old_of run.server name.0) is refl looked
-  told_by (cmds.CheckOld name) is looked = silent (cmds.CheckOld name) is tt
-  told_by (cmds.Put key term) is looked = silent (cmds.Put key term) is tt
-  told_by (cmds.Erase key) is looked = silent (cmds.Erase key) is tt
-  told_by (cmds.Trace target on) is looked = silent (cmds.Trace target on) is tt
-  told_by (cmds.Spawn target args) is looked = silent (cmds.Spawn target args) is tt
   told_by (cmds.Release serial) is looked =
       release_joins s.modules run.journal histories known.answers counted_newest joined.entry serial _ is (applied_at s run known who cmd t after joined) (subst IsSound known.server known.sound) (name_not serial looked)
+  told_by c is looked = silent c is tt
 
   -- the entry's answer stands with those before it
   pub answers_after : Looked run.server ps cmd → AreKnown s.modules after histories

@@ -18,7 +18,7 @@ use Rattle.machine_core.specs.Process.{PlainProcess, names_of, new_process}
 use Rattle.machine_core.specs.View.{shown_of}
 use Rattle.script_core.specs.declared.script.Script.{Script}
 use Rattle.script_core.specs.declared.script.ScriptCmd.{ScriptCmd}
-use Rattle.script_core.specs.declared.script.ScriptCmd.TheVariants.{Load, Delete, SoftPurge, Purge, CheckOld, Put, Erase, Trace, Spawn}
+use Rattle.script_core.specs.declared.script.ScriptCmd.TheVariants.{Purge, Spawn}
 use Rattle.script_core.specs.Processes.{spawns_in, SpawnLine, spawns_of, spawn_number}
 use Rattle.run_log.specs.declared.logs.Who.{Who}
 use Rattle.run_log.specs.declared.logs.Who.TheVariants.{Loader}
@@ -30,6 +30,7 @@ use Rattle.run_log.specs.Legal.{MayStand, MayStandBetween, MayStart, SpansGo, co
 use Rattle.run_log.specs.WholeSpans.{AreWhole}
 use Rattle.run_log.proofs.Journals.{commands_other, commands_own}
 use Rattle.run_log.proofs.SpanRuns.{some_and, some_at}
+use Rattle.script_core.proofs.JoinedPlaces.{take_next}
 use Rattle.lap_runner.specs.declared.process_run.Phase.{Phase}
 use Rattle.lap_runner.specs.declared.process_run.Phase.TheVariants.{Waiting, Going, Ended}
 use Rattle.lap_runner.specs.declared.process_run.ProcessRun.{ProcessRun}
@@ -41,7 +42,6 @@ use Rattle.lap_runner.specs.Looks.{some_killed}
 use Rattle.lap_runner.specs.Runs.{DoomsJust, Goes, IsRun, PurgeWaits, StandsIn, Waits, done_of, fin_in, half_of, histories_of, history_of}
 use Rattle.lap_runner.specs.Steps.{Advances, HasAdvanced, HasJoined, HasMade, HasStayed, SpawnsNext, loader_after, purging_after, stand_in}
 use Rattle.run_log.proofs.ListPlaces.{SetAt, here, map_kept, set_at, set_here, set_there, there}
-use Rattle.script_core.proofs.JoinedPlaces.{take_next}
 use Rattle.script_core.proofs.SpawnLines.{line_at, number_next, spawn_at}
 use Rattle.lap_runner.proofs.Dooms.{IsMeanwhile, doom_dooms, purge_lifts, versions_kept}
 use Rattle.lap_runner.proofs.Nexts.{HasPurgeLook, IsNext, IsQuiet, Looked, at_once, between, first_half, half_is, next_is, quiet_keeps, quiet_starts, second_half, still_waits}

@@ -39,15 +39,7 @@ IsQuiet s cmd = Unit {0}
 pub quiet_keeps : (texts : List Module) (s : ServerState) (cmd : Cmd) (o : Outcome) → IsQuiet s cmd → apply_of texts s cmd ≡ Some o → o.state.doomed ≡ s.doomed
 quiet_keeps texts s (cmds.Doom name) o h applied = absurd h
 quiet_keeps texts s (cmds.Purge name killed) o h applied = idle_purge_keeps texts s name o h.1 (subst (λ k. apply_of texts s (cmds.Purge name k) ≡ Some o) h.0 applied)
-quiet_keeps texts s (cmds.Load refs) o h applied = doomed_kept texts s (cmds.Load refs) o tt applied
-quiet_keeps texts s (cmds.Delete name) o h applied = doomed_kept texts s (cmds.Delete name) o tt applied
-quiet_keeps texts s (cmds.SoftPurge name lingers) o h applied = doomed_kept texts s (cmds.SoftPurge name lingers) o tt applied
-quiet_keeps texts s (cmds.CheckOld name) o h applied = doomed_kept texts s (cmds.CheckOld name) o tt applied
-quiet_keeps texts s (cmds.Put key term) o h applied = doomed_kept texts s (cmds.Put key term) o tt applied
-quiet_keeps texts s (cmds.Erase key) o h applied = doomed_kept texts s (cmds.Erase key) o tt applied
-quiet_keeps texts s (cmds.Trace target on) o h applied = doomed_kept texts s (cmds.Trace target on) o tt applied
-quiet_keeps texts s (cmds.Spawn target args) o h applied = doomed_kept texts s (cmds.Spawn target args) o tt applied
-quiet_keeps texts s (cmds.Release serial) o h applied = doomed_kept texts s (cmds.Release serial) o tt applied
+quiet_keeps texts s cmd o h applied = doomed_kept texts s cmd o tt applied
 
 pub quiet_starts : (s : ServerState) (cmd : Cmd) → IsQuiet s cmd → MayStart s cmd
 quiet_starts s (cmds.Doom name) h = absurd h

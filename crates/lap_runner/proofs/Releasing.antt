@@ -13,7 +13,7 @@ use Rattle.run_log.specs.Legal.{MayStand, MayStart}
 use Rattle.lap_runner.specs.declared.process_run.ProcessRun.{ProcessRun}
 use Rattle.lap_runner.specs.declared.run.Purging.{Purging}
 use Rattle.lap_runner.specs.declared.run.Run.{Run}
-use Rattle.lap_runner.specs.Looks.{AreNamed, AreNamedBelow, IsLeastFree, some_names}
+use Rattle.lap_runner.specs.Looks.{AreNamedBelow, IsLeastFree, some_names}
 use Rattle.lap_runner.specs.Runs.{DoomsJust, HasReleased, IsRun, half_of}
 use Rattle.lap_runner.specs.Steps.{HasJoined}
 use Rattle.lap_runner.proofs.Dooms.{doomed_kept, versions_kept}

@@ -16,7 +16,7 @@ use Rattle.machine_core.specs.Turn.{MayTurn}
 use Rattle.machine_core.specs.View.{shown_of}
 use Rattle.script_core.specs.declared.script.Script.{Script}
 use Rattle.script_core.specs.declared.script.ScriptCmd.{ScriptCmd}
-use Rattle.script_core.specs.declared.script.ScriptCmd.TheVariants.{Load, Delete, SoftPurge, Purge, CheckOld, Put, Erase, Trace, Spawn}
+use Rattle.script_core.specs.declared.script.ScriptCmd.TheVariants.{Purge, Spawn}
 use Rattle.script_core.specs.Processes.{SpawnLine, spawn_count, spawn_number, spawns_of}
 use Rattle.run_log.specs.declared.logs.Who.TheVariants.{Loader}
 use Rattle.run_log.specs.declared.logs.Entry.{Entry}
@@ -208,15 +208,8 @@ waiting_stand number target args = record { process = new_process number target 
 -- the processes of a loader before its first command, numbered from here on
 abbrev pub waiting_from : ℕ → List ScriptCmd → List Stand
 waiting_from number [] = []
-waiting_from number (Load refs ∷ commands) = waiting_from number commands
-waiting_from number (Delete name ∷ commands) = waiting_from number commands
-waiting_from number (SoftPurge name ∷ commands) = waiting_from number commands
-waiting_from number (Purge name ∷ commands) = waiting_from number commands
-waiting_from number (CheckOld name ∷ commands) = waiting_from number commands
-waiting_from number (Put key term ∷ commands) = waiting_from number commands
-waiting_from number (Erase key ∷ commands) = waiting_from number commands
-waiting_from number (Trace target on ∷ commands) = waiting_from number commands
 waiting_from number (Spawn target args ∷ commands) = waiting_stand number target args ∷ waiting_from (number + 1) commands
+waiting_from number (command ∷ commands) = waiting_from number commands
 
 -- the processes of all loaders
 abbrev pub waiting_of : ℕ → List (List ScriptCmd) → List Stand

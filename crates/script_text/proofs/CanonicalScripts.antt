@@ -5,8 +5,6 @@ use Rattle.std.specs.List.{AllByRecursion, flat_map, list_any}
 use Rattle.std.proofs.lemmas.Bool.{or_parts, false_from_ne_true, cases_lt}
 use Rattle.std.proofs.lemmas.Bool.Decides.{nat_tests}
 use Rattle.std.proofs.lemmas.Grind.{flat_map-append}
-use Rattle.std.proofs.lemmas.List.Elements.{All-nil, All-cons}
-use Rattle.term_core.specs.Names.{IsNames}
 use Rattle.mod_core.specs.declared.code.Module.{Module}
 use Rattle.mod_text.specs.Canonical.{canonical as module_lines}
 use Rattle.mod_core.specs.HeldNames.{IsModuleHeld}
@@ -19,7 +17,6 @@ use Rattle.mod_text.specs.ModuleValue.{module_of}
 use Rattle.term_core.specs.Text.Cuts.{Lines, lines as parts_of, lines_of}
 use Rattle.term_core.proofs.Text.Cuts.{lacks}
 use Rattle.mod_text.proofs.LineAgain.{line_lacks}
-use Rattle.mod_text.proofs.ModuleHeld.{module_held, some_names, sound_lines}
 use Rattle.script_core.specs.declared.script.Script.{Script}
 use Rattle.script_text.specs.ScriptLine.{RefForm, ScriptLine, head, code, observer, go, script_line_written, is_snapshots_text, is_script_line}
 use Rattle.script_text.specs.Groups.{groups_of}

@@ -32,17 +32,11 @@ word_is word c e =
 
 pub word_again : (c : AtomCommand) → command_reading (command_word c) ≡ Some c
 word_again delete = refl
-word_again soft_purge = refl
-word_again purge = refl
-word_again check_old = refl
-word_again erase = refl
+word_again c = refl
 
 word_lacks : (c : AtomCommand) → lacks 32 (command_word c) ≡ true
 word_lacks delete = refl
-word_lacks soft_purge = refl
-word_lacks purge = refl
-word_lacks check_old = refl
-word_lacks erase = refl
+word_lacks c = refl
 
 -- the text of a command of one atom, cut at its first space
 pub atom_cut : (text : List ℕ) (c : AtomCommand) (n : List ℕ) → IsLine text (on_atom c n) → cut_at 32 text ≡ Some (command_word c, n)

@@ -1,5 +1,5 @@
 -- How the text of a script is made of its parts, and whether a line of a text is too long.
-use Rattle.std.proofs.Common.{◌≡◌, ℕ, ◌≤◌, false, ◌||◌, List, [], ◌∷◌, ◌++◌, map, length, take, codes, decimal, Result, Ok, Err, OnOk, OnErr, Some, None, refl, sym, ap, ◌∙◌, arith, append_assoc}
+use Rattle.std.proofs.Common.{◌≡◌, ℕ, ◌≤◌, false, ◌||◌, List, [], ◌∷◌, ◌++◌, map, length, take, codes, decimal, Result, OnOk, Some, None, refl, sym, ap, ◌∙◌, arith, append_assoc}
 use Rattle.std.specs.Io.{StartsWith}
 use Rattle.std.specs.List.{flat_map, list_any}
 use Rattle.std.proofs.Math.Seq.{take-append_seam, take-length}
@@ -32,11 +32,6 @@ starts_own a t b e = rw e (take-append_seam a t)
 -- what is as it was begins with what it was
 pub starts_same : (a b : List ℕ) → b ≡ a → StartsWith b a
 starts_same a b e = rw e (take-length a)
-
--- what a call appended, or left as it was, begins with what it was
-pub starts_either : {T E : Type 0} (r : Result T E) (a t b : List ℕ) → OnOk r (b ≡ a ++ t) → OnErr r (b ≡ a) → StartsWith b a
-starts_either (Ok x) a t b p q = starts_own a t b p
-starts_either (Err e) a t b p q = starts_same a b q
 
 -- what begins with a text that begins with another
 pub starts_more : (a b c : List ℕ) → StartsWith b a → StartsWith c b → StartsWith c a

@@ -1,5 +1,5 @@
 -- The line of a put: what is read has this text, and what has this text is read.
-use Rattle.std.proofs.Common.{◌≡◌, ℕ, Bool, true, false, ◌&&◌, List, ◌∷◌, ◌++◌, Option, Some, None, option_map, Result, Ok, Err, codes, bytes_eq, refl, sym, ap, ◌∙◌, subst}
+use Rattle.std.proofs.Common.{◌≡◌, ℕ, true, false, List, ◌∷◌, ◌++◌, Option, Some, None, option_map, Result, Ok, codes, bytes_eq, refl, sym, ap, ◌∙◌, subst}
 use Rattle.std.proofs.lemmas.Bool.{and_parts, and_from}
 use Rattle.term_core.specs.Names.{is_atom_text}
 use Rattle.term_core.specs.Written.{WrittenTerm, written}
@@ -42,10 +42,8 @@ put_at text front rest key cut named =
 
 -- a step that is refused refuses what comes behind it
 pub fails_on : {A B : Type 0} (r : Result A LineCause) (f : A → Result B LineCause) (cause : LineCause) → Fails r cause → Fails (r >>= f) cause
-fails_on r f causes.Syntax h = ap (λ x. x >>= f) h
-fails_on r f (causes.Limit which) h = ap (λ x. x >>= f) h
-fails_on r f causes.Duplicate h = ap (λ x. x >>= f) h
 fails_on r f causes.NoMemory h = tt
+fails_on r f cause h = ap (λ x. x >>= f) h
 
 pub put_stops : (text front rest key : List ℕ) (cause : LineCause) → cut_at 32 text ≡ Some (front, rest) → tested is_atom_text front ≡ Some key → Fails (or_syntax (option_map argument_words (argument_reading rest))) cause → Fails (or_syntax (option_map put_words (put_reading text))) cause
 put_stops text front rest key cause cut named h =

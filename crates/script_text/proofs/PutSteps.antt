@@ -1,5 +1,5 @@
 -- A put of a term under a key: what it leaves, or why it is refused.
-use Rattle.std.proofs.Common.{◌≡◌, ℕ, ◌+◌, Bool, true, false, cond, not, ◌||◌, ◌&&◌, nat_lt, List, [], ◌∷◌, ◌++◌, length, Option, Some, None, option_map, Result, Ok, Err, bytes_eq, codes, refl, sym, ap, ◌∙◌, subst}
+use Rattle.std.proofs.Common.{◌≡◌, ℕ, ◌+◌, Bool, true, false, cond, not, ◌||◌, ◌&&◌, nat_lt, List, ◌∷◌, ◌++◌, length, Option, Some, None, option_map, Result, Ok, Err, bytes_eq, codes, refl, sym, ap, ◌∙◌, subst}
 use Rattle.std.proofs.lemmas.Bool.{and_parts}
 use Rattle.term_core.specs.Names.{is_atom_text}
 use Rattle.term_core.specs.Plain.{term_of}
@@ -31,7 +31,7 @@ use Rattle.script_text.proofs.PutLaws.{put_is, put_cut}
 use Rattle.script_text.proofs.NamedLaws.{no_atom_command, no_trace_text}
 use Rattle.script_text.proofs.HeldNames.{number_in-more}
 use Rattle.script_text.proofs.TermNames.{term_after, term_atoms_are}
-use Rattle.script_text.proofs.Namings.{Keyed, or_full, names_after_put, put_or_full, put_named-is}
+use Rattle.script_text.proofs.Namings.{Keyed, names_after_put, put_or_full, put_named-is}
 use Rattle.script_text.proofs.Summaries.{Summary, table, fault_by}
 use Rattle.script_text.proofs.Holding.{Knows, IsLoading}
 use Rattle.script_text.proofs.CodeSteps.{Judges}

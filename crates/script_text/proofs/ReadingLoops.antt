@@ -87,13 +87,9 @@ part_goes_on words read front part parts w whole is so_far =
 
 fails_front : {W V : Type 0} (o : Option W) (f : W → Option V) (cause : LineCause) → Fails (or_syntax o) cause → Fails (or_syntax (o >>= f)) cause
 fails_front None f causes.Syntax h = refl
-fails_front None f (causes.Limit which) h = absurd cc
-fails_front None f causes.Duplicate h = absurd cc
 fails_front None f causes.NoMemory h = tt
-fails_front (Some w) f causes.Syntax h = absurd cc
-fails_front (Some w) f (causes.Limit which) h = absurd cc
-fails_front (Some w) f causes.Duplicate h = absurd cc
 fails_front (Some w) f causes.NoMemory h = tt
+fails_front o f cause h = absurd cc
 
 -- the first part is of no form, or memory is refused
 pub part_stops : {X W : Type 0} (words : X → W) (read : List ℕ → Option X) (front : List W) (part : List ℕ) (parts : List (List ℕ)) (whole : Option (List W)) (cause : LineCause) → Fails (or_syntax (option_map words (read part))) cause → with_read front (all_read words read (part ∷ parts)) ≡ whole → Fails (or_syntax whole) cause

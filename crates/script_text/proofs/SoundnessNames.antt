@@ -12,7 +12,7 @@ use Rattle.term_core.proofs.NameTables.{given_names-IsNames, names_with-IsNames}
 use Rattle.term_core.specs.Text.Numbers.{is_number_text, number_value}
 use Rattle.mod_text.specs.ModuleLine.{is_arity_text, is_function_form}
 use Rattle.mod_text.proofs.LineNames.{are_atoms, line_atoms_are, more_names_all}
-use Rattle.script_text.specs.ScriptLine.{RefForm, ScriptLine, head, code, observer, loader, load, on_atom, put, trace, spawn, go, is_ref_form, is_term_form, is_script_line}
+use Rattle.script_text.specs.ScriptLine.{RefForm, ScriptLine, code, load, on_atom, put, trace, spawn, is_ref_form, is_term_form, is_script_line}
 use Rattle.script_text.specs.Counts.{script_line_atoms, names_of}
 use Rattle.script_text.specs.ScriptText.{HaveNoFault}
 use Rattle.script_text.proofs.HeldNames.{IsHeldText, held_all}
@@ -56,10 +56,7 @@ trace_line m f arity on h =
     record { module_is = first.0; name_is = second.0; few = (and_parts (is_number_text arity) (nat_le (number_value arity) 15) second.1).1 }
 
 atoms_are : (line : ScriptLine) → is_script_line line ≡ true → are_atoms (script_line_atoms line) ≡ true
-atoms_are head h = refl
 atoms_are (code line) h = line_atoms_are line h
-atoms_are (observer count) h = refl
-atoms_are loader h = refl
 atoms_are (load []) h = absurd cc
 atoms_are (load (r ∷ refs)) h = refs_atoms (r ∷ refs) h
 atoms_are (on_atom command name) h = and_from (is_atom_text name) true h refl
@@ -73,7 +70,7 @@ atoms_are (spawn m f args) h =
     let s = spawn_line m f args h in
     and_from (is_atom_text m) (is_atom_text f && are_atoms (flat_map atoms_of args)) s.module_is
     (and_from (is_atom_text f) (are_atoms (flat_map atoms_of args)) s.name_is (terms_atoms_are args s.args_are))
-atoms_are go h = refl
+atoms_are line h = refl
 
 -- ---- the table
 

@@ -1,5 +1,5 @@
 -- The tables of the functions that a script names and of the modules that it gives, by the numbers of their names.
-use Rattle.std.specs.Prelude.{ℕ, ◌==◌, ◌&&◌, not, nat_le, Bool, List, [], ◌∷◌, ◌++◌, length, Result, Ok, Err, if◌then◌else◌}
+use Rattle.std.specs.Prelude.{◌==◌, ◌&&◌, not, nat_le, Bool, List, [], ◌∷◌, ◌++◌, length, Result, Ok, Err, if◌then◌else◌}
 use Rattle.std.specs.List.{list_any}
 use Rattle.term_core.specs.declared.atom.Mfa.{Mfa}
 use Rattle.server_core.specs.declared.command.ModRef.{ModRef}

@@ -7,12 +7,12 @@ use crate::reading::line::{read_call, read_put, read_refs, read_title, read_trac
 use crate::reading::naming::{name_atom, name_call, name_put, name_refs, name_trace};
 use crate::reading::sets::{FunctionSet, RefSet};
 use crate::reading::words::{cut_at, snapshots_of};
+use mod_core::ModuleList;
+use mod_text::{FinishFault, LineFault, ModuleReader};
 use script_core::{
     CommandList, LONGEST_LINE, LoaderList, MOST_LOADERS, MOST_OBSERVERS, MOST_PROCESSES, Script,
     ScriptCmd,
 };
-use mod_core::ModuleList;
-use mod_text::{FinishFault, LineFault, ModuleReader};
 use server_core::ModRef;
 use std::alloc::Global;
 use std::mem;

@@ -9,8 +9,8 @@ ghost use Rattle.term_core.specs.Text.Numbers.{is_number_text, small_number};
 ghost use Rattle.script_text.specs.LineReading.{version_reading, snapshots_reading, arity_reading};
 ghost use Rattle.script_text.specs.WrittenLine.{term_integer};
 
-use script_core::MOST_SNAPSHOTS;
 use mod_core::{GREATEST_VERSION, MOST_ARGUMENTS};
+use script_core::MOST_SNAPSHOTS;
 use std::str;
 use term_core::{GREATEST_INTEGER, LEAST_INTEGER};
 
