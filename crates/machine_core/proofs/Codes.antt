@@ -6,8 +6,8 @@ use Rattle.mod_core.specs.declared.code.Instr.{Instr}
 use Rattle.mod_core.specs.declared.code.Module.{Module}
 use Rattle.mod_core.specs.ModuleImage.{function_place, instr_len, place_in, placed, placed_code, return_ok}
 use Rattle.mod_core.proofs.Places.{numbered}
-use Rattle.machine_core.specs.Turn.{code_at, instr_from, module_instr}
 use Rattle.machine_core.proofs.Decoding.{len_least}
+use Rattle.machine_core.specs.ServerReads.{code_at, instr_from, module_instr}
 
 -- the place of what stands behind the first instruction
 pub place_in-cons : (start number : ℕ) (i : Instr) (is : List Instr) → place_in start (i ∷ is) (suc number) ≡ place_in (start + instr_len i) is number

@@ -3,7 +3,6 @@ use Rattle.std.proofs.Common.{◌≡◌, ◌<◌, ◌+◌, ◌∙◌, ◌||◌, 
 use Rattle.std.proofs.lemmas.Bool.Decides.{nat_tests}
 use Rattle.std.proofs.lemmas.List.{take_more}
 use Rattle.std.specs.List.{list_any}
-use Rattle.server_core.specs.ServerState.{ServerState, is_doomed}
 use Rattle.machine_core.specs.declared.process.Frame.{Frame}
 use Rattle.machine_core.specs.Holds.{Holds, is_area_held, is_among}
 use Rattle.machine_core.specs.Process.{Words, frame_names, frames_of}
@@ -12,6 +11,7 @@ use Rattle.machine_core.specs.Turn.{doomed_serial}
 use Rattle.machine_core.proofs.CodeNames.{among-frames, frames_of-push}
 use Rattle.machine_core.proofs.NamedAreas.{frames_held, instance_serials}
 use Rattle.machine_core.proofs.SerialLists.{among-serials_of}
+use Rattle.machine_core.specs.Reads.{Reads}
 
 first_same : (n : ℕ) (b : Bool) → (n == n || b) ≡ true
 first_same n b = grind (arith, nat_tests)
@@ -38,7 +38,7 @@ module _ (words : Words) where
       (frames_held held (frames_of words fs) f.code.area.serial h (among-serials_of (instance_serials (frames_of words fs)) f.code.area.serial ∙ among-frames words fs f.code.area.serial ∙ any))
 
   -- with one more frame, it is that one where it stands in doomed code, else the one so far
-  pub doomed_next : (s : ServerState) (fs : List Frame) (n : ℕ) (f : Frame) → n < length fs → f ≡ get_or fs n f →
-      doomed_serial s (frames_of words (take (n + 1) fs)) ≡ (if is_doomed s f.code.area.serial then Some f.code.area.serial else doomed_serial s (frames_of words (take n fs)))
+  pub doomed_next : (s : Reads) (fs : List Frame) (n : ℕ) (f : Frame) → n < length fs → f ≡ get_or fs n f →
+      doomed_serial s (frames_of words (take (n + 1) fs)) ≡ (if s.doomed f.code.area.serial then Some f.code.area.serial else doomed_serial s (frames_of words (take n fs)))
   doomed_next s fs n f below is =
       ap (λ xs. doomed_serial s (frames_of words xs)) (take_more fs n f below) ∙ ap (λ g. doomed_serial s (frames_of words (take n fs ++ g ∷ []))) (sym is) ∙ ap (doomed_serial s) (frames_of-push words (take n fs) f)

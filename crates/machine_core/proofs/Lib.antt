@@ -7,7 +7,9 @@ pub mod HoldLists
 pub mod LiteralPlaces
 pub mod Decoding
 pub mod Codes
+pub mod StateReads
 pub mod Viewing
+pub mod NextInstr
 pub mod Fetching
 pub mod ImageSteps
 pub mod LiteralParts

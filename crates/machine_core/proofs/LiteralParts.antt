@@ -17,18 +17,18 @@ use Rattle.term_core.specs.PlainTerm.{RowOf, PlainTerm, integer_leaf, atom_leaf,
 use Rattle.term_core.proofs.ImagePlaces.{PartAt, first_word, first_word-at, first_word-immediate, first_word-parts, part_at, part_count, row_in, stands_alone, term_at-is, term_of_word-first_word}
 use Rattle.term_core.proofs.ImageTerms.{length-image, some_words}
 use Rattle.term_core.proofs.PlainTerms.{plain-term_of}
-use Rattle.server_core.specs.ServerState.{HasItsArea, IsPersistent, KeyFound, Persistent, ServerState, absent, found_as, found_in, found_of, key_area, key_found, one_word, persistent_of, term_of_area, whole_area}
 use Rattle.machine_core.specs.declared.process.LitRef.{LitRef}
 use Rattle.machine_core.specs.declared.process.Value.{Value}
 use Rattle.machine_core.specs.declared.process.Value.TheVariants.{Owned, Literal}
-use Rattle.machine_core.specs.Holds.{Holds, MayHold}
+use Rattle.machine_core.specs.Holds.{Holds}
 use Rattle.machine_core.specs.Process.{PlainValue, literal, owned, value_shown}
 use Rattle.machine_core.specs.Stand.{AreImages, IsUsable, images_end, is_immediate_word, place_number}
-use Rattle.machine_core.specs.Turn.{element_at, element_of, integer_of, key_value, part_value, parts_of, persistent_value, term_of as value_term, value_in}
+use Rattle.machine_core.specs.Turn.{element_at, element_of, integer_of, part_value, parts_of, term_of as value_term, value_in}
 use Rattle.machine_core.specs.View.{IsLawful, IsLiteral, IsReadable, Shown}
 use Rattle.machine_core.proofs.ImageSteps.{readable_low}
 use Rattle.machine_core.proofs.LiteralPlaces.{part_within}
 use Rattle.machine_core.proofs.OwnedTerms.{term_of-plain}
+use Rattle.machine_core.specs.Reach.{MayHold}
 
 -- ---- elements by their place
 
@@ -107,9 +107,9 @@ part_stands shown at h place u found =
     let ends = part_ends words at.at h.term place u p.skip h.image found p.behind in
     record {
       skip = p.skip;
-      images = record { len = p.skip; is = p.behind; readable = λ i l. subst (IsReadable shown.state at.area.serial) (omega arith) (h.readable (1 + i) (omega arith)) };
+      images = record { len = p.skip; is = p.behind; readable = λ i l. subst (IsReadable shown at.area.serial) (omega arith) (h.readable (1 + i) (omega arith)) };
       end = ap (λ o. at.at + 1 + unwrap_or o 0) p.behind;
-      part = record { term = u; image = p.stands; readable = λ i l. subst (IsReadable shown.state at.area.serial) (omega arith) (h.readable (1 + p.skip + i) (omega arith)) };
+      part = record { term = u; image = p.stands; readable = λ i l. subst (IsReadable shown at.area.serial) (omega arith) (h.readable (1 + p.skip + i) (omega arith)) };
       found = ap (λ t. slice_get (parts_of (term_of t)) place) (term_at-is words at.at h.term h.image) ∙ ap (λ ts. slice_get ts place) (parts_row h.term) ∙ found;
     }
 
@@ -130,15 +130,15 @@ no_part shown at h place word parts e p past =
     ∙ slice_get_past (terms_of (row_in h.term)) place (omega (arith, parts_len shown at h word e))
 
 -- the first word of a literal may be asked for
-pub first_readable : (shown : Shown) (at : LitRef) → IsLiteral shown at → IsReadable shown.state at.area.serial at.at
-first_readable shown at h = subst (IsReadable shown.state at.area.serial) (omega arith) (h.readable 0 (omega (arith, some_words h.term)))
+pub first_readable : (shown : Shown) (at : LitRef) → IsLiteral shown at → IsReadable shown at.area.serial at.at
+first_readable shown at h = subst (IsReadable shown at.area.serial) (omega arith) (h.readable 0 (omega (arith, some_words h.term)))
 
 -- the value of a literal by its first word
 record IsPartValue (shown : Shown) (held : Holds) (at : LitRef) (t : PlainTerm) (value : Value) : Type 0 where
   shows : value_shown shown.words value ≡ value_in at.area.serial (term_of t)
   usable : IsUsable shown held value
 
-value_by : (shown : Shown) (held : Holds) (at : LitRef) (h : IsLiteral shown at) (first : ℕ) (b : Bool) → MayHold shown.state held at.area.serial for_literals → first ≡ first_word h.term → is_immediate h.term ≡ b →
+value_by : (shown : Shown) (held : Holds) (at : LitRef) (h : IsLiteral shown at) (first : ℕ) (b : Bool) → MayHold shown.reads held at.area.serial for_literals → first ≡ first_word h.term → is_immediate h.term ≡ b →
     IsPartValue shown held at h.term (if b then Owned (term_of_word first) else Literal at)
 value_by shown held at h first true may e is = record {
   shows =
@@ -153,7 +153,7 @@ value_by shown held at h first false may e is = record {
   usable = (h, may);
 }
 
-literal_value : (shown : Shown) (held : Holds) (at : LitRef) (h : IsLiteral shown at) (first : ℕ) (value : Value) → MayHold shown.state held at.area.serial for_literals → first ≡ slice_index (shown.words at.area.serial) at.at →
+literal_value : (shown : Shown) (held : Holds) (at : LitRef) (h : IsLiteral shown at) (first : ℕ) (value : Value) → MayHold shown.reads held at.area.serial for_literals → first ≡ slice_index (shown.words at.area.serial) at.at →
     value ≡ (if is_immediate_word first then Owned (term_of_word first) else Literal at) → IsPartValue shown held at h.term value
 literal_value shown held at h first value may e v =
     let word = e ∙ first_word-at (shown.words at.area.serial) at.at h.term h.image in
@@ -161,7 +161,7 @@ literal_value shown held at h first value may e v =
     subst (IsPartValue shown held at h.term) (sym (v ∙ ap (λ b. if b then Owned (term_of_word first) else Literal at) test)) (value_by shown held at h first (is_immediate h.term) may word refl)
 
 -- so a part of a literal is the part that its value has
-pub part_shows : (shown : Shown) (held : Holds) (at : LitRef) (place at_part first : ℕ) (value : Value) (p : IsPartOf shown at place) → MayHold shown.state held at.area.serial for_literals → at_part ≡ at.at + 1 + p.skip →
+pub part_shows : (shown : Shown) (held : Holds) (at : LitRef) (place at_part first : ℕ) (value : Value) (p : IsPartOf shown at place) → MayHold shown.reads held at.area.serial for_literals → at_part ≡ at.at + 1 + p.skip →
     first ≡ slice_index (shown.words at.area.serial) at_part → value ≡ (if is_immediate_word first then Owned (term_of_word first) else Literal (record { area = at.area; at = at_part })) →
     (option_map (value_shown shown.words) (Some value) ≡ option_map (part_value (value_shown shown.words (Literal at))) (slice_get (parts_of (term_of (term_at (shown.words at.area.serial) at.at))) place))
     × IsUsable shown held value

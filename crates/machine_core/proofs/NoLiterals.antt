@@ -4,13 +4,13 @@ use Rattle.term_core.specs.declared.atom.Mfa.{Mfa}
 use Rattle.term_core.specs.declared.hold.Kind.{Kind}
 use Rattle.term_core.specs.declared.hold.Kind.TheVariants.{Frame, Literal}
 use Rattle.term_core.specs.PlainTerm.{PlainTerm}
-use Rattle.server_core.specs.ServerState.{ServerState}
 use Rattle.machine_core.specs.declared.process.End.{End}
 use Rattle.machine_core.specs.declared.process.TurnEnd.TheVariants.{Ended}
 use Rattle.machine_core.specs.Holds.{Holds, is_held}
 use Rattle.machine_core.specs.Process.{PlainProcess, frame_names, names_of, new_process}
-use Rattle.machine_core.specs.Turn.{turn_of}
-use Rattle.machine_core.proofs.TurnLaws.{turn_ended}
+use Rattle.machine_core.specs.Turn.{turn_by}
+use Rattle.machine_core.proofs.TurnLaws.{turn_ended_by}
+use Rattle.machine_core.specs.Reads.{Reads}
 
 -- nothing is held
 abbrev pub no_names : Holds
@@ -25,8 +25,8 @@ pub new_names : (number : ℕ) (target : Mfa) (args : List PlainTerm) → names_
 new_names number target args = refl
 
 -- and one that a turn ended
-pub ended_names : (s : ServerState) (p : PlainProcess) (end : End) → (turn_of s p).end ≡ Ended end → names_of (turn_of s p).process ≡ no_names
-ended_names s p end e = frameless_names (turn_of s p).process (turn_ended s p end e)
+pub ended_names : (s : Reads) (p : PlainProcess) (end : End) → (turn_by s p).end ≡ Ended end → names_of (turn_by s p).process ≡ no_names
+ended_names s p end e = frameless_names (turn_by s p).process (turn_ended_by s p end e)
 
 none_held : (serial : ℕ) (kind : Kind) → is_held no_names serial kind ≡ false
 none_held serial Frame = refl

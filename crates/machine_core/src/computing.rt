@@ -181,7 +181,7 @@ pub fn print<V: CodeView>(
     requires values { HasValues (V.shown view.old) top.old }
     requires source { IsSource (V.shown view.old) top.old.code.area value.now }
     ensures ok { (below : List PlainFrame) → IfOk result (λ outcome.
-        stand_after (V.held view.old) lines.old (executed (V.shown view.old).state (frame_of (V.shown view.old).words top.old) below (V.held view.old)
+        stand_after (V.held view.old) lines.old (executed (V.shown view.old).reads (frame_of (V.shown view.old).words top.old) below (V.held view.old)
         (instr_shown ((V.shown view.old).words top.old.code.area.serial) (Op.Print value.now)))
         ≡ stand_of outcome (frame_of (V.shown view.old).words top.new ∷ below) (V.held view.old) lines.new) }
     ensures values { OnOk result (HasValues (V.shown view.old) top.new) }

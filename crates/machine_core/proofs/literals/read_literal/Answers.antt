@@ -25,7 +25,7 @@ words_between-requires-clause-readable g c = λ place from to.
     let shown = g.V.CodeView.shown c.args.view.now in
     let h = c.requires.usable.0 in
     let end = c.place_behind-end.ensures.value ∙ literal_end shown c.args.at h in
-    subst (λ (v : Shown). IsReadable v.state c.args.at.area.serial place) (sym c.place_behind-end.ensures.same) (literal_readable shown c.args.at h place from (omega (arith, end)))
+    subst (λ (v : Shown). IsReadable v c.args.at.area.serial place) (sym c.place_behind-end.ensures.same) (literal_readable shown c.args.at h place from (omega (arith, end)))
 
 pub returns-in-Ok-clause-ok : goal.returns-in-Ok-clause-ok
 returns-in-Ok-clause-ok g c =
