@@ -10,7 +10,7 @@ use Rattle.term_core.specs.declared.no_memory.NoMemory.{NoMemory}
 use Rattle.machine_core.specs.Holds.{Holds, is_among, serials_of, with_serial}
 use Rattle.machine_core.specs.declared.process.Frame.{Frame}
 use Rattle.machine_core.specs.declared.process.Value.{Value}
-use Rattle.machine_core.specs.declared.process.Value.TheVariants.{Owned, Literal}
+use Rattle.machine_core.specs.declared.process.Value.TheVariants.{Literal}
 use Rattle.machine_core.specs.declared.process.LitRef.{LitRef}
 use Rattle.machine_core.specs.Process.{area_serials, code_names, value_area, value_areas}
 use Rattle.machine_core.proofs.SerialLists.{among-serials_of, increasing-serials_of, serials_of-same, with-there}

@@ -1,5 +1,5 @@
 -- That a call does what the turn says: whom it reaches, and what it leaves.
-use Rattle.std.proofs.Common.{◌≡◌, ◌<◌, ◌+◌, ◌∙◌, ℕ, Bool, true, false, refl, sym, ap, arith, List, [], ◌∷◌, ◌++◌, length, map, Option, Some, None, option_map, option_and_then, IsTrue, Result, Ok, Err, OnOk, is_err, ◌||◌, ◌==◌, subst, inl, inr}
+use Rattle.std.proofs.Common.{◌≡◌, ◌+◌, ◌∙◌, ℕ, Bool, true, false, refl, sym, ap, arith, List, [], ◌∷◌, ◌++◌, length, map, Option, Some, None, option_map, IsTrue, Result, Ok, Err, OnOk, is_err, ◌||◌, ◌==◌, subst, inl, inr}
 use Rattle.std.proofs.lemmas.Bool.Decides.{nat_tests}
 use Rattle.std.proofs.Common.{All, drop, get_or, replicate, take}
 use Rattle.std.proofs.lemmas.List.{drop-map, length-map, length-reverse, map-append, take-map}

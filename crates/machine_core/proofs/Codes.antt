@@ -1,5 +1,5 @@
 -- Which instruction stands at a place of code: the one with the number that has this place.
-use Rattle.std.proofs.Common.{◌≡◌, ◌≤◌, ◌+◌, ◌∙◌, ℕ, zero, suc, refl, arith, ap, List, [], ◌∷◌, length-append, take, slice_get, option_map, unwrap_or, Some, None, Option}
+use Rattle.std.proofs.Common.{◌≡◌, ◌≤◌, ◌+◌, ◌∙◌, ℕ, zero, suc, refl, arith, ap, List, [], ◌∷◌, slice_get, option_map, unwrap_or, Some, None, Option}
 use Rattle.std.proofs.lemmas.Bool.Decides.{nat_tests}
 use Rattle.std.proofs.lemmas.Option.{slice_get-map}
 use Rattle.mod_core.specs.declared.code.Instr.{Instr}

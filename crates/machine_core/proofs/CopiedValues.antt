@@ -1,12 +1,11 @@
 -- What is known of the values of frames, one by one and with the topmost frame apart, and that nothing is copied where nothing is retired.
-use Rattle.std.proofs.Common.{◌≡◌, ◌<◌, ◌+◌, ◌∙◌, ◌||◌, ◌==◌, ℕ, zero, suc, refl, sym, ap, arith, subst, Bool, true, false, IsTrue, All, List, [], ◌∷◌, ◌++◌, length, map, take, get_or, if◌then◌else◌}
+use Rattle.std.proofs.Common.{◌≡◌, ◌<◌, ◌∙◌, ◌||◌, ◌==◌, ℕ, zero, suc, refl, sym, ap, arith, subst, Bool, true, false, IsTrue, All, List, [], ◌∷◌, ◌++◌, length, map, get_or, if◌then◌else◌}
 use Rattle.std.proofs.lemmas.Bool.Decides.{nat_tests}
 use Rattle.std.proofs.Common.{length-append}
 use Rattle.std.proofs.Math.ListN.{get_or-append}
 use Rattle.std.proofs.lemmas.List.Elements.{All-head, All-map, All-tail}
 use Rattle.std.specs.List.{list_any}
 use Rattle.term_core.specs.declared.area.AreaRef.{AreaRef}
-use Rattle.term_core.specs.declared.term.Term.{Term}
 use Rattle.term_core.specs.declared.hold.Kind.TheVariants.{Literal as for_literals}
 use Rattle.machine_core.specs.declared.areas.HeldAreas.{HeldAreas}
 use Rattle.machine_core.specs.declared.process.Frame.{Frame}
@@ -15,11 +14,11 @@ use Rattle.machine_core.specs.HoldKinds.{holding}
 use Rattle.machine_core.specs.Holds.{Holds, is_among, is_area_held, serials_of}
 use Rattle.machine_core.specs.Process.{PlainFrame, PlainValue, Words, area_holds, area_serials, code_names, frame_names, frame_of, frames_of, literal, owned, value_shown, values_shown}
 use Rattle.machine_core.specs.Stand.{AreHeld, IsValueHeld}
-use Rattle.machine_core.specs.Turn.{copied, copied_frame, copied_value}
-use Rattle.machine_core.specs.View.{AreValues, HasValues, IsValue, Shown}
+use Rattle.machine_core.specs.Turn.{copied, copied_value}
+use Rattle.machine_core.specs.View.{AreValues, HasValues, Shown}
 use Rattle.machine_core.proofs.AreaLists.{same_holds}
 use Rattle.machine_core.proofs.CodeNames.{code_names-shown, frames_of-push}
-use Rattle.machine_core.proofs.NamedAreas.{instance_serials, literals_held, names_held}
+use Rattle.machine_core.proofs.NamedAreas.{literals_held, names_held}
 use Rattle.machine_core.proofs.SerialLists.{among-serials_of}
 use Rattle.machine_core.specs.Reads.{Reads}
 

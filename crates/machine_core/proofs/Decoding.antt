@@ -1,5 +1,5 @@
 -- That what an instruction is written as reads back as it, where its constants stand at their places.
-use Rattle.std.proofs.Common.{◌≡◌, ◌<◌, ◌≤◌, ◌%◌, ◌/◌, ◌+◌, ◌*◌, ◌∙◌, ◌==◌, ℕ, Bool, true, false, refl, sym, arith, ap, subst, cond, List, [], ◌∷◌, ◌++◌, slice_index}
+use Rattle.std.proofs.Common.{◌≡◌, ◌<◌, ◌≤◌, ◌%◌, ◌/◌, ◌+◌, ◌*◌, ◌∙◌, ℕ, true, false, refl, sym, arith, ap, subst, List, [], ◌∷◌, ◌++◌, slice_index}
 use Rattle.std.proofs.lemmas.Bool.Decides.{nat_tests}
 use Rattle.term_core.specs.declared.area.AreaRef.{AreaRef}
 use Rattle.term_core.specs.declared.atom.AtomId.{AtomId}
@@ -15,13 +15,13 @@ use Rattle.mod_core.specs.declared.code.Operand.{Operand}
 use Rattle.mod_core.specs.declared.code.Operand.TheVariants.{Reg, Const}
 use Rattle.mod_core.specs.declared.code.Instr.{Instr}
 use Rattle.mod_core.specs.declared.code.Instr.TheVariants.{Move, Add, Sub, Eq, Less, Jump, Call, CallExt, Ret, Pget, PgetOr, Elem, Print, Yield}
-use Rattle.mod_core.specs.Module.{IsConstant, IsFunctionName, IsOperand}
+use Rattle.mod_core.specs.Module.{IsFunctionName, IsOperand}
 use Rattle.mod_core.specs.ModuleImage.{constants_len, instr_constants, name_word, operand_constants, operand_word, register_word, instr_words, instr_len}
 use Rattle.machine_core.specs.declared.op.Source.{Source}
 use Rattle.machine_core.specs.declared.op.Source.TheVariants as sources
 use Rattle.machine_core.specs.declared.op.Op.{Op}
 use Rattle.machine_core.specs.Decode.{atom_of_word, instr_shown, len_of_number, name_of_word, number_of_word, op_of_words, operand_shown, register_of_word, source_of_word}
-use Rattle.machine_core.specs.Stand.{HasSources, IsConstantAt, IsSource}
+use Rattle.machine_core.specs.Stand.{HasSources, IsSource}
 use Rattle.machine_core.specs.View.{IsLiteral, Shown}
 use Rattle.machine_core.proofs.OwnedTerms.{term_of-plain}
 

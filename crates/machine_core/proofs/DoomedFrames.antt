@@ -5,7 +5,7 @@ use Rattle.std.proofs.lemmas.List.{take_more}
 use Rattle.std.specs.List.{list_any}
 use Rattle.machine_core.specs.declared.process.Frame.{Frame}
 use Rattle.machine_core.specs.Holds.{Holds, is_area_held, is_among}
-use Rattle.machine_core.specs.Process.{Words, frame_names, frames_of}
+use Rattle.machine_core.specs.Process.{Words, frames_of}
 use Rattle.machine_core.specs.Stand.{AreHeld}
 use Rattle.machine_core.specs.Turn.{doomed_serial}
 use Rattle.machine_core.proofs.CodeNames.{among-frames, frames_of-push}

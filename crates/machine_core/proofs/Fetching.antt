@@ -1,18 +1,17 @@
 -- That the words which a view shows at a frame's place are those of the frame's next instruction, and that its constants stand there.
-use Rattle.std.proofs.Common.{◌≡◌, ◌<◌, ◌≤◌, ◌+◌, ◌*◌, ◌∙◌, sym, ℕ, zero, suc, Bool, true, false, refl, arith, ap, List, [], ◌∷◌, ◌++◌, length, slice_index, slice_get, get_or, Option, Some, None, All, IsSomeAnd, length-append, subst, add-zero, nat_lt, inr, if◌then◌else◌}
+use Rattle.std.proofs.Common.{◌≡◌, ◌<◌, ◌≤◌, ◌+◌, ◌∙◌, sym, ℕ, Bool, true, false, refl, arith, ap, List, [], ◌∷◌, ◌++◌, length, slice_index, slice_get, Option, Some, None, IsSomeAnd, length-append, subst, add-zero, nat_lt, inr, if◌then◌else◌}
 use Rattle.std.proofs.Math.ListN.{get_or-append}
 use Rattle.std.proofs.lemmas.Bool.Decides.{nat_tests}
 use Rattle.std.proofs.lemmas.List.{get_or-append-add, get_or_past}
-use Rattle.std.proofs.lemmas.Option.{slice_get-get_or, slice_get_within}
+use Rattle.std.proofs.lemmas.Option.{slice_get_within}
 use Rattle.term_core.specs.declared.area.AreaRef.{AreaRef}
-use Rattle.term_core.specs.Image.{IsImageAt}
 use Rattle.term_core.specs.PlainTerm.{PlainTerm, term_words}
 use Rattle.mod_core.specs.declared.code.Instr.{Instr}
 use Rattle.mod_core.specs.declared.code.Instr.TheVariants as instrs
 use Rattle.mod_core.specs.declared.code.Function.{Function}
 use Rattle.mod_core.specs.declared.code.Module.{Module}
-use Rattle.mod_core.specs.Module.{IsCallPlace, IsModule, IsFunction, IsInstr}
-use Rattle.mod_core.specs.ModuleImage.{code_start, constants_len, constants_start, function_place, instr_constants, instr_words, instr_len, module_image, place_in, placed, placed_code}
+use Rattle.mod_core.specs.Module.{IsCallPlace, IsInstr}
+use Rattle.mod_core.specs.ModuleImage.{code_start, constants_len, function_place, instr_constants, instr_words, instr_len, module_image, place_in, placed, placed_code}
 use Rattle.mod_core.proofs.Places.{ConstantsStand, InstrAt, StandsAt, code_behind_heads, numbered, place_least, target_at}
 use Rattle.mod_core.proofs.Lengths.{instr_words_len}
 use Rattle.machine_core.specs.declared.op.Op.{Op}
@@ -21,10 +20,9 @@ use Rattle.machine_core.specs.View.{Shown, IsLawful, IsOfModule, IsReadable, IsI
 use Rattle.machine_core.specs.Turn.{IsPlaced}
 use Rattle.machine_core.proofs.NextInstr.{IsNext, instr_stands, is_instr, is_next}
 use Rattle.machine_core.specs.Decode.{instr_word, len_of_number, op_at, op_of_words}
-use Rattle.machine_core.proofs.Decoding.{HasWords, IsInstrBack, IsLiteralOf, LiteralsStand, instr_back, len_back, len_least, op_of_instr}
-use Rattle.machine_core.proofs.Codes.{module_instr-place, numbered-placed}
+use Rattle.machine_core.proofs.Decoding.{HasWords, IsInstrBack, LiteralsStand, instr_back, len_back, len_least, op_of_instr}
 use Rattle.machine_core.proofs.LiteralPlaces.{image_moved}
-use Rattle.machine_core.specs.Reads.{Reads, instr_at}
+use Rattle.machine_core.specs.Reads.{instr_at}
 
 -- a target's place is one of the image
 target_small : (shown : Shown) (f : PlainFrame) (n : IsNext shown f) (target : ℕ) → target ≤ length n.function.code → place_in (function_place n.m f.function) n.function.code target ≤ 1024

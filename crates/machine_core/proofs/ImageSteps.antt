@@ -1,14 +1,11 @@
 -- Going over images in an area word by word, and reading a literal.
-use Rattle.std.proofs.Common.{◌≡◌, ◌<◌, ◌≤◌, ◌+◌, ◌-◌, ◌*◌, ◌∙◌, ℕ, zero, suc, refl, sym, ap, subst, arith, List, [], ◌∷◌, ◌++◌, length, drop, take, get_or, slice_index, Option, Some, None, option_map, unwrap_or, IfSome, IsSomeAnd, ⊎_elim, ◌⊎◌, Result, Ok, Err, IfOk}
+use Rattle.std.proofs.Common.{◌≡◌, ◌<◌, ◌≤◌, ◌+◌, ◌-◌, ◌∙◌, ℕ, zero, suc, refl, sym, ap, subst, arith, List, [], ◌∷◌, ◌++◌, length, drop, take, slice_index, Option, Some, None, option_map, unwrap_or}
 use Rattle.std.proofs.lemmas.List.{drop-drop, get_or-drop, length-drop, take_more}
-use Rattle.term_core.specs.declared.image_fault.ImageFault.{ImageFault}
-use Rattle.term_core.specs.declared.no_memory.NoMemory.{NoMemory}
 use Rattle.term_core.specs.declared.term.Term.{Term}
-use Rattle.term_core.specs.Image.{IsImageAt, image_of, images_len, parts_of_word, term_at}
+use Rattle.term_core.specs.Image.{IsImageAt, images_len, parts_of_word, term_at}
 use Rattle.term_core.specs.Plain.{plain, term_of}
-use Rattle.term_core.specs.PlainTerm.{PlainTerm, term_words}
-use Rattle.term_core.proofs.ImagePlaces.{images_len-at, stands_same, term_at-is, within-at}
-use Rattle.term_core.proofs.ImageTerms.{length-image, some_words}
+use Rattle.term_core.specs.PlainTerm.{term_words}
+use Rattle.term_core.proofs.ImagePlaces.{images_len-at, stands_same, term_at-is}
 use Rattle.machine_core.specs.declared.process.LitRef.{LitRef}
 use Rattle.machine_core.specs.View.{IsLawful, IsLiteral, IsReadable, Shown}
 use Rattle.machine_core.specs.Stand.{AreImages, images_end}

@@ -39,5 +39,6 @@ pub mod DroppedHolds
 pub mod Pausing
 pub mod CopiedValues
 pub mod DoomedFrames
+pub mod SameReads
 pub mod Steps
 pub mod TurnAnswers

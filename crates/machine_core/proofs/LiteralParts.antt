@@ -1,21 +1,17 @@
 -- The parts of a literal, and what a key holds, as values.
-use Rattle.std.proofs.Common.{◌≡◌, ◌<◌, ◌≤◌, ◌+◌, ◌*◌, ◌%◌, ◌/◌, ◌∙◌, ◌==◌, ◌||◌, ℕ, zero, suc, refl, sym, ap, subst, arith, Bool, true, false, ℤ, pos, negsuc, List, [], ◌∷◌, ◌++◌, length, drop, get_or, slice_get, slice_index, Option, Some, None, option_map, unwrap_or, if◌then◌else◌, IfSome, IsSomeAnd, inl, inr, cond}
-use Rattle.std.proofs.lemmas.Bool.Decides.{nat_tests}
+use Rattle.std.proofs.Common.{◌≡◌, ◌<◌, ◌≤◌, ◌+◌, ◌*◌, ◌%◌, ◌∙◌, ℕ, zero, suc, refl, sym, ap, subst, arith, Bool, true, false, ℤ, pos, negsuc, List, ◌++◌, length, drop, get_or, slice_get, slice_index, Option, Some, None, option_map, unwrap_or, if◌then◌else◌, inl, inr, cond}
 use Rattle.std.proofs.lemmas.List.{drop-drop}
 use Rattle.std.proofs.lemmas.Option.{slice_get-get_or, slice_get_past}
-use Rattle.term_core.specs.declared.area.AreaRef.{AreaRef}
-use Rattle.term_core.specs.declared.area.Found.{Found}
-use Rattle.term_core.specs.declared.area.Found.TheVariants.{Absent, Word, Area}
 use Rattle.std.proofs.Common.{◌⊎◌, Result, Ok, Err, IfOk}
 use Rattle.term_core.specs.declared.no_memory.NoMemory.{NoMemory}
 use Rattle.term_core.specs.declared.term.Term.{Term}
-use Rattle.term_core.specs.declared.term.Term.TheVariants.{Int, Atom, Tuple, List as ListOf}
+use Rattle.term_core.specs.declared.term.Term.TheVariants.{Tuple, List as ListOf}
 use Rattle.term_core.specs.declared.hold.Kind.TheVariants.{Literal as for_literals}
-use Rattle.term_core.specs.Image.{IsImageAt, image_of, images_len, immediate_word, is_immediate, low_bits, parts_of_word, row_image, term_at, term_of_word}
+use Rattle.term_core.specs.Image.{IsImageAt, images_len, is_immediate, low_bits, parts_of_word, row_image, term_at, term_of_word}
 use Rattle.term_core.specs.Plain.{plain, term_of}
-use Rattle.term_core.specs.PlainTerm.{RowOf, PlainTerm, integer_leaf, atom_leaf, tuple_of, list_of, no_terms, term_then, row_count, row_words, term_words, terms_of}
-use Rattle.term_core.proofs.ImagePlaces.{PartAt, first_word, first_word-at, first_word-immediate, first_word-parts, part_at, part_count, row_in, stands_alone, term_at-is, term_of_word-first_word}
-use Rattle.term_core.proofs.ImageTerms.{length-image, some_words}
+use Rattle.term_core.specs.PlainTerm.{RowOf, PlainTerm, integer_leaf, atom_leaf, tuple_of, list_of, no_terms, term_then, row_count, term_words, terms_of}
+use Rattle.term_core.proofs.ImagePlaces.{first_word, first_word-at, first_word-parts, part_at, part_count, row_in, term_at-is, term_of_word-first_word}
+use Rattle.term_core.proofs.ImageTerms.{some_words}
 use Rattle.term_core.proofs.PlainTerms.{plain-term_of}
 use Rattle.machine_core.specs.declared.process.LitRef.{LitRef}
 use Rattle.machine_core.specs.declared.process.Value.{Value}
@@ -24,8 +20,7 @@ use Rattle.machine_core.specs.Holds.{Holds}
 use Rattle.machine_core.specs.Process.{PlainValue, literal, owned, value_shown}
 use Rattle.machine_core.specs.Stand.{AreImages, IsUsable, images_end, is_immediate_word, place_number}
 use Rattle.machine_core.specs.Turn.{element_at, element_of, integer_of, part_value, parts_of, term_of as value_term, value_in}
-use Rattle.machine_core.specs.View.{IsLawful, IsLiteral, IsReadable, Shown}
-use Rattle.machine_core.proofs.ImageSteps.{readable_low}
+use Rattle.machine_core.specs.View.{IsLiteral, IsReadable, Shown}
 use Rattle.machine_core.proofs.LiteralPlaces.{part_within}
 use Rattle.machine_core.proofs.OwnedTerms.{term_of-plain}
 use Rattle.machine_core.specs.Reach.{MayHold}

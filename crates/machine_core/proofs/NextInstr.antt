@@ -1,5 +1,5 @@
 -- That each place at which a frame may stand is that of an instruction of its function, or of the return past its end.
-use Rattle.std.proofs.Common.{◌≡◌, ◌<◌, ◌≤◌, ◌+◌, ◌∙◌, sym, ℕ, zero, suc, true, false, refl, arith, ap, List, [], ◌∷◌, length, slice_get, get_or, Option, Some, None, All, subst}
+use Rattle.std.proofs.Common.{◌≡◌, ◌<◌, ◌≤◌, ◌+◌, ◌∙◌, sym, ℕ, zero, suc, true, false, refl, arith, ap, List, [], ◌∷◌, length, slice_get, get_or, Some, All, subst}
 use Rattle.std.proofs.lemmas.Option.{slice_get-get_or}
 use Rattle.mod_core.specs.declared.code.Instr.{Instr}
 use Rattle.mod_core.specs.declared.code.Instr.TheVariants as instrs

@@ -1,13 +1,12 @@
 -- What a source and a key are read as: a value that may be used, and that stands for what the turn says.
-use Rattle.std.proofs.Common.{◌≡◌, ◌<◌, ◌+◌, ◌∙◌, ℕ, zero, suc, refl, sym, ap, subst, arith, Bool, true, false, List, [], ◌∷◌, length, All, get_or, slice_get, Option, Some, None, option_and_then, option_map, unwrap_or, IfSome, IsSomeAnd, IsTrue, Result, Ok, Err, IfOk, inl, inr, cond}
-use Rattle.std.proofs.lemmas.Option.{slice_get-map}
+use Rattle.std.proofs.Common.{◌≡◌, ◌∙◌, ℕ, zero, suc, refl, sym, ap, subst, arith, true, false, List, [], ◌∷◌, length, All, slice_get, Option, Some, None, option_and_then, option_map, unwrap_or, IfSome, Result, Ok, Err, IfOk, inl, inr, cond}
 use Rattle.std.proofs.lemmas.List.Elements.{All-head, All-tail}
 use Rattle.term_core.specs.declared.area.AreaRef.{AreaRef}
 use Rattle.term_core.specs.declared.area.Found.{Found}
 use Rattle.term_core.specs.declared.area.Found.TheVariants.{Absent, Word, Area}
 use Rattle.term_core.specs.declared.no_memory.NoMemory.{NoMemory}
 use Rattle.term_core.specs.declared.term.Term.{Term}
-use Rattle.term_core.specs.Image.{image_of, immediate_word, is_immediate, term_at, term_of_word, IsImageAt, IsPlainTerm}
+use Rattle.term_core.specs.Image.{immediate_word, is_immediate, term_at, term_of_word, IsImageAt, IsPlainTerm}
 use Rattle.term_core.specs.Plain.{plain, term_of}
 use Rattle.term_core.specs.PlainTerm.{PlainTerm}
 use Rattle.term_core.proofs.ImagePlaces.{first_word-immediate, stands_alone, term_at-is, term_of_word-first_word}
@@ -21,9 +20,9 @@ use Rattle.machine_core.specs.declared.process.Value.{Value}
 use Rattle.machine_core.specs.declared.process.Value.TheVariants.{Owned, Literal}
 use Rattle.machine_core.specs.Decode.{operand_shown}
 use Rattle.machine_core.specs.Holds.{Holds}
-use Rattle.machine_core.specs.Process.{PlainValue, Words, frame_of, literal, no_held, no_value, owned, register_of, value_shown, values_shown}
+use Rattle.machine_core.specs.Process.{PlainValue, Words, frame_of, literal, no_held, owned, register_of, value_shown, values_shown}
 use Rattle.machine_core.specs.Stand.{IsReadyFrame, IsSource, IsUsable, IsValueOf}
-use Rattle.machine_core.specs.Turn.{operand_term, term_of as value_term, value_of}
+use Rattle.machine_core.specs.Turn.{operand_term, term_of as value_term}
 use Rattle.machine_core.specs.View.{IsKeyValue, IsLawful, IsLiteral, IsTermIn, Shown}
 use Rattle.machine_core.specs.Reads.{area_of, found_of}
 

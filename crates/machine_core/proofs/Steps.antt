@@ -1,5 +1,5 @@
 -- That what a part of the machine says of an instruction is what is asked of the whole.
-use Rattle.std.proofs.Common.{◌≡◌, ◌∙◌, ◌+◌, ℕ, refl, sym, ap, subst, All, List, [], ◌∷◌, ◌++◌, length, map, slice_get, slice_set, Option, Some, None, IsSomeAnd, Result, Ok, Err, IfOk, OnOk, inl}
+use Rattle.std.proofs.Common.{◌≡◌, ◌∙◌, ◌+◌, ℕ, sym, ap, subst, All, List, [], ◌∷◌, ◌++◌, slice_set, Some, Result, Ok, Err, IfOk, OnOk, inl}
 use Rattle.std.proofs.lemmas.List.Elements.{All-cons, All-head, All-nil, All-tail}
 use Rattle.term_core.specs.declared.atom.Mfa.{Mfa}
 use Rattle.term_core.specs.declared.no_memory.NoMemory.{NoMemory}
@@ -7,17 +7,16 @@ use Rattle.mod_core.specs.declared.code.Instr.{Instr}
 use Rattle.mod_core.specs.declared.code.Instr.TheVariants as instrs
 use Rattle.server_core.specs.ServerState.{Entry}
 use Rattle.machine_core.specs.declared.op.Op.{Op}
-use Rattle.machine_core.specs.declared.op.Source.{Source}
 use Rattle.machine_core.specs.declared.outcome.Outcome.{Outcome}
 use Rattle.machine_core.specs.declared.process.Frame.{Frame as CodeFrame}
 use Rattle.machine_core.specs.declared.process.Line.{Line}
 use Rattle.machine_core.specs.declared.process.Value.{Value}
 use Rattle.machine_core.specs.declared.process.Value.TheVariants.{Owned, Literal}
-use Rattle.machine_core.specs.Decode.{instr_shown, operand_shown}
+use Rattle.machine_core.specs.Decode.{instr_shown}
 use Rattle.machine_core.specs.Holds.{Holds}
 use Rattle.machine_core.specs.View.{AreValues, HasValues, IsLawful, IsValue, Shown}
-use Rattle.machine_core.specs.Process.{PlainFrame, PlainValue, Words, arguments_at, frame_of, frames_of, value_shown, values_shown}
-use Rattle.machine_core.specs.Turn.{IsPlaced, called, called_by_name, called_out, called_within, executed, held_with, moved_past, returned, stored, value_of}
+use Rattle.machine_core.specs.Process.{PlainFrame, PlainValue, arguments_at, frame_of, frames_of, value_shown, values_shown}
+use Rattle.machine_core.specs.Turn.{IsPlaced, called, called_by_name, executed, held_with, returned, stored}
 use Rattle.machine_core.specs.Stand.{AreReady, ComesTo, HasCallee, IsReadyFrame, IsUsable, IsValueHeld, Stand, stand_after, stand_of}
 use Rattle.machine_core.proofs.CodeNames.{frames_of-push}
 use Rattle.machine_core.proofs.Placing.{MayCall, next_calls}

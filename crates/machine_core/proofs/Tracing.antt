@@ -7,7 +7,7 @@ use Rattle.server_core.specs.ServerState.{Entry}
 use Rattle.machine_core.specs.declared.process.Line.{Line}
 use Rattle.machine_core.specs.declared.process.Line.TheVariants.{Trace}
 use Rattle.machine_core.specs.declared.process.Value.{Value}
-use Rattle.machine_core.specs.Process.{Words, arguments_at, arguments_of, owned_values, values_shown}
+use Rattle.machine_core.specs.Process.{arguments_at, arguments_of, owned_values, values_shown}
 use Rattle.machine_core.specs.View.{Shown}
 use Rattle.machine_core.proofs.Calling.{arguments_shown}
 use Rattle.machine_core.specs.Turn.{terms_of, trace_of}

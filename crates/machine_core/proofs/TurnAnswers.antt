@@ -1,5 +1,5 @@
 -- What the code's turn has at hand: the frames with which it begins, and a loop over a view that shows the same all the while.
-use Rattle.std.proofs.Common.{◌≡◌, ◌∙◌, ◌+◌, ℕ, refl, sym, ap, subst, List, [], ◌∷◌, ◌++◌, None, Result, Ok, Err, IfOk, OnOk}
+use Rattle.std.proofs.Common.{◌≡◌, ◌∙◌, sym, ap, subst, List, ◌∷◌, Result, Ok, Err, IfOk, OnOk}
 use Rattle.term_core.specs.declared.no_memory.NoMemory.{NoMemory}
 use Rattle.machine_core.specs.declared.outcome.Outcome.{Outcome}
 use Rattle.machine_core.specs.declared.process.End.{End}
@@ -8,13 +8,12 @@ use Rattle.machine_core.specs.declared.process.Line.{Line}
 use Rattle.machine_core.specs.declared.process.TheConstants.{TURN_INSTRUCTIONS}
 use Rattle.machine_core.specs.declared.process.TurnEnd.{TurnEnd}
 use Rattle.machine_core.specs.Holds.{Holds}
-use Rattle.machine_core.specs.Process.{PlainFrame, PlainProcess, frame_names, frame_of, frames_of}
+use Rattle.machine_core.specs.Process.{PlainProcess, frame_names, frame_of, frames_of}
 use Rattle.machine_core.specs.View.{AreValues, HasValues, Shown}
 use Rattle.machine_core.specs.Turn.{ArePlaced, begun, copied, paused, run_of, step_of}
-use Rattle.machine_core.specs.Stand.{AreReady, AreStanding, Stand, stand_after, stand_entered, stand_of, runs}
+use Rattle.machine_core.specs.Stand.{AreReady, stand_after, stand_entered, stand_of, runs}
 use Rattle.machine_core.proofs.Placing.{KeepsStanding}
 use Rattle.machine_core.proofs.Turns.{begun_standing}
-use Rattle.machine_core.specs.Reads.{Reads}
 
 -- with what a turn begins: the topmost frame and those below it, after the literals were copied
 pub record IsBegun (shown : Shown) (p : PlainProcess) (now then : Holds) (top : CodeFrame) (below : List CodeFrame) (before lines : List Line) : Type 0 where

@@ -1,5 +1,5 @@
 -- That what is read of the plain server is true of its instances and terms, and that the words which it gives are their images.
-use Rattle.std.proofs.Common.{◌≡◌, ◌<◌, ◌≤◌, ◌+◌, ◌*◌, ◌∙◌, ℕ, zero, suc, false, refl, sym, subst, arith, ap, List, [], ◌++◌, length, length-append, slice_get, slice_index, unwrap_or, get_or, Option, Some, None, option_map, option_and_then, IfSome, IsSomeAnd}
+use Rattle.std.proofs.Common.{◌≡◌, ◌<◌, ◌≤◌, ◌+◌, ◌*◌, ◌∙◌, ℕ, zero, suc, false, refl, sym, subst, arith, ap, List, [], ◌++◌, length, length-append, slice_get, slice_index, unwrap_or, get_or, Option, Some, None, option_map, option_and_then, IfSome}
 use Rattle.std.proofs.lemmas.Option.{slice_get-get_or, slice_get_within, unwrap_or-slice_get}
 use Rattle.std.proofs.lemmas.List.Quantifiers.{position-Some}
 use Rattle.term_core.specs.declared.atom.Mfa.{Mfa}

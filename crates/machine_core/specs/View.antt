@@ -19,7 +19,7 @@ use Rattle.machine_core.specs.declared.process.Value.TheVariants.{Owned, Literal
 use Rattle.machine_core.specs.Holds.{Holds}
 use Rattle.machine_core.specs.Process.{PlainValue, Words, literal, owned}
 use Rattle.machine_core.specs.Reads.{Reads}
-use Rattle.machine_core.specs.ServerReads.{code_at, module_instr, reads_of}
+use Rattle.machine_core.specs.ServerReads.{module_instr, reads_of}
 
 -- what a view shows: what a turn reads of its generation, and the words of the area with a serial
 pub record Shown : Type 0 where

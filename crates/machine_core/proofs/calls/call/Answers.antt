@@ -1,5 +1,5 @@
 -- The new frame stands on the caller's, and the line says the call.
-use Rattle.std.proofs.Common.{◌∙◌, ◌++◌, ◌≡◌, ◌+◌, Some, ap, length, subst, sym, refl}
+use Rattle.std.proofs.Common.{◌∙◌, ◌++◌, ◌≡◌, ◌+◌, Some, ap, length, subst, refl}
 use Rattle.server_core.specs.ServerState.{entry_of}
 use Rattle.machine_core.specs.Process.{arguments_at, arguments_of, first_registers, frame_of, values_shown}
 use Rattle.machine_core.specs.Turn.{trace_of}

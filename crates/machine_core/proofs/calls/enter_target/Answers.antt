@@ -1,5 +1,5 @@
 -- The target is entered, or a limit is met.
-use Rattle.std.proofs.Common.{◌∙◌, ◌++◌, ◌≡◌, ap, sym, subst, Some}
+use Rattle.std.proofs.Common.{◌∙◌, ◌++◌, ◌≡◌, ap, subst}
 use Rattle.server_core.specs.ServerState.{entry_of}
 use Rattle.machine_core.specs.Process.{frame_of, first_registers, owned_values, owned_terms, values_shown}
 use Rattle.machine_core.specs.Turn.{trace_of}

@@ -1,14 +1,12 @@
 -- The part stands behind those before it.
-use Rattle.std.proofs.Common.{◌≡◌, ◌+◌, ◌∙◌, ap, sym, subst, arith, option_map, slice_get, slice_index}
-use Rattle.term_core.specs.Image.{term_at}
-use Rattle.term_core.specs.Plain.{term_of}
+use Rattle.std.proofs.Common.{◌+◌, ◌∙◌, ap, sym, subst, arith, option_map, slice_index}
 use Rattle.machine_core.specs.Process.{value_shown}
 use Rattle.machine_core.specs.Stand.{AreImages, images_end}
-use Rattle.machine_core.specs.Turn.{part_value, parts_of}
+use Rattle.machine_core.specs.Turn.{part_value}
 use Rattle.machine_core.specs.View.{IsReadable, Shown}
 use Rattle.machine_core.specs.declared.process.Value.TheVariants.{Literal}
 use Rattle.machine_core.proofs.ImageSteps.{readable_low}
-use Rattle.machine_core.proofs.LiteralParts.{IsPartOf, first_readable, no_part, part_of_literal, part_shows}
+use Rattle.machine_core.proofs.LiteralParts.{first_readable, no_part, part_of_literal, part_shows}
 use Rattle.machine_core.proofs.elements.literal_part.Goals as goal
 
 pub word-word-requires-clause-readable : goal.word-word-requires-clause-readable

@@ -3,7 +3,7 @@ use Rattle.std.proofs.Common.{◌≡◌, ◌∙◌, ◌-◌, ◌+◌, refl, arit
 use Rattle.term_core.specs.Image.{images_len, parts_of_word}
 use Rattle.machine_core.specs.View.{IsReadable, Shown}
 use Rattle.machine_core.specs.Stand.{AreImages, images_end}
-use Rattle.machine_core.proofs.ImageSteps.{IsStep, image_step}
+use Rattle.machine_core.proofs.ImageSteps.{image_step}
 use Rattle.machine_core.proofs.literals.place_behind.Goals as goal
 
 pub word-word-requires-clause-readable : goal.word-word-requires-clause-readable

@@ -1,6 +1,5 @@
 -- The words are those of the literal's image.
-use Rattle.std.proofs.Common.{◌≡◌, ◌∙◌, ◌+◌, ◌≤◌, arith, ap, sym, subst, length, take, drop, ◌-◌}
-use Rattle.term_core.specs.PlainTerm.{term_words}
+use Rattle.std.proofs.Common.{◌∙◌, ◌≤◌, arith, ap, sym, subst, length, take, drop, ◌-◌}
 use Rattle.term_core.proofs.ImagePlaces.{within-at}
 use Rattle.machine_core.specs.View.{IsReadable, Shown}
 use Rattle.machine_core.proofs.ImageSteps.{literal_images, literal_end, literal_read, literal_readable}

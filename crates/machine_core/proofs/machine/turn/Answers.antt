@@ -3,7 +3,7 @@ use Rattle.std.proofs.Common.{◌∷◌, ◌∙◌, ap, refl, sym}
 use Rattle.machine_core.specs.Process.{frame_of, frames_of, process_of}
 use Rattle.machine_core.proofs.CodeNames.{process_named}
 use Rattle.machine_core.proofs.Placing.{keeps_standing}
-use Rattle.machine_core.proofs.TurnAnswers.{IsBegun, begun_at, begun_ready, runs_seen, values_seen}
+use Rattle.machine_core.proofs.TurnAnswers.{begun_at, begun_ready, runs_seen, values_seen}
 use Rattle.machine_core.proofs.Turns.{gives_ok, held_named, held_ok, is_below, run_again_ok, run_behind_ok, runs_spared}
 use Rattle.machine_core.proofs.machine.turn.Goals as goal
 
