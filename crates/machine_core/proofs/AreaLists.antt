@@ -60,9 +60,6 @@ pub noted_literal : (r : Result (Unit {0}) NoMemory) (before after : List AreaRe
 noted_literal (Ok done) before after value at e h = h ∙ sym (serials_of-push (area_serials before) at.area.serial) ∙ ap (λ v. serials_of (area_serials before ++ value_area v)) (sym e)
 noted_literal (Err refused) before after value at e h = h
 
-pub noted_owned : (areas : List AreaRef) (value : Value) → value_area value ≡ [] → serials_of (area_serials areas) ≡ serials_of (area_serials areas ++ value_area value)
-noted_owned areas value e = ap serials_of (sym (append-nil (area_serials areas)) ∙ ap (λ ns. area_serials areas ++ ns) (sym e))
-
 more_of : {X : Type 0} (g : X → List ℕ) (xs : List X) (n : ℕ) (x : X) → n < length xs → x ≡ get_or xs n x → flat_map g (take (n + 1) xs) ≡ flat_map g (take n xs) ++ g x
 more_of g xs n x below is =
     ap (flat_map g) (take_more xs n x below) ∙ ap (λ y. flat_map g (take n xs ++ y ∷ [])) (sym is)

@@ -67,10 +67,6 @@ module _ (s : Reads) where
 pub reached_known : (shown : Shown) (to : Mfa) (e : Entry) → IsLawful shown → dispatched shown.reads to ≡ Some e → HasFunction shown.reads e
 reached_known shown to e lawful h = lawful.exports e.serial to e.function (dispatch_reaches shown.reads to e h).exported
 
--- and may be held for a frame
-pub reached_held : (s : Reads) (held : Holds) (to : Mfa) (e : Entry) → dispatched s to ≡ Some e → MayHold s held e.serial Frame
-reached_held s held to e h = inr (dispatch_reaches s to e h).current
-
 module _ (words : Words) where
   -- as many frames as the code's frames
   pub length-frames_of : (fs : List CodeFrame) → length (frames_of words fs) ≡ length fs
@@ -148,11 +144,6 @@ usable_more shown held serial (Literal at) h = (h.0, may h.1)
 pub all_usable : (shown : Shown) (held now : Holds) (serial : ℕ) (values : List Value) → now ≡ with_hold held serial Frame → All (IsUsable shown held) values → All (IsUsable shown now) values
 all_usable shown held now serial values e h =
     subst (λ (k : Holds). All (IsUsable shown k) values) (sym e) (λ k d l. usable_more shown held serial (get_or values k d) (h k d l))
-
--- what may be used is a value
-value_of_usable : (shown : Shown) (held : Holds) (value : Value) → IsUsable shown held value → IsValue shown value
-value_of_usable shown held (Owned term) h = tt
-value_of_usable shown held (Literal at) h = h.0
 
 -- the arguments among values
 pub all_arguments : (P : Value → Type 0) (registers : List Value) (at count : ℕ) → All P registers → All P (arguments_of registers at count)

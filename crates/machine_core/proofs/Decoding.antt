@@ -185,33 +185,9 @@ module _ (shown : Shown) (area : AreaRef) (place : ℕ) where
 -- an instruction's number tells how many words it has
 pub len_back : (place : ℕ) (i : Instr) → len_of_number (slice_index (instr_words place i) 0) ≡ instr_len i
 len_back place (Move from to) = refl
-len_back place (Add a b to) = refl
-len_back place (Sub a b to) = refl
-len_back place (Eq a b target) = refl
-len_back place (Less a b target) = refl
-len_back place (Jump target) = refl
-len_back place (Call function at) = refl
-len_back place (CallExt to at) = refl
-len_back place (Ret value) = refl
-len_back place (Pget key to) = refl
-len_back place (PgetOr key other to) = refl
-len_back place (Elem index from to) = refl
-len_back place (Print value) = refl
-len_back place Yield = refl
+len_back place i = refl
 
 -- an instruction has a number
 pub len_least : (i : Instr) → 1 ≤ instr_len i
 len_least (Move from to) = omega arith
-len_least (Add a b to) = omega arith
-len_least (Sub a b to) = omega arith
-len_least (Eq a b target) = omega arith
-len_least (Less a b target) = omega arith
-len_least (Jump target) = omega arith
-len_least (Call function at) = omega arith
-len_least (CallExt to at) = omega arith
-len_least (Ret value) = omega arith
-len_least (Pget key to) = omega arith
-len_least (PgetOr key other to) = omega arith
-len_least (Elem index from to) = omega arith
-len_least (Print value) = omega arith
-len_least Yield = omega arith
+len_least i = omega arith

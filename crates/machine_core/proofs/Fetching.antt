@@ -37,20 +37,13 @@ call_back fs function at (Some f) e few h = (omega (arith, few, slice_get_within
 
 -- the parts of an instruction, with a place for its target, fit their words
 pub placed_words : (shown : Shown) (f : PlainFrame) (n : IsNext shown f) (i : Instr) → IsInstr n.m.functions (length n.function.code) i → HasWords (placed (place_in (function_place n.m f.function) n.function.code) i)
-placed_words shown f n (instrs.Move from to) h = h
-placed_words shown f n (instrs.Add a b to) h = h
-placed_words shown f n (instrs.Sub a b to) h = h
 placed_words shown f n (instrs.Eq a b target) h = (h.0, h.1, omega (arith, target_small shown f n target h.2))
 placed_words shown f n (instrs.Less a b target) h = (h.0, h.1, omega (arith, target_small shown f n target h.2))
 placed_words shown f n (instrs.Jump target) h = omega (arith, target_small shown f n target h)
 placed_words shown f n (instrs.Call function at) h = call_back n.m.functions function at (slice_get n.m.functions function) refl n.loaded.sound.few h
 placed_words shown f n (instrs.CallExt to at) h = (h.0, h.1.back)
-placed_words shown f n (instrs.Ret value) h = h
-placed_words shown f n (instrs.Pget key to) h = h
-placed_words shown f n (instrs.PgetOr key other to) h = h
-placed_words shown f n (instrs.Elem index from to) h = h
-placed_words shown f n (instrs.Print value) h = h
 placed_words shown f n instrs.Yield h = tt
+placed_words shown f n i h = h
 
 -- so the parts of the next instruction fit their words
 pub next_words : (shown : Shown) (f : PlainFrame) → IsNext shown f → HasWords (instr_at shown.reads f)

@@ -1,11 +1,11 @@
 -- That a process is the same under a later state of the server, where each area that was known has its words still.
 use Rattle.std.proofs.Common.{◌≡◌, ◌≢◌, ◌⊎◌, ◌<◌, ◌+◌, ◌*◌, ◌∙◌, ℕ, true, refl, sym, ap, arith, inl, inr, subst, All, List, [], ◌∷◌, length, map, reverse, Option, Some, None, is_some, option_map, unwrap_or}
 use Rattle.std.proofs.lemmas.List.Elements.{All-head, All-tail}
-use Rattle.term_core.specs.Image.{IsImageAt, image_of, term_at}
+use Rattle.term_core.specs.Image.{IsImageAt, term_at}
 use Rattle.term_core.specs.Plain.{term_of}
 use Rattle.term_core.specs.PlainTerm.{PlainTerm, atom_leaf, integer_leaf, list_of, term_words, tuple_of}
 use Rattle.mod_core.specs.declared.code.Module.{Module}
-use Rattle.server_core.specs.ServerState.{IsSound, ServerState, code_of, first_words, instance_image, term_of_area, words_of_area}
+use Rattle.server_core.specs.ServerState.{ServerState, code_of, term_of_area, words_of_area}
 use Rattle.machine_core.specs.declared.process.Frame.{Frame}
 use Rattle.machine_core.specs.declared.process.LitRef.{LitRef}
 use Rattle.machine_core.specs.declared.process.Process.{Process}
@@ -120,20 +120,3 @@ module _ (before after : ServerState) (has : HasAreas before after) where
   -- and its literals begin images still
   pub values_later : (fs : List Frame) → AreValues (shown_of before) fs → AreValues (shown_of after) fs
   values_later fs h k d l j e m = value_later _ (h k d l j e m)
-
-no_instance : (s : ServerState) (serial : ℕ) (t : PlainTerm) → IsSound s → term_of_area s serial ≡ Some t → code_of s serial ≡ None
-no_instance s serial t sound e = (rw e at (sound.terms serial)).no_code
-
-words_later : (before after : ServerState) (serial : ℕ) (words : List ℕ) (o : Option Module) (r : Option PlainTerm) → code_of before serial ≡ o → term_of_area before serial ≡ r → HasInstances before after → HasTerms before after → IsSound after →
-    first_words (option_map (instance_image serial) o) (option_map image_of r) ≡ Some words → words_of_area after serial ≡ Some words
-words_later before after serial words (Some m) r e f i t sound h = rw (i serial m e) h
-words_later before after serial words None (Some term) e f i t sound h = rw (no_instance after serial term sound (t serial term f), t serial term f) h
-words_later before after serial words None None e f i t sound h = absurd (cc)
-
--- a sound state that has the instances and the terms of another has its areas
-pub areas_later : (before after : ServerState) → HasInstances before after → HasTerms before after → IsSound after → HasAreas before after
-areas_later before after i t sound = record {
-  instances = i;
-  terms = t;
-  words = λ serial words h. words_later before after serial words (code_of before serial) (term_of_area before serial) refl refl i t sound h;
-}

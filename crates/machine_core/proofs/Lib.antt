@@ -30,7 +30,6 @@ pub mod Runs
 pub mod Turns
 pub mod LaterWords
 pub mod TurnLaws
-pub mod NoLiterals
 pub mod TurnNames
 pub mod Killing
 pub mod TurnAgrees

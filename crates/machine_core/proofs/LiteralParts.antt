@@ -33,19 +33,9 @@ element_by ts (Some (pos zero)) place e = absurd (cc)
 element_by ts (Some (negsuc n)) place e = absurd (cc)
 element_by ts None place e = absurd (cc)
 
-no_element : (ts : List PlainTerm) (o : Option ℤ) → place_number o ≡ None → element_at ts o ≡ None
-no_element ts (Some (pos (suc n))) e = absurd (cc)
-no_element ts (Some (pos zero)) e = refl
-no_element ts (Some (negsuc n)) e = refl
-no_element ts None e = refl
-
 -- the element of a value is the part at its place
 pub element_placed : (index : Term) (value : PlainValue) (place : ℕ) → place_number (integer_of index) ≡ Some place → element_of index value ≡ option_map (part_value value) (slice_get (parts_of (value_term value)) place)
 element_placed index value place e = ap (option_map (part_value value)) (element_by (parts_of (value_term value)) (integer_of index) place e)
-
--- there is none with a number that has no place
-pub element_nowhere : (index : Term) (value : PlainValue) → place_number (integer_of index) ≡ None → element_of index value ≡ None
-element_nowhere index value e = ap (option_map (part_value value)) (no_element (parts_of (value_term value)) (integer_of index) e)
 
 -- ---- parts of a literal
 

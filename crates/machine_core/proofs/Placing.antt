@@ -184,18 +184,7 @@ callee_in shown serial function at m (Some g) is e h = (let count = is.count in 
 may_call : (shown : Shown) (f : PlainFrame) (m : Module) (len : ℕ) (place : ℕ → ℕ) (i : Instr) → IsOfModule shown f.serial m → IsInstr m.functions len i → MayCall shown.reads f (placed place i)
 may_call shown f m len place (instrs.Call function at) is h = callee_in shown f.serial function at m (slice_get m.functions function) is refl h
 may_call shown f m len place (instrs.CallExt to at) is h = h.1.back
-may_call shown f m len place (instrs.Move from to) is h = tt
-may_call shown f m len place (instrs.Add a b to) is h = tt
-may_call shown f m len place (instrs.Sub a b to) is h = tt
-may_call shown f m len place (instrs.Eq a b target) is h = tt
-may_call shown f m len place (instrs.Less a b target) is h = tt
-may_call shown f m len place (instrs.Jump target) is h = tt
-may_call shown f m len place (instrs.Ret value) is h = tt
-may_call shown f m len place (instrs.Pget key to) is h = tt
-may_call shown f m len place (instrs.PgetOr key other to) is h = tt
-may_call shown f m len place (instrs.Elem index from to) is h = tt
-may_call shown f m len place (instrs.Print value) is h = tt
-may_call shown f m len place instrs.Yield is h = tt
+may_call shown f m len place i is h = tt
 
 -- so may the next instruction of a placed frame
 pub next_calls : (shown : Shown) (f : PlainFrame) → IsLawful shown → IsPlaced shown.reads f → MayCall shown.reads f (instr_at shown.reads f)

@@ -119,10 +119,6 @@ module _ (s : Reads) where
   after_behind n before held step =
       ap (λ lines. after_step (run_of s n) held lines step) (sym (append-nil before)) ∙ after_with n before [] held step (λ frames held made. run_with n frames held before made)
 
-  -- the lines of a run stand behind those that stood
-  pub run_behind : (n : ℕ) (frames : List PlainFrame) (held : Holds) (before : List Line) → run_of s n frames held before ≡ with_lines before (run_of s n frames held [])
-  run_behind n frames held before = ap (run_of s n frames held) (sym (append-nil before)) ∙ run_with n frames held before []
-
 -- a turn that pauses here gives what is left of it
 pub paused_ok : (r : Result TurnEnd NoMemory) (whole : Ran) (frames after : List PlainFrame) (now : Holds) (lines : List Line) →
     IfOk r (λ end. (made : List Line) → paused frames made ≡ record { frames = after; held = now; made = made; end = end }) → whole ≡ paused frames lines →

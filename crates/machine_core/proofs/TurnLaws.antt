@@ -16,12 +16,8 @@ use Rattle.machine_core.specs.declared.process.TurnEnd.TheVariants.{Ended}
 use Rattle.machine_core.specs.Holds.{Holds}
 use Rattle.machine_core.specs.Process.{HasNotEnded, PlainFrame, PlainProcess, Words, frame_names, frame_of, frames_of, names_of, new_process, process_of}
 use Rattle.machine_core.specs.View.{AreValues, HasValues, Shown, server_words, shown_of}
-use Rattle.machine_core.specs.Turn.{ArePlaced, IsPlaceIn, IsPlaced, MayTurn, Ran, Step, goes_on, yields, ends, begun, copied, counted, ended_with, ran_of, step_of, turn_by, turn_of}
-use Rattle.machine_core.specs.Stand.{AreStanding}
-use Rattle.machine_core.proofs.CopiedFrames.{copied_placed}
+use Rattle.machine_core.specs.Turn.{ArePlaced, IsPlaceIn, IsPlaced, MayTurn, Ran, Step, goes_on, yields, ends, begun, copied, ended_with, ran_of, step_of, turn_by, turn_of}
 use Rattle.machine_core.proofs.LaterWords.{HasAreas, frames_later, process_later, values_later}
-use Rattle.machine_core.proofs.NamedAreas.{names_held}
-use Rattle.machine_core.proofs.Placing.{Keeps, KeepsStanding}
 use Rattle.machine_core.proofs.RunLaws.{IsKept, KeepsSo, ran_kept}
 use Rattle.machine_core.proofs.Turns.{counted_below, is_below}
 use Rattle.machine_core.specs.Reads.{Reads}
@@ -49,15 +45,8 @@ turn_counts_by s p h = ap (λ q. q.turns) (counted_below s p (is_below p.turns h
 is_limit : (p : PlainProcess) → p.turns ≡ MOST_TURNS → (p.turns == MOST_TURNS) ≡ true
 is_limit p e = rw e
 
-counted_at : (p : PlainProcess) → (p.turns == MOST_TURNS) ≡ true → counted p ≡ p
-counted_at p e = rw e
-
 ran_at : (s : Reads) (p : PlainProcess) → (p.turns == MOST_TURNS) ≡ true → ran_of s p ≡ ended_with (names_of p) [] SystemLimit
 ran_at s p e = rw e
-
--- at the limit the process ends, and the turn does not count
-pub limit_counts_by : (s : Reads) (p : PlainProcess) → p.turns ≡ MOST_TURNS → (turn_by s p).process.turns ≡ p.turns
-limit_counts_by s p e = ap (λ q. q.turns) (counted_at p (is_limit p e))
 
 pub limit_ends_by : (s : Reads) (p : PlainProcess) → p.turns ≡ MOST_TURNS → (turn_by s p).end ≡ Ended SystemLimit
 limit_ends_by s p e = ap (λ ran. ran.end) (ran_at s p (is_limit p e))
@@ -110,39 +99,6 @@ may_turn_later before after held now p has e ready =
       placed = subst (ArePlaced (reads_of after)) (sym same) (all_later before after (frames_of (server_words before) p.frames) has.instances ready.placed);
       values = values_later before after has p.frames ready.values;
     }
-
-module _ (s : Reads) where
-  StandsSo : List PlainFrame → Holds → Type 0
-  StandsSo frames held = AreStanding s held frames
-
-  PlacesSo : Ran → Type 0
-  PlacesSo ran = ArePlaced s ran.frames
-
-  keeps_so : (held : Holds) (step : Step) → Keeps s held step → KeepsSo s StandsSo (λ _. Unit {0}) PlacesSo held step
-  unfolding StandsSo Keeps
-  keeps_so held (goes_on frames now line) k = k
-  keeps_so held (yields frames) k = k
-  keeps_so held (ends end) k = tt
-
-  places_kept : KeepsStanding s → IsKept s StandsSo (λ _. Unit {0}) PlacesSo
-  unfolding StandsSo PlacesSo
-  places_kept keeps = record {
-    step = λ frames held h. keeps_so held (step_of s frames held) (keeps.step held frames h);
-    pause = λ frames held made h. h.placed;
-    end = λ held made end h. tt;
-  }
-
-  -- a turn leaves each frame at an instruction
-  pub turn_placed : (p : PlainProcess) → KeepsStanding s → ArePlaced s p.frames → ArePlaced s (turn_by s p).process.frames
-  unfolding PlacesSo
-  turn_placed p keeps h =
-      let frames = copied s p.frames in
-      ran_kept s StandsSo (λ _. Unit {0}) PlacesSo p (places_kept keeps)
-      (keeps_so (frame_names frames) (begun s p.target p.args (frame_names frames) frames) (keeps.begun p.target p.args (frame_names frames) frames (copied_placed s p.frames h) (names_held frames))) (λ serial t d. tt) tt
-
-  -- so is a process that has had no turn
-  pub new_placed : (number : ℕ) (target : Mfa) (args : List PlainTerm) → ArePlaced s (new_process number target args).frames
-  new_placed number target args = tt
 
 FramesEnd : Ran → Type 0
 FramesEnd ran = (end : End) → ran.end ≡ Ended end → ran.frames ≡ []

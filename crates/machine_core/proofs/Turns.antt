@@ -1,24 +1,21 @@
 -- That a turn is the count of turns, then the frames with which it begins, then its instructions, after the lines that stood.
-use Rattle.std.proofs.Common.{◌≡◌, ◌+◌, ◌==◌, ℕ, refl, arith, ap, sym, ◌∙◌, subst, false, List, [], ◌++◌, Some, None, Result, Ok, Err, IfOk}
+use Rattle.std.proofs.Common.{◌≡◌, ◌+◌, ◌==◌, ℕ, refl, arith, ap, sym, ◌∙◌, subst, false, List, [], None, Result, Ok, Err, IfOk}
 use Rattle.std.proofs.lemmas.Bool.Decides.{nat_tests}
-use Rattle.std.proofs.lemmas.List.{append-nil}
 use Rattle.term_core.specs.declared.no_memory.NoMemory.{NoMemory}
-use Rattle.machine_core.specs.declared.process.End.{End}
-use Rattle.machine_core.specs.declared.process.End.TheVariants.{Killed}
 use Rattle.machine_core.specs.declared.process.Line.{Line}
 use Rattle.machine_core.specs.declared.process.Process.{Process}
 use Rattle.machine_core.specs.declared.process.TurnEnd.{TurnEnd}
-use Rattle.machine_core.specs.declared.process.TurnEnd.TheVariants.{Again, Ended}
+use Rattle.machine_core.specs.declared.process.TurnEnd.TheVariants.{Again}
 use Rattle.machine_core.specs.declared.process.TheConstants.{MOST_TURNS, TURN_INSTRUCTIONS}
 use Rattle.machine_core.specs.Holds.{Holds}
-use Rattle.machine_core.specs.Process.{PlainFrame, PlainProcess, frame_names, frames_of, names_of}
+use Rattle.machine_core.specs.Process.{PlainFrame, PlainProcess, frame_names, frames_of}
 use Rattle.machine_core.specs.View.{AreValues, Shown}
-use Rattle.machine_core.specs.Turn.{ArePlaced, MayTurn, Ran, Step, TurnGives, goes_on, yields, ends, after_step, begun, copied, counted, doomed_serial, ended_with, held_after, ran_of, run_of, step_of}
-use Rattle.machine_core.specs.Stand.{AreHeld, AreStanding, Stand, over, runs, stand_after}
+use Rattle.machine_core.specs.Turn.{ArePlaced, MayTurn, Ran, Step, TurnGives, goes_on, yields, ends, after_step, begun, copied, counted, doomed_serial, held_after, ran_of, run_of, step_of}
+use Rattle.machine_core.specs.Stand.{AreHeld, AreStanding, runs, stand_after}
 use Rattle.machine_core.proofs.CopiedFrames.{copied_placed}
 use Rattle.machine_core.proofs.Placing.{Keeps, KeepsStanding}
 use Rattle.machine_core.proofs.RunLaws.{IsKept, KeepsSo, run_kept}
-use Rattle.machine_core.proofs.Runs.{after_behind, after_on, after_over, standing_runs, with_lines}
+use Rattle.machine_core.proofs.Runs.{after_behind, after_on, standing_runs, with_lines}
 use Rattle.machine_core.specs.Reads.{Reads}
 pub use Rattle.machine_core.proofs.NamedAreas.{names_held}
 
@@ -96,24 +93,9 @@ module _ (s : Reads) where
       with_lines before (ran_of s p) ≡ record { frames = after; held = now; made = made; end = end } → now ≡ held_after s p
   held_gives p after now before made end e = sym (ap (λ x. x.held) e)
 
-  -- a process that stands in doomed code
-  ran_killed : (p : PlainProcess) (serial : ℕ) → (p.turns == MOST_TURNS) ≡ false → doomed_serial s p.frames ≡ Some serial → ran_of s p ≡ ended_with (names_of p) [] (Killed serial)
-  ran_killed p serial t d = rw (t, d) refl
-
-  pub killed_behind : (held : Holds) (p : PlainProcess) (serial : ℕ) (before : List Line) → (p.turns == MOST_TURNS) ≡ false → doomed_serial s p.frames ≡ Some serial → held ≡ names_of p →
-      with_lines before (ran_of s p) ≡ record { frames = []; held = held; made = before; end = Ended (Killed serial) }
-  killed_behind held p serial before t d h =
-      ap (with_lines before) (ran_killed p serial t d) ∙ ap (λ x. record { frames = []; held = x; made = before ++ []; end = Ended (Killed serial) }) (sym h)
-      ∙ ap (λ ls. record { frames = []; held = held; made = ls; end = Ended (Killed serial) }) (append-nil before)
-
 -- what is not the limit is tested so
 pub is_below : (turns : ℕ) → (turns ≡ MOST_TURNS → ⊥) → (turns == MOST_TURNS) ≡ false
 is_below turns h = grind (arith, nat_tests)
-
--- a turn begins so under what is shown and held still, with the frames that were copied
-pub begins_seen : (shown seen : Shown) (held still : Holds) (p : PlainProcess) (frames after : List PlainFrame) (before : List Line) (stand : Stand) → seen ≡ shown → still ≡ held → frames ≡ after →
-    stand_after still before (begun seen.reads p.target p.args still frames) ≡ stand → stand_after held before (begun shown.reads p.target p.args held after) ≡ stand
-begins_seen shown seen held still p frames after before stand s h f e = rw (← s, ← h, ← f) e
 
 -- a process of which the code found no frame that stands in doomed code, and which holds just what its copied frames name
 pub runs_spared : (s : Reads) (held : Holds) (p : PlainProcess) (frames : List PlainFrame) → (p.turns ≡ MOST_TURNS → ⊥) → held ≡ frame_names (copied s p.frames) → frames ≡ p.frames → None ≡ doomed_serial s frames →
@@ -171,13 +153,3 @@ run_again_ok (Ok end) shown seen p held now then frames after before lines made 
     (subst (λ (v : Shown). run_of v.reads TURN_INSTRUCTIONS frames now lines ≡ record { frames = frames_of v.words after.frames; held = then; made = made; end = end }) e r)
     (subst (λ (v : Shown). AreValues v after.frames) e values) again
 run_again_ok (Err refused) shown seen p held now then frames after before lines made e keeps placed names b r values = tt
-
--- frames stand so under the state that is shown still
-pub standing_seen : (shown seen : Shown) (now : Holds) (frames : List PlainFrame) → seen ≡ shown → AreStanding shown.reads now frames → AreStanding seen.reads now frames
-standing_seen shown seen now frames e h = rw e h
-
--- a turn whose process cannot enter its target
-pub over_behind : (s : Reads) (p : PlainProcess) (held now : Holds) (end : End) (before lines : List Line) → IsRunning s held p →
-    stand_after held before (begun s p.target p.args held (copied s p.frames)) ≡ over end now lines → with_lines before (ran_of s p) ≡ record { frames = []; held = now; made = lines; end = Ended end }
-over_behind s p held now end before lines is e =
-    ran_behind s held p before is ∙ after_over (run_of s TURN_INSTRUCTIONS) held now before (begun s p.target p.args held (copied s p.frames)) end lines e

@@ -14,8 +14,7 @@ use Rattle.machine_core.specs.declared.process.Value.TheVariants.{Owned, Literal
 use Rattle.machine_core.specs.declared.op.Source.{Source}
 use Rattle.machine_core.specs.declared.op.Source.TheVariants.{Register, Immediate, Constant}
 use Rattle.machine_core.specs.declared.op.Op.{Op}
-use Rattle.machine_core.specs.declared.op.Op.TheVariants as ops
-use Rattle.machine_core.specs.declared.op.Op.TheVariants.{Move, Add, Sub, Eq, Less, Jump, CallExt, Ret, Pget, PgetOr, Elem, Print, Yield}
+use Rattle.machine_core.specs.declared.op.Op.TheVariants.{Move, Add, Sub, Eq, Less, Ret, PgetOr, Elem, Print}
 use Rattle.machine_core.specs.declared.process.Line.{Line}
 use Rattle.machine_core.specs.declared.outcome.Outcome.{Outcome}
 use Rattle.machine_core.specs.declared.outcome.Outcome.TheVariants.{GoesOn, Yields, Ends}
@@ -118,15 +117,11 @@ HasSources shown area (Add a b to) = IsSource shown area a × IsSource shown are
 HasSources shown area (Sub a b to) = IsSource shown area a × IsSource shown area b
 HasSources shown area (Eq a b target) = IsSource shown area a × IsSource shown area b
 HasSources shown area (Less a b target) = IsSource shown area a × IsSource shown area b
-HasSources shown area (Jump target) = Unit {0}
-HasSources shown area (ops.Call function at) = Unit {0}
-HasSources shown area (CallExt to at) = Unit {0}
 HasSources shown area (Ret value) = IsSource shown area value
-HasSources shown area (Pget key to) = Unit {0}
 HasSources shown area (PgetOr key other to) = IsSource shown area other
 HasSources shown area (Elem index from to) = IsSource shown area index × IsSource shown area from
 HasSources shown area (Print value) = IsSource shown area value
-HasSources shown area Yield = Unit {0}
+HasSources shown area op = Unit {0}
 
 -- a frame that stands in an instance which is held, and whose values the machine may read
 pub record IsReadyFrame (shown : Shown) (held : Holds) (f : CodeFrame) : Type 0 where

@@ -1,4 +1,4 @@
-ghost use Rattle.std.specs.Prelude.{◌≡◌, ◌+◌, ◌++◌, ◌≤◌, ◌∷◌, [], ℕ, List, IfOk, OnOk};
+ghost use Rattle.std.specs.Prelude.{◌≡◌, ◌+◌, ◌≤◌, ◌∷◌, List, IfOk, OnOk};
 ghost use Rattle.mod_core.specs.declared.code.Instr.{Instr as PlainInstr};
 ghost use Rattle.mod_core.specs.ModuleImage.{instr_len};
 ghost use Rattle.machine_core.specs.Decode.{instr_shown};

@@ -1,4 +1,4 @@
-ghost use Rattle.std.specs.Prelude.{◌≡◌, ◌∷◌, [], List, IfOk, OnOk};
+ghost use Rattle.std.specs.Prelude.{◌≡◌, ◌∷◌, IfOk, OnOk};
 ghost use Rattle.machine_core.specs.View.{AreValues, HasValues, IsLawful};
 ghost use Rattle.machine_core.specs.Process.{area_holds, frame_of, frames_of, process_of};
 ghost use Rattle.machine_core.specs.Turn.{MayTurn, TurnGives, begun, held_after, run_of};
@@ -11,7 +11,7 @@ use crate::doom::doomed_serial;
 use crate::outcome::Outcome;
 use crate::pause::pause;
 use crate::process::{
-    End, Frame, FrameList, Line, LineList, MOST_TURNS, Process, TURN_INSTRUCTIONS, TurnEnd,
+    End, Frame, FrameList, LineList, MOST_TURNS, Process, TURN_INSTRUCTIONS, TurnEnd,
 };
 use crate::step::step;
 use crate::view::CodeView;

@@ -1,4 +1,4 @@
-ghost use Rattle.std.specs.Prelude.{◌≡◌, ◌↔◌, ℕ, ◌<◌, length, option_map, slice_index, IsErr, IsTrue, OnErr, OnOk};
+ghost use Rattle.std.specs.Prelude.{◌≡◌, ◌↔◌, option_map, slice_index, IsErr, IsTrue, OnErr, OnOk};
 ghost use Rattle.server_core.specs.ServerState.{entry_of, found_as};
 ghost use Rattle.machine_core.specs.Holds.{Holds, is_area_held, is_full, is_held, with_hold, without_hold};
 ghost use Rattle.machine_core.specs.View.{Shown, IsLawful, IsReadable};
