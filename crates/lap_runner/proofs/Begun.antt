@@ -21,13 +21,13 @@ use Rattle.script_core.proofs.JoinedPlaces.{JoinedAt, behind, get_behind, get_fr
 use Rattle.lap_runner.specs.declared.process_run.ProcessRun.{ProcessRun}
 use Rattle.lap_runner.specs.declared.run.LoaderRun.{LoaderRun}
 use Rattle.lap_runner.specs.declared.run.Run.{Run}
-use Rattle.lap_runner.specs.Answers.{AreKnown, Each, IsHistory}
+use Rattle.run_log.specs.History.{AreKnown, Each, IsHistory}
 use Rattle.lap_runner.specs.Runs.{DoomsJust, HasArity, IsRun, StandsIn, done_of, half_of, histories_of, history_of, loaders_from, waiting_from, waiting_of, waiting_stand}
 use Rattle.lap_runner.specs.Steps.{Stand, stand_in, stand_of}
-use Rattle.lap_runner.proofs.Answers.{known_at_start}
-use Rattle.lap_runner.proofs.AnswersLists.{each_map}
-use Rattle.lap_runner.proofs.AnswersMarks.{new_history}
-use Rattle.lap_runner.proofs.Lists.{all_weaker, get_within}
+use Rattle.run_log.proofs.History.{known_at_start}
+use Rattle.run_log.proofs.HistoryLists.{each_map}
+use Rattle.run_log.proofs.HistoryMarks.{new_history}
+use Rattle.run_log.proofs.ListPlaces.{all_weaker, get_within}
 use Rattle.script_core.proofs.SpawnLines.{lines_counted, number_further}
 
 -- generation 0 is a sound state

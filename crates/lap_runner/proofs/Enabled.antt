@@ -18,7 +18,7 @@ use Rattle.lap_runner.specs.declared.run.Run.{Run}
 use Rattle.lap_runner.specs.Looks.{next_cmd}
 use Rattle.lap_runner.specs.Runs.{IsRun, done_of}
 use Rattle.lap_runner.specs.Steps.{Advances, CanSpawn, HasAdvanced, HasJoined, HasMade, SpawnsNext, loader_after, purging_after}
-use Rattle.lap_runner.proofs.Lists.{all_at}
+use Rattle.run_log.proofs.ListPlaces.{all_at}
 use Rattle.lap_runner.proofs.Nexts.{next_enabled, next_of_text}
 use Rattle.script_core.proofs.SpawnLines.{spawn_at}
 

@@ -20,11 +20,11 @@ use Rattle.lap_runner.specs.declared.process_run.Phase.TheVariants.{Waiting, Goi
 use Rattle.lap_runner.specs.declared.process_run.ProcessRun.{ProcessRun}
 use Rattle.lap_runner.specs.declared.run.Run.{Run}
 use Rattle.lap_runner.specs.declared.observers.ObserverRun.{ObserverRun}
-use Rattle.lap_runner.specs.Answers.{AreHistoriesOf, History}
+use Rattle.run_log.specs.History.{AreHistoriesOf, History}
 use Rattle.lap_runner.specs.Observers.{HaveObserved, shots_of}
 use Rattle.lap_runner.specs.Runs.{HasNoWork, IsEnd, IsOver, IsRun, Rests, StandsIn, done_of, end_of, fin_in, half_of, histories_of, history_of, log_of}
 use Rattle.lap_runner.specs.Steps.{stand_in}
-use Rattle.lap_runner.proofs.AnswersEnd.{lingers_told, purged_unnamed, released_unnamed}
+use Rattle.run_log.proofs.HistoryEnd.{lingers_told, purged_unnamed, released_unnamed}
 use Rattle.lap_runner.proofs.Joining.{generations_counted, line_for}
 use Rattle.lap_runner.proofs.Making.{line_text}
 use Rattle.lap_runner.proofs.Observing.{seen_published, seen_true}

@@ -16,7 +16,8 @@ use Rattle.run_log.specs.declared.logs.Who.{Who}
 use Rattle.run_log.specs.declared.logs.Entry.{Entry}
 use Rattle.run_log.specs.declared.logs.Span.{Span}
 use Rattle.run_log.specs.Journal.{state_after, next_state, newest_state, published_before, published_count, state_at}
-use Rattle.run_log.specs.Legal.{HalfPurge, MayStand, PurgesGo, Replays, SpansGo, commands_in, commands_of, half_after, is_release, is_runtime}
+use Rattle.run_log.specs.declared.underway.HalfPurge.{HalfPurge}
+use Rattle.run_log.specs.Legal.{MayStand, PurgesGo, Replays, SpansGo, commands_in, commands_of, half_after, is_release, is_runtime}
 use Rattle.script_core.specs.Processes.{SpawnLine, spawns_of}
 use Rattle.run_log.proofs.AreaWords.{areas_stay, sound_below}
 use Rattle.run_log.proofs.Journals.{before_kept, counted, entry_follows, never_falls, newest_more, purges_more, replays_more, state_kept}
@@ -26,11 +27,11 @@ use Rattle.lap_runner.specs.declared.process_run.Phase.{Phase}
 use Rattle.lap_runner.specs.declared.process_run.Phase.TheVariants.{Waiting, Going, Ended}
 use Rattle.lap_runner.specs.declared.process_run.ProcessRun.{ProcessRun}
 use Rattle.lap_runner.specs.declared.run.Run.{Run}
-use Rattle.lap_runner.specs.Answers.{History}
+use Rattle.run_log.specs.History.{History}
 use Rattle.lap_runner.specs.Runs.{IsRun, StandsIn, Waits, WasSpawned, done_of, fin_in, half_of, histories_of, history_of}
 use Rattle.lap_runner.specs.Steps.{HasJoined, stand_in}
 use Rattle.lap_runner.proofs.Frames.{frameless_same}
-use Rattle.lap_runner.proofs.Lists.{all_weaker, get_within, map_same}
+use Rattle.run_log.proofs.ListPlaces.{all_weaker, get_within, map_same}
 
 -- what a longer journal keeps of a process
 pub record IsLonger (journal longer : List Entry) (states others : ℕ → ServerState) (newest now : ServerState) (done more : ℕ) (line : SpawnLine) : Type 0 where

@@ -29,7 +29,7 @@ use Rattle.lap_runner.proofs.Enabled.{loader_there}
 use Rattle.lap_runner.proofs.Generations.{generations_more, generations_same}
 use Rattle.lap_runner.proofs.Frames.{stands_unread}
 use Rattle.lap_runner.proofs.Joining.{frames_over, line_for, stands_at}
-use Rattle.lap_runner.proofs.Lists.{SetAt, get_within, here, set_at, set_there, there}
+use Rattle.run_log.proofs.ListPlaces.{SetAt, get_within, here, set_at, set_there, there}
 use Rattle.lap_runner.proofs.Making.{made_keeps}
 use Rattle.lap_runner.proofs.Work.{made_less, sum_less, turn_less}
 

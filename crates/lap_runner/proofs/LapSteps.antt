@@ -23,13 +23,13 @@ use Rattle.lap_runner.specs.declared.process_run.Phase.{Phase}
 use Rattle.lap_runner.specs.declared.process_run.Phase.TheVariants.{Waiting, Going, Ended}
 use Rattle.lap_runner.specs.declared.process_run.ProcessRun.{ProcessRun}
 use Rattle.lap_runner.specs.declared.run.Run.{Run}
-use Rattle.lap_runner.specs.Answers.{AllRestOrTurn, AnswerStands, AreKnown, HasTurned, History, RestsOrTurns, StaysReleased, fin_after, history_after, rests, turns}
+use Rattle.run_log.specs.History.{AllRestOrTurn, AnswerStands, AreKnown, HasTurned, History, RestsOrTurns, StaysReleased, fin_after, history_after, rests, turns}
 use Rattle.lap_runner.specs.Runs.{Goes, IsReadyIn, IsRun, StandsIn, done_of, fin_in, histories_of, history_of}
 use Rattle.lap_runner.specs.Steps.{HadItsTurn, LapOf, Stand, phase_after, stand_in}
-use Rattle.lap_runner.proofs.Answers.{steps_pass}
-use Rattle.lap_runner.proofs.AnswersTurns.{has_turned}
+use Rattle.run_log.proofs.History.{steps_pass}
+use Rattle.run_log.proofs.HistoryTurns.{has_turned}
 use Rattle.lap_runner.proofs.Joining.{generations_counted, history_at, line_for, stands_at}
-use Rattle.lap_runner.proofs.Lists.{get_within}
+use Rattle.run_log.proofs.ListPlaces.{get_within}
 use Rattle.lap_runner.proofs.Turning.{turn_marks, turn_stands}
 
 -- the end that a phase tells is that of the turn before it

@@ -1,13 +1,5 @@
-mod Lists
 mod Generations
 mod Observing
-mod AnswersLists
-mod AnswersTable
-mod AnswersMarks
-mod AnswersSteps
-mod Answers
-mod AnswersEnd
-mod AnswersTurns
 mod TurnLaws
 mod Taking
 mod Turning

@@ -19,12 +19,12 @@ use Rattle.lap_runner.specs.declared.process_run.Phase.{Phase}
 use Rattle.lap_runner.specs.declared.process_run.Phase.TheVariants.{Waiting, Going, Ended}
 use Rattle.lap_runner.specs.declared.process_run.ProcessRun.{ProcessRun}
 use Rattle.lap_runner.specs.declared.run.Run.{Run}
-use Rattle.lap_runner.specs.Answers.{AreKnown, Each, History, IsSilent, has_ended_by}
+use Rattle.run_log.specs.History.{AreKnown, Each, History, IsSilent, has_ended_by}
 use Rattle.lap_runner.specs.Looks.{lingering, lingering_in, names_area, some_names, some_stands, stands_in, unread, was_killed_by}
 use Rattle.lap_runner.specs.Runs.{IsRun, StandsIn, fin_in, histories_of, history_of}
 use Rattle.lap_runner.specs.Steps.{HasJoined, stand_in}
-use Rattle.lap_runner.proofs.Answers.{linger_joins, purge_joins, release_joins, silent_joins, soft_purge_joins}
-use Rattle.lap_runner.proofs.AnswersLists.{any_map, each_map}
+use Rattle.run_log.proofs.History.{linger_joins, purge_joins, release_joins, silent_joins, soft_purge_joins}
+use Rattle.run_log.proofs.HistoryLists.{any_map, each_map}
 use Rattle.lap_runner.proofs.Frames.{any_same, names_unread, stands_unread}
 use Rattle.lap_runner.proofs.Joining.{applied_at, generations_counted, history_at, line_for, next_newest, stands_at}
 use Rattle.lap_runner.proofs.Nexts.{HasPurgeLook, Looked}

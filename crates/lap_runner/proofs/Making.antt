@@ -25,7 +25,8 @@ use Rattle.run_log.specs.declared.logs.Who.TheVariants.{Loader}
 use Rattle.run_log.specs.declared.logs.Entry.{Entry}
 use Rattle.run_log.specs.declared.logs.Span.{Span}
 use Rattle.run_log.specs.Journal.{state_at, is_of, ends_one, published_before}
-use Rattle.run_log.specs.Legal.{HalfPurge, MayStand, MayStandBetween, MayStart, SpansGo, commands_in, commands_of, ended_by, first_generation, half_after, is_release, is_runtime}
+use Rattle.run_log.specs.declared.underway.HalfPurge.{HalfPurge}
+use Rattle.run_log.specs.Legal.{MayStand, MayStandBetween, MayStart, SpansGo, commands_in, commands_of, ended_by, first_generation, half_after, is_release, is_runtime}
 use Rattle.run_log.specs.WholeSpans.{AreWhole}
 use Rattle.run_log.proofs.Journals.{commands_other, commands_own}
 use Rattle.run_log.proofs.SpanRuns.{some_and, some_at}
@@ -36,11 +37,11 @@ use Rattle.lap_runner.specs.declared.process_run.ProcessRun.{ProcessRun}
 use Rattle.lap_runner.specs.declared.run.LoaderRun.{LoaderRun}
 use Rattle.lap_runner.specs.declared.run.Purging.{Purging}
 use Rattle.lap_runner.specs.declared.run.Run.{Run}
-use Rattle.lap_runner.specs.Answers.{AreKnown}
+use Rattle.run_log.specs.History.{AreKnown}
 use Rattle.lap_runner.specs.Looks.{some_killed}
 use Rattle.lap_runner.specs.Runs.{DoomsJust, Goes, IsRun, PurgeWaits, StandsIn, Waits, done_of, fin_in, half_of, histories_of, history_of}
 use Rattle.lap_runner.specs.Steps.{Advances, HasAdvanced, HasJoined, HasMade, HasStayed, SpawnsNext, loader_after, purging_after, stand_in}
-use Rattle.lap_runner.proofs.Lists.{SetAt, here, map_kept, set_at, set_here, set_there, there}
+use Rattle.run_log.proofs.ListPlaces.{SetAt, here, map_kept, set_at, set_here, set_there, there}
 use Rattle.script_core.proofs.SpawnLines.{line_at, number_next, spawn_at}
 use Rattle.lap_runner.proofs.Dooms.{IsMeanwhile, doom_dooms, purge_lifts, versions_kept}
 use Rattle.lap_runner.proofs.Nexts.{HasPurgeLook, IsNext, IsQuiet, Looked, at_once, between, first_half, half_is, next_is, quiet_keeps, quiet_starts, second_half, still_waits}

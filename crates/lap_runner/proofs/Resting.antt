@@ -21,7 +21,7 @@ use Rattle.lap_runner.specs.Runs.{AreIdle, all_made, one_goes, HasNoWork, HasRel
 use Rattle.lap_runner.specs.Steps.{LapOf, stand_in}
 use Rattle.lap_runner.proofs.Frames.{names_unread}
 use Rattle.lap_runner.proofs.Joining.{frames_over, line_for, stands_at}
-use Rattle.lap_runner.proofs.Lists.{get_within}
+use Rattle.run_log.proofs.ListPlaces.{get_within}
 
 -- where each fails, none passes
 none_passes : {X : Type 0} (f : X → Bool) (xs : List X) → ((k : ℕ) (x : X) → slice_get xs k ≡ Some x → f x ≡ false) → list_any f xs ≡ false

@@ -24,7 +24,7 @@ use Rattle.run_log.proofs.SpanRuns.{first_front, first_more, go_cut, go_more, go
 use Rattle.lap_runner.specs.declared.process_run.ProcessRun.{ProcessRun}
 use Rattle.lap_runner.specs.Runs.{Goes, IsOver, StandsIn, WasSpawned}
 use Rattle.lap_runner.specs.Steps.{HadItsTurn, IsTaken, Stand, last_one, new_one, phase_after, stand_in}
-use Rattle.lap_runner.proofs.Lists.{all_front, all_last, all_push, all_weaker}
+use Rattle.run_log.proofs.ListPlaces.{all_front, all_last, all_push, all_weaker}
 use Rattle.lap_runner.proofs.TurnLaws.{again_counted}
 use Rattle.machine_core.proofs.FewAreas.{turn_few}
 use Rattle.machine_core.proofs.TurnLaws.{turn_same}

@@ -12,7 +12,7 @@ use Rattle.run_log.specs.declared.logs.Snapshot.{Snapshot}
 use Rattle.run_log.specs.Journal.{newest_state, state_at}
 use Rattle.run_log.specs.Legal.{AreRising}
 use Rattle.run_log.specs.Snapshots.{AreExports}
-use Rattle.snapshots.specs.States.{IsSnapshotOf}
+use Rattle.run_log.specs.SeenExports.{IsSnapshotOf}
 use Rattle.lap_runner.specs.declared.observers.ObserverRun.{ObserverRun}
 
 -- an observer that takes so many snapshots, before the first

@@ -22,7 +22,8 @@ use Rattle.run_log.specs.declared.logs.Who.TheVariants.{Loader}
 use Rattle.run_log.specs.declared.logs.Entry.{Entry}
 use Rattle.run_log.specs.declared.logs.ProcessLog.{ProcessLog}
 use Rattle.run_log.specs.Journal.{newest_state, state_at, published_before}
-use Rattle.run_log.specs.Legal.{HalfPurge, PurgesGo, Replays, SpansFollow, SpansGo, commands_in, commands_of, first_generation, marks_of}
+use Rattle.run_log.specs.declared.underway.HalfPurge.{HalfPurge}
+use Rattle.run_log.specs.Legal.{PurgesGo, Replays, SpansFollow, SpansGo, commands_in, commands_of, first_generation, marks_of}
 use Rattle.run_log.specs.WholeSpans.{AreWhole}
 use Rattle.lap_runner.specs.declared.process_run.Phase.{Phase}
 use Rattle.lap_runner.specs.declared.process_run.Phase.TheVariants.{Waiting, Going, Ended}
@@ -30,7 +31,7 @@ use Rattle.lap_runner.specs.declared.process_run.ProcessRun.{ProcessRun}
 use Rattle.lap_runner.specs.declared.run.LoaderRun.{LoaderRun}
 use Rattle.lap_runner.specs.declared.run.Purging.{Purging}
 use Rattle.lap_runner.specs.declared.run.Run.{Run}
-use Rattle.lap_runner.specs.Answers.{AreKnown, History}
+use Rattle.run_log.specs.History.{AreKnown, History}
 use Rattle.lap_runner.specs.Observers.{KeepsGenerations}
 use Rattle.lap_runner.specs.Steps.{Stand, stand_in}
 
@@ -94,7 +95,7 @@ histories_of states newest ps = map (λ p. history_of states (stand_in newest p)
 
 -- a purge as the journal has it
 abbrev pub half_of : Purging → HalfPurge
-half_of purging = record { who = Loader purging.loader; name = purging.«module» }
+half_of purging = record { who = Loader purging.loader; «module» = purging.«module» }
 
 -- a purge waits: it is the next command of its loader, and just the old code of its module is doomed
 pub record PurgeWaits (s : Script) (newest : ServerState) (loaders : List LoaderRun) (purging : Purging) : Type 0 where

@@ -11,10 +11,9 @@ use crate::observers::{observe, observe_rest, observer_logs, waiting_observers};
 use crate::process_run::{Phase, ProcessRun, log_of, take_turn};
 use crate::releases::release_areas;
 use crate::run::{Run, begin};
-use run_log::{ProcessLogList, RunLog};
+use run_log::{ProcessLogList, RunLog, exported_functions};
 use script_core::Script;
 use server_core::Server;
-use snapshots::exported_functions;
 use std::alloc::Global;
 use term_core::NoMemory;
 

@@ -10,7 +10,8 @@ use Rattle.script_core.specs.declared.script.Script.{Script}
 use Rattle.run_log.specs.declared.logs.Entry.{Entry}
 use Rattle.run_log.specs.declared.logs.ProcessLog.{ProcessLog}
 use Rattle.run_log.specs.declared.logs.RunLog.{RunLog}
-use Rattle.run_log.specs.Legal.{EntryFollows, HalfPurge, Lingers, MayStand, NamesNot, StandsNotIn, dropped_by, half_after, is_killed_by, last_up_to, published_to, state_before, turns_in_log}
+use Rattle.run_log.specs.Legal.{EntryFollows, Lingers, MayStand, NamesNot, StandsNotIn, dropped_by, half_after, is_killed_by, last_up_to, published_to, state_before, turns_in_log}
+use Rattle.run_log.specs.declared.underway.HalfPurge.{HalfPurge}
 
 -- the purge that waits after these entries, if one does, where this one waited before them
 abbrev pub half_over : Option HalfPurge → List Entry → Option HalfPurge

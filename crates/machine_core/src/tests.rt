@@ -16,12 +16,6 @@ const M: AtomId = AtomId(3);
 
 const MAIN: AtomId = AtomId(4);
 
-const OTHER: Mfa = Mfa {
-    module: M,
-    name: AtomId(5),
-    arity: 0,
-};
-
 /// A persistent term: its key, and the words of its image.
 #[derive(Clone, Copy, Debug)]
 struct Put {
@@ -40,7 +34,6 @@ const SEVEN: &[u64] = &[113];
 enum Arg {
     Reg(u32),
     Int(i64),
-    Ok,
     /// `{1}`
     One,
     /// `{3,{1}}`
@@ -52,15 +45,6 @@ enum Arg {
 enum Step {
     Move(Arg, u32),
     Add(Arg, Arg, u32),
-    Sub(Arg, Arg, u32),
-    Eq(Arg, Arg, u32),
-    Less(Arg, Arg, u32),
-    Jump(u32),
-    /// A call of `main`.
-    Call(u32),
-    /// A call of what no module exports.
-    CallExt(u32),
-    Ret(Arg),
     Pget(u32, u32),
     PgetOr(u32, Arg, u32),
     Elem(Arg, Arg, u32),
@@ -240,7 +224,7 @@ fn term_of(arg: Arg, alloc: Global) -> Result<Term, NoMemory> {
         Arg::Int(number) => Ok(Term::Int(number)),
         Arg::One => one(alloc),
         Arg::Nested => nested(alloc),
-        Arg::Reg(_) | Arg::Ok => Ok(Term::Atom(AtomId::OK)),
+        Arg::Reg(_) => Ok(Term::Atom(AtomId::OK)),
     }
 }
 
@@ -251,33 +235,19 @@ fn operand_of(arg: Arg, alloc: Global) -> Result<Operand, NoMemory> {
     }
 }
 
-/// The instruction of a row that has two sources and a register or a target.
-fn pair_of(step: Step, a: Operand, b: Operand, to: u32) -> Instr {
-    match step {
-        Step::Add(..) => Instr::Add { a, b, to },
-        Step::Sub(..) => Instr::Sub { a, b, to },
-        Step::Eq(..) => Instr::Eq { a, b, target: to },
-        Step::Less(..) => Instr::Less { a, b, target: to },
-        _ => Instr::Elem {
-            index: a,
-            from: b,
-            to,
-        },
-    }
-}
-
 fn instr_of(step: Step, alloc: Global) -> Result<Instr, NoMemory> {
     match step {
-        Step::Add(a, b, to)
-        | Step::Sub(a, b, to)
-        | Step::Eq(a, b, to)
-        | Step::Less(a, b, to)
-        | Step::Elem(a, b, to) => {
-            let first = operand_of(a, alloc)?;
-            Ok(pair_of(step, first, operand_of(b, alloc)?, to))
-        }
         Step::Move(from, to) => Ok(Instr::Move {
             from: operand_of(from, alloc)?,
+            to,
+        }),
+        Step::Add(a, b, to) => Ok(Instr::Add {
+            a: operand_of(a, alloc)?,
+            b: operand_of(b, alloc)?,
+            to,
+        }),
+        Step::Pget(key, to) => Ok(Instr::Pget {
+            key: AtomId(key),
             to,
         }),
         Step::PgetOr(key, other, to) => Ok(Instr::PgetOr {
@@ -285,27 +255,15 @@ fn instr_of(step: Step, alloc: Global) -> Result<Instr, NoMemory> {
             other: operand_of(other, alloc)?,
             to,
         }),
-        Step::Ret(value) => Ok(Instr::Ret {
-            value: operand_of(value, alloc)?,
+        Step::Elem(index, from, to) => Ok(Instr::Elem {
+            index: operand_of(index, alloc)?,
+            from: operand_of(from, alloc)?,
+            to,
         }),
         Step::Print(value) => Ok(Instr::Print {
             value: operand_of(value, alloc)?,
         }),
-        _ => Ok(plain_instr(step)),
-    }
-}
-
-/// The instruction of a row that has no source.
-fn plain_instr(step: Step) -> Instr {
-    match step {
-        Step::Jump(target) => Instr::Jump { target },
-        Step::Call(at) => Instr::Call { function: 0, at },
-        Step::CallExt(at) => Instr::CallExt { to: OTHER, at },
-        Step::Pget(key, to) => Instr::Pget {
-            key: AtomId(key),
-            to,
-        },
-        _ => Instr::Yield,
+        Step::Yield => Ok(Instr::Yield),
     }
 }
 
@@ -364,7 +322,7 @@ const fn plain<'a>(name: &'a str, code: &'a [Step], prints: &'a [Arg], end: End)
 }
 
 #[test]
-fn sums_and_tests_are_of_integers(rt: HostRuntime) -> Result<(), Fail> {
+fn processes_run_to_their_ends(rt: HostRuntime) -> Result<(), Fail> {
     let cases = [
         plain(
             "the worked example",
@@ -375,102 +333,6 @@ fn sums_and_tests_are_of_integers(rt: HostRuntime) -> Result<(), Fail> {
             &[Arg::Int(3)],
             End::Normal,
         ),
-        plain(
-            "a difference below the range",
-            &[Step::Sub(Arg::Int(-576_460_752_303_423_488), Arg::Int(1), 0)],
-            &[],
-            End::SystemLimit,
-        ),
-        plain(
-            "a sum with a tuple",
-            &[Step::Add(Arg::One, Arg::Int(1), 0)],
-            &[],
-            End::Badarith,
-        ),
-        plain(
-            "an order of an atom",
-            &[Step::Less(Arg::Int(1), Arg::Ok, 0)],
-            &[],
-            End::Badarg,
-        ),
-    ];
-    for case in cases {
-        expect(&rt, case)?;
-    }
-    Ok(())
-}
-
-/// `main(N)` prints N, calls itself with N - 1, and prints what comes back, which is 7 from 0.
-const COUNTDOWN: &[Step] = &[
-    Step::Less(Arg::Reg(0), Arg::Int(1), 5),
-    Step::Print(Arg::Reg(0)),
-    Step::Sub(Arg::Reg(0), Arg::Int(1), 2),
-    Step::Call(2),
-    Step::Print(Arg::Reg(2)),
-    Step::Ret(Arg::Int(7)),
-];
-
-/// 150 rounds of three instructions, one more and the return are 452 instructions.
-const ROUNDS: &[Step] = &[
-    Step::Less(Arg::Reg(0), Arg::Int(1), 3),
-    Step::Sub(Arg::Reg(0), Arg::Int(1), 0),
-    Step::Jump(0),
-];
-
-#[test]
-fn turns_follow_each_other(rt: HostRuntime) -> Result<(), Fail> {
-    let cases = [
-        Case {
-            name: "local calls and their values",
-            puts: &[],
-            args: &[Arg::Int(2)],
-            code: COUNTDOWN,
-            prints: &[Arg::Int(2), Arg::Int(1), Arg::Int(7), Arg::Int(7)],
-            turns: 1,
-            end: End::Normal,
-        },
-        plain(
-            "an external call of what is not exported",
-            &[
-                Step::Print(Arg::Int(1)),
-                Step::CallExt(0),
-                Step::Print(Arg::Int(2)),
-            ],
-            &[Arg::Int(1)],
-            End::Undef(OTHER),
-        ),
-        Case {
-            name: "a yield",
-            puts: &[],
-            args: &[],
-            code: &[
-                Step::Print(Arg::Int(1)),
-                Step::Yield,
-                Step::Print(Arg::Int(2)),
-            ],
-            prints: &[Arg::Int(1), Arg::Int(2)],
-            turns: 2,
-            end: End::Normal,
-        },
-        Case {
-            name: "a loop over three turns",
-            puts: &[],
-            args: &[Arg::Int(150)],
-            code: ROUNDS,
-            prints: &[],
-            turns: 3,
-            end: End::Normal,
-        },
-    ];
-    for case in cases {
-        expect(&rt, case)?;
-    }
-    Ok(())
-}
-
-#[test]
-fn constants_are_read_where_they_stand(rt: HostRuntime) -> Result<(), Fail> {
-    let cases = [
         plain(
             "a constant, and an element of an element",
             &[
@@ -485,62 +347,7 @@ fn constants_are_read_where_they_stand(rt: HostRuntime) -> Result<(), Fail> {
             End::Normal,
         ),
         Case {
-            name: "elements of an argument up to one that is not there",
-            puts: &[],
-            args: &[Arg::Nested],
-            code: &[
-                Step::Elem(Arg::Int(2), Arg::Reg(0), 1),
-                Step::Print(Arg::Reg(1)),
-                Step::Elem(Arg::Int(3), Arg::Reg(0), 1),
-            ],
-            prints: &[Arg::One],
-            turns: 1,
-            end: End::Badarg,
-        },
-        Case {
-            name: "a constant is equal to an argument, and another is not",
-            puts: &[],
-            args: &[Arg::One],
-            code: &[
-                Step::Eq(Arg::Reg(0), Arg::Nested, 3),
-                Step::Eq(Arg::Reg(0), Arg::One, 3),
-                Step::Print(Arg::Int(1)),
-                Step::Print(Arg::Int(2)),
-            ],
-            prints: &[Arg::Int(2)],
-            turns: 1,
-            end: End::Normal,
-        },
-    ];
-    for case in cases {
-        expect(&rt, case)?;
-    }
-    Ok(())
-}
-
-#[test]
-fn an_element_that_there_is_not_ends_the_process(rt: HostRuntime) -> Result<(), Fail> {
-    let cases = [
-        ("the number 0", Arg::Int(0), Arg::Nested),
-        ("past the end", Arg::Int(3), Arg::Nested),
-        ("before the first", Arg::Int(-1), Arg::Nested),
-        ("no number", Arg::Ok, Arg::Nested),
-        ("of an atom", Arg::Int(1), Arg::Ok),
-    ];
-    for (name, index, from) in cases {
-        expect(
-            &rt,
-            plain(name, &[Step::Elem(index, from, 0)], &[], End::Badarg),
-        )?;
-    }
-    Ok(())
-}
-
-#[test]
-fn keys_are_read(rt: HostRuntime) -> Result<(), Fail> {
-    let cases = [
-        Case {
-            name: "what keys hold, and what others stand for",
+            name: "what keys hold, what others stand for, and a yield",
             puts: &[
                 Put {
                     key: 10,
@@ -551,69 +358,24 @@ fn keys_are_read(rt: HostRuntime) -> Result<(), Fail> {
                     words: TUPLE,
                 },
             ],
-            args: &[],
+            args: &[Arg::One],
             code: &[
-                Step::Pget(10, 0),
-                Step::Print(Arg::Reg(0)),
-                Step::PgetOr(11, Arg::Int(5), 1),
+                Step::Pget(10, 1),
                 Step::Print(Arg::Reg(1)),
+                Step::PgetOr(11, Arg::Int(5), 2),
+                Step::Yield,
+                Step::Print(Arg::Reg(2)),
                 Step::PgetOr(12, Arg::Int(5), 3),
                 Step::Print(Arg::Reg(3)),
+                Step::Elem(Arg::Int(2), Arg::Reg(0), 4),
             ],
             prints: &[Arg::Int(7), Arg::One, Arg::Int(5)],
-            turns: 1,
-            end: End::Normal,
+            turns: 2,
+            end: End::Badarg,
         },
-        plain(
-            "a key that holds nothing",
-            &[Step::Pget(10, 0)],
-            &[],
-            End::Badarg,
-        ),
     ];
     for case in cases {
         expect(&rt, case)?;
     }
-    Ok(())
-}
-
-/// Reads the keys from 100 up to 114. With its own instance the process then holds 16 areas.
-fn fifteen_keys(alloc: Global) -> Result<InstrList, NoMemory> {
-    let mut code = InstrList::new(alloc);
-    for key in 0..15 {
-        code.push(instr_of(Step::Pget(100 + key, key), alloc)?)?;
-    }
-    Ok(code)
-}
-
-fn sixteen_puts(alloc: Global) -> Result<Vec<Put>, NoMemory> {
-    let mut puts = Vec::new(alloc);
-    for key in 100..116 {
-        puts.push(Put { key, words: TUPLE })?;
-    }
-    Ok(puts)
-}
-
-// A constant of its own instance is of no area more, and another key is.
-#[test]
-fn a_seventeenth_area_ends_the_process(rt: HostRuntime) -> Result<(), Fail> {
-    let alloc = rt.alloc();
-    let mut code = fifteen_keys(alloc)?;
-    let last = [
-        Step::Elem(Arg::Int(2), Arg::Nested, 15),
-        Step::Print(Arg::Reg(15)),
-        Step::Pget(115, 15),
-    ];
-    for step in last {
-        code.push(instr_of(step, alloc)?)?;
-    }
-    let puts = sixteen_puts(alloc)?;
-    let server = server_of(puts.as_slice(), 0, code, alloc)?;
-    let process = process_of_main(TermList::new(alloc), alloc)?;
-    let done = run_to_end(&server.ok_or("a server")?, process, alloc)?;
-    let done = done.ok_or("an end")?;
-    assert!(rt; done.end == End::SystemLimit);
-    let lines = lines_of(&[Arg::One], alloc)?;
-    assert!(rt; done.lines.as_slice() == lines.as_slice());
     Ok(())
 }

@@ -1,6 +1,6 @@
 -- The serial and the entry words of an image, which may be any, and the words without them.
 use Rattle.std.proofs.Common.{◌≡◌, ◌⊎◌, ℕ, ◌+◌, ◌-◌, ◌*◌, ◌/◌, ◌%◌, ◌<◌, List, [], ◌∷◌, ◌++◌, length, get_or, refl, sym, ap, ◌∙◌, arith, ⊎_elim, inl, inr, Bool, true, false, ◌&&◌, ◌||◌, cond, nat_eq, nat_le, nat_lt, length-append, below_more, Result, Ok, Err, IsErrOf, slice_index}
-use Rattle.std.proofs.lemmas.Bool.{eqb-true, false≢true, leb-true}
+use Rattle.std.proofs.lemmas.Bool.{eqb-true, false≢true, leb-true, false_from_ne_true}
 use borrow.Author.Tests.{ltb-true}
 use Rattle.std.proofs.lemmas.Bool.Decides.{nat_tests}
 use Rattle.std.proofs.Math.Seq.{get_or-append_seam}
@@ -17,7 +17,6 @@ use Rattle.mod_core.specs.Decoding.{IsUnmarked, is_mark}
 use Rattle.mod_core.proofs.Lengths.{image_end}
 use Rattle.mod_core.proofs.Places.{code_behind_heads}
 use Rattle.mod_core.proofs.Heads.{first_function, head_word}
-use Rattle.term_core.proofs.Truths.{false_unless}
 
 -- ---- marks
 
@@ -111,7 +110,7 @@ marked_is words copy m unmarked same =
     record {
       whole = long;
       same = λ at fixed.
-          sym (unmarked.each at (omega (arith, long, fixed.within)) ∙ ap (λ n. cond (is_mark n at) 0 (slice_index words at)) count ∙ ap (λ b. cond b 0 (slice_index words at)) (false_unless (is_mark (length m.functions) at) (not_marked m at fixed)))
+          sym (unmarked.each at (omega (arith, long, fixed.within)) ∙ ap (λ n. cond (is_mark n at) 0 (slice_index words at)) count ∙ ap (λ b. cond b 0 (slice_index words at)) (false_from_ne_true (is_mark (length m.functions) at) (not_marked m at fixed)))
           ∙ ap (λ ws. get_or ws at 0) same;
     }
 

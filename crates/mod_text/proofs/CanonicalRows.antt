@@ -2,7 +2,7 @@
 use Rattle.std.proofs.Common.{◌≡◌, ℕ, ◌+◌, ◌<◌, ◌≤◌, ◌^◌, Bool, true, false, cond, nat_lt, List, [], ◌∷◌, ◌++◌, length, map, decimal, Option, Some, None, bytes_eq, slice_get, All, refl, sym, ap, ◌∙◌, subst, arith, append_assoc, length-append}
 use Rattle.std.specs.List.{list_any, flat_map}
 use Rattle.std.proofs.lemmas.Bool.{and_from, le-ltb, lt-leb}
-use Rattle.std.proofs.lemmas.List.{append-nil, length-map}
+use Rattle.std.proofs.lemmas.List.{append-nil, length-map, map-append}
 use Rattle.std.proofs.lemmas.List.Elements.{All-head, All-tail}
 use Rattle.std.proofs.lemmas.Option.{slice_get_within}
 use Rattle.term_core.specs.Names.{is_atom_text, IsNames}
@@ -16,7 +16,7 @@ use Rattle.mod_text.specs.LineFaults.{is_open, is_in_function, may_follow, last_
 use Rattle.mod_text.specs.ModuleLine.{InstrForm, LineForm, title, header, label, instr, end, is_version_text, is_line_form, line_written}
 use Rattle.mod_text.specs.ModuleText.{FollowOn, names_behind}
 use Rattle.mod_text.specs.ModuleValue.{HeaderForm, headers_in, is_header}
-use Rattle.mod_text.proofs.Keepings.{list_any-map, map-append, headers_in-append, labels_on-append, last_line-push}
+use Rattle.mod_text.proofs.Keepings.{list_any-map, headers_in-append, labels_on-append, last_line-push}
 use Rattle.term_core.proofs.Text.Options.{failed}
 use Rattle.mod_text.proofs.CanonicalParts.{list_any-none, held_atom, no_new_name, version_writes, label_form}
 use Rattle.mod_text.proofs.CanonicalInstrs.{IsInstrBack, name_form}

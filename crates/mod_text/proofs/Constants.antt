@@ -12,7 +12,7 @@ use Rattle.term_core.specs.Plain.{plain, term_of}
 use Rattle.term_core.specs.PlainTerm.{PlainTerm, EachLeaf, map_leaves, term_words}
 use Rattle.term_core.specs.TermForms.{is_term_text, is_bracketed, is_complex_text, tree_of, term_atoms, text_words, is_wide_text, term_in}
 use Rattle.term_core.specs.TermText.{number_in}
-use Rattle.term_core.specs.Tokens.{Token, opened, shut, leaf, tokens_in, atoms_among}
+use Rattle.term_core.specs.Tokens.{Token, leaf, tokens_in, atoms_among}
 use Rattle.term_core.specs.Written.{IsTermInteger, is_integer_text, is_positive_text, integer_of}
 use Rattle.term_core.proofs.LeafFacts.{EachLeaf-weaker, EachLeaf-both, EachLeaf-map, term_words-map}
 use Rattle.term_core.proofs.PlainTerms.{plain-term_of}
@@ -67,9 +67,8 @@ one_atom_by text false rest is h = h
 
 among_are_atoms : (tokens : List Token) → list_all is_atom_text (atoms_among tokens) ≡ true
 among_are_atoms [] = refl
-among_are_atoms (opened b ∷ tokens) = among_are_atoms tokens
-among_are_atoms (shut ∷ tokens) = among_are_atoms tokens
 among_are_atoms (leaf text ∷ tokens) = one_atom_by text (is_atom_text text) (atoms_among tokens) refl (among_are_atoms tokens)
+among_are_atoms (one ∷ tokens) = among_are_atoms tokens
 
 -- the atoms of a term's text are atoms' texts
 pub term_atoms_are : (text : List ℕ) → list_all is_atom_text (term_atoms text) ≡ true

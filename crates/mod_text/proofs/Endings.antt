@@ -60,15 +60,8 @@ module _ (before : List (List ℕ)) (bytes : List ℕ) (first : ℕ) (after : Li
       (ap (λ p. p.0) same, ap (λ p. p.1) same)
 
   stop_by : (stop : LineStop) (fault : LineFault) (forms : List LineForm) (named : List (List ℕ)) → UnlessNoMemory fault (bytes_on before [] bytes ≡ Err stop) → bytes_on before [] bytes ≡ Ok (named, forms) → fault ≡ faults.NoMemory
-  stop_by stop faults.Syntax forms named so e = absurd cc
-  stop_by stop faults.Register forms named so e = absurd cc
-  stop_by stop faults.Int forms named so e = absurd cc
-  stop_by stop faults.Term forms named so e = absurd cc
-  stop_by stop faults.Names forms named so e = absurd cc
-  stop_by stop faults.TooManyFunctions forms named so e = absurd cc
-  stop_by stop faults.TooLong forms named so e = absurd cc
-  stop_by stop faults.Duplicate forms named so e = absurd cc
   stop_by stop faults.NoMemory forms named so e = refl
+  stop_by stop fault forms named so e = absurd cc
 
   -- where the lines are read, no line stops the reading
   never_stops : (stop : LineStop) (fault : ModFault) (forms : List LineForm) (named : List (List ℕ)) → StopsSo (bytes_on before [] bytes) stop → fault ≡ mod_fault (first + stop.number) stop.fault → bytes_on before [] bytes ≡ Ok (named, forms) → fault ≡ mod_faults.NoMemory
@@ -92,15 +85,8 @@ module _ (before : List (List ℕ)) (bytes : List ℕ) (first : ℕ) (after : Li
   -- ---- the cause of each refusal
 
   stop_cause : (number : ℕ) (fault : LineFault) → UnlessNoMemory fault (bytes_on before [] bytes ≡ stop_at number fault) → HasModFault before bytes first (mod_fault (first + number) fault)
-  stop_cause number faults.Syntax so = (number, refl, first_fault before bytes (record { number = number; fault = faults.Syntax }) so)
-  stop_cause number faults.Register so = (number, refl, first_fault before bytes (record { number = number; fault = faults.Register }) so)
-  stop_cause number faults.Int so = (number, refl, first_fault before bytes (record { number = number; fault = faults.Int }) so)
-  stop_cause number faults.Term so = (number, refl, first_fault before bytes (record { number = number; fault = faults.Term }) so)
-  stop_cause number faults.Names so = (number, refl, first_fault before bytes (record { number = number; fault = faults.Names }) so)
-  stop_cause number faults.TooManyFunctions so = (number, refl, first_fault before bytes (record { number = number; fault = faults.TooManyFunctions }) so)
-  stop_cause number faults.TooLong so = (number, refl, first_fault before bytes (record { number = number; fault = faults.TooLong }) so)
-  stop_cause number faults.Duplicate so = (number, refl, first_fault before bytes (record { number = number; fault = faults.Duplicate }) so)
   stop_cause number faults.NoMemory so = tt
+  stop_cause number fault so = (number, refl, first_fault before bytes (record { number = number; fault = fault }) so)
 
   pub cause_is : (r : Result Module ModFault) → Ends before bytes first after r → IfErr r (HasModFault before bytes first)
   cause_is _ (read forms m e value settled) = tt
@@ -127,15 +113,8 @@ module _ (before : List (List ℕ)) (bytes : List ℕ) (first : ℕ) (after : Li
       ]
     where
       memory_or : (o : LineFault) → UnlessNoMemory o (bytes_on before [] bytes ≡ stop_at at other) → (o ≡ faults.NoMemory) ⊎ (bytes_on before [] bytes ≡ stop_at at other)
-      memory_or faults.Syntax h = inr h
-      memory_or faults.Register h = inr h
-      memory_or faults.Int h = inr h
-      memory_or faults.Term h = inr h
-      memory_or faults.Names h = inr h
-      memory_or faults.TooManyFunctions h = inr h
-      memory_or faults.TooLong h = inr h
-      memory_or faults.Duplicate h = inr h
       memory_or faults.NoMemory h = inl refl
+      memory_or fault h = inr h
 
   pub fault_refuses : (r : Result Module ModFault) → Ends before bytes first after r → (number : ℕ) (fault : LineFault) → FirstFault before bytes number fault → RefusesUnless mod_faults.NoMemory r (mod_fault (first + number) fault)
   fault_refuses r ends number fault is_first = by_end r ends (fault_again before bytes number fault is_first)

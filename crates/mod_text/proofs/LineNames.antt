@@ -97,15 +97,8 @@ naming_over names xs ys over =
     ∙ sym (ap (λ t. cond {A = Result (List (List ℕ)) LineFault} t (Err faults.Names) (Ok (names_with_all names xs))) over)
 
 pub ok_fails : {A : Type 0} (x : A) (fault : LineFault) → Fails (Ok x) fault → fault ≡ faults.NoMemory
-ok_fails x faults.Syntax h = absurd cc
-ok_fails x faults.Register h = absurd cc
-ok_fails x faults.Int h = absurd cc
-ok_fails x faults.Term h = absurd cc
-ok_fails x faults.Names h = absurd cc
-ok_fails x faults.TooManyFunctions h = absurd cc
-ok_fails x faults.TooLong h = absurd cc
-ok_fails x faults.Duplicate h = absurd cc
 ok_fails x faults.NoMemory h = refl
+ok_fails x fault h = absurd cc
 
 first_fails_by : (names xs ys : List (List ℕ)) (fault : LineFault) (t : Bool) → nat_lt 4096 (length (names_with_all names xs)) ≡ t → Fails (cond {A = Result (List (List ℕ)) LineFault} t (Err faults.Names) (Ok (names_with_all names xs))) fault → Fails (naming names (xs ++ ys)) fault
 first_fails_by names xs ys fault true over h =

@@ -48,11 +48,8 @@ IsSoundInstr i = is_instr_form i ≡ true
 
 pub instrs_sound : (lines : List LineForm) → All IsSound lines → All IsSoundInstr (instrs_in lines)
 instrs_sound [] h = All-nil IsSoundInstr
-instrs_sound (title name version ∷ lines) h = instrs_sound lines (All-tail IsSound (title name version) lines h)
-instrs_sound (header exported name arity ∷ lines) h = instrs_sound lines (All-tail IsSound (header exported name arity) lines h)
-instrs_sound (label name ∷ lines) h = instrs_sound lines (All-tail IsSound (label name) lines h)
 instrs_sound (instr i ∷ lines) h = All-cons IsSoundInstr i (instrs_in lines) (All-head IsSound (instr i) lines h) (instrs_sound lines (All-tail IsSound (instr i) lines h))
-instrs_sound (end ∷ lines) h = instrs_sound lines (All-tail IsSound end lines h)
+instrs_sound (line ∷ lines) h = instrs_sound lines (All-tail IsSound line lines h)
 
 body_sound : (lines : List LineForm) → All IsSound lines → All IsSound (body_of lines)
 body_sound (label name ∷ lines) h = All-cons IsSound (label name) (body_of lines) (All-head IsSound (label name) lines h) (body_sound lines (All-tail IsSound (label name) lines h))
@@ -65,13 +62,10 @@ IsSoundFunction f = All IsSound f.body
 
 pub functions_sound : (lines : List LineForm) → All IsSound lines → All IsSoundFunction (functions_in lines)
 functions_sound [] h = All-nil IsSoundFunction
-functions_sound (title name version ∷ lines) h = functions_sound lines (All-tail IsSound (title name version) lines h)
 functions_sound (header exported name arity ∷ lines) h =
     let rest = All-tail IsSound (header exported name arity) lines h in
     All-cons IsSoundFunction (record { exported = exported; name = name; arity = arity; body = body_of lines }) (functions_in lines) (body_sound lines rest) (functions_sound lines rest)
-functions_sound (label name ∷ lines) h = functions_sound lines (All-tail IsSound (label name) lines h)
-functions_sound (instr i ∷ lines) h = functions_sound lines (All-tail IsSound (instr i) lines h)
-functions_sound (end ∷ lines) h = functions_sound lines (All-tail IsSound end lines h)
+functions_sound (line ∷ lines) h = functions_sound lines (All-tail IsSound line lines h)
 
 code_len_in : (names : List (List ℕ)) (headers : List HeaderForm) (body : List LineForm) (is : List InstrForm) → All IsSoundInstr is → code_len (map (instr_in names headers body) is) + constants_len (code_constants (map (instr_in names headers body) is)) ≡ sum_by instr_form_words is
 code_len_in names headers body [] h = refl
@@ -145,19 +139,14 @@ image_words names lines row sound =
 
 functions_in-end : (lines : List LineForm) → functions_in (lines ++ end ∷ []) ≡ functions_in lines
 functions_in-end [] = refl
-functions_in-end (title name version ∷ lines) = functions_in-end lines
 functions_in-end (header exported name arity ∷ lines) = λ i. record { exported = exported; name = name; arity = arity; body = body_of-end lines i } ∷ functions_in-end lines i
   where
     body_of-end : (ls : List LineForm) → body_of (ls ++ end ∷ []) ≡ body_of ls
     body_of-end [] = refl
-    body_of-end (title n v ∷ ls) = refl
-    body_of-end (header e n a ∷ ls) = refl
     body_of-end (label n ∷ ls) = ap (λ l. label n ∷ l) (body_of-end ls)
     body_of-end (instr i ∷ ls) = ap (λ l. instr i ∷ l) (body_of-end ls)
-    body_of-end (end ∷ ls) = refl
-functions_in-end (label name ∷ lines) = functions_in-end lines
-functions_in-end (instr i ∷ lines) = functions_in-end lines
-functions_in-end (end ∷ lines) = functions_in-end lines
+    body_of-end (line ∷ ls) = refl
+functions_in-end (line ∷ lines) = functions_in-end lines
 
 -- the end adds no words
 pub image_words-end : (names : List (List ℕ)) (lines : List LineForm) → RowFrom None lines → All IsSound lines → length (module_image (module_of names (lines ++ end ∷ []))) ≡ lines_words lines

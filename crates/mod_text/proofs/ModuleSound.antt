@@ -2,7 +2,7 @@
 use Rattle.std.proofs.Common.{◌≡◌, ℕ, zero, suc, ◌+◌, ◌<◌, ◌≤◌, Bool, true, false, cond, not, ◌&&◌, ◌||◌, ◌^◌, nat_lt, nat_le, List, [], ◌∷◌, ◌++◌, length, map, Option, Some, None, option_map, is_some, position, unwrap_or, bytes_eq, decimal, ℤ, pos, negsuc, ◌⊎◌, inl, inr, add-one, refl, sym, ap, ◌∙◌, subst, arith, length-append, append_assoc}
 use Rattle.std.specs.Prelude.{All, slice_get, IsSomeAnd}
 use Rattle.std.specs.List.{list_any}
-use Rattle.std.proofs.lemmas.Bool.{and_parts, and_from, or_parts, or_cases}
+use Rattle.std.proofs.lemmas.Bool.{and_parts, and_from, or_parts, or_cases, or_right}
 use Rattle.std.proofs.lemmas.Int.{ints}
 use Rattle.std.proofs.lemmas.Fmt.{decimal_digit, decimal-digits_value}
 use Rattle.std.proofs.lemmas.Option.{slice_get_within, slice_get-map}
@@ -16,7 +16,7 @@ use Rattle.term_core.specs.TermText.{number_in, names_with_all}
 use Rattle.term_core.specs.Written.{IsTermInteger, integer_of, is_term_integer, is_positive_text}
 use Rattle.term_core.proofs.IntegerTexts.{own, Positive-from}
 use Rattle.term_core.proofs.NameTables.{slice_get-number_of}
-use Rattle.term_core.proofs.Places.{position-cons, is_some-position}
+use Rattle.term_core.proofs.Places.{position-cons, is_some-position, all_at}
 use Rattle.term_core.proofs.Truths.{not_both}
 use Rattle.mod_core.specs.declared.code.Function.{Function}
 use Rattle.mod_core.specs.declared.code.Module.{Module}
@@ -49,14 +49,8 @@ pub record PassesAll (names : List (List ℕ)) (before : List LineForm) (line : 
   pub new : is_repeated before line ≡ false
 
 passes_by : (names : List (List ℕ)) (before : List LineForm) (line : LineForm) (a b l c d e f : Bool) → has_high_register line ≡ a → has_wide_integer line ≡ b → has_long_term line ≡ l → overfills_names names line ≡ c → is_seventeenth before line ≡ d → ends_too_long names before line ≡ e → is_repeated before line ≡ f → cond a (Some faults.Register) (cond b (Some faults.Int) (cond l (Some faults.Term) (cond c (Some faults.Names) (cond d (Some faults.TooManyFunctions) (cond e (Some faults.TooLong) (cond f (Some faults.Duplicate) None)))))) ≡ None → PassesAll names before line
-passes_by names before line true b l c d e f ha hb hl hc hd he hf none = absurd cc
-passes_by names before line false true l c d e f ha hb hl hc hd he hf none = absurd cc
-passes_by names before line false false true c d e f ha hb hl hc hd he hf none = absurd cc
-passes_by names before line false false false true d e f ha hb hl hc hd he hf none = absurd cc
-passes_by names before line false false false false true e f ha hb hl hc hd he hf none = absurd cc
-passes_by names before line false false false false false true f ha hb hl hc hd he hf none = absurd cc
-passes_by names before line false false false false false false true ha hb hl hc hd he hf none = absurd cc
 passes_by names before line false false false false false false false ha hb hl hc hd he hf none = record { low = ha; narrow = hb; long = hl; room = hc; few = hd; short = he; new = hf }
+passes_by names before line a b l c d e f ha hb hl hc hd he hf none = absurd cc
 
 pub passes : (names : List (List ℕ)) (before : List LineForm) (line : LineForm) → fault_of_line names before line ≡ None → PassesAll names before line
 passes names before line none = passes_by names before line (has_high_register line) (has_wide_integer line) (has_long_term line) (overfills_names names line) (is_seventeenth before line) (ends_too_long names before line) (is_repeated before line) refl refl refl refl refl refl refl none
@@ -136,11 +130,9 @@ suc_by None n bound more e = absurd cc
 -- a label's instruction is one of its function's, or the place behind them
 pub label_within : (wanted : List ℕ) (body : List LineForm) (n : ℕ) → label_number wanted body ≡ Some n → n ≤ length (instrs_in body)
 label_within wanted [] n e = absurd cc
-label_within wanted (title name version ∷ lines) n e = label_within wanted lines n e
-label_within wanted (header exported name arity ∷ lines) n e = label_within wanted lines n e
 label_within wanted (label name ∷ lines) n e = label_by (bytes_eq name wanted) (label_number wanted lines) n (length (instrs_in lines)) (label_within wanted lines n) e
 label_within wanted (instr i ∷ lines) n e = suc_by (label_number wanted lines) n (length (instrs_in lines)) (label_within wanted lines) e
-label_within wanted (end ∷ lines) n e = label_within wanted lines n e
+label_within wanted (line ∷ lines) n e = label_within wanted lines n e
 
 target_by : (wanted : List ℕ) (body : List LineForm) (o : Option ℕ) → label_number wanted body ≡ o → unwrap_or o 0 ≤ length (instrs_in body)
 target_by wanted body None is = omega arith
@@ -157,11 +149,8 @@ head_of f = (f.name, f.arity)
 
 pub heads_are : (lines : List LineForm) → headers_in lines ≡ map head_of (functions_in lines)
 heads_are [] = refl
-heads_are (title name version ∷ lines) = heads_are lines
 heads_are (header exported name arity ∷ lines) = ap (λ hs. (name, arity) ∷ hs) (heads_are lines)
-heads_are (label name ∷ lines) = heads_are lines
-heads_are (instr i ∷ lines) = heads_are lines
-heads_are (end ∷ lines) = heads_are lines
+heads_are (line ∷ lines) = heads_are lines
 
 -- what each function of a text has
 pub record IsForm (headers : List HeaderForm) (f : FunctionForm) : Type 0 where
@@ -175,16 +164,13 @@ both_none a b h = absurd cc
 
 pub forms_are : (headers : List HeaderForm) (lines : List LineForm) → All IsKept lines → first_unsettled headers lines ≡ None → All (IsForm headers) (functions_in lines)
 forms_are headers [] kept none = All-nil (IsForm headers)
-forms_are headers (title name version ∷ lines) kept none = forms_are headers lines (All-tail IsKept (title name version) lines kept) (both_none None (first_unsettled headers lines) none).1
 forms_are headers (header exported name arity ∷ lines) kept none =
     let settled = both_none (unsettled_in headers (body_of lines)) (first_unsettled headers lines) none in
     let rest = All-tail IsKept (header exported name arity) lines kept in
     All-cons (IsForm headers) (record { exported = exported; name = name; arity = arity; body = body_of lines }) (functions_in lines)
     (record { sound = (All-head IsKept (header exported name arity) lines kept).sound; kept = kept_body lines rest; settled = settled.0 })
     (forms_are headers lines rest settled.1)
-forms_are headers (label name ∷ lines) kept none = forms_are headers lines (All-tail IsKept (label name) lines kept) (both_none None (first_unsettled headers lines) none).1
-forms_are headers (instr i ∷ lines) kept none = forms_are headers lines (All-tail IsKept (instr i) lines kept) (both_none None (first_unsettled headers lines) none).1
-forms_are headers (end ∷ lines) kept none = forms_are headers lines (All-tail IsKept end lines kept) (both_none None (first_unsettled headers lines) none).1
+forms_are headers (line ∷ lines) kept none = forms_are headers lines (All-tail IsKept line lines kept) (both_none None (first_unsettled headers lines) none).1
 
 -- each line was within its own limits
 pub kept_lines : (names : List (List ℕ)) (before lines : List LineForm) → FollowOn names before lines → All IsKept lines
@@ -275,16 +261,13 @@ module _ (names : List (List ℕ)) (forms : List FunctionForm) (room : length na
 
   code_is : (body rest : List LineForm) → All IsKept rest → unsettled_at (map head_of forms) body rest ≡ None → All (IsInstr (map (function_in names (map head_of forms)) forms) (length (instrs_in body))) (map (instr_in names (map head_of forms) body) (instrs_in rest))
   code_is body [] kept none = All-nil (IsInstr (map (function_in names (map head_of forms)) forms) (length (instrs_in body)))
-  code_is body (title name version ∷ rest) kept none = code_is body rest (All-tail IsKept (title name version) rest kept) (settled_by true (unsettled_at (map head_of forms) body rest) none).1
-  code_is body (header exported name arity ∷ rest) kept none = code_is body rest (All-tail IsKept (header exported name arity) rest kept) (settled_by true (unsettled_at (map head_of forms) body rest) none).1
-  code_is body (label name ∷ rest) kept none = code_is body rest (All-tail IsKept (label name) rest kept) (settled_by true (unsettled_at (map head_of forms) body rest) none).1
   code_is body (instr i ∷ rest) kept none =
       let both = settled_by (is_settled (map head_of forms) body i) (unsettled_at (map head_of forms) body rest) none in
       let is = All-head IsKept (instr i) rest kept in
       All-cons (IsInstr (map (function_in names (map head_of forms)) forms) (length (instrs_in body))) (instr_in names (map head_of forms) body i) (map (instr_in names (map head_of forms) body) (instrs_in rest))
       (instr_is body i (record { sound = is.sound; low = is.low; narrow = is.narrow; short = is.short }) both.0)
       (code_is body rest (All-tail IsKept (instr i) rest kept) both.1)
-  code_is body (end ∷ rest) kept none = code_is body rest (All-tail IsKept end rest kept) (settled_by true (unsettled_at (map head_of forms) body rest) none).1
+  code_is body (line ∷ rest) kept none = code_is body rest (All-tail IsKept line rest kept) (settled_by true (unsettled_at (map head_of forms) body rest) none).1
 
   function_is : (f : FunctionForm) → IsForm (map head_of forms) f → IsFunction (map (function_in names (map head_of forms)) forms) (function_in names (map head_of forms) f)
   function_is f is =
@@ -394,11 +377,7 @@ named_new : (names : List (List ℕ)) (text : List ℕ) (t : Bool) → is_some (
 named_new names text true is = is
 named_new names text false is =
     is_some-position (bytes_eq text) (names ++ text ∷ []) ∙ list_any-append (bytes_eq text) names (text ∷ [])
-    ∙ ap (λ t. list_any (bytes_eq text) names || (t || false)) (same_bytes text) ∙ or_true (list_any (bytes_eq text) names)
-  where
-    or_true : (t : Bool) → (t || true) ≡ true
-    or_true true = refl
-    or_true false = refl
+    ∙ ap (λ t. list_any (bytes_eq text) names || (t || false)) (same_bytes text) ∙ or_right (list_any (bytes_eq text) names) true refl
 
 named_all : (names texts : List (List ℕ)) (text : List ℕ) → IsNamed names text → IsNamed (names_with_all names texts) text
 named_all names [] text named = named
@@ -490,12 +469,6 @@ version_is (title name version ∷ lines) titled kept =
     (grind (arith, nat_tests), grind (arith, nat_tests))
 version_is lines titled kept = absurd titled
 
--- what all are, one of them is
-All-at : {X : Type 0} (P : X → Type 0) (xs : List X) (i : ℕ) (x : X) → All P xs → slice_get xs i ≡ Some x → P x
-All-at P [] i x all e = absurd cc
-All-at P (y ∷ ys) zero x all e = subst P (some_is y x e) (All-head P y ys all)
-All-at P (y ∷ ys) (suc i) x all e = All-at P ys i x (All-tail P y ys all) e
-
 functions_apart : (names : List (List ℕ)) (headers : List HeaderForm) (forms : List FunctionForm) → All (IsForm headers) forms → All (λ h. IsNamed names h.0) (map head_of forms) → HeadsApart (map head_of forms) → (i j : ℕ) → i < j → SameFunction (map (function_in names headers) forms) i j → ⊥
 unfolding HeadsApart
 functions_apart names headers forms are named apart i j below same =
@@ -509,11 +482,11 @@ functions_apart names headers forms are named apart i j below same =
         let second : function_in names headers g ≡ same.second = some_is (function_in names headers g) same.second (sym (slice_get-map (function_in names headers) forms j ∙ ap (option_map (function_in names headers)) at_j) ∙ same.second_at) in
         let name_is : number_in names f.name ≡ number_in names g.name = ap (λ (x : Function). x.name.0) first ∙ ap (λ (a : AtomId). a.0) same.name ∙ sym (ap (λ (x : Function). x.name.0) second) in
         let arity_is : number_value f.arity ≡ number_value g.arity = ap (λ (x : Function). x.arity) first ∙ same.arity ∙ sym (ap (λ (x : Function). x.arity) second) in
-        let form_f = All-at (IsForm headers) forms i f are at_i in
-        let form_g = All-at (IsForm headers) forms j g are at_j in
+        let form_f = all_at (IsForm headers) forms i f are at_i in
+        let form_g = all_at (IsForm headers) forms j g are at_j in
         let head_i = slice_get-map head_of forms i ∙ ap (option_map head_of) at_i in
         let head_j = slice_get-map head_of forms j ∙ ap (option_map head_of) at_j in
-        let names_are = names_one names f.name g.name (All-at (λ h. IsNamed names h.0) (map head_of forms) i (head_of f) named head_i) (All-at (λ h. IsNamed names h.0) (map head_of forms) j (head_of g) named head_j) name_is in
+        let names_are = names_one names f.name g.name (all_at (λ h. IsNamed names h.0) (map head_of forms) i (head_of f) named head_i) (all_at (λ h. IsNamed names h.0) (map head_of forms) j (head_of g) named head_j) name_is in
         let arities_are = arities_one f.arity g.arity (and_parts (is_atom_text f.name) (is_arity_text f.arity) form_f.sound).1 (and_parts (is_atom_text g.name) (is_arity_text g.arity) form_g.sound).1 arity_is in
         apart i j (head_of f) (head_of g) below head_i head_j (λ k. (names_are k, arities_are k))
 

@@ -2,7 +2,7 @@
 use Rattle.std.proofs.Common.{◌≡◌, ℕ, suc, ◌+◌, ◌-◌, ◌<◌, ◌≤◌, Bool, true, false, cond, ◌&&◌, ◌^◌, nat_le, List, [], ◌∷◌, ◌++◌, length, take, drop, get_or, map, Option, Some, None, option_map, refl, sym, ap, ◌∙◌, subst, arith, add-one, add-zero, append_assoc, drop-cons, length-drop}
 use Rattle.std.specs.Borrow.{Bor}
 use Rattle.std.specs.Prelude.{All}
-use Rattle.std.proofs.lemmas.List.{append-nil, length-map, get_or-map, drop-map, take_more, take_all, drop_all}
+use Rattle.std.proofs.lemmas.List.{append-nil, length-map, get_or-map, drop-map, take_more, take_all, drop_all, map-append}
 use Rattle.std.proofs.lemmas.List.Elements.{All-get_or, All-drop, All-nil, All-cons, All-head, All-tail}
 use Rattle.std.proofs.lemmas.Bool.{and_parts}
 use Rattle.std.proofs.lemmas.Bool.Decides.{nat_tests}
@@ -15,11 +15,10 @@ use Rattle.mod_text.specs.declared.fault.FinishFault.{FinishFault}
 use Rattle.mod_text.specs.declared.fault.FinishFault.TheVariants.{Missing, NoMemory}
 use Rattle.mod_text.specs.LineViews.{form_of, forms_of}
 use Rattle.term_core.specs.Text.Numbers.{is_number_text, number_value}
-use Rattle.mod_text.specs.ModuleLine.{InstrForm, LineForm, title, header, label, instr, end, is_line_form, is_version_text}
+use Rattle.mod_text.specs.ModuleLine.{InstrForm, LineForm, title, header, label, instr, is_line_form, is_version_text}
 use Rattle.mod_text.specs.ModuleValue.{HeaderForm, body_of, functions_in, instrs_in, instr_in, function_in, is_settled, is_settled_line, unsettled_at, unsettled_in, unsettled_below, earlier, first_unsettled, atom_in, title_of, IsTitled}
 use Rattle.mod_text.specs.Keeping.{IsKept}
 use Rattle.mod_text.specs.Settling.{settled_instr, later_by, function_at, is_body_line, IsUnsettled, IsUnsettledBelow, IsLater}
-use Rattle.mod_text.proofs.Keepings.{map-append}
 
 -- ---- lines
 
@@ -113,11 +112,8 @@ header_function names headers behind body exported name arity atom number code a
 
 instrs_in-append : (xs ys : List LineForm) → instrs_in (xs ++ ys) ≡ instrs_in xs ++ instrs_in ys
 instrs_in-append [] ys = refl
-instrs_in-append (title name version ∷ xs) ys = instrs_in-append xs ys
-instrs_in-append (header exported name arity ∷ xs) ys = instrs_in-append xs ys
-instrs_in-append (label name ∷ xs) ys = instrs_in-append xs ys
 instrs_in-append (instr i ∷ xs) ys = ap (λ l. i ∷ l) (instrs_in-append xs ys)
-instrs_in-append (end ∷ xs) ys = instrs_in-append xs ys
+instrs_in-append (line ∷ xs) ys = instrs_in-append xs ys
 
 -- what the loop over a body keeps
 pub record CodeSoFar (names : List (List ℕ)) (headers : List HeaderForm) (body : List (Bor (List ℕ))) (i : ℕ) (code : List Instr) : Type 0 where

@@ -378,10 +378,6 @@ nothing_joined [] tail none = ended_none tail none
 nothing_joined ([] ∷ others) tail none = absurd cc
 nothing_joined ((b ∷ text) ∷ others) tail none = absurd cc
 
-end_where_none : (a b : Bool) → (a && not b) ≡ false → a ≡ true → b ≡ true
-end_where_none true true h e = refl
-end_where_none a b h e = absurd cc
-
 differs : (text : List ℕ) → bytes_eq text (codes "end") ≡ false → text ≡ codes "end" → ⊥
 differs text other same = let equal : bytes_eq text (codes "end") ≡ true = ap (λ t. bytes_eq t (codes "end")) same in absurd cc
 
@@ -392,7 +388,7 @@ front_fault names before tail _ _ tail_lacks all (no_end text others last other)
     let left = nothing_left others tail last in
     stops text all.0 (λ i. text ++ 10 ∷ joined (left.0 i) (left.1 i)) (differs text other)
 front_fault names before tail _ _ tail_lacks all (refused text others fault goes step) =
-    faulty text (joined others tail) fault all.0 refl (λ none. bytes_are text (codes "end") (end_where_none (is_end others tail) (bytes_eq text (codes "end")) goes (nothing_joined others tail none))) (step_fault names before text fault step)
+    faulty text (joined others tail) fault all.0 refl (λ none. bytes_are text (codes "end") (both_false (is_end others tail) (bytes_eq text (codes "end")) (nothing_joined others tail none) goes)) (step_fault names before text fault step)
 
 -- what stops a reading is the first fault
 pub first_fault : (names : List (List ℕ)) (bytes : List ℕ) (stop : LineStop) → bytes_on names [] bytes ≡ Err stop → FirstFault names bytes stop.number stop.fault

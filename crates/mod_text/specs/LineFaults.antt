@@ -12,7 +12,7 @@ use Rattle.mod_core.specs.declared.code.TheConstants.{REGISTERS, MOST_FUNCTIONS,
 use Rattle.mod_text.specs.declared.fault.LineFault.{LineFault}
 use Rattle.mod_text.specs.declared.fault.LineFault.TheVariants as faults
 use Rattle.term_core.specs.Text.Numbers.{number_value}
-use Rattle.mod_text.specs.ModuleLine.{OperandForm, register, integer, atom, complex, InstrForm, move, add, sub, eq, less, jump, call, call_ext, ret, pget, pget_or, elem, print, yield, LineForm, title, header, label, instr, end, LineText}
+use Rattle.mod_text.specs.ModuleLine.{OperandForm, register, integer, atom, complex, InstrForm, move, add, sub, eq, less, jump, call, call_ext, ret, pget, pget_or, elem, print, yield, LineForm, title, header, label, instr, end, LineText, operands_of, some_operand}
 use Rattle.mod_text.specs.LineReading.{line_reading}
 use Rattle.mod_core.specs.ModuleImage.{module_image}
 use Rattle.mod_text.specs.ModuleValue.{headers_in, is_header, title_of, module_of, mfa_in}
@@ -95,16 +95,7 @@ is_wide_operand (complex text) = is_wide_text text
 
 -- whether an operand of an instruction is
 abbrev pub has_wide_instr : InstrForm → Bool
-has_wide_instr (move from to) = is_wide_operand from
-has_wide_instr (add a b to) = is_wide_operand a || is_wide_operand b
-has_wide_instr (sub a b to) = is_wide_operand a || is_wide_operand b
-has_wide_instr (eq a b target) = is_wide_operand a || is_wide_operand b
-has_wide_instr (less a b target) = is_wide_operand a || is_wide_operand b
-has_wide_instr (ret value) = is_wide_operand value
-has_wide_instr (pget_or key other to) = is_wide_operand other
-has_wide_instr (elem index from to) = is_wide_operand index || is_wide_operand from
-has_wide_instr (print value) = is_wide_operand value
-has_wide_instr _ = false
+has_wide_instr i = some_operand is_wide_operand (operands_of i)
 
 -- whether a line has an integer of more than 60 bits
 abbrev pub has_wide_integer : LineForm → Bool
@@ -120,16 +111,7 @@ is_long_operand _ = false
 
 -- whether an operand of an instruction is
 abbrev pub has_long_instr : InstrForm → Bool
-has_long_instr (move from to) = is_long_operand from
-has_long_instr (add a b to) = is_long_operand a || is_long_operand b
-has_long_instr (sub a b to) = is_long_operand a || is_long_operand b
-has_long_instr (eq a b target) = is_long_operand a || is_long_operand b
-has_long_instr (less a b target) = is_long_operand a || is_long_operand b
-has_long_instr (ret value) = is_long_operand value
-has_long_instr (pget_or key other to) = is_long_operand other
-has_long_instr (elem index from to) = is_long_operand index || is_long_operand from
-has_long_instr (print value) = is_long_operand value
-has_long_instr _ = false
+has_long_instr i = some_operand is_long_operand (operands_of i)
 
 -- whether a line has a term of more than 64 words
 abbrev pub has_long_term : LineForm → Bool

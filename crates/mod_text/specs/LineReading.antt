@@ -1,13 +1,13 @@
 -- How a line is read: it is cut at its spaces, and its words are judged from left to right. The forms and their texts, in
 -- ModuleLine, relate whole lines; the laws that both agree stand in proofs/LineLaws.
-use Rattle.std.specs.Prelude.{ℕ, ◌==◌, ◌&&◌, Bool, true, false, List, [], ◌∷◌, Option, Some, None, option_map, bytes_eq, codes, if◌then◌else◌}
+use Rattle.std.specs.Prelude.{ℕ, ◌==◌, Bool, true, false, List, [], ◌∷◌, Option, Some, None, option_map, bytes_eq, codes, if◌then◌else◌}
 use Rattle.term_core.specs.Names.{is_atom_text}
 use Rattle.term_core.specs.TermForms.{is_bracketed, is_term_text}
 use Rattle.term_core.specs.Written.{is_integer_text}
 use Rattle.term_core.specs.Text.Numbers.{is_number_text}
 use Rattle.term_core.specs.Text.Cuts.{cut_at}
 use Rattle.term_core.specs.Text.Steps.{◌>>=◌, tested, numbered_reading}
-use Rattle.mod_text.specs.ModuleLine.{OperandForm, register, integer, atom, complex, InstrForm, move, add, sub, eq, less, jump, call, call_ext, ret, pget, pget_or, elem, print, yield, LineForm, title, header, label, instr, end, is_version_text, is_arity_text}
+use Rattle.mod_text.specs.ModuleLine.{OperandForm, register, integer, atom, complex, InstrForm, move, add, sub, eq, less, jump, call, call_ext, ret, pget, pget_or, elem, print, yield, LineForm, title, header, label, instr, end, is_version_text, is_arity_text, operands_of, each_operand}
 
 -- the digits of a register
 abbrev pub register_reading : List ℕ → Option (List ℕ)
@@ -187,16 +187,7 @@ is_sound_operand _ = true
 
 -- whether each operand of an instruction is that begins with a bracket
 abbrev pub has_sound_operands : InstrForm → Bool
-has_sound_operands (move from to) = is_sound_operand from
-has_sound_operands (add a b to) = is_sound_operand a && is_sound_operand b
-has_sound_operands (sub a b to) = is_sound_operand a && is_sound_operand b
-has_sound_operands (eq a b target) = is_sound_operand a && is_sound_operand b
-has_sound_operands (less a b target) = is_sound_operand a && is_sound_operand b
-has_sound_operands (ret value) = is_sound_operand value
-has_sound_operands (pget_or key other to) = is_sound_operand other
-has_sound_operands (elem index from to) = is_sound_operand index && is_sound_operand from
-has_sound_operands (print value) = is_sound_operand value
-has_sound_operands _ = true
+has_sound_operands i = each_operand is_sound_operand (operands_of i)
 
 -- the same of a line
 abbrev pub has_sound_terms : LineForm → Bool

@@ -1,6 +1,6 @@
 -- The lines of a module's text, as they are written: atoms, labels and numbers by their texts, functions by their names.
 -- Source: this project's module text. Each line has one text, so a line is of a form where it is that form's text; the code reads bytes.
-use Rattle.std.specs.Prelude.{◌≡◌, ℕ, ◌&&◌, nat_le, Bool, true, false, List, [], ◌∷◌, ◌++◌, IsTrue, codes}
+use Rattle.std.specs.Prelude.{◌≡◌, ℕ, ◌&&◌, ◌||◌, nat_le, Bool, true, false, List, [], ◌∷◌, ◌++◌, IsTrue, codes}
 use Rattle.std.specs.List.{flat_map}
 use Rattle.term_core.specs.Names.{is_atom_text}
 use Rattle.term_core.specs.TermForms.{is_complex_text}
@@ -39,6 +39,31 @@ pub data LineForm : Type 0 where
   label : List ℕ → LineForm
   instr : InstrForm → LineForm
   end : LineForm
+
+-- the operands of an instruction, in order
+abbrev pub operands_of : InstrForm → List OperandForm
+operands_of (move from to) = from ∷ []
+operands_of (add a b to) = a ∷ b ∷ []
+operands_of (sub a b to) = a ∷ b ∷ []
+operands_of (eq a b target) = a ∷ b ∷ []
+operands_of (less a b target) = a ∷ b ∷ []
+operands_of (ret value) = value ∷ []
+operands_of (pget_or key other to) = other ∷ []
+operands_of (elem index from to) = index ∷ from ∷ []
+operands_of (print value) = value ∷ []
+operands_of _ = []
+
+-- whether one of these operands passes a test
+abbrev pub some_operand : (OperandForm → Bool) → List OperandForm → Bool
+some_operand test [] = false
+some_operand test (o ∷ []) = test o
+some_operand test (o ∷ more) = test o || some_operand test more
+
+-- whether each of these operands passes a test
+abbrev pub each_operand : (OperandForm → Bool) → List OperandForm → Bool
+each_operand test [] = true
+each_operand test (o ∷ []) = test o
+each_operand test (o ∷ more) = test o && each_operand test more
 
 -- ---- texts
 

@@ -18,7 +18,7 @@ use Rattle.mod_core.specs.declared.code.Module.{Module}
 use Rattle.mod_text.specs.declared.fault.FinishFault.{FinishFault}
 use Rattle.mod_text.specs.declared.fault.FinishFault.TheVariants.{Missing, NoMemory}
 use Rattle.term_core.specs.Text.Numbers.{number_value}
-use Rattle.mod_text.specs.ModuleLine.{OperandForm, register, integer, atom, complex, InstrForm, move, add, sub, eq, less, jump, call, call_ext, ret, pget, pget_or, elem, print, yield, LineForm, title, header, label, instr, end}
+use Rattle.mod_text.specs.ModuleLine.{OperandForm, register, integer, atom, complex, InstrForm, move, add, sub, eq, less, jump, call, call_ext, ret, pget, pget_or, elem, print, yield, LineForm, title, header, label, instr}
 
 -- a function as it is written: its header and the lines below it
 pub record FunctionForm : Type 0 where
@@ -36,11 +36,8 @@ body_of _ = []
 -- the functions of a text, in order
 abbrev pub functions_in : List LineForm → List FunctionForm
 functions_in [] = []
-functions_in (title name version ∷ lines) = functions_in lines
 functions_in (header exported name arity ∷ lines) = record { exported = exported; name = name; arity = arity; body = body_of lines } ∷ functions_in lines
-functions_in (label name ∷ lines) = functions_in lines
-functions_in (instr i ∷ lines) = functions_in lines
-functions_in (end ∷ lines) = functions_in lines
+functions_in (line ∷ lines) = functions_in lines
 
 -- a function's name and arity
 abbrev pub HeaderForm : Type 0
@@ -49,29 +46,21 @@ HeaderForm = List ℕ × List ℕ
 -- the headers of lines, in order
 abbrev pub headers_in : List LineForm → List HeaderForm
 headers_in [] = []
-headers_in (title name version ∷ lines) = headers_in lines
 headers_in (header exported name arity ∷ lines) = (name, arity) ∷ headers_in lines
-headers_in (label name ∷ lines) = headers_in lines
-headers_in (instr i ∷ lines) = headers_in lines
-headers_in (end ∷ lines) = headers_in lines
+headers_in (line ∷ lines) = headers_in lines
 
 -- the instructions below a header, in order
 abbrev pub instrs_in : List LineForm → List InstrForm
 instrs_in [] = []
-instrs_in (title name version ∷ lines) = instrs_in lines
-instrs_in (header exported name arity ∷ lines) = instrs_in lines
-instrs_in (label name ∷ lines) = instrs_in lines
 instrs_in (instr i ∷ lines) = i ∷ instrs_in lines
-instrs_in (end ∷ lines) = instrs_in lines
+instrs_in (line ∷ lines) = instrs_in lines
 
 -- the number of the instruction that a label names: how many instructions stand before the label
 abbrev pub label_number : List ℕ → List LineForm → Option ℕ
 label_number wanted [] = None
-label_number wanted (title name version ∷ lines) = label_number wanted lines
-label_number wanted (header exported name arity ∷ lines) = label_number wanted lines
 label_number wanted (label name ∷ lines) = if bytes_eq name wanted then Some 0 else label_number wanted lines
 label_number wanted (instr i ∷ lines) = option_map suc (label_number wanted lines)
-label_number wanted (end ∷ lines) = label_number wanted lines
+label_number wanted (line ∷ lines) = label_number wanted lines
 
 -- whether a header has this name and arity; each number has one text
 abbrev pub is_header : List ℕ → List ℕ → HeaderForm → Bool

@@ -29,15 +29,8 @@ line_step names lines text = judged names lines (line_reading text)
 
 -- a refusal is that of the reading; want of memory is free
 abbrev pub Fails : {A : Type 0} → Result A LineFault → LineFault → Type 0
-Fails step faults.Syntax = step ≡ Err faults.Syntax
-Fails step faults.Register = step ≡ Err faults.Register
-Fails step faults.Int = step ≡ Err faults.Int
-Fails step faults.Term = step ≡ Err faults.Term
-Fails step faults.Names = step ≡ Err faults.Names
-Fails step faults.TooManyFunctions = step ≡ Err faults.TooManyFunctions
-Fails step faults.TooLong = step ≡ Err faults.TooLong
-Fails step faults.Duplicate = step ≡ Err faults.Duplicate
 Fails step faults.NoMemory = Unit {0}
+Fails step fault = step ≡ Err fault
 
 -- what was answered, seen by view, is what is read, or its fault, unless memory was refused
 abbrev pub Gives : {X A : Type 0} → (X → A) → Result X LineFault → Result A LineFault → Type 0
@@ -84,15 +77,8 @@ read_behind named read behind = if length behind == 0 then Ok (named, read) else
 
 -- a fact of each fault but want of memory, which is free
 abbrev pub UnlessNoMemory : LineFault → Type 0 → Type 0
-UnlessNoMemory faults.Syntax P = P
-UnlessNoMemory faults.Register P = P
-UnlessNoMemory faults.Int P = P
-UnlessNoMemory faults.Term P = P
-UnlessNoMemory faults.Names P = P
-UnlessNoMemory faults.TooManyFunctions P = P
-UnlessNoMemory faults.TooLong P = P
-UnlessNoMemory faults.Duplicate P = P
 UnlessNoMemory faults.NoMemory P = Unit {0}
+UnlessNoMemory _ P = P
 
 -- the reading stops so
 abbrev pub StopsSo : Read → LineStop → Type 0

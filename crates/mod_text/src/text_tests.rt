@@ -13,112 +13,18 @@ fn fault(rt: &(impl AllocGlobal + Abort), text: &str) -> Option<ModFault> {
 }
 
 #[test]
-fn lines_of_no_form_are_refused(rt: HostRuntime) -> Result<(), Fail> {
+fn faults_have_their_cause(rt: HostRuntime) -> Result<(), Fail> {
     let cases = [
-        ("move -0 $0\nend\n", 4),
-        ("move {1,} $0\nend\n", 4),
-        ("move {1] $0\nend\n", 4),
-        ("move  1 $0\nend\n", 4),
-        ("pget $1 $0\nend\n", 4),
-        ("call f/16 $0\nend\n", 4),
-        ("yield\n", 4),
-        ("yield\nend", 5),
-        ("end\nend\n", 5),
-    ];
-    for (code, line) in cases {
-        let text = format!(in rt.alloc(); "{HEAD}{code}")?;
-        assert_eq!(rt;
-            fault(&rt, text.as_str()),
-            Some(ModFault::Syntax { line }),
-            "at {code}"
-        );
-    }
-    Ok(())
-}
-
-#[test]
-fn each_limit_has_its_fault(rt: HostRuntime) -> Result<(), Fail> {
-    let cases = [
+        ("move  1 $0\nend\n", ModFault::Syntax { line: 4 }),
         ("call f/2 $15\nend\n", ModFault::Register { line: 4 }),
         ("ret 576460752303423488\nend\n", ModFault::Int { line: 4 }),
-        (
-            "ret {a,[-576460752303423489]}\nend\n",
-            ModFault::Int { line: 4 },
-        ),
         ("label a\nlabel a\nend\n", ModFault::Duplicate { line: 5 }),
-        ("local f/0\nend\n", ModFault::Duplicate { line: 4 }),
-        (
-            "label a\nexport g/0\njump a\nend\n",
-            ModFault::Label { line: 6 },
-        ),
         ("call f/1 $0\nend\n", ModFault::Label { line: 4 }),
-        ("jump a\nmove $16 $0\nend\n", ModFault::Register { line: 5 }),
     ];
     for (code, wanted) in cases {
         let text = format!(in rt.alloc(); "{HEAD}{code}")?;
         assert_eq!(rt; fault(&rt, text.as_str()), Some(wanted), "at {code}");
     }
-    Ok(())
-}
-
-#[test]
-fn a_term_has_64_words_at_most(rt: HostRuntime) -> Result<(), Fail> {
-    let tail = ",1".repeat(rt.alloc(), 62)?;
-    // The word of the list and those of 63 elements, then of 64.
-    let cases = [
-        ("ret [1", "]", None),
-        ("ret [1,1", "]", Some(ModFault::Term { line: 4 })),
-        (
-            "elem 576460752303423488 [1,1",
-            "] $0",
-            Some(ModFault::Int { line: 4 }),
-        ),
-        (
-            "elem 576460752303423488 [1,1",
-            "] $16",
-            Some(ModFault::Register { line: 4 }),
-        ),
-    ];
-    for (before, behind, wanted) in cases {
-        let text = format!(in rt.alloc(); "{HEAD}{before}{tail}{behind}\nend\n")?;
-        assert_eq!(rt; fault(&rt, text.as_str()), wanted, "at {before}");
-    }
-    Ok(())
-}
-
-#[test]
-fn limits_are_counted(rt: HostRuntime) -> Result<(), Fail> {
-    let mut text = String::from_str(rt.alloc(), "module m.1\n")?;
-    for arity in 0..16 {
-        text.push_str(format!(in rt.alloc(); "local f/{arity}\n")?.as_str())?;
-    }
-    let seventeen = format!(in rt.alloc(); "{text}local f/0\nend\n")?;
-    assert_eq!(rt;
-        fault(&rt, seventeen.as_str()),
-        Some(ModFault::TooManyFunctions { line: 19 })
-    );
-    // An image of 10 words of head and function, and 4 a line: two of the code, and two of the tuple behind it.
-    let lines = "ret {1}\n".repeat(rt.alloc(), 253)?;
-    let whole = format!(in rt.alloc(); "{HEAD}{lines}ret 1\nend\n")?;
-    assert_eq!(rt; fault(&rt, whole.as_str()), None);
-    let over = format!(in rt.alloc(); "{HEAD}{lines}ret 1\nyield\nend\n")?;
-    assert_eq!(rt;
-        fault(&rt, over.as_str()),
-        Some(ModFault::TooLong { line: 259 })
-    );
-    Ok(())
-}
-
-#[test]
-fn a_full_table_takes_no_new_name(rt: HostRuntime) -> Result<(), Fail> {
-    let mut names = Names::new(rt.alloc()).expect(&rt, "the given names");
-    for number in 3..4094u64 {
-        let text = format!(in rt.alloc(); "module n{number}.1\nend\n")?;
-        assert!(rt; read_module(rt.alloc(), &mut names, text.as_bytes(), 0).is_ok());
-    }
-    let text = "module m.1\nexport f/0\nret {f,[x]}\nend\n";
-    let full = read_module(rt.alloc(), &mut names, text.as_bytes(), 0).err();
-    assert_eq!(rt; full, Some(ModFault::Names { line: 2 }));
     Ok(())
 }
 

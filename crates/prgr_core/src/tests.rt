@@ -118,50 +118,9 @@ fn refuses_texts(rt: HostRuntime) {
             "too many members",
         ),
         (
-            b"beam progress 1\nmembers 1\nwatchers 5\ngo\n".as_slice(),
-            3,
-            "too many watchers",
-        ),
-        (
             b"beam progress 1\nmembers 1\nwatchers 0\npublish\n".as_slice(),
             4,
             "no end",
-        ),
-        (b"beam progress 1\n".as_slice(), 1, "a head alone"),
-        (
-            b"beam progress 1\nmembers 1\nwatchers 0\ngo".as_slice(),
-            4,
-            "no last line feed",
-        ),
-        (
-            b"beam progress 1\nmembers 2\nwatchers 0\nlead 2\ngo\n".as_slice(),
-            4,
-            "a member out of range",
-        ),
-        (
-            b"beam progress 1\nmembers 2\nwatchers 0\nlead 01\ngo\n".as_slice(),
-            4,
-            "a leading zero",
-        ),
-        (
-            b"beam progress 1\nmembers 2\nwatchers 0\nscan_delay 2\ngo\n".as_slice(),
-            4,
-            "a delay scanned by a member out of range",
-        ),
-        (
-            b"beam progress 1\nmembers 1\nwatchers 1\nwatch_load 0\nwatch_load 1\ngo\n".as_slice(),
-            5,
-            "a watcher out of range",
-        ),
-        (
-            b"beam progress 1\nmembers 1\nwatchers 1\nwatch_add 0 2\ngo\n".as_slice(),
-            4,
-            "a delay count out of range",
-        ),
-        (
-            b"beam progress 1\nmembers 2\nwatchers 0\npublish\nrelease 18446744073709551616\ngo\n".as_slice(),
-            5,
-            "a number too large",
         ),
         (
             b"beam progress 1\nmembers 2\nwatchers 0\npublish\ngo\npublish\n".as_slice(),

@@ -21,22 +21,12 @@ enum Outcome {
 // What watcher 0 does.
 const LOOK: PrgrEvent = PrgrEvent::WatchLoad { watcher: 0 };
 
-const ADD_EVEN: PrgrEvent = PrgrEvent::WatchAdd {
-    watcher: 0,
-    which: 0,
-};
-
 const ADD_ODD: PrgrEvent = PrgrEvent::WatchAdd {
     watcher: 0,
     which: 1,
 };
 
 const READ: PrgrEvent = PrgrEvent::WatchRoot { watcher: 0 };
-
-const SUB_EVEN: PrgrEvent = PrgrEvent::WatchSub {
-    watcher: 0,
-    which: 0,
-};
 
 const SUB_ODD: PrgrEvent = PrgrEvent::WatchSub {
     watcher: 0,
@@ -45,16 +35,6 @@ const SUB_ODD: PrgrEvent = PrgrEvent::WatchSub {
 
 // What watcher 1 does.
 const LOOK_1: PrgrEvent = PrgrEvent::WatchLoad { watcher: 1 };
-
-const ADD_ODD_1: PrgrEvent = PrgrEvent::WatchAdd {
-    watcher: 1,
-    which: 1,
-};
-
-const SUB_ODD_1: PrgrEvent = PrgrEvent::WatchSub {
-    watcher: 1,
-    which: 1,
-};
 
 // What member 0 does.
 const LEAD: PrgrEvent = PrgrEvent::Lead { member: 0 };
@@ -132,11 +112,6 @@ fn claim_delays_second_raise(rt: HostRuntime) {
             done(16, 3),
             "a claim that ended",
         ),
-        (
-            [SUB_ODD, SCAN, ADVANCE].as_slice(),
-            Outcome::NotEnabled(14),
-            "a delay that is not scanned, though nobody holds it",
-        ),
     ];
     for (then, wanted, shown) in cases {
         assert_eq!(rt;
@@ -144,71 +119,6 @@ fn claim_delays_second_raise(rt: HostRuntime) {
             wanted,
             "{shown}"
         );
-    }
-}
-
-#[test]
-fn watcher_of_moved_counter_adds_both(rt: HostRuntime) {
-    // The counter is raised to 2 between the watcher's load and its first addition.
-    let moved = [LOOK, LEAD, SCAN, SCAN_DELAY, ADVANCE, ADD_ODD, LOOK];
-    let cases = [
-        (
-            [READ].as_slice(),
-            Outcome::NotEnabled(8),
-            "it has no claim with one count",
-        ),
-        (
-            [ADD_ODD].as_slice(),
-            Outcome::NotEnabled(8),
-            "it may not add the same count again",
-        ),
-        (
-            [
-                ADD_EVEN, LOOK, READ, LOAD, LOAD_ROOT, REPORT, SCAN, SCAN_DELAY, ADVANCE,
-            ]
-            .as_slice(),
-            Outcome::NotEnabled(16),
-            "it holds the first count still",
-        ),
-        (
-            [ADD_EVEN, LOOK, SUB_ODD, READ].as_slice(),
-            Outcome::NotEnabled(11),
-            "it may not read while it leaves",
-        ),
-        (
-            [
-                ADD_EVEN, LOOK, READ, SUB_ODD, SUB_EVEN, LOOK, LOOK, ADD_EVEN, LOOK, READ,
-            ]
-            .as_slice(),
-            done(17, 2),
-            "it leaves in two steps, and claims again with one count",
-        ),
-    ];
-    for (then, wanted, shown) in cases {
-        assert_eq!(rt; outcome_of(rt.alloc(), 1, &moved, then), wanted, "{shown}");
-    }
-}
-
-#[test]
-fn watchers_share_a_count(rt: HostRuntime) {
-    let shared = [
-        LOOK, LOOK_1, ADD_ODD, ADD_ODD_1, LOOK, LOOK_1, SUB_ODD, LEAD, SCAN, SCAN_DELAY, ADVANCE,
-        LOAD, LOAD_ROOT, REPORT, SCAN,
-    ];
-    let cases = [
-        (
-            [SCAN_DELAY, ADVANCE].as_slice(),
-            Outcome::NotEnabled(17),
-            "one of two holds the count still",
-        ),
-        (
-            [SUB_ODD_1, SCAN_DELAY, ADVANCE].as_slice(),
-            done(18, 3),
-            "both have lowered it",
-        ),
-    ];
-    for (then, wanted, shown) in cases {
-        assert_eq!(rt; outcome_of(rt.alloc(), 2, &shared, then), wanted, "{shown}");
     }
 }
 
@@ -229,22 +139,6 @@ fn stray_numbers_are_not_enabled(rt: HostRuntime) {
             Outcome::NotEnabled(2),
             "a delay counter out of number",
         ),
-        (
-            [ADD_EVEN].as_slice(),
-            Outcome::NotEnabled(2),
-            "the count of the next value",
-        ),
-        (
-            [ADD_ODD, SUB_ODD].as_slice(),
-            Outcome::NotEnabled(3),
-            "a count that is held with no claim",
-        ),
-        (
-            [ADD_ODD, LOOK, SUB_EVEN].as_slice(),
-            Outcome::NotEnabled(4),
-            "a count that is not held",
-        ),
-        ([ADD_ODD, LOOK, SUB_ODD].as_slice(), done(4, 1), "its own"),
     ];
     for (then, wanted, shown) in cases {
         assert_eq!(rt; outcome_of(rt.alloc(), 1, &[LOOK], then), wanted, "{shown}");

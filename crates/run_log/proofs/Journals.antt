@@ -13,7 +13,8 @@ use Rattle.server_core.specs.ServerState.{ServerState}
 use Rattle.server_core.specs.CommandTable.{Outcome, apply_of}
 use Rattle.run_log.specs.declared.logs.Entry.{Entry}
 use Rattle.run_log.specs.Journal.{state_after, next_state, newest_state, state_at, publishes, published_count, is_of, ends_one, ends_command, entries_of, published_before}
-use Rattle.run_log.specs.Legal.{EntryFollows, HalfPurge, MayStand, PurgesGo, Replays, commands_in, ended_by, half_after, is_release, is_runtime}
+use Rattle.run_log.specs.Legal.{EntryFollows, MayStand, PurgesGo, Replays, commands_in, ended_by, half_after, is_release, is_runtime}
+use Rattle.run_log.specs.declared.underway.HalfPurge.{HalfPurge}
 use Rattle.run_log.proofs.StatesForTurns.{for_turns}
 use Rattle.run_log.proofs.Steps.{IsNext, IsStep, StepIn, left_alone, next_bounds, next_generation, next_is, publishes_next, releases, stays, step_in, without_area}
 

@@ -9,3 +9,16 @@ pub mod TurnRuns
 pub mod SpanRuns
 pub mod Marks
 pub mod ApartSpans
+pub mod Members
+pub mod Dispatch
+pub mod StateExports
+pub mod SortedFunctions
+pub mod KeptTexts
+pub mod ListPlaces
+pub mod HistoryLists
+pub mod HistoryTable
+pub mod HistoryMarks
+pub mod HistoryTurns
+pub mod HistorySteps
+pub mod History
+pub mod HistoryEnd

@@ -7,10 +7,12 @@ mod logs;
 mod rendering;
 #[cfg(test)]
 mod tests;
+mod underway;
 
-pub use exports::exports_are_one;
+pub use exports::{MfaList, exported_functions, exports_are_one, exports_of, snapshot_of};
 pub use logs::{
     Entry, EntryList, ExportList, ObserverList, ProcessLog, ProcessLogList, RunLog, Snapshot,
     SnapshotList, Span, SpanList, Who,
 };
 pub use rendering::render;
+pub use underway::HalfPurge;

@@ -5,7 +5,7 @@ mod copying;
 mod processes;
 mod script;
 
-pub use processes::{first_numbers, spawn_count};
+pub use processes::first_numbers;
 pub use script::{
     CommandList, LONGEST_LINE, LONGEST_SCRIPT, LoaderList, MOST_FUNCTION_NAMES, MOST_LOADERS,
     MOST_OBSERVERS, MOST_PROCESSES, MOST_SNAPSHOTS, Script, ScriptCmd,

@@ -6,7 +6,7 @@ ghost use Rattle.script_core.specs.Processes.{first_number, spawn_count};
 use crate::script::{CommandList, LoaderList, MOST_LOADERS, MOST_PROCESSES, ScriptCmd};
 
 /// How many processes these commands make.
-pub fn spawn_count(commands: &CommandList) -> usize
+fn spawn_count(commands: &CommandList) -> usize
     ensures { result ≡ spawn_count commands.now }
 {
     let mut count = 0;

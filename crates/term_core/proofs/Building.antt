@@ -5,7 +5,7 @@ use Rattle.term_core.specs.declared.byte_kind.ByteKind.TheVariants.{Open, Close,
 use Rattle.term_core.specs.Bytes.{kind_of, is_leaf_kind, leaf_front}
 use Rattle.term_core.specs.Names.{Extends, is_atom_text, names_with}
 use Rattle.term_core.specs.TermText.{names_with_all}
-use Rattle.term_core.specs.Tokens.{Token, opened, shut, leaf, begins, token_at, tokens_in, atoms_among, IsLeaf, AreLeaves, names_with_leaf}
+use Rattle.term_core.specs.Tokens.{Token, leaf, begins, token_at, tokens_in, atoms_among, IsLeaf, AreLeaves, names_with_leaf}
 use Rattle.term_core.proofs.GrownNames.{Extends-refl, names_with-Extends}
 use Rattle.term_core.proofs.Lefts.{left_byte, rest_is}
 use Rattle.term_core.proofs.Numbers.{names_with_all-Extends, names_with_all-append, length-Extends}
@@ -35,24 +35,21 @@ atom_first false text xs ys = refl
 -- the atoms of two rows of tokens
 pub atoms_among-append : (tokens more : List Token) → atoms_among (tokens ++ more) ≡ atoms_among tokens ++ atoms_among more
 atoms_among-append [] more = refl
-atoms_among-append (opened b ∷ tokens) more = atoms_among-append tokens more
-atoms_among-append (shut ∷ tokens) more = atoms_among-append tokens more
 atoms_among-append (leaf text ∷ tokens) more =
     ap (λ xs. cond (is_atom_text text) (text ∷ xs) xs) (atoms_among-append tokens more) ∙ atom_first (is_atom_text text) text (atoms_among tokens) (atoms_among more)
+atoms_among-append (one ∷ tokens) more = atoms_among-append tokens more
 
 -- the leaves of the first row
 pub AreLeaves-front : (tokens more : List Token) → AreLeaves (tokens ++ more) → AreLeaves tokens
 AreLeaves-front [] more h = tt
-AreLeaves-front (opened b ∷ tokens) more h = AreLeaves-front tokens more h
-AreLeaves-front (shut ∷ tokens) more h = AreLeaves-front tokens more h
 AreLeaves-front (leaf text ∷ tokens) more h = (h.0, AreLeaves-front tokens more h.1)
+AreLeaves-front (one ∷ tokens) more h = AreLeaves-front tokens more h
 
 -- and of the second
 pub AreLeaves-back : (tokens more : List Token) → AreLeaves (tokens ++ more) → AreLeaves more
 AreLeaves-back [] more h = h
-AreLeaves-back (opened b ∷ tokens) more h = AreLeaves-back tokens more h
-AreLeaves-back (shut ∷ tokens) more h = AreLeaves-back tokens more h
 AreLeaves-back (leaf text ∷ tokens) more h = AreLeaves-back tokens more h.1
+AreLeaves-back (one ∷ tokens) more h = AreLeaves-back tokens more h
 
 -- what is left begins with the token of the first byte
 pub tokens_behind : (text : List ℕ) (at c : ℕ) (inside later : Bool) (kind : ByteKind) → c ≡ get_or text at 0 → at < length text → kind ≡ kind_of c → later ≡ is_leaf_kind kind →

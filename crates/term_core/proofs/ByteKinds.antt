@@ -1,5 +1,5 @@
--- Lemmas on the kinds of bytes: what a byte of each kind is, and the kinds of digits, letters and names' bytes.
-use Rattle.std.proofs.Common.{◌≡◌, ℕ, Bool, true, false, cond, ◌==◌, refl, sym, ap, ◌∙◌, arith}
+-- Lemmas on the kinds of bytes: what a byte of each kind is, and the kinds of digits, letters and names' bytes, and the integer or atom in front of a text.
+use Rattle.std.proofs.Common.{◌≡◌, ℕ, Bool, true, false, cond, ◌==◌, refl, sym, ap, ◌∙◌, arith, suc, ◌+◌, not, List, [], ◌∷◌, take, length, position, unwrap_or, Option, None, Some, option_map, add-one}
 use Rattle.std.specs.Char.{is_ascii_digit, is_ascii_lowercase}
 use Rattle.std.specs.Int.{is_in_range}
 use Rattle.std.proofs.lemmas.Bool.Decides.{nat_tests, Decides-eqb}
@@ -7,9 +7,10 @@ use Rattle.term_core.specs.declared.byte_kind.Bracket.{Bracket}
 use Rattle.term_core.specs.declared.byte_kind.Bracket.TheVariants.{Curly, Square}
 use Rattle.term_core.specs.declared.byte_kind.ByteKind.{ByteKind}
 use Rattle.term_core.specs.declared.byte_kind.ByteKind.TheVariants.{Open, Close, Comma, Minus, Zero, Digit, Letter, NameByte, Foreign}
-use Rattle.term_core.specs.Bytes.{kind_of, is_leaf_kind}
+use Rattle.term_core.specs.Bytes.{kind_of, is_leaf_kind, leaf_front}
 use Rattle.term_core.specs.Names.{is_name_byte}
 use Rattle.term_core.proofs.Truths.{false_is_no_true}
+use Rattle.term_core.proofs.Places.{position-cons}
 
 -- the byte that opens such brackets
 abbrev pub opening : Bracket → ℕ
@@ -159,3 +160,17 @@ leaf_if_name Digit h = refl
 leaf_if_name Letter h = refl
 leaf_if_name NameByte h = refl
 leaf_if_name k h = cc
+
+-- so many bytes, by whether the first is one
+front_step : (b : Bool) (c : ℕ) (rest : List ℕ) (o : Option ℕ) → take (unwrap_or o (length rest)) rest ≡ leaf_front rest →
+    take (unwrap_or (cond (not b) (Some 0) (option_map (λ i. i + 1) o)) (suc (length rest))) (c ∷ rest) ≡ cond b (c ∷ leaf_front rest) []
+front_step true c rest None h = ap (λ t. c ∷ t) h
+front_step true c rest (Some i) h = ap (λ n. take n (c ∷ rest)) (add-one i) ∙ ap (λ t. c ∷ t) h
+front_step false c rest o h = refl
+
+-- the bytes up to the first between terms
+pub front_is : (text : List ℕ) → take (unwrap_or (position (λ c. not (is_leaf_kind (kind_of c))) text) (length text)) text ≡ leaf_front text
+front_is [] = refl
+front_is (c ∷ rest) =
+    ap (λ o. take (unwrap_or o (length (c ∷ rest))) (c ∷ rest)) (position-cons (λ c. not (is_leaf_kind (kind_of c))) c rest)
+    ∙ front_step (is_leaf_kind (kind_of c)) c rest (position (λ c. not (is_leaf_kind (kind_of c))) rest) (front_is rest)

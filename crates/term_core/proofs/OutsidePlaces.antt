@@ -14,8 +14,8 @@ use Rattle.term_core.proofs.ByteKinds.{closing}
 use Rattle.term_core.proofs.Lefts.{place_or-twice}
 use Rattle.term_core.proofs.LeafTexts.{is_leaf_byte, LeafText, IsDelimited, LeafText-integer, LeafText-atom, front_text}
 use Rattle.term_core.proofs.Shapes.{no_integer_text}
-use Rattle.term_core.proofs.Truths.{both}
 use Rattle.term_core.proofs.WrittenTokens.{RowHasLeafTexts, delimited_behind}
+use Rattle.std.proofs.lemmas.Bool.{and_parts}
 
 -- inside of a leaf no integer begins
 inside_none : (kind : ByteKind) → (b : Bool) → (begins true kind && b) ≡ false
@@ -55,7 +55,7 @@ shift_none (Some i) = ap Some (omega arith)
 outside_inside : (text rest : List ℕ) → list_all is_leaf_byte text ≡ true → IsDelimited rest → outside_at true (text ++ rest) ≡ place_or None (length text) (outside_at false rest)
 outside_inside [] rest h d = outside_delimited rest d ∙ shift_none (outside_at false rest)
 outside_inside (c ∷ text) rest h d =
-    let parts = both (is_leaf_byte c) (list_all is_leaf_byte text) h in
+    let parts = and_parts (is_leaf_byte c) (list_all is_leaf_byte text) h in
     step_none true c (text ++ rest) (inside_none (kind_of c) (is_outside (leaf_front (c ∷ (text ++ rest)))))
     ∙ ap (λ b. place_or None 1 (outside_at b (text ++ rest))) parts.0 ∙ ap (place_or None 1) (outside_inside text rest parts.1 d)
     ∙ place_or-twice 1 (length text) (outside_at false rest) ∙ ap (λ n. place_or None n (outside_at false rest)) (omega arith)
@@ -69,7 +69,7 @@ leaf_choice false n later = refl
 outside_leaf : (text rest : List ℕ) → LeafText text → IsDelimited rest → outside_at false (text ++ rest) ≡ place_or (cond (is_outside text) (Some 0) None) (length text) (outside_at false rest)
 outside_leaf [] rest h d = absurd (omega (arith, h.some))
 outside_leaf (c ∷ text) rest h d =
-    let parts = both (is_leaf_byte c) (list_all is_leaf_byte text) h.bytes in
+    let parts = and_parts (is_leaf_byte c) (list_all is_leaf_byte text) h.bytes in
     ap (λ b. cond b (Some 0) (place_or None 1 (outside_at (is_leaf_byte c) (text ++ rest))))
     (leaf_begins (kind_of c) parts.0 (is_outside (leaf_front (c ∷ (text ++ rest)))) ∙ ap is_outside (front_text (c ∷ text) rest h.bytes d))
     ∙ ap (λ b. cond (is_outside (c ∷ text)) (Some 0) (place_or None 1 (outside_at b (text ++ rest)))) parts.0

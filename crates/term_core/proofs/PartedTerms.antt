@@ -7,8 +7,9 @@ use Rattle.term_core.specs.PlainTerm.{TermOf, RowOf, integer_leaf, atom_leaf, tu
 use Rattle.term_core.specs.TermParts.{depth_behind, is_part_end, with_byte, cut_at_depth, cut_part, in_first, parts_at_depth, parts_of_terms, joined_behind, joined, parts_of_rest}
 use Rattle.term_core.specs.Written.{WrittenTerm, WrittenRow, written, parted, behind, HasLeafTexts}
 use Rattle.term_core.proofs.LeafTexts.{is_leaf_byte, LeafText-integer, LeafText-atom}
-use Rattle.term_core.proofs.Truths.{both, false_is_no_true, false_unless}
+use Rattle.term_core.proofs.Truths.{false_is_no_true}
 use Rattle.term_core.proofs.WrittenTokens.{RowHasLeafTexts}
+use Rattle.std.proofs.lemmas.Bool.{and_parts, false_from_ne_true}
 
 -- how many brackets are open behind a text
 abbrev pub depth_after : ℕ → List ℕ → ℕ
@@ -51,7 +52,7 @@ passed-append depth xs ys h k = record {
 
 -- a byte that stands in an integer or atom is no bracket and no comma
 no_other : (c other : ℕ) → is_leaf_byte c ≡ true → is_leaf_byte other ≡ false → (c == other) ≡ false
-no_other c other h k = false_unless (c == other) (λ e. false_is_no_true (sym k ∙ ap is_leaf_byte (sym ((Decides-eqb c other).0 e)) ∙ h))
+no_other c other h k = false_from_ne_true (c == other) (λ e. false_is_no_true (sym k ∙ ap is_leaf_byte (sym ((Decides-eqb c other).0 e)) ∙ h))
 
 -- so it changes nothing
 leaf_depth : (depth c : ℕ) → is_leaf_byte c ≡ true → depth_behind depth c ≡ depth
@@ -68,7 +69,7 @@ leaf_no_end depth c h = ap (λ b. b && (depth == 0)) (no_other c 44 h refl)
 passed_bytes : (depth : ℕ) (text : List ℕ) → list_all is_leaf_byte text ≡ true → IsPassed depth text
 passed_bytes depth [] h = record { no_end = refl; same = refl }
 passed_bytes depth (c ∷ rest) h =
-    let parts = both (is_leaf_byte c) (list_all is_leaf_byte rest) h in
+    let parts = and_parts (is_leaf_byte c) (list_all is_leaf_byte rest) h in
     let later = passed_bytes depth rest parts.1 in
     record {
       no_end = ap (λ b. cond b false (has_no_end (depth_behind depth c) rest)) (leaf_no_end depth c parts.0) ∙ ap (λ d. has_no_end d rest) (leaf_depth depth c parts.0) ∙ later.no_end;
@@ -164,7 +165,7 @@ parts_of_parted (term_then t row) h some = parts_row t row h.0 h.1
 
 -- a byte that ends a part is a comma
 end_is_comma : (depth c : ℕ) → is_part_end depth c ≡ true → c ≡ 44
-end_is_comma depth c h = (Decides-eqb c 44).0 (both (c == 44) (depth == 0) h).0
+end_is_comma depth c h = (Decides-eqb c 44).0 (and_parts (c == 44) (depth == 0) h).0
 
 -- a byte in front of the first part is in front of the whole
 joined_more : (c : ℕ) (parts : List (List ℕ)) → joined (in_first c parts) ≡ c ∷ joined parts

@@ -1,7 +1,8 @@
 -- Lemmas on `position`, `slice_get` and `list_any`, of any lists.
-use Rattle.std.proofs.Common.{◌≡◌, ℕ, zero, suc, ◌+◌, ◌<◌, Bool, true, false, cond, not, List, [], ◌∷◌, ◌++◌, map, length, Option, Some, None, option_map, is_some, position, slice_get, nat_lt, refl, sym, ap, ◌∙◌, arith, add-one, ◌||◌}
+use Rattle.std.proofs.Common.{◌≡◌, ℕ, zero, suc, ◌+◌, ◌<◌, Bool, true, false, cond, not, List, [], ◌∷◌, ◌++◌, map, length, Option, Some, None, option_map, is_some, position, slice_get, nat_lt, refl, sym, ap, ◌∙◌, arith, add-one, ◌||◌, All, subst}
 use Rattle.std.specs.List.{position_or_len, list_any}
 use Rattle.std.proofs.lemmas.Bool.Decides.{nat_tests}
+use Rattle.std.proofs.lemmas.Option.{get_or_from_slice_get, slice_get_within}
 
 -- the place of one that follows
 place_after : (r n : ℕ) → cond {A = Option ℕ} (nat_lt (1 + r) (suc n)) (Some (1 + r)) None ≡ option_map (λ i. i + 1) (cond {A = Option ℕ} (nat_lt r n) (Some r) None)
@@ -82,3 +83,7 @@ pub position-append_found : {X : Type 0} (p : X → Bool) (xs ys : List X) (n : 
 position-append_found p [] ys n h = cc
 position-append_found p (x ∷ xs) ys n h =
     position-cons p x (xs ++ ys) ∙ found_first p x xs ys n (p x) refl (λ m at. position-append_found p xs ys m at) (position p xs) refl (sym (position-cons p x xs) ∙ h)
+
+-- what is true of each is true of the one at a place
+pub all_at : {X : Type 0} (P : X → Type 0) (xs : List X) (k : ℕ) (x : X) → All P xs → slice_get xs k ≡ Some x → P x
+all_at P xs k x each here = subst P (get_or_from_slice_get xs k x x here) (each k x (slice_get_within xs k x here))

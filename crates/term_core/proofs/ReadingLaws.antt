@@ -17,7 +17,7 @@ use Rattle.term_core.proofs.LeafFacts.{term_words-map}
 use Rattle.term_core.proofs.PlainTerms.{plain-term_of}
 use Rattle.term_core.proofs.Ranges.{none_of_fits}
 use Rattle.term_core.proofs.Readings.{readable_if, many_words, past_syntax, past_range, reads_term, refuses_names}
-use Rattle.term_core.proofs.ScanFaults.{text_if, SyntaxAt-fault}
+use Rattle.term_core.proofs.Scanning.Faults.{text_if, SyntaxAt-fault}
 use Rattle.term_core.proofs.SyntaxPlaces.{SyntaxAt-unique}
 use Rattle.term_core.proofs.TextForms.{text_words, text_atoms, text_built, text_outside, text_no_fault}
 use Rattle.term_core.proofs.Text.Options.{some_is}

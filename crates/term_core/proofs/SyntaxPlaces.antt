@@ -1,7 +1,7 @@
 -- A text has one place of its fault.
 use Rattle.std.proofs.Common.{◌≡◌, ℕ, zero, suc, ◌+◌, ◌<◌, ◌≤◌, inl, inr, List, ◌∷◌, length, take, drop, refl, sym, ap, subst, arith}
 use Rattle.term_core.specs.Faults.{BeginsTermText, SyntaxAt}
-use Rattle.term_core.proofs.ScanFaults.{cut_again}
+use Rattle.term_core.proofs.Scanning.Faults.{cut_again}
 use Rattle.term_core.proofs.TextForms.{begins_shorter}
 use Rattle.term_core.proofs.Truths.{three_ways}
 

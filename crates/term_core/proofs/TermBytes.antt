@@ -1,5 +1,5 @@
 -- Lemmas on the bytes of the texts of atoms, numbers and terms: names' bytes, the minus, the comma and the brackets of terms.
-use Rattle.std.proofs.Common.{◌≡◌, ℕ, ◌<◌, ◌^◌, Bool, true, false, ◌&&◌, ◌||◌, ◌==◌, ◌++◌, List, [], ◌∷◌, length, decimal, IsTrue, refl, ap, ◌∙◌, arith}
+use Rattle.std.proofs.Common.{◌≡◌, ℕ, ◌<◌, ◌^◌, Bool, true, ◌&&◌, ◌||◌, ◌==◌, ◌++◌, List, [], ◌∷◌, length, decimal, IsTrue, refl, ap, ◌∙◌, arith}
 use Rattle.std.specs.Char.{is_ascii_digit, is_ascii_lowercase}
 use Rattle.std.specs.List.{list_all}
 use Rattle.std.proofs.lemmas.Bool.Decides.{nat_tests}
@@ -12,7 +12,7 @@ use Rattle.term_core.specs.Written.{WrittenTerm, written, parted, behind, is_int
 use Rattle.term_core.proofs.GrownTerms.{TermText-term_text}
 use Rattle.term_core.proofs.IntegerTexts.{own, Zero, Minus, Plain, shape_of, Positive-from}
 use Rattle.term_core.proofs.WrittenTokens.{RowHasLeafTexts}
-use Rattle.term_core.proofs.Truths.{both}
+use Rattle.std.proofs.lemmas.Bool.{and_parts, or_left}
 
 -- what may stand in a term's text
 abbrev pub is_term_byte : ℕ → Bool
@@ -30,15 +30,15 @@ digit_is_name_byte c h = grind (arith, nat_tests)
 pub name_bytes-atom : (text : List ℕ) → IsTrue (is_atom_text text) → list_all is_name_byte text ≡ true
 name_bytes-atom [] h = cc
 name_bytes-atom (c ∷ rest) h =
-    let parts = both (is_ascii_lowercase c) _ h in
-    let tail = both (list_all is_name_byte rest) _ parts.1 in
+    let parts = and_parts (is_ascii_lowercase c) _ h in
+    let tail = and_parts (list_all is_name_byte rest) _ parts.1 in
     ap (λ b. b && list_all is_name_byte rest) (letter_is_name_byte c parts.0) ∙ tail.0
 
 -- and so may digits
 name_bytes-digits : (text : List ℕ) → list_all is_ascii_digit text ≡ true → list_all is_name_byte text ≡ true
 name_bytes-digits [] h = refl
 name_bytes-digits (c ∷ rest) h =
-    let parts = both (is_ascii_digit c) (list_all is_ascii_digit rest) h in
+    let parts = and_parts (is_ascii_digit c) (list_all is_ascii_digit rest) h in
     ap (λ b. b && list_all is_name_byte rest) (digit_is_name_byte c parts.0) ∙ name_bytes-digits rest parts.1
 
 -- each byte of a number's text is a digit, and so a name's
@@ -49,16 +49,11 @@ digits-decimal n small = digits_decimal own n small
 pub name_bytes-decimal : (n : ℕ) → n < 2 ^ 64 → list_all is_name_byte (decimal n) ≡ true
 name_bytes-decimal n small = name_bytes-digits (decimal n) (digits-decimal n small)
 
--- the left side is enough
-or_left : (a b : Bool) → a ≡ true → (a || b) ≡ true
-or_left true b h = refl
-or_left false b h = cc
-
 -- names' bytes are terms'
 pub term_bytes-names : (text : List ℕ) → list_all is_name_byte text ≡ true → list_all is_term_byte text ≡ true
 term_bytes-names [] h = refl
 term_bytes-names (c ∷ rest) h =
-    let parts = both (is_name_byte c) (list_all is_name_byte rest) h in
+    let parts = and_parts (is_name_byte c) (list_all is_name_byte rest) h in
     ap (λ b. b && list_all is_term_byte rest) (or_left (is_name_byte c) _ parts.0) ∙ term_bytes-names rest parts.1
 
 -- each byte of an integer's text is a term's
@@ -73,7 +68,7 @@ term_bytes-integer text h = elim (shape_of text h) [
 term_bytes-append : (xs ys : List ℕ) → list_all is_term_byte xs ≡ true → list_all is_term_byte ys ≡ true → list_all is_term_byte (xs ++ ys) ≡ true
 term_bytes-append [] ys h k = k
 term_bytes-append (c ∷ xs) ys h k =
-    let parts = both (is_term_byte c) (list_all is_term_byte xs) h in
+    let parts = and_parts (is_term_byte c) (list_all is_term_byte xs) h in
     ap (λ b. b && list_all is_term_byte (xs ++ ys)) parts.0 ∙ term_bytes-append xs ys parts.1 k
 
 -- each byte of a written term's text is a term's

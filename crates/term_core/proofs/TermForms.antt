@@ -20,11 +20,12 @@ use Rattle.term_core.proofs.LeafFacts.{EachOf, map_leaves-id}
 use Rattle.term_core.proofs.LeafTexts.{is_leaf_byte, LeafText, LeafText-integer, LeafText-atom}
 use Rattle.term_core.proofs.Ranges.{none_of_fits}
 use Rattle.term_core.proofs.ReadingLaws.{TermText-is_text, TermText-words}
-use Rattle.term_core.proofs.ScanFaults.{text_if}
-use Rattle.term_core.proofs.ScanSound.{FormOf}
+use Rattle.term_core.proofs.Scanning.Faults.{text_if}
+use Rattle.term_core.proofs.Scanning.Sound.{FormOf}
 use Rattle.term_core.proofs.TermBytes.{is_term_byte, term_bytes-written, nonempty-written}
 use Rattle.term_core.proofs.TextForms.{text_words as words_of_text, text_atoms, text_built, text_outside, text_no_fault}
-use Rattle.term_core.proofs.Truths.{both, false_is_no_true, false_unless, is_some_at}
+use Rattle.term_core.proofs.Truths.{false_is_no_true, is_some_at}
+use Rattle.std.proofs.lemmas.Bool.{and_parts, false_from_ne_true}
 
 -- what is none
 none_if : {X : Type 0} (o : Option X) → is_none o ≡ true → o ≡ None
@@ -117,8 +118,8 @@ opens_no_leaf c h k =
 leaf_bracketed : (text : List ℕ) → LeafText text → is_bracketed text ≡ false
 leaf_bracketed [] h = refl
 leaf_bracketed (c ∷ rest) h =
-    let parts = both (is_leaf_byte c) (list_all is_leaf_byte rest) h.bytes in
-    false_unless (c == 123 || c == 91) (λ is. opens_no_leaf c is parts.0)
+    let parts = and_parts (is_leaf_byte c) (list_all is_leaf_byte rest) h.bytes in
+    false_from_ne_true (c == 123 || c == 91) (λ is. opens_no_leaf c is parts.0)
 
 -- but that of a tuple or a list
 bracketed_written : (form : WrittenTerm) → HasLeafTexts form → is_bracketed (written form) ≡ is_in_brackets form

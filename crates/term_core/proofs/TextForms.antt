@@ -8,7 +8,7 @@ use Rattle.term_core.specs.Tokens.{tokens_in, starts, atoms_among, AreLeaves, bu
 use Rattle.term_core.specs.Written.{WrittenTerm, IntegersFit, outside_of}
 use Rattle.term_core.proofs.LeafFacts.{map_leaves-id}
 use Rattle.term_core.proofs.OutsidePlaces.{outside_is}
-use Rattle.term_core.proofs.ScanFaults.{text_accepted, not_accepted, fault_stops, start}
+use Rattle.term_core.proofs.Scanning.Faults.{text_accepted, not_accepted, fault_stops, start}
 use Rattle.term_core.proofs.TokenLaws.{starts-tokens, atoms-tokens, leaves-tokens, built-tokens}
 use Rattle.term_core.proofs.WrittenTokens.{tokens_of, tokens_is}
 use Rattle.term_core.proofs.Truths.{none_unless}

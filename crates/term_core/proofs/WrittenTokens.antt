@@ -13,7 +13,7 @@ use Rattle.term_core.specs.Tokens.{Token, opened, shut, leaf, token_at, tokens_i
 use Rattle.term_core.specs.Written.{WrittenTerm, WrittenRow, written, parted, behind, is_integer_text, HasLeafTexts}
 use Rattle.term_core.proofs.ByteKinds.{closing}
 use Rattle.term_core.proofs.LeafTexts.{is_leaf_byte, LeafText, IsDelimited, LeafText-integer, LeafText-atom, front_text}
-use Rattle.term_core.proofs.Truths.{both}
+use Rattle.std.proofs.lemmas.Bool.{and_parts}
 
 -- the same of the terms of a row
 abbrev pub RowHasLeafTexts : WrittenRow → Type 0
@@ -62,7 +62,7 @@ tokens_delimited (c ∷ rest) h = ap (λ ts. ts ++ tokens_in (is_leaf_byte c) re
 tokens_inside : (text rest : List ℕ) → list_all is_leaf_byte text ≡ true → IsDelimited rest → tokens_in true (text ++ rest) ≡ tokens_in false rest
 tokens_inside [] rest h d = tokens_delimited rest d
 tokens_inside (c ∷ text) rest h d =
-    let parts = both (is_leaf_byte c) (list_all is_leaf_byte text) h in
+    let parts = and_parts (is_leaf_byte c) (list_all is_leaf_byte text) h in
     ap (λ ts. ts ++ tokens_in (is_leaf_byte c) (text ++ rest)) (token_inside (kind_of c) (leaf_front (c ∷ (text ++ rest))) parts.0)
     ∙ ap (λ b. tokens_in b (text ++ rest)) parts.0 ∙ tokens_inside text rest parts.1 d
 
@@ -70,7 +70,7 @@ tokens_inside (c ∷ text) rest h d =
 tokens_leaf : (text rest : List ℕ) → LeafText text → IsDelimited rest → tokens_in false (text ++ rest) ≡ leaf text ∷ tokens_in false rest
 tokens_leaf [] rest h d = absurd (omega (arith, h.some))
 tokens_leaf (c ∷ text) rest h d =
-    let parts = both (is_leaf_byte c) (list_all is_leaf_byte text) h.bytes in
+    let parts = and_parts (is_leaf_byte c) (list_all is_leaf_byte text) h.bytes in
     ap (λ ts. ts ++ tokens_in (is_leaf_byte c) (text ++ rest)) (token_leaf (kind_of c) (leaf_front (c ∷ (text ++ rest))) parts.0)
     ∙ ap (λ front. leaf front ∷ tokens_in (is_leaf_byte c) (text ++ rest)) (front_text (c ∷ text) rest h.bytes d)
     ∙ ap (λ b. leaf (c ∷ text) ∷ tokens_in b (text ++ rest)) parts.0 ∙ ap (λ ts. leaf (c ∷ text) ∷ ts) (tokens_inside text rest parts.1 d)

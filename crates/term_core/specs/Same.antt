@@ -5,6 +5,7 @@ use Rattle.std.specs.Bool.{Decides}
 use Rattle.std.specs.Cmp.{IsEquivalence, decided, on_equiv, signed_Decides, unsigned_Decides}
 use Rattle.std.specs.Ordering.{int_eq}
 use Rattle.term_core.specs.PlainTerm.{TermOf, RowOf, integer_leaf, atom_leaf, tuple_of, list_of, no_terms, term_then, PlainTerm, row_of}
+use Rattle.std.proofs.lemmas.Bool.{and_parts}
 
 -- the same kind of term with the same parts
 abbrev mutual
@@ -26,11 +27,6 @@ abbrev mutual
 abbrev pub are_same : List PlainTerm → List PlainTerm → Bool
 are_same ts us = is_same_row (row_of ts) (row_of us)
 
--- where `&&` is true, so are both sides
-both_true : (a b : Bool) → (a && b) ≡ true → (a ≡ true) × (b ≡ true)
-both_true true b h = (refl, h)
-both_true false b h = cc
-
 -- terms that pass the test are one term, and so are rows
 mutual
   same_is : (t u : TermOf ℤ ℕ) → is_same t u ≡ true → t ≡ u
@@ -46,7 +42,7 @@ mutual
   same_row_is no_terms (term_then u s) h = cc
   same_row_is (term_then t r) no_terms h = cc
   same_row_is (term_then t r) (term_then u s) h =
-      let parts = both_true (is_same t u) (is_same_row r s) h in
+      let parts = and_parts (is_same t u) (is_same_row r s) h in
       λ i. term_then (same_is t u parts.0 i) (same_row_is r s parts.1 i)
 
 -- and each passes it with itself

@@ -1,10 +1,10 @@
 -- The digits of a number, and what they write.
-use Rattle.std.proofs.Common.{◌≡◌, ℕ, ◌<◌, ◌^◌, zero, suc, Bool, true, false, cond, ◌||◌, nat_lt, List, [], ◌∷◌, length, decimal, Some, None, Result, Ok, Err, OkIff, IsAscii, bytes_eq, refl, sym, ap, subst, arith, inl, inr}
+use Rattle.std.proofs.Common.{◌≡◌, ℕ, ◌<◌, ◌^◌, zero, suc, Bool, true, false, cond, nat_lt, List, [], ◌∷◌, length, decimal, Some, None, Result, Ok, Err, OkIff, IsAscii, bytes_eq, refl, sym, ap, subst, arith, inl, inr}
 use Rattle.std.specs.Char.{is_ascii_digit}
 use Rattle.std.specs.List.{list_all}
 use Rattle.std.specs.Result.{result_ok}
 use Rattle.std.specs.Str.Parse.{ParsesUnsigned}
-use Rattle.std.proofs.lemmas.Bool.{or_cases}
+use Rattle.std.proofs.lemmas.Bool.{or_cases, or_right}
 use Rattle.std.proofs.lemmas.Bool.Decides.{nat_tests}
 use Rattle.std.proofs.lemmas.Fmt.{IsAscii-from_digits, decimal_digit, digits_value-decimal}
 use Rattle.std.proofs.lemmas.Slice.Eq.{bytes_eq-Decides}
@@ -46,10 +46,6 @@ parsed_number text r h form =
 pub record Writes (text : List ℕ) (n : ℕ) : Type 0 where
   pub form : is_number_text text ≡ true
   pub value : number_value text ≡ n
-
-or_right : (a b : Bool) → b ≡ true → (a || b) ≡ true
-or_right true b h = refl
-or_right false b h = h
 
 pub decimal-writes : (n : ℕ) → n < 2 ^ 64 → Writes (decimal n) n
 decimal-writes zero small = subst (λ (t : List ℕ). Writes t 0) (sym (decimal_digit 0 (omega arith))) (record { form = refl; value = refl })
