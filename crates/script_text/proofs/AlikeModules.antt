@@ -2,19 +2,20 @@
 use Rattle.std.proofs.Common.{◌≡◌, ℕ, suc, ◌+◌, Bool, true, false, cond, List, [], ◌∷◌, ◌++◌, map, decimal, Option, Some, None, is_none, option_map, refl, sym, ap, ◌∙◌, subst, append_assoc, append-nil}
 use Rattle.std.specs.List.{AllByRecursion, flat_map, list_any}
 use Rattle.std.proofs.lemmas.Bool.{and_parts}
-use Rattle.term_core.specs.Names.{Extends, is_atom_text}
+use Rattle.term_core.specs.Names.{is_atom_text}
 use Rattle.term_core.specs.TermText.{atom_text, number_in}
 use Rattle.mod_core.specs.declared.code.Instr.{Instr}
 use Rattle.mod_text.specs.declared.fault.LineFault.{LineFault}
 use Rattle.mod_text.specs.declared.fault.LineFault.TheVariants as faults
 use Rattle.mod_text.specs.Canonical.{label_text, written_instr, goes_to, labels_at, lines_from, function_lines, canonical}
-use Rattle.mod_text.specs.LineFaults.{is_open, may_follow, last_line, has_high_register, has_wide_integer, names_after, line_atoms}
+use Rattle.mod_text.specs.LineFaults.{is_open, may_follow, last_line, has_high_register, has_wide_integer, names_after}
 use Rattle.term_core.specs.Text.Numbers.{number_value}
 use Rattle.mod_text.specs.ModuleLine.{InstrForm, LineForm, title, header, label, instr, end, is_version_text, is_arity_text, is_line_form}
 use Rattle.mod_text.specs.ModuleText.{FollowOn, names_behind}
 use Rattle.mod_text.specs.ModuleValue.{FunctionForm, HeaderForm, body_of, functions_in, headers_in, instrs_in, instr_in, function_in, module_of, IsTitled, is_settled_line, unsettled_at, unsettled_below, earlier, first_unsettled, unsettled_line}
 use Rattle.mod_text.proofs.Keepings.{last_line-push}
-use Rattle.script_text.proofs.HeldNames.{IsHeldText, all_held_in}
+use Rattle.script_text.proofs.CodeSteps.{have_held_in}
+use Rattle.script_text.proofs.HeldNames.{IsHeldText}
 use Rattle.script_text.proofs.ModuleNames.{HaveHeld, held_body}
 use Rattle.script_text.proofs.TextsBack.{atom_again, version_again, arity_again}
 use Rattle.script_text.proofs.Alike.{Alike, alike_same, alike_back, alike_then, alike_append, alike_label, alike_labels, alike_line}
@@ -80,10 +81,6 @@ sound_body : (lines : List LineForm) → AreSound lines → AreSound (body_of li
 sound_body (label name ∷ lines) h = (h.0, sound_body lines h.1)
 sound_body (instr i ∷ lines) h = (h.0, sound_body lines h.1)
 sound_body lines h = tt
-
-held_among : (names after : List (List ℕ)) (lines : List LineForm) → Extends names after → HaveHeld names lines → HaveHeld after lines
-held_among names after [] e h = tt
-held_among names after (line ∷ lines) e h = (all_held_in names after (line_atoms line) e h.0, held_among names after lines e h.1)
 
 -- ---- instructions
 
@@ -182,7 +179,7 @@ text_alike names before text t follow closed held none = absurd t
 
 -- the atoms of a closed text are held
 pub text_held : (names : List (List ℕ)) (text : List LineForm) → IsClosed names text → HaveHeld names text
-text_held names text c = held_among (names_behind c.before text) names text c.among (held_behind c.before text)
+text_held names text c = have_held_in (names_behind c.before text) names text c.among (held_behind c.before text)
 
 -- the canonical lines of the module that a text says name what the text names
 pub module_alike : (names : List (List ℕ)) (text : List LineForm) → IsClosed names text → unsettled_line text ≡ None → Alike (canonical names (module_of names text)) text

@@ -39,24 +39,16 @@ same_operand names more (integer text) h = refl
 same_operand names more (atom text) h = λ i. Const (Atom (same_atom names more text h.0 i))
 same_operand names more (complex text) h = λ i. Const (term_of (term_in-more names more text h i))
 
+two_same : (names more : List (List ℕ)) (a b : OperandForm) → AreHeld names (operand_atoms a ++ operand_atoms b) → (operand_in (names ++ more) a ≡ operand_in names a) × (operand_in (names ++ more) b ≡ operand_in names b)
+two_same names more a b h =
+    (same_operand names more a (held_first names (operand_atoms a) (operand_atoms b) h), same_operand names more b (held_second names (operand_atoms a) (operand_atoms b) h))
+
 same_instr : (names more : List (List ℕ)) (headers : List HeaderForm) (body : List LineForm) (i : InstrForm) → AreHeld names (instr_atoms i) → instr_in (names ++ more) headers body i ≡ instr_in names headers body i
 same_instr names more headers body (move from to) h = λ k. Move (same_operand names more from h k) (number_value to)
-same_instr names more headers body (add a b to) h =
-    let p = same_operand names more a (held_first names (operand_atoms a) (operand_atoms b) h) in
-    let q = same_operand names more b (held_second names (operand_atoms a) (operand_atoms b) h) in
-    λ k. Add (p k) (q k) (number_value to)
-same_instr names more headers body (sub a b to) h =
-    let p = same_operand names more a (held_first names (operand_atoms a) (operand_atoms b) h) in
-    let q = same_operand names more b (held_second names (operand_atoms a) (operand_atoms b) h) in
-    λ k. Sub (p k) (q k) (number_value to)
-same_instr names more headers body (eq a b target) h =
-    let p = same_operand names more a (held_first names (operand_atoms a) (operand_atoms b) h) in
-    let q = same_operand names more b (held_second names (operand_atoms a) (operand_atoms b) h) in
-    λ k. Eq (p k) (q k) (target_in body target)
-same_instr names more headers body (less a b target) h =
-    let p = same_operand names more a (held_first names (operand_atoms a) (operand_atoms b) h) in
-    let q = same_operand names more b (held_second names (operand_atoms a) (operand_atoms b) h) in
-    λ k. Less (p k) (q k) (target_in body target)
+same_instr names more headers body (add a b to) h = let both = two_same names more a b h in λ k. Add (both.0 k) (both.1 k) (number_value to)
+same_instr names more headers body (sub a b to) h = let both = two_same names more a b h in λ k. Sub (both.0 k) (both.1 k) (number_value to)
+same_instr names more headers body (eq a b target) h = let both = two_same names more a b h in λ k. Eq (both.0 k) (both.1 k) (target_in body target)
+same_instr names more headers body (less a b target) h = let both = two_same names more a b h in λ k. Less (both.0 k) (both.1 k) (target_in body target)
 same_instr names more headers body (call_ext m name arity at) h =
     let p = same_atom names more m h.0 in
     let q = same_atom names more name h.1.0 in
@@ -67,10 +59,7 @@ same_instr names more headers body (pget_or key other to) h =
     let p = same_atom names more key h.0 in
     let q = same_operand names more other h.1 in
     λ k. PgetOr (p k) (q k) (number_value to)
-same_instr names more headers body (elem index from to) h =
-    let p = same_operand names more index (held_first names (operand_atoms index) (operand_atoms from) h) in
-    let q = same_operand names more from (held_second names (operand_atoms index) (operand_atoms from) h) in
-    λ k. Elem (p k) (q k) (number_value to)
+same_instr names more headers body (elem index from to) h = let both = two_same names more index from h in λ k. Elem (both.0 k) (both.1 k) (number_value to)
 same_instr names more headers body (print value) h = λ k. Print (same_operand names more value h k)
 same_instr names more headers body i h = refl
 

@@ -1,12 +1,13 @@
 -- A module's text that is open: what a line leaves of it, and what it comes to when it is closed.
-use Rattle.std.proofs.Common.{◌≡◌, ℕ, suc, ◌+◌, ◌<◌, ◌≤◌, Bool, true, false, cond, List, [], ◌∷◌, ◌++◌, length, Option, Some, None, option_map, Ok, Err, subst, arith, length-append}
+use Rattle.std.proofs.Common.{◌≡◌, ℕ, suc, ◌+◌, ◌<◌, ◌≤◌, Bool, true, false, cond, List, [], ◌∷◌, length, Option, Some, None, option_map, Ok, Err, subst, arith, length-append}
 use Rattle.mod_text.specs.declared.fault.LineFault.{LineFault}
 use Rattle.mod_text.specs.declared.fault.LineFault.TheVariants as line_faults
-use Rattle.mod_text.specs.ModuleLine.{LineForm, title, header, label, instr}
+use Rattle.mod_text.specs.ModuleLine.{LineForm, header, label, instr}
 use Rattle.mod_text.specs.LineFaults.{last_line, may_follow, fault_of_line}
 use Rattle.mod_text.specs.LineReading.{line_reading}
 use Rattle.mod_text.specs.ModuleValue.{HeaderForm, IsTitled, headers_in, body_of, earlier, is_settled_line, unsettled_at, unsettled_below, first_unsettled, unsettled_line}
 use Rattle.mod_text.specs.Reading.{kept, judged, line_step}
+use Rattle.script_text.proofs.CodeSteps.{titled_more}
 use Rattle.script_text.proofs.Choices.{ok_is}
 
 -- ---- the end of a text
@@ -64,11 +65,6 @@ unsettled_within lines number e = subst (Below (length lines)) e (in_lines (head
 pub record GoesOn (lines after : List LineForm) : Type 0 where
   pub titled : IsTitled lines → IsTitled after
   pub longer : length after ≡ length lines + 1
-
-titled_more : (lines : List LineForm) (line : LineForm) → IsTitled lines → IsTitled (lines ++ line ∷ [])
-titled_more [] line h = absurd h
-titled_more (title name version ∷ lines) line h = tt
-titled_more lines line h = h
 
 one_more : (names : List (List ℕ)) (lines : List LineForm) (line : LineForm) (o : Option LineFault) (x : List (List ℕ) × List LineForm) → kept names lines line o ≡ Ok x → GoesOn lines x.1
 one_more names lines line None x e = subst (λ (y : List (List ℕ) × List LineForm). GoesOn lines y.1) (ok_is _ x e) (record { titled = titled_more lines line; longer = simp length-append })

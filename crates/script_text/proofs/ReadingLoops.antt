@@ -4,12 +4,12 @@ use Rattle.std.specs.Prelude.{map}
 use Rattle.std.specs.Option.{ok_or}
 use Rattle.term_core.specs.Text.Steps.{◌>>=◌}
 use Rattle.term_core.specs.Text.Cuts.{cut_at}
+use Rattle.term_core.proofs.Text.Options.{some}
 use Rattle.script_text.specs.declared.reading.cause.LineCause.{LineCause}
 use Rattle.script_text.specs.declared.reading.cause.LineCause.TheVariants as causes
 use Rattle.script_text.specs.Causes.{Fails}
 use Rattle.script_text.specs.Naming.{or_syntax}
 use Rattle.script_text.specs.LineReading.{parts_of, each_reading}
-use Rattle.script_text.proofs.Choices.{some}
 use Rattle.script_text.proofs.Parts.{parts-cut_some, parts-cut_none}
 
 -- with these in front

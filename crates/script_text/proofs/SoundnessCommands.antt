@@ -21,8 +21,8 @@ use Rattle.mod_text.specs.ModuleLine.{LineForm, title, header, label, instr, end
 use Rattle.mod_text.specs.ModuleValue.{atom_in, mfa_in, module_of}
 use Rattle.server_core.specs.CommandTable.{text_of}
 use Rattle.script_core.specs.declared.script.ScriptCmd.TheVariants.{Load, Put, Trace, Spawn}
+use Rattle.script_text.proofs.Steps.{length-onto_last}
 use Rattle.script_text.specs.ScriptLine.{RefForm, AtomCommand, delete, ScriptLine, head, code, observer, loader, load, on_atom, put, trace, spawn, go, is_script_line}
-use Rattle.script_text.specs.Groups.{onto_last}
 use Rattle.script_text.specs.Counts.{script_line_atoms, is_given, is_loader, is_spawn, block_lines, loader_blocks}
 use Rattle.script_text.specs.LineFaults.{may_stand_between, may_stand_within, may_stand_observing, may_stand, is_head, is_wide_term, is_long_term, is_lacking, lack_in_loads}
 use Rattle.script_text.specs.ScriptText.{HaveNoFault}
@@ -193,11 +193,6 @@ some_block (Some (observer count)) line n h place first between within observing
 some_block (Some go) line n h place first between within observing = absurd cc
 some_block last line n h place first between within observing = h
 
-same_length : {X : Type 0} (groups : List (List X)) (x : X) → 1 ≤ length groups → length (onto_last groups x) ≡ length groups
-same_length [] x h = absurd (omega (arith, h))
-same_length (g ∷ []) x h = refl
-same_length (g ∷ n ∷ gs) x h = let more = same_length (n ∷ gs) x (omega arith) in omega (arith, more)
-
 -- as many blocks as there are starts of one
 record AreCounted (m : Summary) : Type 0 where
   blocks : length m.blocks ≡ m.loaders
@@ -219,7 +214,7 @@ counted_more m (observer count) c p = (omega (arith, c.blocks), tt)
 counted_more m go c p = (omega (arith, c.blocks), tt)
 counted_more m line c p =
     let some = some_block m.last line (length m.blocks) c.some p.place refl refl (λ before. refl) refl in
-    let same = same_length m.blocks line some in
+    let same = length-onto_last m.blocks line some in
     (omega (arith, same, c.blocks), omega (arith, same, some))
 
 counted_kept : IsKept AreCounted

@@ -1,5 +1,5 @@
 -- The names of lines without a fault are a table, which holds the atoms of each line.
-use Rattle.std.proofs.Common.{◌≡◌, ℕ, ◌≤◌, Bool, true, false, ◌&&◌, nat_lt, nat_le, List, [], ◌∷◌, ◌++◌, length, map, refl, arith}
+use Rattle.std.proofs.Common.{◌≡◌, ℕ, ◌≤◌, Bool, true, false, ◌&&◌, nat_lt, nat_le, List, [], ◌∷◌, length, map, refl, arith}
 use Rattle.std.specs.Prelude.{IsTrue}
 use Rattle.std.specs.List.{AllByRecursion, flat_map, list_all}
 use Rattle.std.proofs.lemmas.Bool.{and_parts, and_from}
@@ -17,7 +17,7 @@ use Rattle.script_text.specs.Counts.{script_line_atoms, names_of}
 use Rattle.script_text.specs.ScriptText.{HaveNoFault}
 use Rattle.script_text.proofs.HeldNames.{IsHeldText, held_all}
 use Rattle.script_text.proofs.ModuleNames.{AreHeld}
-use Rattle.script_text.proofs.TermNames.{term_atoms_are, terms_atoms_are}
+use Rattle.script_text.proofs.TermNames.{term_atoms_are, terms_atoms_are, each_first}
 use Rattle.script_text.proofs.Summaries.{summary_with}
 use Rattle.script_text.proofs.SoundnessRows.{IsKept, kept}
 
@@ -81,7 +81,7 @@ all_named names (text ∷ texts) sound atoms room =
     let more = more_names_all (names_with names text) texts in
     all_named (names_with names text) texts (names_with-IsNames names text sound p.0 (omega (arith, more, room))) p.1 room
 
-not_over : (n : ℕ) → nat_lt 4096 n ≡ false → n ≤ 4096
+pub not_over : (n : ℕ) → nat_lt 4096 n ≡ false → n ≤ 4096
 not_over n h = grind (arith, nat_tests)
 
 -- the names are a table
@@ -96,13 +96,9 @@ names_sound lines sound none = kept (λ m. IsNames m.names) names_kept lines sou
 
 -- ---- what it holds
 
-each_front : {X : Type 0} (P : X → Type 0) (xs ys : List X) → AllByRecursion P (xs ++ ys) → AllByRecursion P xs × AllByRecursion P ys
-each_front P [] ys h = (tt, h)
-each_front P (x ∷ xs) ys h = let more = each_front P xs ys h.1 in ((h.0, more.0), more.1)
-
 each_of_parts : {X Y : Type 0} (P : Y → Type 0) (f : X → List Y) (xs : List X) → AllByRecursion P (flat_map f xs) → AllByRecursion (λ x. AllByRecursion P (f x)) xs
 each_of_parts P f [] h = tt
-each_of_parts P f (x ∷ xs) h = let p = each_front P (f x) (flat_map f xs) h in (p.0, each_of_parts P f xs p.1)
+each_of_parts P f (x ∷ xs) h = let p = each_first P (f x) (flat_map f xs) h in (p.0, each_of_parts P f xs p.1)
 
 -- the atoms of each line
 pub lines_held : (lines : List ScriptLine) → AllByRecursion (λ line. AreHeld (names_of lines) (script_line_atoms line)) lines

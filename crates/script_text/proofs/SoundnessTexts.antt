@@ -14,6 +14,7 @@ use Rattle.mod_text.specs.ModuleValue.{IsTitled, module_of, unsettled_line}
 use Rattle.mod_text.specs.ModuleText.{FollowOn, names_behind}
 use Rattle.mod_text.proofs.Keepings.{last_line-push}
 use Rattle.mod_text.proofs.ModuleSound.{module_is_sound}
+use Rattle.script_text.proofs.CodeSteps.{last_group-snoc}
 use Rattle.script_text.specs.ScriptLine.{ScriptLine, head, code, observer, load, on_atom, put, trace, spawn, go, is_script_line}
 use Rattle.script_text.specs.Groups.{onto_last, last_group}
 use Rattle.script_text.specs.Counts.{script_line_atoms, is_title, names_of, module_texts}
@@ -108,11 +109,6 @@ next_is names text line p place = record {
 pub no_title : (last line : LineForm) → may_follow (Some last) line ≡ true → is_title line ≡ false
 no_title last (title name version) h = absurd cc
 no_title last line h = refl
-
-pub last_group-snoc : {X : Type 0} (groups : List (List X)) (group : List X) → last_group (groups ++ group ∷ []) ≡ group
-last_group-snoc [] group = refl
-last_group-snoc (g ∷ []) group = refl
-last_group-snoc (g ∷ h ∷ gs) group = last_group-snoc (h ∷ gs) group
 
 open_more : (names : List (List ℕ)) (texts : List (List LineForm)) (last line : LineForm) → HaveOpen names texts last → PassesCode names (last_group texts) line → may_follow (Some last) line ≡ true → HaveOpen (names_with_all names (line_atoms line)) (texts_with texts (code line)) line
 open_more names texts last line h p place =

@@ -16,6 +16,7 @@ use Rattle.mod_text.proofs.Constants.{IsSound}
 use Rattle.mod_text.proofs.LineWords.{too_long_is}
 use Rattle.mod_text.proofs.Keepings.{last_line-push}
 use Rattle.term_core.proofs.Text.Options.{some_is}
+use Rattle.script_text.proofs.CodeSteps.{last_group-snoc}
 use Rattle.script_text.specs.ScriptLine.{RefForm, ScriptLine, head, code, observer, loader, go}
 use Rattle.script_text.specs.Groups.{onto_last, last_group}
 use Rattle.script_text.specs.Counts.{names_of, code_lines, module_texts, line_titles, titles_of, is_same_ref, is_given}
@@ -23,7 +24,7 @@ use Rattle.script_text.specs.LineFaults.{may_stand_between, may_stand_observing,
 use Rattle.script_text.specs.Canonical.{code_form}
 use Rattle.script_text.proofs.GrownLines.{module_texts-code, last_of-snoc}
 use Rattle.script_text.proofs.GroupLaws.{onto_last-snoc}
-use Rattle.script_text.proofs.SoundnessTexts.{IsClosed, AreClosed, titled, no_title, last_group-snoc}
+use Rattle.script_text.proofs.SoundnessTexts.{IsClosed, AreClosed, titled, no_title}
 use Rattle.script_text.proofs.SoundnessTitles.{title_ref, one_title, AreApart}
 use Rattle.script_text.proofs.InOrder.{observer_lines, AreBlocks}
 use Rattle.script_text.proofs.Assembled.{IsBlockLine, code_lines-front}

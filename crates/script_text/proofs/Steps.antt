@@ -6,7 +6,8 @@ use Rattle.mod_core.specs.declared.code.Module.{Module}
 use Rattle.term_core.specs.Text.Numbers.{number_value}
 use Rattle.mod_text.specs.ModuleLine.{LineForm, end}
 use Rattle.mod_text.specs.LineFaults.{last_line}
-use Rattle.mod_text.specs.ModuleValue.{IsTitled, module_of, unsettled_line}
+use Rattle.mod_text.specs.ModuleValue.{module_of, unsettled_line}
+use Rattle.script_text.proofs.CodeSteps.{text_is}
 use Rattle.script_text.specs.declared.reading.reader.Place.{Place}
 use Rattle.script_text.specs.declared.reading.reader.Place.TheVariants.{Between, Within, Observing, Loading, Finished}
 use Rattle.script_text.specs.declared.reading.reader.ScriptReader.{ScriptReader}
@@ -18,7 +19,7 @@ use Rattle.script_text.specs.LineFaults.{may_stand_behind, or_else, lack_in_text
 use Rattle.script_text.specs.Reading.{is_text_end, closed_by, text_closed}
 use Rattle.script_text.proofs.GrownLines.{flat_map-snoc}
 use Rattle.script_text.proofs.Summaries.{Summary, summary_with}
-use Rattle.script_text.proofs.Holding.{as_text, total, IsUnread, IsBetween, IsOpen, Stands, Knows, Holds, or_else-none, no_load_more, same_lack, lack_in_texts-snoc, total-snoc}
+use Rattle.script_text.proofs.Holding.{total, IsUnread, IsBetween, IsOpen, Stands, Knows, Holds, or_else-none, no_load_more, same_lack, lack_in_texts-snoc, total-snoc}
 use Rattle.script_text.proofs.ModuleNames.{module_of-more}
 
 pub more_lines : (m : Summary) (line : ScriptLine) → length m.lines ≡ m.count → length (m.lines ++ line ∷ []) ≡ m.count + 1
@@ -162,10 +163,6 @@ last_text_end : (o : Option LineForm) (last : LineForm) → o ≡ Some last → 
 last_text_end (Some end) last e h = cc
 last_text_end o last e h = absurd cc
 
-as_text-some : (lines : List LineForm) → IsTitled lines → as_text lines ≡ lines ∷ []
-as_text-some [] h = absurd h
-as_text-some (line ∷ lines) h = refl
-
 or_else_some : {X : Type 0} (o : Option X) (x : X) → or_else o (Some x) ≡ None → ⊥
 or_else_some None x e = cc
 or_else_some (Some y) x e = cc
@@ -176,7 +173,7 @@ closed_none m r closed k o settled =
     record {
       names = k.names;
       sound = k.sound;
-      texts = k.texts ∙ ap (λ (l : List (List LineForm)). closed ++ l) (as_text-some r.lines o.titled) ∙ sym (append-nil (closed ++ r.lines ∷ []));
+      texts = k.texts ∙ ap (λ (l : List (List LineForm)). closed ++ l) (text_is r.lines o.titled) ∙ sym (append-nil (closed ++ r.lines ∷ []));
       modules = λ more none.
           let before : r.modules ≡ map (module_of (m.names ++ more)) closed = k.modules more (sym lack ∙ none) in
           let here : module_of r.names r.lines ≡ module_of (m.names ++ more) r.lines = ap (λ (ns : List (List ℕ)). module_of ns r.lines) k.names ∙ sym (module_of-more m.names more r.lines o.titled o.held) in
@@ -205,7 +202,7 @@ closed_some m r closed place k o missing =
     record {
       names = k.names;
       sound = k.sound;
-      texts = k.texts ∙ ap (λ (l : List (List LineForm)). closed ++ l) (as_text-some r.lines o.titled) ∙ sym (append-nil (closed ++ r.lines ∷ []));
+      texts = k.texts ∙ ap (λ (l : List (List LineForm)). closed ++ l) (text_is r.lines o.titled) ∙ sym (append-nil (closed ++ r.lines ∷ []));
       modules = λ more e. absurd (or_else_some (lack_in_texts 2 closed) (2 + total closed + place) (sym lack ∙ e));
       titles = k.titles;
       titles_held = k.titles_held;

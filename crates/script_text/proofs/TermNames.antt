@@ -26,7 +26,7 @@ use Rattle.script_text.proofs.TextsBack.{atom_again}
 
 -- ---- names that grow
 
-each_first : {X : Type 0} (P : X → Type 0) (xs ys : List X) → AllByRecursion P (xs ++ ys) → AllByRecursion P xs × AllByRecursion P ys
+pub each_first : {X : Type 0} (P : X → Type 0) (xs ys : List X) → AllByRecursion P (xs ++ ys) → AllByRecursion P xs × AllByRecursion P ys
 each_first P [] ys h = (tt, h)
 each_first P (x ∷ xs) ys h = let more = each_first P xs ys h.1 in ((h.0, more.0), more.1)
 

@@ -1,5 +1,5 @@
 -- A process that goes on after a turn, or is counted further, may have another turn.
-use Rattle.std.proofs.Common.{◌≡◌, ◌≤◌, ◌+◌, ◌<◌, ◌∙◌, ℕ, lit≤, ap, sym, subst, refl, arith, List, [], Result, Ok, Err, IfOk}
+use Rattle.std.proofs.Common.{◌≡◌, ◌≤◌, ◌+◌, ◌<◌, ◌∙◌, ℕ, lit≤, ap, sym, subst, refl, arith, List, Result, Ok, Err, IfOk}
 use Rattle.term_core.specs.declared.hold.TheConstants.{MOST_AREAS}
 use Rattle.term_core.specs.declared.no_memory.NoMemory.{NoMemory}
 use Rattle.term_core.specs.declared.atom.Mfa.{Mfa}

@@ -1,5 +1,5 @@
 -- A turn that leaves the frames as they were, makes no line and goes on is repeated by the next one, as long as the count of turns allows.
-use Rattle.std.proofs.Common.{◌≡◌, ◌≢◌, ◌==◌, ◌+◌, ◌≤◌, ◌<◌, ◌∙◌, ℕ, zero, suc, refl, sym, ap, arith, Bool, true, false, List, [], ◌++◌, Option, Some, None, add-one}
+use Rattle.std.proofs.Common.{◌≡◌, ◌==◌, ◌+◌, ◌≤◌, ◌<◌, ◌∙◌, ℕ, zero, suc, refl, sym, ap, arith, false, List, [], ◌++◌, Option, Some, None}
 use Rattle.std.proofs.lemmas.Bool.{ne_eqb}
 use Rattle.std.proofs.lemmas.List.{append-nil}
 use Rattle.server_core.specs.ServerState.{ServerState}
