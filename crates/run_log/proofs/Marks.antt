@@ -53,10 +53,6 @@ module _ (s : ServerState) where
   after_is (suc n) p made t h =
       after_more n made (turn_of s p).process (turn_of s p).made (turn_of s p).end t (λ m k. after_is n (turn_of s p).process m t k) h
 
-  unfolding after_turns
-  after_one_more zero p = refl
-  after_one_more (suc n) p = after_one_more n (turn_of s p).process
-
   -- no turn has no mark
   pub marks_none : (g : ℕ) (p : PlainProcess) → marks_in s g 0 p ≡ []
   unfolding marks_in
@@ -117,8 +113,6 @@ marks_under states others top same p [] known = refl
 marks_under states others top same p (span ∷ spans) known =
     ap (λ s. marks_in s span.generation span.turns p ++ marks_of others (after_turns s span.turns p) spans) (same span.generation known.0)
     ∙ ap (λ ms. marks_in (states span.generation) span.generation span.turns p ++ ms) (marks_under states others top same (after_turns (states span.generation) span.turns p) spans known.1)
-
-module _ (texts : List Module) (journal : List Entry) (e : Entry) (p : PlainProcess) (spans : List Span) (known : AllByRecursion (λ span. span.generation ≤ (newest_state texts empty_state journal).generation) spans) where
 
 go_on : (states : ℕ → ServerState) (span : Span) (spans : List Span) (p now : PlainProcess) → ((q : PlainProcess) → SpansGo states q spans now → process_after states q spans ≡ now)
     → (t : Turn) × ((turns_of (states span.generation) span.turns p [] ≡ Some t) × ((t.made ≡ span.lines) × (t.end ≡ Again) × SpansGo states t.process spans now)) → process_after states p (span ∷ spans) ≡ now
