@@ -134,6 +134,17 @@ def keys_and_areas():
         "entry L0 put z 1 = ok @257\nentry L0 put k0 {0} = ok -\nentry L0 put k0 {1} = system_limit areas -\n"
         "entry L0 put k0 1 = ok @258\nentry rt release 1 = ok -\nentry L0 put z {0} = ok @259\n",
     )
+    yield runs(
+        "areas_and_then_keys_at_their_limit",
+        "loader\n" + joined("put k# {}\n", range(256)) + "put k0 []\nput k256 {}\nput k0 {}\n"
+        + joined("put k# 7\n", range(256, 384)) + "put k384 7\nput k384 {}\nerase k0\nput k384 []\n",
+        386,
+        joined("entry L0 put k# {} = ok @%\n", range(256)) + "entry L0 put k0 [] = system_limit areas -\n"
+        "entry L0 put k256 {} = system_limit areas -\nentry L0 put k0 {} = ok -\n"
+        + joined("entry L0 put k# 7 = ok @%\n", range(256, 384)) + "entry L0 put k384 7 = system_limit keys -\n"
+        "entry L0 put k384 {} = system_limit keys -\nentry L0 erase k0 = true @385\n"
+        "entry rt release 1 = ok -\nentry L0 put k384 [] = ok @386\n",
+    )
 
 
 def loaders_and_processes():

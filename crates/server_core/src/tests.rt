@@ -7,7 +7,6 @@ ghost use Rattle.server_core.specs.ServerState.{IsShortTerm};
 use super::*;
 use mod_core::{Function, FunctionList, Instr, InstrList, Module, ModuleList, Operand};
 use std::alloc::Global;
-use std::ops::Range;
 use std::process::Abort;
 use std::test::Fail;
 use term_core::{AreaRef, AtomId, CodeRef, Found, Mfa, NoMemory, Term, TermList};
@@ -397,44 +396,4 @@ fn areas_keep_their_words(rt: HostRuntime) -> Result<(), Fail> {
     let serial = server.dispatch(main_of(3)).map(|at| at.area.serial);
     assert!(rt; serial == Some(1));
     Ok(())
-}
-
-// Puts the term under the keys with these numbers, each of which is new.
-fn put_all(
-    rt: &(impl AllocGlobal + Abort),
-    server: &mut Server,
-    value: Value,
-    keys: Range<u32>,
-) -> Result<(), Fail> {
-    let alloc = rt.alloc();
-    let texts = ModuleList::new(alloc);
-    for key in keys {
-        let cmd = command_of(alloc, Step::Put(key, value)).expect(rt, "a command");
-        let answer = answer_text(alloc, server.apply(&cmd, &texts))?;
-        assert!(rt;
-            answer.as_str().starts_with("ok @"),
-            "{value:?} under {key}"
-        );
-    }
-    Ok(())
-}
-
-#[test]
-fn keys_and_areas_are_limited(rt: HostRuntime) -> Result<(), Fail> {
-    let mut server = Server::new(rt.alloc()).expect(&rt, "a server");
-    put_all(&rt, &mut server, Value::EmptyTuple, 0..256)?;
-    let rows = [
-        (Step::Put(0, Value::EmptyList), "system_limit Areas -"),
-        (Step::Put(256, Value::EmptyTuple), "system_limit Areas -"),
-        (Step::Put(0, Value::EmptyTuple), "ok -"),
-    ];
-    make(&rt, &mut server, &rows)?;
-    put_all(&rt, &mut server, Value::Seven, 256..384)?;
-    let rows = [
-        (Step::Put(384, Value::Seven), "system_limit Keys -"),
-        (Step::Put(384, Value::EmptyTuple), "system_limit Keys -"),
-        (Step::Erase(0), "true @385"),
-        (Step::Put(384, Value::EmptyList), "ok @386"),
-    ];
-    make(&rt, &mut server, &rows)
 }
