@@ -3,11 +3,10 @@ use Rattle.std.proofs.Common.{◌≡◌, ℕ, ◌+◌, ◌≤◌, ◌==◌, Bool
 use lib.Seq.{take-append_seam}
 use Rattle.std.specs.Prelude.{unwrap_or, IsTrue}
 use Rattle.std.specs.List.{AllByRecursion}
-use Rattle.mod_text.specs.LineReading.{cut_at}
-use Rattle.mod_text.specs.Reading.{Lines, lines, before_lines}
-use Rattle.mod_text.proofs.Cuts.{lacks, cut_is, uncut_is, lines_behind, lines_of_cut, lines_of_tail}
-use Rattle.mod_text.proofs.Options.{some_is, bytes_are}
-use Rattle.script_text.specs.declared.script.Script.{Script}
+use Rattle.term_core.specs.Text.Cuts.{cut_at, Lines, lines, before_lines}
+use Rattle.term_core.proofs.Text.Cuts.{lacks, cut_is, uncut_is, lines_behind, lines_of_cut, lines_of_tail}
+use Rattle.term_core.proofs.Text.Options.{some_is, bytes_are}
+use Rattle.script_core.specs.declared.script.Script.{Script}
 use Rattle.script_text.specs.ScriptLine.{ScriptLine, go, script_line_written, is_script_line}
 use Rattle.script_text.specs.LineFaults.{last_of, line_fault}
 use Rattle.script_text.specs.ScriptText.{ScriptText, HaveNoFault}

@@ -13,8 +13,8 @@ use Rattle.prgr_core.proofs.Grammars.{reading_complete}
 use Rattle.beam_tool.specs.declared.form.Form.{Form}
 use Rattle.beam_tool.specs.declared.form.Form.TheVariants as forms
 use Rattle.beam_tool.specs.declared.check_form.TheConstants.{LONGEST_CHECK}
-use Rattle.script_text.specs.declared.script.TheConstants.{LONGEST_SCRIPT}
-use Rattle.script_text.specs.declared.script.Script.{Script}
+use Rattle.script_core.specs.declared.script.TheConstants.{LONGEST_SCRIPT}
+use Rattle.script_core.specs.declared.script.Script.{Script}
 use Rattle.script_text.specs.declared.fault.ScriptFault.{ScriptFault}
 use Rattle.script_text.specs.declared.fault.ScriptFault.TheVariants as faults
 use Rattle.script_text.specs.ScriptText.{ScriptText, FaultOf}

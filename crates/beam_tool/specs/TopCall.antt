@@ -20,8 +20,8 @@ use Rattle.beam_tool.specs.declared.fault.ReadFault.TheVariants.{Failed, NoMemor
 use Rattle.beam_tool.specs.declared.answer.Stop.{Stop}
 use Rattle.beam_tool.specs.declared.answer.Stop.TheVariants as stops
 use Rattle.beam_tool.specs.declared.answer.Stop.TheVariants.{SourceFault}
-use Rattle.script_text.specs.declared.script.TheConstants.{LONGEST_SCRIPT}
-use Rattle.script_text.specs.declared.script.Script.{Script}
+use Rattle.script_core.specs.declared.script.TheConstants.{LONGEST_SCRIPT}
+use Rattle.script_core.specs.declared.script.Script.{Script}
 use Rattle.script_text.specs.declared.fault.ScriptFault.{ScriptFault}
 use Rattle.script_text.specs.declared.fault.ScriptFault.TheVariants as faults
 use Rattle.script_text.specs.FaultText.{fault_text}

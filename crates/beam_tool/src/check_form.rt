@@ -1,5 +1,5 @@
 ghost use Rattle.std.specs.Prelude.{◌≡◌, ◌≤◌, ℕ, List, length, IfOk, IsErrOf};
-ghost use Rattle.script_text.specs.Sound.{IsScript};
+ghost use Rattle.script_core.specs.Sound.{IsScript};
 ghost use Rattle.beam_tool.specs.Outside.{Rose};
 ghost use Rattle.beam_tool.specs.TopCall.{ReadVerdict, CheckVerdict, ReportVerdict, IsReportRead};
 
@@ -11,7 +11,8 @@ use crate::transfer::{Input, read_whole};
 use legality::legal;
 use report_text::{ReportFault, read_report};
 use run_log::RunLog;
-use script_text::{Script, ScriptFault, read_script};
+use script_core::Script;
+use script_text::{ScriptFault, read_script};
 use std::alloc::Global;
 use term_core::NoMemory;
 

@@ -1,6 +1,6 @@
 // Where the script ends that stands in front of a report.
 ghost use Rattle.std.specs.Prelude.{◌≡◌, length, option_map};
-ghost use Rattle.mod_text.specs.LineReading.{cut_at};
+ghost use Rattle.term_core.specs.Text.Cuts.{cut_at};
 ghost use Rattle.beam_tool.specs.Parting.{script_part};
 
 /// The first line of these bytes without its line feed, and what stands behind it. None where no line ends.

@@ -8,7 +8,8 @@ use crate::refusal::refusal;
 use crate::source::Source;
 use crate::transfer::{Input, read_whole};
 use prgr_core::{EventFault, Events, PrgrState, ReplayFault, read_events, replay};
-use script_text::{LONGEST_SCRIPT, ScriptFault};
+use script_core::LONGEST_SCRIPT;
+use script_text::ScriptFault;
 use std::alloc::Global;
 use term_core::{ByteList, NoMemory, print_number};
 

@@ -1,5 +1,5 @@
 ghost use Rattle.std.specs.Prelude.{◌≡◌, IfOk, IsErrOf};
-ghost use Rattle.script_text.specs.Sound.{IsScript};
+ghost use Rattle.script_core.specs.Sound.{IsScript};
 ghost use Rattle.beam_tool.specs.Outside.{Rose};
 ghost use Rattle.beam_tool.specs.TopCall.{ReadVerdict, ScriptVerdict, ReportOf};
 
@@ -9,7 +9,8 @@ use crate::source::Source;
 use crate::transfer::{Input, read_whole};
 use lap_runner::run_laps;
 use run_log::render;
-use script_text::{LONGEST_SCRIPT, Script, ScriptFault, read_script};
+use script_core::{LONGEST_SCRIPT, Script};
+use script_text::{ScriptFault, read_script};
 use std::alloc::Global;
 use term_core::{ByteList, NoMemory};
 

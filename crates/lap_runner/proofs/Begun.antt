@@ -3,30 +3,32 @@ use Rattle.std.proofs.Common.{◌≡◌, ℕ, zero, suc, ◌+◌, ◌<◌, ◌�
 use Rattle.std.proofs.lemmas.Bool.{false≢true}
 use Rattle.std.proofs.lemmas.List.{append-nil, drop_all, drop_more, length-map}
 use Rattle.std.specs.List.{AllByRecursion}
-use Rattle.script_text.specs.declared.script.TheConstants.{MOST_PROCESSES}
+use Rattle.script_core.specs.declared.script.TheConstants.{MOST_PROCESSES}
 use Rattle.std.proofs.lemmas.List.Sums.{sum_by-cons}
 use Rattle.std.proofs.lemmas.Option.{none-some, same_Some, slice_get-map, slice_get_within}
 use Rattle.server_core.specs.ServerState.{IsSound, empty_state}
 use Rattle.machine_core.specs.Process.{Words}
 use Rattle.machine_core.specs.View.{server_words}
-use Rattle.script_text.specs.declared.script.Script.{Script}
-use Rattle.script_text.specs.declared.script.ScriptCmd.{ScriptCmd}
-use Rattle.script_text.specs.declared.script.ScriptCmd.TheVariants.{Spawn}
-use Rattle.script_text.specs.Sound.{IsCmdOf, IsScript, spawns_in}
+use Rattle.script_core.specs.declared.script.Script.{Script}
+use Rattle.script_core.specs.declared.script.ScriptCmd.{ScriptCmd}
+use Rattle.script_core.specs.declared.script.ScriptCmd.TheVariants.{Spawn}
+use Rattle.script_core.specs.Sound.{IsCmdOf, IsScript}
+use Rattle.script_core.specs.Processes.{spawns_in, SpawnLine, spawns_from, spawns_of, spawn_count, spawn_number}
 use Rattle.mod_core.specs.declared.code.Module.{Module}
 use Rattle.run_log.specs.Journal.{newest_state, state_at}
-use Rattle.run_log.specs.Legal.{PurgesGo, Replays, SpawnLine, commands_in, commands_of, spawns_from, spawns_of}
+use Rattle.run_log.specs.Legal.{PurgesGo, Replays, commands_in, commands_of}
+use Rattle.script_core.proofs.JoinedPlaces.{JoinedAt, behind, get_behind, get_front, in_front, joined_at}
 use Rattle.lap_runner.specs.declared.process_run.ProcessRun.{ProcessRun}
 use Rattle.lap_runner.specs.declared.run.LoaderRun.{LoaderRun}
 use Rattle.lap_runner.specs.declared.run.Run.{Run}
-use Rattle.lap_runner.specs.Answers.{AreKnown, Each, IsHistory}
-use Rattle.lap_runner.specs.Runs.{DoomsJust, HasArity, IsRun, StandsIn, done_of, half_of, histories_of, history_of, loaders_from, spawn_count, spawn_number, waiting_from, waiting_of, waiting_stand}
+use Rattle.run_log.specs.History.{AreKnown, Each, IsHistory}
+use Rattle.lap_runner.specs.Runs.{DoomsJust, HasArity, IsRun, StandsIn, done_of, half_of, histories_of, history_of, loaders_from, waiting_from, waiting_of, waiting_stand}
 use Rattle.lap_runner.specs.Steps.{Stand, stand_in, stand_of}
-use Rattle.lap_runner.proofs.Answers.{known_at_start}
-use Rattle.lap_runner.proofs.AnswersLists.{each_map}
-use Rattle.lap_runner.proofs.AnswersMarks.{new_history}
-use Rattle.lap_runner.proofs.Lists.{JoinedAt, all_weaker, get_within, behind, get_behind, get_front, in_front, joined_at}
-use Rattle.lap_runner.proofs.SpawnLines.{lines_counted}
+use Rattle.run_log.proofs.History.{known_at_start}
+use Rattle.run_log.proofs.HistoryLists.{each_map}
+use Rattle.run_log.proofs.HistoryMarks.{new_history}
+use Rattle.run_log.proofs.ListPlaces.{all_weaker, get_within}
+use Rattle.script_core.proofs.SpawnLines.{lines_counted, number_further}
 
 -- generation 0 is a sound state
 empty_sound : IsSound empty_state
@@ -112,7 +114,7 @@ begins_at number (commands ∷ loaders) zero l h =
     record { none = sym (ap (λ x. x.done) e); next = let n : l.next_process ≡ number = sym (ap (λ x. x.next_process) e) in omega (arith, n) }
 begins_at number (commands ∷ loaders) (suc k) l h =
     let b = begins_at (number + spawn_count commands) loaders k l h in
-    record { none = b.none; next = omega (arith, b.next) }
+    record { none = b.none; next = omega (arith, b.next, number_further commands loaders k 0) }
 
 module _ (s : Script) (run : Run) (server : run.server ≡ empty_state) (journal : run.journal ≡ []) (purging : run.purging ≡ None) (loaders : run.loaders.items ≡ loaders_from 0 s.loaders) (all_wait : (words : Words) → map (stand_of words) run.processes.items ≡ waiting_of 0 s.loaders) where
   abbrev stand : ProcessRun → Stand

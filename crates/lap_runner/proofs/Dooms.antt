@@ -18,7 +18,7 @@ use Rattle.server_core.specs.declared.command.Linger.{Linger}
 use Rattle.server_core.specs.declared.command.ModRef.{ModRef}
 use Rattle.server_core.specs.declared.command.Reply.TheVariants as replies
 use Rattle.server_core.specs.ServerState.{ServerState, Entry, Persistent, current_of, is_doomed, is_retired, live_areas, live_count, old_of, persistent_of, traceable_of}
-use Rattle.server_core.specs.CommandTable.{Outcome, admitted, answered, apply_of, delete_of, doom_of, erase_of, holds_equal, load_of, loaded, names_of, not_purged, published, purge_of, put_of, repeated_after, soft_purge_of, text_of, texts_of, trace_of, unchanged, while_none_doomed, with_all, with_complex, with_deleted, with_immediate, with_loaded, with_purged, with_put, with_released, with_trace, without_number}
+use Rattle.server_core.specs.CommandTable.{Outcome, admitted, answered, apply_of, delete_of, doom_of, erase_of, holds_equal, load_of, loaded, names_of, not_purged, published, purge_of, put_of, repeated_after, soft_purge_of, text_of, texts_of, trace_of, unchanged, while_none_doomed, with_all, with_complex, with_deleted, with_immediate, with_loaded, with_purged, with_put, with_trace, without_number}
 
 -- an outcome leaves the doomed instances as they were
 abbrev Keeps : ServerState → Outcome → Type 0
@@ -94,17 +94,9 @@ erase_kept s key (Some p) = refl
 
 -- a command that is no half of a purge
 abbrev pub IsOther : Cmd → Type 0
-IsOther (Load refs) = Unit {0}
-IsOther (Delete name) = Unit {0}
-IsOther (SoftPurge name lingers) = Unit {0}
 IsOther (Doom name) = ⊥
 IsOther (Purge name killed) = ⊥
-IsOther (CheckOld name) = Unit {0}
-IsOther (Put key term) = Unit {0}
-IsOther (Erase key) = Unit {0}
-IsOther (Trace target on) = Unit {0}
-IsOther (Spawn target args) = Unit {0}
-IsOther (Release serial) = Unit {0}
+IsOther cmd = Unit {0}
 
 kept_in : (texts : List Module) (s : ServerState) (cmd : Cmd) → IsOther cmd → KeptIn s (apply_of texts s cmd)
 kept_in texts s (Load refs) other = unless_kept s (nat_lt 0 (length s.doomed)) _ (mapped_kept s _ (texts_of texts refs) (λ modules. loaded_kept s refs modules (repeated_after [] (names_of refs))))
@@ -125,30 +117,10 @@ doomed_kept texts s cmd o other applied = subst (KeptIn s) applied (kept_in text
 
 -- a command that is made while a purge waits
 abbrev pub IsMeanwhile : Cmd → Type 0
-IsMeanwhile (Load refs) = ⊥
-IsMeanwhile (Delete name) = ⊥
-IsMeanwhile (SoftPurge name lingers) = ⊥
-IsMeanwhile (Doom name) = ⊥
-IsMeanwhile (Purge name killed) = ⊥
 IsMeanwhile (CheckOld name) = Unit {0}
-IsMeanwhile (Put key term) = ⊥
-IsMeanwhile (Erase key) = ⊥
-IsMeanwhile (Trace target on) = ⊥
 IsMeanwhile (Spawn target args) = Unit {0}
 IsMeanwhile (Release serial) = Unit {0}
-
-pub meanwhile_other : (cmd : Cmd) → IsMeanwhile cmd → IsOther cmd
-meanwhile_other (CheckOld name) h = tt
-meanwhile_other (Spawn target args) h = tt
-meanwhile_other (Release serial) h = tt
-meanwhile_other (Load refs) h = absurd h
-meanwhile_other (Delete name) h = absurd h
-meanwhile_other (SoftPurge name lingers) h = absurd h
-meanwhile_other (Doom name) h = absurd h
-meanwhile_other (Purge name killed) h = absurd h
-meanwhile_other (Put key term) h = absurd h
-meanwhile_other (Erase key) h = absurd h
-meanwhile_other (Trace target on) h = absurd h
+IsMeanwhile cmd = ⊥
 
 where_same : (s : ServerState) (b : Bool) (o : Outcome) → o.state.versions ≡ s.versions → IfSome (if b then Some o else None) (λ x. x.state.versions ≡ s.versions)
 where_same s true o h = h
@@ -158,14 +130,7 @@ versions_in : (texts : List Module) (s : ServerState) (cmd : Cmd) → IsMeanwhil
 versions_in texts s (CheckOld name) h = refl
 versions_in texts s (Spawn target args) h = refl
 versions_in texts s (Release serial) h = where_same s (is_retired s serial) _ refl
-versions_in texts s (Load refs) h = absurd h
-versions_in texts s (Delete name) h = absurd h
-versions_in texts s (SoftPurge name lingers) h = absurd h
-versions_in texts s (Doom name) h = absurd h
-versions_in texts s (Purge name killed) h = absurd h
-versions_in texts s (Put key term) h = absurd h
-versions_in texts s (Erase key) h = absurd h
-versions_in texts s (Trace target on) h = absurd h
+versions_in texts s cmd h = absurd h
 
 -- it leaves current and old code as they were
 pub versions_kept : (texts : List Module) (s : ServerState) (cmd : Cmd) (o : Outcome) → IsMeanwhile cmd → apply_of texts s cmd ≡ Some o → o.state.versions ≡ s.versions
@@ -255,7 +220,3 @@ idle_purge_enabled texts s name none old = ap (λ o. is_some (purge_of s name.0 
 -- so has the second half of a purge whose code is doomed
 pub purge_enabled : (texts : List Module) (s : ServerState) (name : AtomId) (killed : Bool) (serial : ℕ) → s.doomed ≡ serial ∷ [] → old_of s name.0 ≡ Some serial → IsSome (apply_of texts s (Purge name killed))
 purge_enabled texts s name killed serial doomed old = ap is_some (purge_is s name killed serial doomed old)
-
--- and the release of what is retired
-pub release_enabled : (texts : List Module) (s : ServerState) (serial : ℕ) → IsTrue (is_retired s serial) → IsSome (apply_of texts s (Release serial))
-release_enabled texts s serial h = ap (λ b. is_some (if b then Some (unchanged (with_released s serial) replies.Ok) else None)) h

@@ -4,22 +4,23 @@ use Rattle.std.proofs.lemmas.Option.{none-some, slice_get_within, slice_get_read
 use Rattle.std.specs.List.{AllByRecursion}
 use Rattle.server_core.specs.declared.command.Cmd.{Cmd}
 use Rattle.server_core.specs.CommandTable.{IsOfText, apply_of}
-use Rattle.script_text.specs.declared.script.Script.{Script}
-use Rattle.script_text.specs.declared.script.ScriptCmd.{ScriptCmd}
-use Rattle.script_text.specs.declared.script.ScriptCmd.TheVariants.{Spawn}
-use Rattle.script_text.specs.Sound.{IsCmdOf, IsScript}
+use Rattle.script_core.specs.declared.script.Script.{Script}
+use Rattle.script_core.specs.declared.script.ScriptCmd.{ScriptCmd}
+use Rattle.script_core.specs.declared.script.ScriptCmd.TheVariants.{Spawn}
+use Rattle.script_core.specs.Sound.{IsCmdOf, IsScript}
 use Rattle.run_log.specs.declared.logs.Who.TheVariants.{Loader}
 use Rattle.run_log.specs.Journal.{ends_one}
-use Rattle.run_log.specs.Legal.{commands_of, spawns_of}
+use Rattle.run_log.specs.Legal.{commands_of}
+use Rattle.script_core.specs.Processes.{spawns_of, spawn_number, commands_at}
 use Rattle.run_log.proofs.SpanRuns.{some_at}
 use Rattle.lap_runner.specs.declared.run.LoaderRun.{LoaderRun}
 use Rattle.lap_runner.specs.declared.run.Run.{Run}
 use Rattle.lap_runner.specs.Looks.{next_cmd}
-use Rattle.lap_runner.specs.Runs.{IsRun, done_of, spawn_number}
+use Rattle.lap_runner.specs.Runs.{IsRun, done_of}
 use Rattle.lap_runner.specs.Steps.{Advances, CanSpawn, HasAdvanced, HasJoined, HasMade, SpawnsNext, loader_after, purging_after}
-use Rattle.lap_runner.proofs.Lists.{all_at}
+use Rattle.run_log.proofs.ListPlaces.{all_at}
 use Rattle.lap_runner.proofs.Nexts.{next_enabled, next_of_text}
-use Rattle.lap_runner.proofs.SpawnLines.{commands_at, spawn_at}
+use Rattle.script_core.proofs.SpawnLines.{spawn_at}
 
 -- what is known of each command of each loader is known of one that is there
 cmd_at : (P : ScriptCmd → Type 0) (loaders : List (List ScriptCmd)) (k place : ℕ) (cmd : ScriptCmd) → AllByRecursion (λ commands. AllByRecursion P commands) loaders → slice_get (commands_at loaders k) place ≡ Some cmd → P cmd

@@ -6,24 +6,25 @@ use Rattle.std.proofs.lemmas.Option.{none-some, same_Some, slice_get-map, slice_
 use Rattle.server_core.specs.ServerState.{ServerState, empty_state}
 use Rattle.machine_core.specs.declared.process.End.{End}
 use Rattle.machine_core.specs.Process.{PlainProcess, new_process}
-use Rattle.script_text.specs.declared.script.Script.{Script}
+use Rattle.script_core.specs.declared.script.Script.{Script}
 use Rattle.run_log.specs.declared.logs.Entry.{Entry}
 use Rattle.run_log.specs.declared.logs.Span.{Span}
 use Rattle.run_log.specs.declared.logs.ProcessLog.{ProcessLog}
 use Rattle.run_log.specs.declared.logs.RunLog.{RunLog}
 use Rattle.run_log.specs.Journal.{published_before, published_count, state_at}
-use Rattle.run_log.specs.Legal.{Complete, IsLogOf, Legal, LogsMatch, PurgesGo, SpansFollow, SpawnBeforeTurns, SpawnLine, TurnsFollow, commands_of, first_generation, marks_of, spawns_of}
+use Rattle.run_log.specs.Legal.{Complete, IsLogOf, Legal, LogsMatch, PurgesGo, SpansFollow, SpawnBeforeTurns, TurnsFollow, commands_of, first_generation, marks_of}
+use Rattle.script_core.specs.Processes.{SpawnLine, spawns_of}
 use Rattle.run_log.specs.WholeSpans.{AreWhole}
 use Rattle.lap_runner.specs.declared.process_run.Phase.{Phase}
 use Rattle.lap_runner.specs.declared.process_run.Phase.TheVariants.{Waiting, Going, Ended}
 use Rattle.lap_runner.specs.declared.process_run.ProcessRun.{ProcessRun}
 use Rattle.lap_runner.specs.declared.run.Run.{Run}
 use Rattle.lap_runner.specs.declared.observers.ObserverRun.{ObserverRun}
-use Rattle.lap_runner.specs.Answers.{AreHistoriesOf, History}
+use Rattle.run_log.specs.History.{AreHistoriesOf, History}
 use Rattle.lap_runner.specs.Observers.{HaveObserved, shots_of}
 use Rattle.lap_runner.specs.Runs.{HasNoWork, IsEnd, IsOver, IsRun, Rests, StandsIn, done_of, end_of, fin_in, half_of, histories_of, history_of, log_of}
 use Rattle.lap_runner.specs.Steps.{stand_in}
-use Rattle.lap_runner.proofs.AnswersEnd.{lingers_told, purged_unnamed, released_unnamed}
+use Rattle.run_log.proofs.HistoryEnd.{lingers_told, purged_unnamed, released_unnamed}
 use Rattle.lap_runner.proofs.Joining.{generations_counted, line_for}
 use Rattle.lap_runner.proofs.Making.{line_text}
 use Rattle.lap_runner.proofs.Observing.{seen_published, seen_true}

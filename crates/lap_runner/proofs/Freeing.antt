@@ -6,9 +6,9 @@ use Rattle.std.proofs.lemmas.List.{take_all}
 use Rattle.std.proofs.lemmas.List.Folds.{list_any-append, list_any_at}
 use Rattle.std.proofs.lemmas.Option.{slice_get-get_or}
 use Rattle.server_core.specs.ServerState.{is_serial_in}
+use Rattle.script_core.proofs.JoinedPlaces.{take_next}
 use Rattle.lap_runner.specs.declared.process_run.ProcessRun.{ProcessRun}
 use Rattle.lap_runner.specs.Looks.{AreNamed, AreNamedBelow, IsLeastFree, is_before, some_names}
-use Rattle.lap_runner.proofs.Lists.{take_next}
 
 -- of the first so many areas, the least that no process names, or none where each is named
 abbrev pub FreeSoFar : List ℕ → List ProcessRun → ℕ → Option ℕ → Type 0

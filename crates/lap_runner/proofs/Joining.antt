@@ -11,12 +11,14 @@ use Rattle.machine_core.specs.Process.{PlainProcess, names_of, new_process, proc
 use Rattle.machine_core.specs.View.{server_words}
 use Rattle.machine_core.proofs.LaterWords.{HasAreas, process_later}
 use Rattle.machine_core.proofs.TurnLaws.{may_turn_later}
-use Rattle.script_text.specs.declared.script.Script.{Script}
+use Rattle.script_core.specs.declared.script.Script.{Script}
 use Rattle.run_log.specs.declared.logs.Who.{Who}
 use Rattle.run_log.specs.declared.logs.Entry.{Entry}
 use Rattle.run_log.specs.declared.logs.Span.{Span}
 use Rattle.run_log.specs.Journal.{state_after, next_state, newest_state, published_before, published_count, state_at}
-use Rattle.run_log.specs.Legal.{HalfPurge, MayStand, PurgesGo, Replays, SpansGo, SpawnLine, commands_in, commands_of, half_after, is_release, is_runtime, spawns_of}
+use Rattle.run_log.specs.declared.underway.HalfPurge.{HalfPurge}
+use Rattle.run_log.specs.Legal.{MayStand, PurgesGo, Replays, SpansGo, commands_in, commands_of, half_after, is_release, is_runtime}
+use Rattle.script_core.specs.Processes.{SpawnLine, spawns_of}
 use Rattle.run_log.proofs.AreaWords.{areas_stay, sound_below}
 use Rattle.run_log.proofs.Journals.{before_kept, counted, entry_follows, never_falls, newest_more, purges_more, replays_more, state_kept}
 use Rattle.run_log.proofs.Marks.{marks_under}
@@ -25,11 +27,11 @@ use Rattle.lap_runner.specs.declared.process_run.Phase.{Phase}
 use Rattle.lap_runner.specs.declared.process_run.Phase.TheVariants.{Waiting, Going, Ended}
 use Rattle.lap_runner.specs.declared.process_run.ProcessRun.{ProcessRun}
 use Rattle.lap_runner.specs.declared.run.Run.{Run}
-use Rattle.lap_runner.specs.Answers.{History}
+use Rattle.run_log.specs.History.{History}
 use Rattle.lap_runner.specs.Runs.{IsRun, StandsIn, Waits, WasSpawned, done_of, fin_in, half_of, histories_of, history_of}
 use Rattle.lap_runner.specs.Steps.{HasJoined, stand_in}
 use Rattle.lap_runner.proofs.Frames.{frameless_same}
-use Rattle.lap_runner.proofs.Lists.{all_weaker, get_within, map_same}
+use Rattle.run_log.proofs.ListPlaces.{all_weaker, get_within, map_same}
 
 -- what a longer journal keeps of a process
 pub record IsLonger (journal longer : List Entry) (states others : ℕ → ServerState) (newest now : ServerState) (done more : ℕ) (line : SpawnLine) : Type 0 where

@@ -8,11 +8,12 @@ use Rattle.server_core.specs.ServerState.{ServerState, empty_state, old_of}
 use Rattle.machine_core.specs.Holds.{is_among}
 use Rattle.machine_core.specs.Process.{frame_names}
 use Rattle.machine_core.specs.View.{server_words}
-use Rattle.script_text.specs.declared.script.Script.{Script}
-use Rattle.script_text.specs.declared.script.ScriptCmd.{ScriptCmd}
+use Rattle.script_core.specs.declared.script.Script.{Script}
+use Rattle.script_core.specs.declared.script.ScriptCmd.{ScriptCmd}
 use Rattle.run_log.specs.declared.logs.Entry.{Entry}
 use Rattle.run_log.specs.Journal.{state_at}
-use Rattle.run_log.specs.Legal.{SpawnLine, commands_of}
+use Rattle.script_core.specs.Processes.{SpawnLine}
+use Rattle.run_log.specs.Legal.{commands_of}
 use Rattle.run_log.proofs.SpanRuns.{some_and}
 use Rattle.lap_runner.specs.declared.process_run.Phase.{Phase}
 use Rattle.lap_runner.specs.declared.process_run.Phase.TheVariants.{Waiting, Going, Ended}
@@ -28,7 +29,7 @@ use Rattle.lap_runner.proofs.Enabled.{loader_there}
 use Rattle.lap_runner.proofs.Generations.{generations_more, generations_same}
 use Rattle.lap_runner.proofs.Frames.{stands_unread}
 use Rattle.lap_runner.proofs.Joining.{frames_over, line_for, stands_at}
-use Rattle.lap_runner.proofs.Lists.{SetAt, get_within, here, set_at, set_there, there}
+use Rattle.run_log.proofs.ListPlaces.{SetAt, get_within, here, set_at, set_there, there}
 use Rattle.lap_runner.proofs.Making.{made_keeps}
 use Rattle.lap_runner.proofs.Work.{made_less, sum_less, turn_less}
 

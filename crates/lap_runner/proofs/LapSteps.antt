@@ -12,9 +12,10 @@ use Rattle.machine_core.specs.Holds.{is_among}
 use Rattle.machine_core.specs.Process.{PlainProcess, names_of, new_process}
 use Rattle.machine_core.specs.Turn.{turn_of}
 use Rattle.machine_core.proofs.TurnLaws.{turn_same}
-use Rattle.script_text.specs.declared.script.Script.{Script}
+use Rattle.script_core.specs.declared.script.Script.{Script}
 use Rattle.run_log.specs.Journal.{newest_state, published_before, state_at}
-use Rattle.run_log.specs.Legal.{Mark, SpawnLine, marks_of, published_to, state_before}
+use Rattle.run_log.specs.Legal.{Mark, marks_of, published_to, state_before}
+use Rattle.script_core.specs.Processes.{SpawnLine}
 use Rattle.run_log.proofs.Journals.{before_counted, newest_at}
 use Rattle.run_log.proofs.Releases.{HasRelease, retired_alike}
 use Rattle.run_log.proofs.StatesForTurns.{for_turns}
@@ -22,13 +23,13 @@ use Rattle.lap_runner.specs.declared.process_run.Phase.{Phase}
 use Rattle.lap_runner.specs.declared.process_run.Phase.TheVariants.{Waiting, Going, Ended}
 use Rattle.lap_runner.specs.declared.process_run.ProcessRun.{ProcessRun}
 use Rattle.lap_runner.specs.declared.run.Run.{Run}
-use Rattle.lap_runner.specs.Answers.{AllRestOrTurn, AnswerStands, AreKnown, HasTurned, History, RestsOrTurns, StaysReleased, fin_after, history_after, rests, turns}
+use Rattle.run_log.specs.History.{AllRestOrTurn, AnswerStands, AreKnown, HasTurned, History, RestsOrTurns, StaysReleased, fin_after, history_after, rests, turns}
 use Rattle.lap_runner.specs.Runs.{Goes, IsReadyIn, IsRun, StandsIn, done_of, fin_in, histories_of, history_of}
 use Rattle.lap_runner.specs.Steps.{HadItsTurn, LapOf, Stand, phase_after, stand_in}
-use Rattle.lap_runner.proofs.Answers.{steps_pass}
-use Rattle.lap_runner.proofs.AnswersTurns.{has_turned}
+use Rattle.run_log.proofs.History.{steps_pass}
+use Rattle.run_log.proofs.HistoryTurns.{has_turned}
 use Rattle.lap_runner.proofs.Joining.{generations_counted, history_at, line_for, stands_at}
-use Rattle.lap_runner.proofs.Lists.{get_within}
+use Rattle.run_log.proofs.ListPlaces.{get_within}
 use Rattle.lap_runner.proofs.Turning.{turn_marks, turn_stands}
 
 -- the end that a phase tells is that of the turn before it

@@ -1,14 +1,5 @@
-mod Lists
 mod Generations
 mod Observing
-mod AnswersLists
-mod AnswersTable
-mod AnswersMarks
-mod AnswersSteps
-mod Answers
-mod AnswersEnd
-mod AnswersTurns
-mod SpawnLines
 mod TurnLaws
 mod Taking
 mod Turning

@@ -9,21 +9,22 @@ use Rattle.server_core.specs.declared.command.Linger.{Linger}
 use Rattle.server_core.specs.ServerState.{ServerState, IsSound, empty_state, old_of}
 use Rattle.machine_core.specs.Process.{PlainProcess}
 use Rattle.machine_core.specs.View.{server_words}
-use Rattle.script_text.specs.declared.script.Script.{Script}
+use Rattle.script_core.specs.declared.script.Script.{Script}
 use Rattle.run_log.specs.declared.logs.Who.{Who}
 use Rattle.run_log.specs.declared.logs.Entry.{Entry}
 use Rattle.run_log.specs.Journal.{newest_state, published_count, state_at}
-use Rattle.run_log.specs.Legal.{NamesNot, SpawnLine, StandsNotIn}
+use Rattle.run_log.specs.Legal.{NamesNot, StandsNotIn}
+use Rattle.script_core.specs.Processes.{SpawnLine}
 use Rattle.lap_runner.specs.declared.process_run.Phase.{Phase}
 use Rattle.lap_runner.specs.declared.process_run.Phase.TheVariants.{Waiting, Going, Ended}
 use Rattle.lap_runner.specs.declared.process_run.ProcessRun.{ProcessRun}
 use Rattle.lap_runner.specs.declared.run.Run.{Run}
-use Rattle.lap_runner.specs.Answers.{AreKnown, Each, History, IsSilent, has_ended_by}
+use Rattle.run_log.specs.History.{AreKnown, Each, History, IsSilent, has_ended_by}
 use Rattle.lap_runner.specs.Looks.{lingering, lingering_in, names_area, some_names, some_stands, stands_in, unread, was_killed_by}
 use Rattle.lap_runner.specs.Runs.{IsRun, StandsIn, fin_in, histories_of, history_of}
 use Rattle.lap_runner.specs.Steps.{HasJoined, stand_in}
-use Rattle.lap_runner.proofs.Answers.{linger_joins, purge_joins, release_joins, silent_joins, soft_purge_joins}
-use Rattle.lap_runner.proofs.AnswersLists.{any_map, each_map}
+use Rattle.run_log.proofs.History.{linger_joins, purge_joins, release_joins, silent_joins, soft_purge_joins}
+use Rattle.run_log.proofs.HistoryLists.{any_map, each_map}
 use Rattle.lap_runner.proofs.Frames.{any_same, names_unread, stands_unread}
 use Rattle.lap_runner.proofs.Joining.{applied_at, generations_counted, history_at, line_for, next_newest, stands_at}
 use Rattle.lap_runner.proofs.Nexts.{HasPurgeLook, Looked}
@@ -78,8 +79,7 @@ none_lingers serial (p ∷ ps) h = none_or serial p ps (stands_in serial (unread
 
 killed_is : (serial : ℕ) (phase : Phase) → was_killed_by serial phase ≡ has_ended_by serial (fin_in phase)
 killed_is serial Waiting = refl
-killed_is serial Going = refl
-killed_is serial (Ended fin) = refl
+killed_is serial phase = refl
 
 -- a process has its number
 numbered_in : (journal : List Entry) (states : ℕ → ServerState) (newest : ServerState) (done number : ℕ) (line : SpawnLine) (p : ProcessRun) (phase : Phase) → StandsIn journal states newest done number line p phase → p.process.number ≡ number
@@ -162,18 +162,11 @@ module _ (s : Script) (run : Run) (known : IsRun s run) (who : Who) (cmd : Cmd) 
       ∙ sym (any_map (λ h. has_ended_by serial h.fin) history ps)))
 
   told_by : (c : Cmd) → joined.entry.cmd ≡ c → Looked run.server ps c → Told
-  told_by (cmds.Load refs) is looked = silent (cmds.Load refs) is tt
-  told_by (cmds.Delete name) is looked = silent (cmds.Delete name) is tt
   told_by (cmds.SoftPurge name lingers) is looked = soft_purge_told name lingers (old_of run.server name.0) is refl looked
-  told_by (cmds.Doom name) is looked = silent (cmds.Doom name) is tt
   told_by (cmds.Purge name killed) is looked = purge_told name killed (old_of run.server name.0) is refl looked
-  told_by (cmds.CheckOld name) is looked = silent (cmds.CheckOld name) is tt
-  told_by (cmds.Put key term) is looked = silent (cmds.Put key term) is tt
-  told_by (cmds.Erase key) is looked = silent (cmds.Erase key) is tt
-  told_by (cmds.Trace target on) is looked = silent (cmds.Trace target on) is tt
-  told_by (cmds.Spawn target args) is looked = silent (cmds.Spawn target args) is tt
   told_by (cmds.Release serial) is looked =
       release_joins s.modules run.journal histories known.answers counted_newest joined.entry serial _ is (applied_at s run known who cmd t after joined) (subst IsSound known.server known.sound) (name_not serial looked)
+  told_by c is looked = silent c is tt
 
   -- the entry's answer stands with those before it
   pub answers_after : Looked run.server ps cmd → AreKnown s.modules after histories

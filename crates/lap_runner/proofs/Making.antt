@@ -16,31 +16,33 @@ use Rattle.machine_core.specs.declared.process.TheConstants.{MOST_TURNS}
 use Rattle.machine_core.specs.Holds.{area_count}
 use Rattle.machine_core.specs.Process.{PlainProcess, names_of, new_process}
 use Rattle.machine_core.specs.View.{shown_of}
-use Rattle.script_text.specs.declared.script.Script.{Script}
-use Rattle.script_text.specs.declared.script.ScriptCmd.{ScriptCmd}
-use Rattle.script_text.specs.declared.script.ScriptCmd.TheVariants.{Load, Delete, SoftPurge, Purge, CheckOld, Put, Erase, Trace, Spawn}
-use Rattle.script_text.specs.Sound.{spawns_in}
+use Rattle.script_core.specs.declared.script.Script.{Script}
+use Rattle.script_core.specs.declared.script.ScriptCmd.{ScriptCmd}
+use Rattle.script_core.specs.declared.script.ScriptCmd.TheVariants.{Purge, Spawn}
+use Rattle.script_core.specs.Processes.{spawns_in, SpawnLine, spawns_of, spawn_number}
 use Rattle.run_log.specs.declared.logs.Who.{Who}
 use Rattle.run_log.specs.declared.logs.Who.TheVariants.{Loader}
 use Rattle.run_log.specs.declared.logs.Entry.{Entry}
 use Rattle.run_log.specs.declared.logs.Span.{Span}
 use Rattle.run_log.specs.Journal.{state_at, is_of, ends_one, published_before}
-use Rattle.run_log.specs.Legal.{HalfPurge, MayStand, MayStandBetween, MayStart, SpawnLine, SpansGo, commands_in, commands_of, ended_by, first_generation, half_after, is_release, is_runtime, spawns_of}
+use Rattle.run_log.specs.declared.underway.HalfPurge.{HalfPurge}
+use Rattle.run_log.specs.Legal.{MayStand, MayStandBetween, MayStart, SpansGo, commands_in, commands_of, ended_by, first_generation, half_after, is_release, is_runtime}
 use Rattle.run_log.specs.WholeSpans.{AreWhole}
 use Rattle.run_log.proofs.Journals.{commands_other, commands_own}
 use Rattle.run_log.proofs.SpanRuns.{some_and, some_at}
+use Rattle.script_core.proofs.JoinedPlaces.{take_next}
 use Rattle.lap_runner.specs.declared.process_run.Phase.{Phase}
 use Rattle.lap_runner.specs.declared.process_run.Phase.TheVariants.{Waiting, Going, Ended}
 use Rattle.lap_runner.specs.declared.process_run.ProcessRun.{ProcessRun}
 use Rattle.lap_runner.specs.declared.run.LoaderRun.{LoaderRun}
 use Rattle.lap_runner.specs.declared.run.Purging.{Purging}
 use Rattle.lap_runner.specs.declared.run.Run.{Run}
-use Rattle.lap_runner.specs.Answers.{AreKnown}
+use Rattle.run_log.specs.History.{AreKnown}
 use Rattle.lap_runner.specs.Looks.{some_killed}
-use Rattle.lap_runner.specs.Runs.{DoomsJust, Goes, IsRun, PurgeWaits, StandsIn, Waits, done_of, fin_in, half_of, histories_of, history_of, spawn_number}
+use Rattle.lap_runner.specs.Runs.{DoomsJust, Goes, IsRun, PurgeWaits, StandsIn, Waits, done_of, fin_in, half_of, histories_of, history_of}
 use Rattle.lap_runner.specs.Steps.{Advances, HasAdvanced, HasJoined, HasMade, HasStayed, SpawnsNext, loader_after, purging_after, stand_in}
-use Rattle.lap_runner.proofs.Lists.{SetAt, here, map_kept, set_at, set_here, set_there, take_next, there}
-use Rattle.lap_runner.proofs.SpawnLines.{line_at, number_next, spawn_at}
+use Rattle.run_log.proofs.ListPlaces.{SetAt, here, map_kept, set_at, set_here, set_there, there}
+use Rattle.script_core.proofs.SpawnLines.{line_at, number_next, spawn_at}
 use Rattle.lap_runner.proofs.Dooms.{IsMeanwhile, doom_dooms, purge_lifts, versions_kept}
 use Rattle.lap_runner.proofs.Nexts.{HasPurgeLook, IsNext, IsQuiet, Looked, at_once, between, first_half, half_is, next_is, quiet_keeps, quiet_starts, second_half, still_waits}
 use Rattle.lap_runner.proofs.Joining.{histories_kept, process_kept, purges_after, replays_after, server_after, waits_later}
@@ -117,14 +119,7 @@ pub data Spawned (cmd : ScriptCmd) (next : ℕ) (before after : List ProcessRun)
 
 spawned_is : (cmd : ScriptCmd) (next : ℕ) (before after : List ProcessRun) → SpawnsNext cmd next before after → Spawned cmd next before after
 spawned_is (Spawn target args) next before after h = one_spawned target args refl h
-spawned_is (Load refs) next before after h = none_spawned refl h
-spawned_is (Delete name) next before after h = none_spawned refl h
-spawned_is (SoftPurge name) next before after h = none_spawned refl h
-spawned_is (Purge name) next before after h = none_spawned refl h
-spawned_is (CheckOld name) next before after h = none_spawned refl h
-spawned_is (Put key term) next before after h = none_spawned refl h
-spawned_is (Erase key) next before after h = none_spawned refl h
-spawned_is (Trace target on) next before after h = none_spawned refl h
+spawned_is cmd next before after h = none_spawned refl h
 
 -- a process that goes on from now has the history that it had
 going_same : (states : ℕ → ServerState) (s : ServerState) (p : ProcessRun) → p.phase ≡ Waiting → history_of states (stand_in s (record p { phase = Going })) ≡ history_of states (stand_in s p)
@@ -328,14 +323,7 @@ stands_between : (half : HalfPurge) (who : Who) (cmd : Cmd) → IsMeanwhile cmd 
 stands_between half who (cmds.CheckOld name) h n = n
 stands_between half who (cmds.Spawn target args) h n = n
 stands_between half who (cmds.Release serial) h n = n
-stands_between half who (cmds.Load refs) h n = absurd h
-stands_between half who (cmds.Delete name) h n = absurd h
-stands_between half who (cmds.SoftPurge name lingers) h n = absurd h
-stands_between half who (cmds.Doom name) h n = absurd h
-stands_between half who (cmds.Purge name killed) h n = absurd h
-stands_between half who (cmds.Put key term) h n = absurd h
-stands_between half who (cmds.Erase key) h n = absurd h
-stands_between half who (cmds.Trace target on) h n = absurd h
+stands_between half who cmd h n = absurd h
 
 -- while a purge waits, what is made meanwhile may stand, and the purge waits on
 pub meanwhile_stands : (newest : ServerState) (p : Purging) (purging : Option Purging) (e : Entry) (who : Who) (cmd : Cmd) → purging ≡ Some p → e.who ≡ who → e.cmd ≡ cmd → IsMeanwhile cmd → (who ≡ Loader p.loader → ⊥)

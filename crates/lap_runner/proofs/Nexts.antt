@@ -14,16 +14,16 @@ use Rattle.server_core.specs.declared.command.Cmd.TheVariants as cmds
 use Rattle.server_core.specs.declared.command.Linger.{Linger}
 use Rattle.server_core.specs.ServerState.{ServerState, IsShortTerm, old_of}
 use Rattle.server_core.specs.CommandTable.{IsOfText, Outcome, apply_of, soft_purge_of}
-use Rattle.script_text.specs.declared.script.ScriptCmd.{ScriptCmd}
-use Rattle.script_text.specs.declared.script.ScriptCmd.TheVariants.{Load, Delete, SoftPurge, Purge, CheckOld, Put, Erase, Trace, Spawn}
-use Rattle.script_text.specs.Sound.{IsCmdOf, IsTermOf}
+use Rattle.script_core.specs.declared.script.ScriptCmd.{ScriptCmd}
+use Rattle.script_core.specs.declared.script.ScriptCmd.TheVariants.{Load, Delete, SoftPurge, Purge, CheckOld, Put, Erase, Trace, Spawn}
+use Rattle.script_core.specs.Sound.{IsCmdOf, IsTermOf}
 use Rattle.run_log.specs.declared.logs.Who.TheVariants.{Loader}
 use Rattle.run_log.specs.Journal.{ends_one}
 use Rattle.run_log.specs.Legal.{MayStart, ended_by, half_after, is_release}
 use Rattle.lap_runner.specs.declared.process_run.ProcessRun.{ProcessRun}
 use Rattle.lap_runner.specs.declared.run.LoaderRun.{LoaderRun}
 use Rattle.lap_runner.specs.declared.run.Purging.{Purging}
-use Rattle.script_text.specs.declared.script.Script.{Script}
+use Rattle.script_core.specs.declared.script.Script.{Script}
 use Rattle.lap_runner.specs.Looks.{closing, goes_meanwhile, lingering, next_cmd, opening, purge_opening, some_killed, some_names, some_stands}
 use Rattle.lap_runner.specs.Runs.{DoomsJust, half_of}
 use Rattle.lap_runner.specs.Steps.{purging_after}
@@ -32,56 +32,19 @@ use Rattle.run_log.proofs.SpanRuns.{some_and}
 
 -- a command that leaves what is doomed as it is: no half of a purge, but a purge where there is no old code
 abbrev pub IsQuiet : ServerState → Cmd → Type 0
-IsQuiet s (cmds.Load refs) = Unit {0}
-IsQuiet s (cmds.Delete name) = Unit {0}
-IsQuiet s (cmds.SoftPurge name lingers) = Unit {0}
 IsQuiet s (cmds.Doom name) = ⊥
 IsQuiet s (cmds.Purge name killed) = (killed ≡ false) × (old_of s name.0 ≡ None)
-IsQuiet s (cmds.CheckOld name) = Unit {0}
-IsQuiet s (cmds.Put key term) = Unit {0}
-IsQuiet s (cmds.Erase key) = Unit {0}
-IsQuiet s (cmds.Trace target on) = Unit {0}
-IsQuiet s (cmds.Spawn target args) = Unit {0}
-IsQuiet s (cmds.Release serial) = Unit {0}
+IsQuiet s cmd = Unit {0}
 
 pub quiet_keeps : (texts : List Module) (s : ServerState) (cmd : Cmd) (o : Outcome) → IsQuiet s cmd → apply_of texts s cmd ≡ Some o → o.state.doomed ≡ s.doomed
 quiet_keeps texts s (cmds.Doom name) o h applied = absurd h
 quiet_keeps texts s (cmds.Purge name killed) o h applied = idle_purge_keeps texts s name o h.1 (subst (λ k. apply_of texts s (cmds.Purge name k) ≡ Some o) h.0 applied)
-quiet_keeps texts s (cmds.Load refs) o h applied = doomed_kept texts s (cmds.Load refs) o tt applied
-quiet_keeps texts s (cmds.Delete name) o h applied = doomed_kept texts s (cmds.Delete name) o tt applied
-quiet_keeps texts s (cmds.SoftPurge name lingers) o h applied = doomed_kept texts s (cmds.SoftPurge name lingers) o tt applied
-quiet_keeps texts s (cmds.CheckOld name) o h applied = doomed_kept texts s (cmds.CheckOld name) o tt applied
-quiet_keeps texts s (cmds.Put key term) o h applied = doomed_kept texts s (cmds.Put key term) o tt applied
-quiet_keeps texts s (cmds.Erase key) o h applied = doomed_kept texts s (cmds.Erase key) o tt applied
-quiet_keeps texts s (cmds.Trace target on) o h applied = doomed_kept texts s (cmds.Trace target on) o tt applied
-quiet_keeps texts s (cmds.Spawn target args) o h applied = doomed_kept texts s (cmds.Spawn target args) o tt applied
-quiet_keeps texts s (cmds.Release serial) o h applied = doomed_kept texts s (cmds.Release serial) o tt applied
+quiet_keeps texts s cmd o h applied = doomed_kept texts s cmd o tt applied
 
 pub quiet_starts : (s : ServerState) (cmd : Cmd) → IsQuiet s cmd → MayStart s cmd
 quiet_starts s (cmds.Doom name) h = absurd h
 quiet_starts s (cmds.Purge name killed) h = h.1
-quiet_starts s (cmds.Load refs) h = tt
-quiet_starts s (cmds.Delete name) h = tt
-quiet_starts s (cmds.SoftPurge name lingers) h = tt
-quiet_starts s (cmds.CheckOld name) h = tt
-quiet_starts s (cmds.Put key term) h = tt
-quiet_starts s (cmds.Erase key) h = tt
-quiet_starts s (cmds.Trace target on) h = tt
-quiet_starts s (cmds.Spawn target args) h = tt
-quiet_starts s (cmds.Release serial) h = tt
-
-pub meanwhile_quiet : (s : ServerState) (cmd : Cmd) → IsMeanwhile cmd → IsQuiet s cmd
-meanwhile_quiet s (cmds.CheckOld name) h = tt
-meanwhile_quiet s (cmds.Spawn target args) h = tt
-meanwhile_quiet s (cmds.Release serial) h = tt
-meanwhile_quiet s (cmds.Load refs) h = absurd h
-meanwhile_quiet s (cmds.Delete name) h = absurd h
-meanwhile_quiet s (cmds.SoftPurge name lingers) h = absurd h
-meanwhile_quiet s (cmds.Doom name) h = absurd h
-meanwhile_quiet s (cmds.Purge name killed) h = absurd h
-meanwhile_quiet s (cmds.Put key term) h = absurd h
-meanwhile_quiet s (cmds.Erase key) h = absurd h
-meanwhile_quiet s (cmds.Trace target on) h = absurd h
+quiet_starts s cmd h = tt
 
 -- no process stands in what is purged, and the answer tells whether one was killed
 pub record HasPurgeLook (serial : ℕ) (killed : Bool) (ps : List ProcessRun) : Type 0 where
@@ -90,17 +53,10 @@ pub record HasPurgeLook (serial : ℕ) (killed : Bool) (ps : List ProcessRun) : 
 
 -- what was looked at for a command
 abbrev pub Looked : ServerState → List ProcessRun → Cmd → Type 0
-Looked s ps (cmds.Load refs) = Unit {0}
-Looked s ps (cmds.Delete name) = Unit {0}
 Looked s ps (cmds.SoftPurge name lingers) = lingers ≡ lingering (old_of s name.0) ps
-Looked s ps (cmds.Doom name) = Unit {0}
 Looked s ps (cmds.Purge name killed) = IfSome (old_of s name.0) (λ serial. HasPurgeLook serial killed ps)
-Looked s ps (cmds.CheckOld name) = Unit {0}
-Looked s ps (cmds.Put key term) = Unit {0}
-Looked s ps (cmds.Erase key) = Unit {0}
-Looked s ps (cmds.Trace target on) = Unit {0}
-Looked s ps (cmds.Spawn target args) = Unit {0}
 Looked s ps (cmds.Release serial) = some_names serial ps ≡ false
+Looked s ps cmd = Unit {0}
 
 -- a command that is made at once, and so ends the loader's
 pub record IsAtOnce (s : ServerState) (ps : List ProcessRun) (cmd : ScriptCmd) (made : Cmd) : Type 0 where
@@ -125,15 +81,9 @@ module _ (s : ServerState) (ps : List ProcessRun) (loader : ℕ) where
   purge_opened name (Some serial) h = first_half name serial refl refl h refl
 
   opened : (cmd : ScriptCmd) → IsNext s ps None loader cmd (opening s ps cmd)
-  opened (Load refs) = at_once refl (record { ended = refl; one = refl; quiet = tt; looked = tt; loaders = refl; rests = λ l. refl })
-  opened (Delete name) = at_once refl (record { ended = refl; one = refl; quiet = tt; looked = tt; loaders = refl; rests = λ l. refl })
   opened (SoftPurge name) = at_once refl (record { ended = refl; one = refl; quiet = tt; looked = refl; loaders = refl; rests = λ l. refl })
   opened (Purge name) = purge_opened name (old_of s name.0) refl
-  opened (CheckOld name) = at_once refl (record { ended = refl; one = refl; quiet = tt; looked = tt; loaders = refl; rests = λ l. refl })
-  opened (Put key term) = at_once refl (record { ended = refl; one = refl; quiet = tt; looked = tt; loaders = refl; rests = λ l. refl })
-  opened (Erase key) = at_once refl (record { ended = refl; one = refl; quiet = tt; looked = tt; loaders = refl; rests = λ l. refl })
-  opened (Trace target on) = at_once refl (record { ended = refl; one = refl; quiet = tt; looked = tt; loaders = refl; rests = λ l. refl })
-  opened (Spawn target args) = at_once refl (record { ended = refl; one = refl; quiet = tt; looked = tt; loaders = refl; rests = λ l. refl })
+  opened cmd = at_once refl (record { ended = refl; one = refl; quiet = tt; looked = tt; loaders = refl; rests = λ l. refl })
 
   module _ (p : Purging) (cmd : ScriptCmd) (made : Cmd) where
     closed_look : (serial : ℕ) (b : Bool) → p.loader ≡ loader → old_of s p.«module».0 ≡ Some serial → some_stands serial ps ≡ b → (if b then None else Some (cmds.Purge p.«module» (some_killed serial ps))) ≡ Some made
@@ -150,13 +100,7 @@ module _ (s : ServerState) (ps : List ProcessRun) (loader : ℕ) where
       subst (IsNext s ps (Some p) loader (CheckOld name)) (same_Some _ _ h) (between p refl other (record { ended = refl; one = refl; quiet = tt; looked = tt; loaders = refl; rests = λ l. refl }) tt)
   stands_between p (Spawn target args) made other h =
       subst (IsNext s ps (Some p) loader (Spawn target args)) (same_Some _ _ h) (between p refl other (record { ended = refl; one = refl; quiet = tt; looked = tt; loaders = refl; rests = λ l. refl }) tt)
-  stands_between p (Load refs) made other h = absurd (none-some made h)
-  stands_between p (Delete name) made other h = absurd (none-some made h)
-  stands_between p (SoftPurge name) made other h = absurd (none-some made h)
-  stands_between p (Purge name) made other h = absurd (none-some made h)
-  stands_between p (Put key term) made other h = absurd (none-some made h)
-  stands_between p (Erase key) made other h = absurd (none-some made h)
-  stands_between p (Trace target on) made other h = absurd (none-some made h)
+  stands_between p cmd made other h = absurd (none-some made h)
 
   purging_or : (p : Purging) (cmd : ScriptCmd) (made : Cmd) (b : Bool) → (p.loader == loader) ≡ b
       → (if b then closing p.«module» (old_of s p.«module».0) ps else if goes_meanwhile cmd then Some (opening s ps cmd) else None) ≡ Some made → IsNext s ps (Some p) loader cmd made
@@ -193,14 +137,7 @@ meanwhile_some : (texts : List Module) (s : ServerState) (cmd : Cmd) → IsMeanw
 meanwhile_some texts s (cmds.CheckOld name) h l = refl
 meanwhile_some texts s (cmds.Spawn target args) h l = refl
 meanwhile_some texts s (cmds.Release serial) h l = absurd (false≢true (sym l))
-meanwhile_some texts s (cmds.Load refs) h l = absurd h
-meanwhile_some texts s (cmds.Delete name) h l = absurd h
-meanwhile_some texts s (cmds.SoftPurge name lingers) h l = absurd h
-meanwhile_some texts s (cmds.Doom name) h l = absurd h
-meanwhile_some texts s (cmds.Purge name killed) h l = absurd h
-meanwhile_some texts s (cmds.Put key term) h l = absurd h
-meanwhile_some texts s (cmds.Erase key) h l = absurd h
-meanwhile_some texts s (cmds.Trace target on) h l = absurd h
+meanwhile_some texts s cmd h l = absurd h
 
 module _ (s : Script) (newest : ServerState) (loaders : List LoaderRun) (ps : List ProcessRun) (loader : ℕ) (cmd : ScriptCmd) (made : Cmd) (fits : IsCmdOf s.names s.modules cmd) where
   some_of : (purging : Option Purging) → DoomsJust s newest loaders purging → next_cmd newest ps purging loader cmd ≡ Some made → IsNext newest ps purging loader cmd made → IsSome (apply_of s.modules newest made)
@@ -226,18 +163,12 @@ short_term names term room h = record {
 
 opening_of_text : (names : List (List ℕ)) (texts : List Module) (s : ServerState) (ps : List ProcessRun) (cmd : ScriptCmd) → length names ≤ MOST_NAMES → IsCmdOf names texts cmd → IsOfText (opening s ps cmd)
 opening_of_text names texts s ps (Put key term) room h = short_term names (plain term) room h.is_term
-opening_of_text names texts s ps (Load refs) room h = tt
-opening_of_text names texts s ps (Delete name) room h = tt
-opening_of_text names texts s ps (SoftPurge name) room h = tt
 opening_of_text names texts s ps (Purge name) room h = purge_of_text name (old_of s name.0)
   where
     purge_of_text : (name : AtomId) (old : Option ℕ) → IsOfText (purge_opening name old)
     purge_of_text name None = tt
     purge_of_text name (Some serial) = tt
-opening_of_text names texts s ps (CheckOld name) room h = tt
-opening_of_text names texts s ps (Erase key) room h = tt
-opening_of_text names texts s ps (Trace target on) room h = tt
-opening_of_text names texts s ps (Spawn target args) room h = tt
+opening_of_text names texts s ps cmd room h = tt
 
 closing_of_text : (name : AtomId) (ps : List ProcessRun) (old : Option ℕ) (made : Cmd) → closing name old ps ≡ Some made → IsOfText made
 closing_of_text name ps None made h = absurd (none-some made h)
@@ -261,27 +192,11 @@ next_of_text names texts s ps (Some p) loader cmd made room fits h = next_or (p.
 -- the purge that waits after a command, as the journal has it
 pub half_is : (purging : Option Purging) (loader : ℕ) (made : Cmd) → option_map half_of (purging_after purging loader made) ≡ half_after (option_map half_of purging) (Loader loader) made
 half_is purging loader (cmds.Load refs) = refl
-half_is purging loader (cmds.Delete name) = refl
-half_is purging loader (cmds.SoftPurge name lingers) = refl
-half_is purging loader (cmds.Doom name) = refl
-half_is purging loader (cmds.Purge name killed) = refl
-half_is purging loader (cmds.CheckOld name) = refl
-half_is purging loader (cmds.Put key term) = refl
-half_is purging loader (cmds.Erase key) = refl
-half_is purging loader (cmds.Trace target on) = refl
-half_is purging loader (cmds.Spawn target args) = refl
-half_is purging loader (cmds.Release serial) = refl
+half_is purging loader made = refl
 
 -- it waits on after what is made meanwhile
 pub still_waits : (purging : Option Purging) (loader : ℕ) (made : Cmd) → IsMeanwhile made → purging_after purging loader made ≡ purging
 still_waits purging loader (cmds.CheckOld name) h = refl
 still_waits purging loader (cmds.Spawn target args) h = refl
 still_waits purging loader (cmds.Release serial) h = refl
-still_waits purging loader (cmds.Load refs) h = absurd h
-still_waits purging loader (cmds.Delete name) h = absurd h
-still_waits purging loader (cmds.SoftPurge name lingers) h = absurd h
-still_waits purging loader (cmds.Doom name) h = absurd h
-still_waits purging loader (cmds.Purge name killed) h = absurd h
-still_waits purging loader (cmds.Put key term) h = absurd h
-still_waits purging loader (cmds.Erase key) h = absurd h
-still_waits purging loader (cmds.Trace target on) h = absurd h
+still_waits purging loader made h = absurd h

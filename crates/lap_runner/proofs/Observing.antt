@@ -5,7 +5,7 @@ use Rattle.std.proofs.lemmas.Option.{none-some, same_Some, slice_get-get_or, sli
 use Rattle.std.specs.List.{AllByRecursion}
 use Rattle.server_core.specs.ServerState.{ServerState, empty_state}
 use Rattle.term_core.specs.declared.atom.Mfa.{Mfa}
-use Rattle.script_text.specs.declared.script.Script.{Script}
+use Rattle.script_core.specs.declared.script.Script.{Script}
 use Rattle.run_log.specs.declared.logs.Entry.{Entry}
 use Rattle.run_log.specs.declared.logs.Snapshot.{Snapshot}
 use Rattle.run_log.specs.declared.logs.ProcessLog.{ProcessLog}
@@ -14,14 +14,14 @@ use Rattle.run_log.specs.Legal.{AreRising, SnapshotsTrue}
 use Rattle.run_log.specs.Snapshots.{AreExports}
 use Rattle.run_log.proofs.Journals.{newest_at}
 use Rattle.run_log.proofs.StatesForTurns.{for_turns}
-use Rattle.snapshots.specs.Functions.{AreExportedFunctions}
-use Rattle.snapshots.specs.States.{IsSnapshotOf}
-use Rattle.snapshots.proofs.KeptTexts.{empty_of_texts, newest_of_texts}
+use Rattle.run_log.specs.ExportedFunctions.{AreExportedFunctions}
+use Rattle.run_log.specs.SeenExports.{IsSnapshotOf}
+use Rattle.run_log.proofs.KeptTexts.{empty_of_texts, newest_of_texts}
 use Rattle.lap_runner.specs.declared.observers.ObserverRun.{ObserverRun}
 use Rattle.lap_runner.specs.declared.run.Run.{Run}
 use Rattle.lap_runner.specs.Runs.{IsRun}
 use Rattle.lap_runner.specs.Observers.{EachBecame, HasLooked, HaveObserved, IsTrueOf, KeepsGenerations, Observes, TakesAll, TakesOne, not_begun, shots_of}
-use Rattle.lap_runner.proofs.Lists.{SetAt, get_within, here, set_at, set_there, there}
+use Rattle.run_log.proofs.ListPlaces.{SetAt, get_within, here, set_at, set_there, there}
 
 -- ---- exports and releases
 

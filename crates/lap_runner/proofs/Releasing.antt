@@ -6,14 +6,14 @@ use Rattle.server_core.specs.declared.command.Cmd.TheVariants.{Release}
 use Rattle.server_core.specs.declared.command.Reply.TheVariants as replies
 use Rattle.server_core.specs.ServerState.{ServerState, is_retired, is_serial_in}
 use Rattle.server_core.specs.CommandTable.{Outcome, unchanged, with_released, without_number}
-use Rattle.script_text.specs.declared.script.Script.{Script}
+use Rattle.script_core.specs.declared.script.Script.{Script}
 use Rattle.run_log.specs.declared.logs.Who.TheVariants.{Loader, Runtime}
 use Rattle.run_log.specs.declared.logs.Entry.{Entry}
 use Rattle.run_log.specs.Legal.{MayStand, MayStart}
 use Rattle.lap_runner.specs.declared.process_run.ProcessRun.{ProcessRun}
 use Rattle.lap_runner.specs.declared.run.Purging.{Purging}
 use Rattle.lap_runner.specs.declared.run.Run.{Run}
-use Rattle.lap_runner.specs.Looks.{AreNamed, AreNamedBelow, IsLeastFree, some_names}
+use Rattle.lap_runner.specs.Looks.{AreNamedBelow, IsLeastFree, some_names}
 use Rattle.lap_runner.specs.Runs.{DoomsJust, HasReleased, IsRun, half_of}
 use Rattle.lap_runner.specs.Steps.{HasJoined}
 use Rattle.lap_runner.proofs.Dooms.{doomed_kept, versions_kept}
@@ -118,7 +118,3 @@ below_read first retired serials processes ps a b h = subst (λ qs. AreNamedBelo
 -- the least area that the code finds
 pub free_read : (retired serials : List ℕ) (processes ps : List ProcessRun) (serial : ℕ) → serials ≡ retired → ps ≡ processes → IsLeastFree serials ps serial → IsLeastFree retired processes serial
 free_read retired serials processes ps serial a b h = subst (λ xs. IsLeastFree xs processes serial) a (subst (λ qs. IsLeastFree serials qs serial) b h)
-
--- or that each is named
-pub named_read : (retired serials : List ℕ) (processes ps : List ProcessRun) → serials ≡ retired → ps ≡ processes → AreNamed serials ps → AreNamed retired processes
-named_read retired serials processes ps a b h = subst (λ xs. AreNamed xs processes) a (subst (AreNamed serials) b h)

@@ -7,10 +7,11 @@ use Rattle.server_core.specs.ServerState.{ServerState, empty_state, is_serial_in
 use Rattle.machine_core.specs.Holds.{is_area_held}
 use Rattle.machine_core.specs.Process.{frame_names}
 use Rattle.machine_core.specs.View.{server_words}
-use Rattle.script_text.specs.declared.script.Script.{Script}
+use Rattle.script_core.specs.declared.script.Script.{Script}
 use Rattle.run_log.specs.declared.logs.Entry.{Entry}
 use Rattle.run_log.specs.Journal.{state_at}
-use Rattle.run_log.specs.Legal.{SpawnLine, commands_of}
+use Rattle.script_core.specs.Processes.{SpawnLine}
+use Rattle.run_log.specs.Legal.{commands_of}
 use Rattle.lap_runner.specs.declared.process_run.Phase.{Phase}
 use Rattle.lap_runner.specs.declared.process_run.Phase.TheVariants.{Waiting, Going, Ended}
 use Rattle.lap_runner.specs.declared.process_run.ProcessRun.{ProcessRun}
@@ -20,7 +21,7 @@ use Rattle.lap_runner.specs.Runs.{AreIdle, all_made, one_goes, HasNoWork, HasRel
 use Rattle.lap_runner.specs.Steps.{LapOf, stand_in}
 use Rattle.lap_runner.proofs.Frames.{names_unread}
 use Rattle.lap_runner.proofs.Joining.{frames_over, line_for, stands_at}
-use Rattle.lap_runner.proofs.Lists.{get_within}
+use Rattle.run_log.proofs.ListPlaces.{get_within}
 
 -- where each fails, none passes
 none_passes : {X : Type 0} (f : X → Bool) (xs : List X) → ((k : ℕ) (x : X) → slice_get xs k ≡ Some x → f x ≡ false) → list_any f xs ≡ false

@@ -13,7 +13,8 @@ use Rattle.machine_core.specs.Turn.{Turn, turn_of}
 use Rattle.run_log.specs.declared.logs.Entry.{Entry}
 use Rattle.run_log.specs.declared.logs.Span.{Span}
 use Rattle.run_log.specs.Journal.{published_before}
-use Rattle.run_log.specs.Legal.{Mark, SpawnLine, SpansFollow, SpansGo, first_generation, marks_of, process_after, turns_of}
+use Rattle.run_log.specs.Legal.{Mark, SpansFollow, SpansGo, first_generation, marks_of, process_after, turns_of}
+use Rattle.script_core.specs.Processes.{SpawnLine}
 use Rattle.run_log.specs.WholeSpans.{AreApart, AreWhole, last_generation}
 use Rattle.run_log.proofs.ApartSpans.{apart_cut, apart_more}
 use Rattle.run_log.proofs.Marks.{marks_empty, marks_more, process_empty, process_now}
@@ -23,7 +24,7 @@ use Rattle.run_log.proofs.SpanRuns.{first_front, first_more, go_cut, go_more, go
 use Rattle.lap_runner.specs.declared.process_run.ProcessRun.{ProcessRun}
 use Rattle.lap_runner.specs.Runs.{Goes, IsOver, StandsIn, WasSpawned}
 use Rattle.lap_runner.specs.Steps.{HadItsTurn, IsTaken, Stand, last_one, new_one, phase_after, stand_in}
-use Rattle.lap_runner.proofs.Lists.{all_front, all_last, all_push, all_weaker}
+use Rattle.run_log.proofs.ListPlaces.{all_front, all_last, all_push, all_weaker}
 use Rattle.lap_runner.proofs.TurnLaws.{again_counted}
 use Rattle.machine_core.proofs.FewAreas.{turn_few}
 use Rattle.machine_core.proofs.TurnLaws.{turn_same}

@@ -14,8 +14,8 @@ use Rattle.machine_core.specs.declared.process.Process.{Process}
 use Rattle.machine_core.specs.declared.process.Value.{Value}
 use Rattle.machine_core.specs.declared.process.Value.TheVariants.{Owned, Literal}
 use Rattle.machine_core.specs.Process.{PlainProcess, names_of, process_of}
-use Rattle.script_text.specs.declared.script.ScriptCmd.{ScriptCmd}
-use Rattle.script_text.specs.declared.script.ScriptCmd.TheVariants.{Load, Delete, SoftPurge, Purge, CheckOld, Put, Erase, Trace, Spawn}
+use Rattle.script_core.specs.declared.script.ScriptCmd.{ScriptCmd}
+use Rattle.script_core.specs.declared.script.ScriptCmd.TheVariants.{Load, Delete, SoftPurge, Purge, CheckOld, Put, Erase, Trace, Spawn}
 use Rattle.run_log.specs.Legal.{is_killed_by}
 use Rattle.lap_runner.specs.declared.process_run.Phase.{Phase}
 use Rattle.lap_runner.specs.declared.process_run.Phase.TheVariants.{Waiting, Going, Ended}
@@ -95,15 +95,9 @@ closing name (Some serial) ps = if some_stands serial ps then None else Some (cm
 
 -- whether a loader may make this command while the purge of another one waits
 abbrev pub goes_meanwhile : ScriptCmd → Bool
-goes_meanwhile (Load refs) = false
-goes_meanwhile (Delete name) = false
-goes_meanwhile (SoftPurge name) = false
-goes_meanwhile (Purge name) = false
 goes_meanwhile (CheckOld name) = true
-goes_meanwhile (Put key term) = false
-goes_meanwhile (Erase key) = false
-goes_meanwhile (Trace target on) = false
 goes_meanwhile (Spawn target args) = true
+goes_meanwhile command = false
 
 -- what a loader's next command comes to in this lap, where this purge waits or none: none where the loader waits
 abbrev pub next_cmd : ServerState → List ProcessRun → Option Purging → ℕ → ScriptCmd → Option Cmd

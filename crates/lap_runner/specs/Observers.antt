@@ -6,13 +6,13 @@ use Rattle.std.specs.List.{AllByRecursion}
 use Rattle.term_core.specs.declared.atom.Mfa.{Mfa}
 use Rattle.mod_core.specs.declared.code.Module.{Module}
 use Rattle.server_core.specs.ServerState.{ServerState, empty_state}
-use Rattle.script_text.specs.declared.script.Script.{Script}
+use Rattle.script_core.specs.declared.script.Script.{Script}
 use Rattle.run_log.specs.declared.logs.Entry.{Entry}
 use Rattle.run_log.specs.declared.logs.Snapshot.{Snapshot}
 use Rattle.run_log.specs.Journal.{newest_state, state_at}
 use Rattle.run_log.specs.Legal.{AreRising}
 use Rattle.run_log.specs.Snapshots.{AreExports}
-use Rattle.snapshots.specs.States.{IsSnapshotOf}
+use Rattle.run_log.specs.SeenExports.{IsSnapshotOf}
 use Rattle.lap_runner.specs.declared.observers.ObserverRun.{ObserverRun}
 
 -- an observer that takes so many snapshots, before the first

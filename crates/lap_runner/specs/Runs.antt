@@ -1,7 +1,7 @@
 -- What a run of a script has between two of its steps.
 -- Source: this project's order of laps: each loader makes one command, then each process that goes on has one turn, then what no process names is released.
 -- The definitions replay the journal; the code keeps one server and its processes.
-use Rattle.std.specs.Prelude.{◌≡◌, ℕ, zero, suc, ◌+◌, ◌-◌, ◌<◌, ◌≤◌, Bool, true, false, is_some, List, [], ◌∷◌, ◌++◌, length, map, take, slice_get, sum_by, Option, Some, None, IfSome, IsSomeAnd, unwrap_or, option_map}
+use Rattle.std.specs.Prelude.{◌≡◌, ℕ, ◌+◌, ◌-◌, ◌<◌, ◌≤◌, Bool, true, false, is_some, List, [], ◌∷◌, ◌++◌, length, map, take, slice_get, sum_by, Option, Some, None, IfSome, IsSomeAnd, unwrap_or, option_map}
 use Rattle.std.specs.List.{AllByRecursion}
 use Rattle.term_core.specs.declared.hold.TheConstants.{MOST_AREAS}
 use Rattle.term_core.specs.declared.atom.Mfa.{Mfa}
@@ -14,15 +14,16 @@ use Rattle.machine_core.specs.Holds.{area_count}
 use Rattle.machine_core.specs.Process.{names_of, new_process}
 use Rattle.machine_core.specs.Turn.{MayTurn}
 use Rattle.machine_core.specs.View.{shown_of}
-use Rattle.script_text.specs.declared.script.Script.{Script}
-use Rattle.script_text.specs.declared.script.ScriptCmd.{ScriptCmd}
-use Rattle.script_text.specs.declared.script.ScriptCmd.TheVariants.{Load, Delete, SoftPurge, Purge, CheckOld, Put, Erase, Trace, Spawn}
-use Rattle.script_text.specs.Sound.{spawns_in}
+use Rattle.script_core.specs.declared.script.Script.{Script}
+use Rattle.script_core.specs.declared.script.ScriptCmd.{ScriptCmd}
+use Rattle.script_core.specs.declared.script.ScriptCmd.TheVariants.{Purge, Spawn}
+use Rattle.script_core.specs.Processes.{SpawnLine, spawn_count, spawn_number, spawns_of}
 use Rattle.run_log.specs.declared.logs.Who.TheVariants.{Loader}
 use Rattle.run_log.specs.declared.logs.Entry.{Entry}
 use Rattle.run_log.specs.declared.logs.ProcessLog.{ProcessLog}
 use Rattle.run_log.specs.Journal.{newest_state, state_at, published_before}
-use Rattle.run_log.specs.Legal.{HalfPurge, PurgesGo, Replays, SpawnLine, SpansFollow, SpansGo, commands_in, commands_of, first_generation, marks_of, spawns_of}
+use Rattle.run_log.specs.declared.underway.HalfPurge.{HalfPurge}
+use Rattle.run_log.specs.Legal.{PurgesGo, Replays, SpansFollow, SpansGo, commands_in, commands_of, first_generation, marks_of}
 use Rattle.run_log.specs.WholeSpans.{AreWhole}
 use Rattle.lap_runner.specs.declared.process_run.Phase.{Phase}
 use Rattle.lap_runner.specs.declared.process_run.Phase.TheVariants.{Waiting, Going, Ended}
@@ -30,19 +31,9 @@ use Rattle.lap_runner.specs.declared.process_run.ProcessRun.{ProcessRun}
 use Rattle.lap_runner.specs.declared.run.LoaderRun.{LoaderRun}
 use Rattle.lap_runner.specs.declared.run.Purging.{Purging}
 use Rattle.lap_runner.specs.declared.run.Run.{Run}
-use Rattle.lap_runner.specs.Answers.{AreKnown, History}
+use Rattle.run_log.specs.History.{AreKnown, History}
 use Rattle.lap_runner.specs.Observers.{KeepsGenerations}
 use Rattle.lap_runner.specs.Steps.{Stand, stand_in}
-
--- how many spawns stand among these commands
-abbrev pub spawn_count : List ScriptCmd → ℕ
-spawn_count commands = sum_by spawns_in commands
-
--- the number of the process that a spawn has at a place of a loader: so many spawns stand before it in the text
-abbrev pub spawn_number : List (List ScriptCmd) → ℕ → ℕ → ℕ
-spawn_number [] loader place = 0
-spawn_number (commands ∷ loaders) zero place = spawn_count (take place commands)
-spawn_number (commands ∷ loaders) (suc loader) place = spawn_count commands + spawn_number loaders loader place
 
 -- how many commands of a loader were made
 abbrev pub done_of : List LoaderRun → ℕ → ℕ
@@ -104,7 +95,7 @@ histories_of states newest ps = map (λ p. history_of states (stand_in newest p)
 
 -- a purge as the journal has it
 abbrev pub half_of : Purging → HalfPurge
-half_of purging = record { who = Loader purging.loader; name = purging.«module» }
+half_of purging = record { who = Loader purging.loader; «module» = purging.«module» }
 
 -- a purge waits: it is the next command of its loader, and just the old code of its module is doomed
 pub record PurgeWaits (s : Script) (newest : ServerState) (loaders : List LoaderRun) (purging : Purging) : Type 0 where
@@ -207,15 +198,8 @@ log_of p = record { target = p.process.target; args = p.process.args; spans = p.
 
 -- a spawn has as many arguments as its arity
 abbrev pub HasArity : ScriptCmd → Type 0
-HasArity (Load refs) = Unit {0}
-HasArity (Delete name) = Unit {0}
-HasArity (SoftPurge name) = Unit {0}
-HasArity (Purge name) = Unit {0}
-HasArity (CheckOld name) = Unit {0}
-HasArity (Put key term) = Unit {0}
-HasArity (Erase key) = Unit {0}
-HasArity (Trace target on) = Unit {0}
 HasArity (Spawn target args) = length args ≡ target.arity
+HasArity command = Unit {0}
 
 -- a process whose spawn is still to come
 abbrev pub waiting_stand : ℕ → Mfa → List PlainTerm → Stand
@@ -224,15 +208,8 @@ waiting_stand number target args = record { process = new_process number target 
 -- the processes of a loader before its first command, numbered from here on
 abbrev pub waiting_from : ℕ → List ScriptCmd → List Stand
 waiting_from number [] = []
-waiting_from number (Load refs ∷ commands) = waiting_from number commands
-waiting_from number (Delete name ∷ commands) = waiting_from number commands
-waiting_from number (SoftPurge name ∷ commands) = waiting_from number commands
-waiting_from number (Purge name ∷ commands) = waiting_from number commands
-waiting_from number (CheckOld name ∷ commands) = waiting_from number commands
-waiting_from number (Put key term ∷ commands) = waiting_from number commands
-waiting_from number (Erase key ∷ commands) = waiting_from number commands
-waiting_from number (Trace target on ∷ commands) = waiting_from number commands
 waiting_from number (Spawn target args ∷ commands) = waiting_stand number target args ∷ waiting_from (number + 1) commands
+waiting_from number (command ∷ commands) = waiting_from number commands
 
 -- the processes of all loaders
 abbrev pub waiting_of : ℕ → List (List ScriptCmd) → List Stand

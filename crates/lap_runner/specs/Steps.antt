@@ -11,10 +11,10 @@ use Rattle.machine_core.specs.declared.process.TurnEnd.TheVariants as turns
 use Rattle.machine_core.specs.Process.{PlainProcess, Words, names_of, process_of}
 use Rattle.machine_core.specs.Turn.{MayTurn, turn_of}
 use Rattle.machine_core.specs.View.{server_words, shown_of}
-use Rattle.script_text.specs.declared.script.Script.{Script}
-use Rattle.script_text.specs.declared.script.ScriptCmd.{ScriptCmd}
-use Rattle.script_text.specs.declared.script.ScriptCmd.TheVariants.{Load, Delete, SoftPurge, Purge, CheckOld, Put, Erase, Trace, Spawn}
-use Rattle.script_text.specs.Sound.{spawns_in}
+use Rattle.script_core.specs.declared.script.Script.{Script}
+use Rattle.script_core.specs.declared.script.ScriptCmd.{ScriptCmd}
+use Rattle.script_core.specs.declared.script.ScriptCmd.TheVariants.{Spawn}
+use Rattle.script_core.specs.Processes.{spawns_in}
 use Rattle.run_log.specs.declared.logs.Who.{Who}
 use Rattle.run_log.specs.declared.logs.Who.TheVariants.{Loader}
 use Rattle.run_log.specs.declared.logs.Entry.{Entry}
@@ -58,41 +58,19 @@ loader_after cmd l = record { done = l.done + 1; next_process = l.next_process +
 
 -- there is the process that a command spawns
 abbrev pub CanSpawn : ScriptCmd → ℕ → List ProcessRun → Type 0
-CanSpawn (Load refs) next processes = Unit {0}
-CanSpawn (Delete name) next processes = Unit {0}
-CanSpawn (SoftPurge name) next processes = Unit {0}
-CanSpawn (Purge name) next processes = Unit {0}
-CanSpawn (CheckOld name) next processes = Unit {0}
-CanSpawn (Put key term) next processes = Unit {0}
-CanSpawn (Erase key) next processes = Unit {0}
-CanSpawn (Trace target on) next processes = Unit {0}
 CanSpawn (Spawn target args) next processes = next < length processes
+CanSpawn command next processes = Unit {0}
 
 -- the processes after a command of a loader: the one that a spawn names goes on from now
 abbrev pub SpawnsNext : ScriptCmd → ℕ → List ProcessRun → List ProcessRun → Type 0
-SpawnsNext (Load refs) next before after = after ≡ before
-SpawnsNext (Delete name) next before after = after ≡ before
-SpawnsNext (SoftPurge name) next before after = after ≡ before
-SpawnsNext (Purge name) next before after = after ≡ before
-SpawnsNext (CheckOld name) next before after = after ≡ before
-SpawnsNext (Put key term) next before after = after ≡ before
-SpawnsNext (Erase key) next before after = after ≡ before
-SpawnsNext (Trace target on) next before after = after ≡ before
 SpawnsNext (Spawn target args) next before after = IsSomeAnd (slice_get before next) (λ p. after ≡ slice_set before next (record p { phase = Going }))
+SpawnsNext command next before after = after ≡ before
 
 -- the purge that waits after a command of a loader, if one does
 abbrev pub purging_after : Option Purging → ℕ → Cmd → Option Purging
-purging_after purging loader (cmds.Load refs) = purging
-purging_after purging loader (cmds.Delete name) = purging
-purging_after purging loader (cmds.SoftPurge name lingers) = purging
 purging_after purging loader (cmds.Doom name) = Some (record { loader = loader; «module» = name })
 purging_after purging loader (cmds.Purge name killed) = None
-purging_after purging loader (cmds.CheckOld name) = purging
-purging_after purging loader (cmds.Put key term) = purging
-purging_after purging loader (cmds.Erase key) = purging
-purging_after purging loader (cmds.Trace target on) = purging
-purging_after purging loader (cmds.Spawn target args) = purging
-purging_after purging loader (cmds.Release serial) = purging
+purging_after purging loader cmd = purging
 
 -- a command of a loader is over: it is counted, and the process that it spawns goes on from now
 pub record HasAdvanced (loader : ℕ) (cmd : ScriptCmd) (before after : Run) : Type 0 where

@@ -1,5 +1,5 @@
-ghost use Rattle.std.specs.Prelude.{◌≡◌, ◌+◌, ◌^◌, ◌<◌, false, length, not, slice_get, true, IfOk, Some};
-ghost use Rattle.script_text.specs.Sound.{IsScript};
+ghost use Rattle.std.specs.Prelude.{◌≡◌, ◌+◌, ◌^◌, ◌<◌, false, slice_get, true, IfOk, Some};
+ghost use Rattle.script_core.specs.Sound.{IsScript};
 ghost use Rattle.run_log.specs.Journal.{ends_one};
 ghost use Rattle.run_log.specs.Legal.{commands_of};
 ghost use Rattle.lap_runner.specs.Looks.{goes_meanwhile, next_cmd, opening};
@@ -11,7 +11,7 @@ use crate::process_run::{Phase, ProcessRun};
 use crate::purges::{closing, lingering, purge_opening};
 use crate::run::{LoaderRun, Purging, Run};
 use run_log::Who;
-use script_text::{Script, ScriptCmd};
+use script_core::{Script, ScriptCmd};
 use server_core::{Cmd, RefList};
 use std::alloc::Global;
 use term_core::NoMemory;

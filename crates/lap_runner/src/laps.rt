@@ -1,5 +1,5 @@
-ghost use Rattle.std.specs.Prelude.{All, ◌≡◌, ◌+◌, ◌≤◌, ◌<◌, ℕ, length, map, slice_get, Some, sum_by, IfOk, OnOk, IfSome, IsSomeAnd, IsTrue, true, false};
-ghost use Rattle.script_text.specs.Sound.{IsScript};
+ghost use Rattle.std.specs.Prelude.{All, ◌≡◌, ◌+◌, ◌≤◌, ℕ, map, slice_get, Some, sum_by, IfOk, OnOk, false};
+ghost use Rattle.script_core.specs.Sound.{IsScript};
 ghost use Rattle.run_log.specs.Legal.{Legal};
 ghost use Rattle.run_log.specs.WholeSpans.{AreWhole};
 ghost use Rattle.lap_runner.specs.Observers.{KeepsGenerations};
@@ -11,10 +11,9 @@ use crate::observers::{observe, observe_rest, observer_logs, waiting_observers};
 use crate::process_run::{Phase, ProcessRun, log_of, take_turn};
 use crate::releases::release_areas;
 use crate::run::{Run, begin};
-use run_log::{ProcessLogList, RunLog};
-use script_text::Script;
+use run_log::{ProcessLogList, RunLog, exported_functions};
+use script_core::Script;
 use server_core::Server;
-use snapshots::exported_functions;
 use std::alloc::Global;
 use term_core::NoMemory;
 

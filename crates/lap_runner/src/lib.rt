@@ -9,7 +9,5 @@ mod process_run;
 mod purges;
 mod releases;
 mod run;
-#[cfg(test)]
-mod tests;
 
 pub use laps::run_laps;

@@ -1,9 +1,8 @@
 ghost use Rattle.std.specs.Prelude.{◌≡◌, ◌<◌, map, IfOk, OnOk};
 ghost use Rattle.lap_runner.specs.Observers.{EachBecame, HasLooked, TakesAll, TakesOne, not_begun, shots_of};
 
-use run_log::{ObserverList, SnapshotList};
+use run_log::{MfaList, ObserverList, SnapshotList, snapshot_of};
 use server_core::Server;
-use snapshots::{MfaList, snapshot_of};
 use std::alloc::Global;
 use term_core::NoMemory;
 

@@ -1,5 +1,5 @@
 ghost use Rattle.std.specs.Prelude.{◌≡◌, IfOk, MatchOption};
-ghost use Rattle.script_text.specs.Sound.{IsScript};
+ghost use Rattle.script_core.specs.Sound.{IsScript};
 ghost use Rattle.lap_runner.specs.Looks.{AreNamed, AreNamedBelow, IsLeastFree, is_before, some_names};
 ghost use Rattle.lap_runner.specs.Runs.{HasReleased, IsRun};
 
@@ -7,7 +7,7 @@ use crate::entries::make;
 use crate::process_run::{ProcessRun, names};
 use crate::run::Run;
 use run_log::Who;
-use script_text::Script;
+use script_core::Script;
 use server_core::Cmd;
 use term_core::NoMemory;
 

@@ -12,7 +12,7 @@ use Rattle.machine_core.specs.Holds.{Holds, is_among, is_area_held}
 use Rattle.machine_core.specs.Process.{PlainProcess, code_names, names_of, process_of}
 use Rattle.machine_core.specs.View.{server_words}
 use Rattle.machine_core.proofs.CodeNames.{code_names-shown}
-use Rattle.script_text.specs.declared.script.Script.{Script}
+use Rattle.script_core.specs.declared.script.Script.{Script}
 use Rattle.run_log.specs.declared.logs.Entry.{Entry}
 use Rattle.run_log.specs.declared.logs.ProcessLog.{ProcessLog}
 use Rattle.run_log.specs.declared.logs.RunLog.{RunLog}

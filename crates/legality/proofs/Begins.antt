@@ -1,11 +1,11 @@
 -- What is known before the first entry.
-use Rattle.std.proofs.Common.{◌≡◌, ◌⊎◌, inl, inr, ℕ, zero, suc, ◌+◌, ◌≤◌, List, [], ◌∷◌, ◌++◌, length, length-append, replicate, option_map, slice_get, Some, None, refl, sym, ap, subst, ◌∙◌, arith}
+use Rattle.std.proofs.Common.{◌≡◌, ◌⊎◌, inl, inr, ℕ, zero, suc, ◌+◌, ◌≤◌, List, [], ◌∷◌, ◌++◌, length, length-append, replicate, slice_get, Some, None, refl, sym, ap, subst, ◌∙◌, arith}
 use Rattle.std.proofs.lemmas.List.{length-replicate}
 use Rattle.std.proofs.lemmas.Option.{none-some, same_Some}
 use Rattle.std.specs.List.{AllByRecursion}
 use Rattle.server_core.specs.ServerState.{IsSound, empty_state}
 use Rattle.machine_core.specs.View.{server_words}
-use Rattle.script_text.specs.declared.script.Script.{Script}
+use Rattle.script_core.specs.declared.script.Script.{Script}
 use Rattle.run_log.specs.declared.logs.ProcessLog.{ProcessLog}
 use Rattle.run_log.specs.declared.logs.RunLog.{RunLog}
 use Rattle.run_log.specs.declared.logs.Span.{Span}
@@ -13,7 +13,7 @@ use Rattle.run_log.specs.Journal.{state_at}
 use Rattle.span_check.specs.declared.standing.Standing.{Standing}
 use Rattle.span_check.specs.Standings.{IsReached}
 use Rattle.legality.specs.declared.sweep.Sweep.{Sweep}
-use Rattle.legality.specs.Sweeps.{AreBegun, AreSeen, AreStanding, IsAt, IsBegun, IsMade, half_of}
+use Rattle.legality.specs.Sweeps.{AreBegun, AreSeen, AreStanding, IsAt, IsBegun, IsMade}
 use Rattle.legality.proofs.Places.{made_first}
 
 -- ---- lists
@@ -43,10 +43,6 @@ none_before generation (span ∷ spans) h = (omega (arith, h), none_before gener
 -- before generation 0 there are no spans
 pub begun_reached : (process : ProcessLog) (standing : Standing) → ((generation : ℕ) → AllByRecursion (λ span. generation ≤ span.generation) process.spans → IsReached generation process standing) → (generation : ℕ) → generation ≡ 0 → IsReached generation process standing
 begun_reached process standing h generation none = h generation (none_before generation process.spans none)
-
--- before the first none is begun
-pub none_begun : (processes : List ProcessLog) → AreBegun processes 0 []
-none_begun processes = record { many = refl; each = λ number process standing at is. absurd (none-some standing is) }
 
 -- one more is begun
 pub one_begun : (processes : List ProcessLog) (count : ℕ) (standings : List Standing) (process : ProcessLog) (standing : Standing) → AreBegun processes count standings → slice_get processes count ≡ Some process → IsBegun count process standing
@@ -104,7 +100,7 @@ module _ (s : Script) (log : RunLog) (sweep : Sweep) (server : sweep.server ≡ 
     meet = λ k e low at. absurd (omega (arith, low));
     server_is = server;
     sound = sound;
-    half_is = ap (option_map half_of) half;
+    half_is = half;
   }
 
   -- nothing is judged before the first entry

@@ -1,5 +1,5 @@
 -- Before the first entry, and after the last one.
-use Rattle.std.proofs.Common.{◌≡◌, ◌⊎◌, inl, inr, ℕ, zero, suc, ◌+◌, ◌<◌, ◌≤◌, Bool, true, false, List, [], ◌∷◌, length, take, drop, slice_get, Option, Some, None, All, option_map, refl, sym, ap, subst, ◌∙◌, arith}
+use Rattle.std.proofs.Common.{◌≡◌, ◌⊎◌, inl, inr, ℕ, zero, suc, ◌+◌, ◌<◌, ◌≤◌, Bool, true, false, List, [], ◌∷◌, length, take, drop, slice_get, Some, None, All, refl, sym, ap, subst, ◌∙◌, arith}
 use Rattle.std.proofs.lemmas.Bool.{cases_lt, false≢true}
 use Rattle.std.proofs.lemmas.List.{take_all}
 use Rattle.std.proofs.lemmas.List.Elements.{All-from_recursion, recursion_from_All}
@@ -8,7 +8,7 @@ use Rattle.std.specs.List.{AllByRecursion}
 use Rattle.server_core.specs.ServerState.{ServerState, empty_state}
 use Rattle.machine_core.specs.Process.{process_of}
 use Rattle.machine_core.specs.View.{server_words}
-use Rattle.script_text.specs.declared.script.Script.{Script}
+use Rattle.script_core.specs.declared.script.Script.{Script}
 use Rattle.run_log.specs.declared.logs.ProcessLog.{ProcessLog}
 use Rattle.run_log.specs.declared.logs.RunLog.{RunLog}
 use Rattle.run_log.specs.declared.logs.Snapshot.{Snapshot}
@@ -19,10 +19,9 @@ use Rattle.legality.specs.Shape.{IsShaped}
 use Rattle.span_check.specs.declared.standing.Standing.{Standing}
 use Rattle.span_check.specs.Standings.{StandsSo, first_of}
 use Rattle.span_check.proofs.StandingLaws.{still_goes}
-use Rattle.legality.specs.declared.sweep.Half.{Half}
 use Rattle.legality.specs.declared.sweep.Sweep.{Sweep}
 use Rattle.legality.specs.Entries.{half_before, half_over}
-use Rattle.legality.specs.Sweeps.{HasEnded, IsSeen, IsSwept, IsTrueShot, half_of}
+use Rattle.legality.specs.Sweeps.{HasEnded, IsSeen, IsSwept, IsTrueShot}
 use Rattle.legality.proofs.Answers.{get_within}
 use Rattle.legality.proofs.Locals.{half_last, purges_before, replays_before}
 use Rattle.legality.proofs.Places.{published_now}
@@ -45,9 +44,6 @@ none_behind f g zero [] low high = omega arith
 none_behind f g zero (x ∷ xs) low high = absurd (omega (arith, low.0, high.0))
 none_behind f g (suc n) [] low high = omega arith
 none_behind f g (suc n) (x ∷ xs) low high = let rest = none_behind f g n xs low.1 high in omega (arith, rest)
-
-take_is : {X : Type 0} (P : List X → Type 0) (n : ℕ) (xs : List X) → length xs ≤ n → P (take n xs) → P xs
-take_is P n xs h p = subst P (take_all n xs h) p
 
 -- ---- the end
 
@@ -120,7 +116,7 @@ module _ (s : Script) (log : RunLog) (sweep : Sweep) (swept : IsSwept s log (len
     loaders_in_order = record {
       commands = shaped.commands;
       purges =
-          subst (PurgesGo s.modules empty_state None log.journal) (sym swept.here.half_is ∙ ap (option_map half_of) none)
+          subst (PurgesGo s.modules empty_state None log.journal) (sym swept.here.half_is ∙ none)
           (subst (λ j. PurgesGo s.modules empty_state None j (half_before (length log.journal) log.journal)) whole (purges_before s log (length log.journal) swept.here.meet));
     };
     spawn_before_turns = shaped.spawns;
@@ -138,15 +134,9 @@ module _ (s : Script) (log : RunLog) (sweep : Sweep) (swept : IsSwept s log (len
     complete = shaped.complete;
   }
 
-  none_half : (half : Option Half) → option_map half_of half ≡ None → half ≡ None
-  none_half None h = refl
-  none_half (Some half) h = absurd (none-some (half_of half) (sym h))
-
   -- in a lawful log no purge waits at the end
   pub none_waits : Legal s log → sweep.half ≡ None
-  none_waits legal =
-      none_half sweep.half
-      (swept.here.half_is ∙ ap (half_over None) whole ∙ half_last s.modules empty_state None None log.journal legal.loaders_in_order.purges)
+  none_waits legal = swept.here.half_is ∙ ap (half_over None) whole ∙ half_last s.modules empty_state None None log.journal legal.loaders_in_order.purges
 
   -- and no area
   pub none_retired : Legal s log → sweep.server.retired ≡ []

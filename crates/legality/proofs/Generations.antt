@@ -4,16 +4,16 @@ use Rattle.std.proofs.lemmas.List.{length-drop, take_all, with_items_is}
 use Rattle.std.proofs.lemmas.List.Elements.{recursion_from_All}
 use Rattle.std.specs.Vec.{with_items}
 use Rattle.server_core.specs.ServerState.{ServerState, empty_state}
-use Rattle.script_text.specs.declared.script.Script.{Script}
+use Rattle.script_core.specs.declared.script.Script.{Script}
 use Rattle.run_log.specs.declared.logs.Entry.{Entry}
 use Rattle.run_log.specs.declared.logs.ProcessLog.{ProcessLog}
 use Rattle.run_log.specs.declared.logs.Snapshot.{Snapshot}
 use Rattle.run_log.specs.declared.logs.Span.{Span}
-use Rattle.log_shape.specs.RisingSpans.{AreRisingSpans}
+use Rattle.legality.specs.RisingSpans.{AreRisingSpans}
 use Rattle.run_log.specs.declared.logs.RunLog.{RunLog}
 use Rattle.run_log.specs.Legal.{Legal}
-use Rattle.snapshots.specs.Texts.{AreOfTexts}
-use Rattle.snapshots.proofs.KeptTexts.{empty_of_texts, newest_of_texts}
+use Rattle.run_log.specs.InstanceTexts.{AreOfTexts}
+use Rattle.run_log.proofs.KeptTexts.{empty_of_texts, newest_of_texts}
 use Rattle.span_check.specs.declared.standing.Standing.{Standing}
 use Rattle.span_check.specs.Standings.{NeverFall}
 use Rattle.legality.specs.declared.sweep.Sweep.{Sweep}

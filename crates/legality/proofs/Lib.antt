@@ -1,3 +1,10 @@
+pub mod Equivalences
+pub mod RisingNumbers
+pub mod SameCommands
+pub mod ListPlaces
+pub mod CommandPlaces
+pub mod SpawnSteps
+pub mod LogsMatching
 pub mod Locals
 pub mod Places
 pub mod Standings

@@ -3,11 +3,12 @@ use Rattle.std.proofs.Common.{◌≡◌, ℕ, zero, suc, ◌<◌, ◌≤◌, Lis
 use Rattle.std.proofs.lemmas.Option.{none-some, same_Some}
 use Rattle.mod_core.specs.declared.code.Module.{Module}
 use Rattle.server_core.specs.ServerState.{ServerState, empty_state}
-use Rattle.script_text.specs.declared.script.Script.{Script}
+use Rattle.script_core.specs.declared.script.Script.{Script}
 use Rattle.run_log.specs.declared.logs.Entry.{Entry}
 use Rattle.run_log.specs.declared.logs.RunLog.{RunLog}
 use Rattle.run_log.specs.Journal.{next_state, newest_state}
-use Rattle.run_log.specs.Legal.{EntryFollows, HalfPurge, Legal, MayStand, PurgesGo, Replays, half_after}
+use Rattle.run_log.specs.Legal.{EntryFollows, Legal, MayStand, PurgesGo, Replays, half_after}
+use Rattle.run_log.specs.declared.underway.HalfPurge.{HalfPurge}
 use Rattle.legality.specs.Entries.{EntryMeets, MeetBefore, half_before, half_over}
 
 -- an entry of a replayed journal follows from the state before it

@@ -1,9 +1,9 @@
 -- An entry that may be made and follows is lawful beside those before it, and each entry of a lawful log is so.
-use Rattle.std.proofs.Common.{◌≡◌, ℕ, ◌+◌, ◌<◌, List, length, get_or, slice_get, Some, All, option_map, refl, sym, ap, subst, ◌∙◌, arith}
+use Rattle.std.proofs.Common.{◌≡◌, ℕ, ◌+◌, ◌<◌, List, length, get_or, slice_get, Some, All, refl, sym, ap, subst, ◌∙◌, arith}
 use Rattle.std.proofs.lemmas.List.Elements.{All-from_recursion}
 use Rattle.std.proofs.lemmas.Option.{same_Some, slice_get_read, slice_get_within}
 use Rattle.server_core.specs.ServerState.{ServerState}
-use Rattle.script_text.specs.declared.script.Script.{Script}
+use Rattle.script_core.specs.declared.script.Script.{Script}
 use Rattle.run_log.specs.declared.logs.Entry.{Entry}
 use Rattle.run_log.specs.declared.logs.RunLog.{RunLog}
 use Rattle.run_log.specs.Legal.{EntryFollows, Legal, MayStand, half_after, published_to, state_before}
@@ -11,7 +11,7 @@ use Rattle.span_check.specs.declared.standing.Standing.{Standing}
 use Rattle.span_check.specs.Standings.{HasItsNames}
 use Rattle.legality.specs.declared.sweep.Sweep.{Sweep}
 use Rattle.legality.specs.Entries.{EntryMeets}
-use Rattle.legality.specs.Sweeps.{AfterEntry, AfterPlace, AreStanding, HasFollowed, IsSwept, MayBeMade, half_of}
+use Rattle.legality.specs.Sweeps.{AfterEntry, AfterPlace, AreStanding, HasFollowed, IsSwept, MayBeMade}
 use Rattle.legality.proofs.Answers.{get_within, meets_by, meets_told}
 use Rattle.legality.proofs.Ends.{all_from}
 use Rattle.legality.proofs.Locals.{legal_meets}
@@ -37,10 +37,10 @@ module _ (s : Script) (log : RunLog) (place : ℕ) (before : Sweep) (swept : IsS
       meets =
           meets_by s log place before.server before.standings.items swept.standings now_is swept.here.server_is e may.told swept.ahead at
           (subst (λ x. EntryFollows s.modules x e) swept.here.server_is made.follows)
-          (subst (λ h. MayStand (state_before s.modules place log.journal) h e) swept.here.half_is (subst (λ x. MayStand x (option_map half_of before.half) e) swept.here.server_is may.stands))
+          (subst (λ h. MayStand (state_before s.modules place log.journal) h e) swept.here.half_is (subst (λ x. MayStand x before.half e) swept.here.server_is may.stands))
 
       -- an entry was made
-      pub entry_made : option_map half_of after.half ≡ half_after (option_map half_of before.half) e.who e.cmd → after.standings.items ≡ before.standings.items → after.seen.items ≡ before.seen.items → AfterEntry s log (place + 1) after e.published
+      pub entry_made : after.half ≡ half_after before.half e.who e.cmd → after.standings.items ≡ before.standings.items → after.seen.items ≡ before.seen.items → AfterEntry s log (place + 1) after e.published
       entry_made half standings seen =
           after_entry s log place e at before after swept (at_more s log place e at before.server after.server before.half after.half swept.here meets made half) made standings seen
 
@@ -52,7 +52,7 @@ module _ (s : Script) (log : RunLog) (place : ℕ) (before : Sweep) (swept : IsS
       pub may_be_made : MayBeMade before log.processes e
       may_be_made = record {
         by_whom = lawful.follows.by_whom;
-        stands = subst (λ x. MayStand x (option_map half_of before.half) e) (sym swept.here.server_is) (subst (λ h. MayStand (state_before s.modules place log.journal) h e) (sym swept.here.half_is) lawful.stands);
+        stands = subst (λ x. MayStand x before.half e) (sym swept.here.server_is) (subst (λ h. MayStand (state_before s.modules place log.journal) h e) (sym swept.here.half_is) lawful.stands);
         told = meets_told s log place before.server before.standings.items swept.standings now_is swept.here.server_is e lawful;
       }
 

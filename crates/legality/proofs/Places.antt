@@ -4,12 +4,13 @@ use Rattle.std.proofs.lemmas.Bool.{cond-true, cond-false, eq-eqb, ne_eqb}
 use Rattle.std.proofs.lemmas.Option.{none-some, same_Some}
 use Rattle.mod_core.specs.declared.code.Module.{Module}
 use Rattle.server_core.specs.ServerState.{ServerState, empty_state}
-use Rattle.script_text.specs.declared.script.Script.{Script}
+use Rattle.script_core.specs.declared.script.Script.{Script}
 use Rattle.run_log.specs.declared.logs.Entry.{Entry}
 use Rattle.run_log.specs.declared.logs.RunLog.{RunLog}
-use Rattle.run_log.specs.Journal.{next_state, newest_state, published_count, publishes, state_at}
-use Rattle.run_log.specs.Legal.{HalfPurge, half_after, published_to, state_before}
-use Rattle.run_log.proofs.Journals.{count-cons, counted, later, never_falls, newest_more}
+use Rattle.run_log.specs.Journal.{next_state, newest_state, state_at}
+use Rattle.run_log.specs.declared.underway.HalfPurge.{HalfPurge}
+use Rattle.run_log.specs.Legal.{half_after, published_to, state_before}
+use Rattle.run_log.proofs.Journals.{counted, later, never_falls, newest_more}
 use Rattle.legality.specs.Entries.{MeetBefore, half_before, half_over}
 use Rattle.legality.proofs.Locals.{replays_before}
 
@@ -23,10 +24,6 @@ half_more : (half : Option HalfPurge) (journal : List Entry) (e : Entry) → hal
 half_more half [] e = refl
 half_more half (x ∷ journal) e = half_more (half_after half x.who x.cmd) journal e
 
-count_more : (journal : List Entry) (e : Entry) → published_count (journal ++ e ∷ []) ≡ published_count journal + publishes e
-count_more [] e = let h = count-cons e [] in omega (arith, h)
-count_more (x ∷ journal) e = let a = count-cons x (journal ++ e ∷ []) in let b = count-cons x journal in omega (arith, a, b, count_more journal e)
-
 module _ (journal : List Entry) (place : ℕ) (e : Entry) (at : slice_get journal place ≡ Some e) where
   -- the state after an entry is that before the next one
   pub next_before : (texts : List Module) → state_before texts (place + 1) journal ≡ next_state texts (state_before texts place journal) e.cmd
@@ -35,10 +32,6 @@ module _ (journal : List Entry) (place : ℕ) (e : Entry) (at : slice_get journa
   -- so is the purge that waits
   pub next_half : half_before (place + 1) journal ≡ half_after (half_before place journal) e.who e.cmd
   next_half = ap (half_over None) (take_next journal place e at) ∙ half_more None (take place journal) e
-
-  -- and the count of generations
-  pub next_published : published_to (place + 1) journal ≡ published_to place journal + publishes e
-  next_published = ap published_count (take_next journal place e at) ∙ count_more (take place journal) e
 
 -- the state of the first generation of a journal
 pub state_first : (texts : List Module) (s : ServerState) (journal : List Entry) → state_at texts s journal s.generation ≡ s

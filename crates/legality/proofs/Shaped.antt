@@ -1,11 +1,11 @@
 -- A lawful log has what needs no run.
 use Rattle.std.proofs.lemmas.List.Elements.{All-from_recursion}
-use Rattle.script_text.specs.declared.script.Script.{Script}
+use Rattle.script_core.specs.declared.script.Script.{Script}
 use Rattle.run_log.specs.declared.logs.ProcessLog.{ProcessLog}
 use Rattle.run_log.specs.declared.logs.RunLog.{RunLog}
 use Rattle.run_log.specs.Legal.{Legal}
-use Rattle.log_shape.specs.RisingSpans.{AreRisingSpans}
-use Rattle.log_shape.proofs.RisingNumbers.{following_rises}
+use Rattle.legality.specs.RisingSpans.{AreRisingSpans}
+use Rattle.legality.proofs.RisingNumbers.{following_rises}
 use Rattle.legality.specs.Shape.{IsShaped}
 use Rattle.legality.proofs.Ends.{all_from}
 

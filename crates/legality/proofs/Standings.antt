@@ -2,7 +2,7 @@
 use Rattle.server_core.specs.ServerState.{ServerState, empty_state}
 use Rattle.machine_core.proofs.LaterWords.{HasAreas}
 use Rattle.std.proofs.Common.{ℕ, List}
-use Rattle.script_text.specs.declared.script.Script.{Script}
+use Rattle.script_core.specs.declared.script.Script.{Script}
 use Rattle.run_log.specs.declared.logs.ProcessLog.{ProcessLog}
 use Rattle.run_log.specs.declared.logs.RunLog.{RunLog}
 use Rattle.run_log.specs.Journal.{state_at}

@@ -1,11 +1,11 @@
 -- What is known after one more entry.
-use Rattle.std.proofs.Common.{◌≡◌, ◌⊎◌, inl, inr, ℕ, ◌+◌, ◌<◌, ◌≤◌, is_some, List, [], ◌∷◌, slice_get, Option, Some, None, option_map, if◌then◌else◌, refl, sym, ap, subst, ◌∙◌, arith}
+use Rattle.std.proofs.Common.{◌≡◌, ◌⊎◌, inl, inr, ℕ, ◌+◌, ◌<◌, ◌≤◌, is_some, List, [], ◌∷◌, slice_get, Option, Some, None, if◌then◌else◌, refl, sym, ap, subst, ◌∙◌, arith}
 use Rattle.std.proofs.lemmas.Bool.{cases_lt}
 use Rattle.std.proofs.lemmas.Option.{same_Some, slice_get_within}
 use Rattle.server_core.specs.declared.command.Cmd.{Cmd}
 use Rattle.server_core.specs.ServerState.{ServerState, IsSound, old_of}
 use Rattle.mod_core.specs.declared.code.Module.{Module}
-use Rattle.script_text.specs.declared.script.Script.{Script}
+use Rattle.script_core.specs.declared.script.Script.{Script}
 use Rattle.run_log.specs.declared.logs.Entry.{Entry}
 use Rattle.run_log.specs.declared.logs.RunLog.{RunLog}
 use Rattle.run_log.specs.Journal.{next_state, publishes}
@@ -14,10 +14,10 @@ use Rattle.machine_core.proofs.LaterWords.{HasAreas}
 use Rattle.run_log.proofs.AreaWords.{areas_stay, sound_below}
 use Rattle.run_log.proofs.Journals.{count-cons, counted}
 use Rattle.run_log.proofs.Steps.{IsNext, left_alone, next_generation, next_is, without_area}
-use Rattle.legality.specs.declared.sweep.Half.{Half}
+use Rattle.run_log.specs.declared.underway.HalfPurge.{HalfPurge}
 use Rattle.legality.specs.declared.sweep.Sweep.{Sweep}
 use Rattle.legality.specs.Entries.{EntryMeets, MeetBefore}
-use Rattle.legality.specs.Sweeps.{AfterEntry, AreSeen, AreStanding, HasFollowed, IsAt, IsMade, IsSwept, half_of}
+use Rattle.legality.specs.Sweeps.{AfterEntry, AreSeen, AreStanding, HasFollowed, IsAt, IsMade, IsSwept}
 use Rattle.legality.proofs.Places.{made_here, next_before, next_half}
 use Rattle.legality.proofs.Standings.{standings_later}
 
@@ -36,8 +36,8 @@ module _ (s : Script) (log : RunLog) (place : ℕ) (e : Entry) (at : slice_get l
           subst (EntryMeets s log k) (same_entry log.journal k place x e is at same) (subst (λ n. EntryMeets s log n e) same here)
 
   -- the server and the purge that waits are those before the next entry
-  pub at_more : (before after : ServerState) (half next : Option Half) → IsAt s log place before half → EntryMeets s log place e → HasFollowed s.modules before after e
-      → option_map half_of next ≡ half_after (option_map half_of half) e.who e.cmd → IsAt s log (place + 1) after next
+  pub at_more : (before after : ServerState) (half next : Option HalfPurge) → IsAt s log place before half → EntryMeets s log place e → HasFollowed s.modules before after e
+      → next ≡ half_after half e.who e.cmd → IsAt s log (place + 1) after next
   at_more before after half next here meets made half_is = record {
     within = let h = slice_get_within log.journal place e at in omega (arith, h);
     meet = meet_more here.meet meets;

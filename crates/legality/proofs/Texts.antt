@@ -1,9 +1,8 @@
 -- What a script says of the commands of a journal that are its loaders', and of the processes of a complete log.
-use Rattle.std.proofs.Common.{◌≡◌, ℕ, zero, suc, ◌^◌, ◌<◌, ◌≤◌, Bool, true, false, cond, List, [], ◌∷◌, ◌++◌, length, length-append, sum_by, filter, slice_get, Some, unwrap_or, All, refl, sym, ap, subst, ◌∙◌, arith}
+use Rattle.std.proofs.Common.{◌≡◌, ℕ, zero, suc, ◌^◌, ◌<◌, ◌≤◌, Bool, true, false, cond, List, [], ◌∷◌, ◌++◌, length, filter, slice_get, Some, unwrap_or, All, refl, sym, ap, subst, ◌∙◌, arith}
 use Rattle.std.proofs.lemmas.Bool.{eq-eqb, false≢true}
 use Rattle.std.proofs.lemmas.Option.{none-some, same_Some}
 use Rattle.std.proofs.lemmas.List.Elements.{All-from_recursion}
-use Rattle.std.proofs.lemmas.List.Sums.{sum_by-cons}
 use Rattle.std.specs.List.{AllByRecursion, flat_map}
 use Rattle.term_core.specs.declared.names.TheConstants.{MOST_NAMES}
 use Rattle.term_core.specs.Plain.{plain}
@@ -15,16 +14,18 @@ use Rattle.server_core.specs.declared.command.Cmd.TheVariants as cmds
 use Rattle.server_core.specs.ServerState.{IsShortTerm}
 use Rattle.server_core.specs.CommandTable.{IsOfText}
 use Rattle.mod_core.specs.declared.code.Module.{Module}
-use Rattle.script_text.specs.declared.script.Script.{Script}
-use Rattle.script_text.specs.declared.script.ScriptCmd.{ScriptCmd}
-use Rattle.script_text.specs.declared.script.ScriptCmd.TheVariants as script
-use Rattle.script_text.specs.Sound.{IsCmdOf, IsScript, IsTermOf, spawns_in}
+use Rattle.script_core.specs.declared.script.Script.{Script}
+use Rattle.script_core.specs.declared.script.ScriptCmd.{ScriptCmd}
+use Rattle.script_core.specs.declared.script.ScriptCmd.TheVariants as script
+use Rattle.script_core.specs.Sound.{IsCmdOf, IsScript, IsTermOf}
+use Rattle.script_core.specs.Processes.{SpawnLine, spawns_from, spawns_of}
+use Rattle.script_core.proofs.SpawnLines.{all_counted}
 use Rattle.run_log.specs.declared.logs.Who.{Who}
 use Rattle.run_log.specs.declared.logs.Who.TheVariants.{Loader, Runtime}
 use Rattle.run_log.specs.declared.logs.Entry.{Entry}
 use Rattle.run_log.specs.declared.logs.ProcessLog.{ProcessLog}
 use Rattle.run_log.specs.Journal.{is_of}
-use Rattle.run_log.specs.Legal.{LogsMatch, SpawnLine, commands_in, commands_of, ended_by, is_release, is_runtime, spawns_from, spawns_of}
+use Rattle.run_log.specs.Legal.{LogsMatch, commands_in, commands_of, ended_by, is_release, is_runtime}
 
 -- ---- the terms of puts
 
@@ -137,23 +138,6 @@ arities_matched (line ∷ lines) (process ∷ processes) h match = (
   ap length match.0.args ∙ h.0 ∙ ap (λ t. t.arity) (sym match.0.target),
   arities_matched lines processes h.1 match.1,
 )
-
-lines_counted : (loader place : ℕ) (commands : List ScriptCmd) → length (spawns_from loader place commands) ≡ sum_by spawns_in commands
-lines_counted loader place [] = refl
-lines_counted loader place (script.Spawn target args ∷ commands) =
-    let rest = lines_counted loader (suc place) commands in
-    let count = sum_by-cons spawns_in (script.Spawn target args) commands in
-    omega (arith, rest, count)
-lines_counted loader place (cmd ∷ commands) = lines_counted loader (suc place) commands ∙ sym (sum_by-cons spawns_in cmd commands ∙ omega arith)
-
-all_counted : (loader : ℕ) (loaders : List (List ScriptCmd)) → length (spawns_of loader loaders) ≡ sum_by (λ commands. sum_by spawns_in commands) loaders
-all_counted loader [] = refl
-all_counted loader (commands ∷ loaders) =
-    let many = length-append (spawns_from loader 0 commands) (spawns_of (suc loader) loaders) in
-    let here = lines_counted loader 0 commands in
-    let rest = all_counted (suc loader) loaders in
-    let count = sum_by-cons (λ commands. sum_by spawns_in commands) commands loaders in
-    omega (arith, many, here, rest, count)
 
 match_counted : (lines : List SpawnLine) (processes : List ProcessLog) → LogsMatch lines processes → length processes ≡ length lines
 match_counted [] [] match = refl

@@ -5,7 +5,7 @@ use Rattle.term_core.specs.declared.atom.AtomId.{AtomId}
 use Rattle.server_core.specs.declared.command.Cmd.TheVariants as cmds
 use Rattle.server_core.specs.declared.command.Linger.{Linger}
 use Rattle.server_core.specs.ServerState.{ServerState, empty_state, old_of}
-use Rattle.script_text.specs.declared.script.Script.{Script}
+use Rattle.script_core.specs.declared.script.Script.{Script}
 use Rattle.run_log.specs.declared.logs.Entry.{Entry}
 use Rattle.run_log.specs.declared.logs.ProcessLog.{ProcessLog}
 use Rattle.run_log.specs.declared.logs.RunLog.{RunLog}

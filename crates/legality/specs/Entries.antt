@@ -6,11 +6,12 @@ use Rattle.term_core.specs.declared.atom.AtomId.{AtomId}
 use Rattle.server_core.specs.declared.command.Cmd.TheVariants.{SoftPurge, Purge, Release}
 use Rattle.server_core.specs.declared.command.Linger.{Linger}
 use Rattle.server_core.specs.ServerState.{old_of}
-use Rattle.script_text.specs.declared.script.Script.{Script}
+use Rattle.script_core.specs.declared.script.Script.{Script}
 use Rattle.run_log.specs.declared.logs.Entry.{Entry}
 use Rattle.run_log.specs.declared.logs.ProcessLog.{ProcessLog}
 use Rattle.run_log.specs.declared.logs.RunLog.{RunLog}
-use Rattle.run_log.specs.Legal.{EntryFollows, HalfPurge, Lingers, MayStand, NamesNot, StandsNotIn, dropped_by, half_after, is_killed_by, last_up_to, published_to, state_before, turns_in_log}
+use Rattle.run_log.specs.Legal.{EntryFollows, Lingers, MayStand, NamesNot, StandsNotIn, dropped_by, half_after, is_killed_by, last_up_to, published_to, state_before, turns_in_log}
+use Rattle.run_log.specs.declared.underway.HalfPurge.{HalfPurge}
 
 -- the purge that waits after these entries, if one does, where this one waited before them
 abbrev pub half_over : Option HalfPurge → List Entry → Option HalfPurge

@@ -2,4 +2,8 @@ pub mod Entries
 pub mod Looks
 pub mod Observers
 pub mod Shape
+pub mod Places
+pub mod RisingSpans
+pub mod SnapshotShape
+pub mod SpawnNumbers
 pub mod Sweeps

@@ -42,15 +42,8 @@ pub record IsPurged (standings : List Standing) (processes : List ProcessLog) (k
 
 -- what a command tells of the processes is so, as they stand; that a process lingers was judged with its turns, where there is such a process
 abbrev pub IsTold : ServerState → List Standing → List ProcessLog → Cmd → Type 0
-IsTold s standings processes (cmds.Load refs) = Unit {0}
-IsTold s standings processes (cmds.Delete name) = Unit {0}
 IsTold s standings processes (cmds.SoftPurge name None) = IfSome (old_of s name.0) (λ serial. some_stands serial standings ≡ false)
 IsTold s standings processes (cmds.SoftPurge name (Some linger)) = IfSome (old_of s name.0) (λ serial. linger.process < length processes)
-IsTold s standings processes (cmds.Doom name) = Unit {0}
 IsTold s standings processes (cmds.Purge name killed) = IfSome (old_of s name.0) (IsPurged standings processes killed)
-IsTold s standings processes (cmds.CheckOld name) = Unit {0}
-IsTold s standings processes (cmds.Put key term) = Unit {0}
-IsTold s standings processes (cmds.Erase key) = Unit {0}
-IsTold s standings processes (cmds.Trace target on) = Unit {0}
-IsTold s standings processes (cmds.Spawn target args) = Unit {0}
 IsTold s standings processes (cmds.Release serial) = some_names serial standings ≡ false
+IsTold s standings processes _ = Unit {0}

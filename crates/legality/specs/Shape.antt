@@ -1,11 +1,11 @@
 -- What a lawful log has that needs no run.
 -- Source: this project's profile. Each part is a clause of a lawful log, or follows from one.
 use Rattle.std.specs.Prelude.{◌≡◌, ℕ, All}
-use Rattle.script_text.specs.declared.script.Script.{Script}
+use Rattle.script_core.specs.declared.script.Script.{Script}
 use Rattle.run_log.specs.declared.logs.RunLog.{RunLog}
 use Rattle.run_log.specs.Legal.{Complete, SpawnBeforeTurns, commands_in, commands_of}
-use Rattle.log_shape.specs.RisingSpans.{AreRisingSpans}
-use Rattle.log_shape.specs.SnapshotShape.{SnapshotsFit}
+use Rattle.legality.specs.RisingSpans.{AreRisingSpans}
+use Rattle.legality.specs.SnapshotShape.{SnapshotsFit}
 
 -- what a lawful log has that needs no run
 pub record IsShaped (s : Script) (log : RunLog) : Type 0 where

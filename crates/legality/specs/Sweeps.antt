@@ -1,6 +1,6 @@
 -- What is known of a log after the entries of its journal before a place.
 -- Source: this project's profile. The definitions replay journal and turns; the code keeps one server and where each process stands.
-use Rattle.std.specs.Prelude.{◌≡◌, ℕ, ◌+◌, ◌<◌, ◌≤◌, ◌==◌, Bool, true, false, is_some, List, [], ◌∷◌, length, slice_get, Option, Some, None, option_map, if◌then◌else◌, All}
+use Rattle.std.specs.Prelude.{◌≡◌, ℕ, ◌+◌, ◌<◌, ◌≤◌, ◌==◌, Bool, true, false, is_some, List, [], ◌∷◌, length, slice_get, Option, Some, None, if◌then◌else◌, All}
 use Rattle.std.specs.List.{filter_map}
 use Rattle.std.specs.List.Sorted.{IsPermutation}
 use Rattle.term_core.specs.declared.atom.AtomId.{AtomId}
@@ -11,22 +11,22 @@ use Rattle.server_core.specs.declared.command.Linger.{Linger}
 use Rattle.server_core.specs.ServerState.{ServerState, IsSound, empty_state, old_of}
 use Rattle.machine_core.specs.Process.{Words}
 use Rattle.machine_core.specs.View.{server_words}
-use Rattle.script_text.specs.declared.script.Script.{Script}
+use Rattle.script_core.specs.declared.script.Script.{Script}
 use Rattle.run_log.specs.declared.logs.Entry.{Entry}
 use Rattle.run_log.specs.declared.logs.ProcessLog.{ProcessLog}
 use Rattle.run_log.specs.declared.logs.RunLog.{RunLog}
 use Rattle.run_log.specs.declared.logs.Snapshot.{Snapshot}
 use Rattle.run_log.specs.Journal.{next_state, state_at}
-use Rattle.run_log.specs.Legal.{EntryFollows, HalfPurge, Lingers, MayStand, is_release, is_runtime, published_to, state_before, turns_in_log}
+use Rattle.run_log.specs.Legal.{EntryFollows, Lingers, MayStand, is_release, is_runtime, published_to, state_before, turns_in_log}
+use Rattle.run_log.specs.declared.underway.HalfPurge.{HalfPurge}
 use Rattle.run_log.specs.Snapshots.{AreExports}
 use Rattle.span_check.specs.declared.standing.Standing.{Standing}
 use Rattle.span_check.specs.declared.watch.Watch.{Watch}
-use Rattle.snapshots.specs.Functions.{AreExportedFunctions}
+use Rattle.run_log.specs.ExportedFunctions.{AreExportedFunctions}
 use Rattle.span_check.specs.Standings.{HasItsNames, IsReached, IsReady, NeverFall, StandsAt}
 use Rattle.span_check.specs.Sweeps.{IsRefused, IsTaken}
 use Rattle.span_check.specs.Watches.{AreInOrder}
 use Rattle.legality.specs.declared.known.Known.{Known}
-use Rattle.legality.specs.declared.sweep.Half.{Half}
 use Rattle.legality.specs.declared.sweep.Sweep.{Sweep}
 use Rattle.legality.specs.Entries.{MeetBefore, half_before}
 use Rattle.legality.specs.Looks.{AreKilled, IsTold}
@@ -76,18 +76,8 @@ watch_for (Some serial) linger = Some (record { turn = linger.turn; serial = ser
 
 -- what a command makes to be watched of a process in a state
 abbrev pub watch_in : ServerState → ℕ → Cmd → Option Watch
-watch_in s number (cmds.Load refs) = None
-watch_in s number (cmds.Delete name) = None
-watch_in s number (cmds.SoftPurge name None) = None
 watch_in s number (cmds.SoftPurge name (Some linger)) = if linger.process == number then watch_for (old_of s name.0) linger else None
-watch_in s number (cmds.Doom name) = None
-watch_in s number (cmds.Purge name killed) = None
-watch_in s number (cmds.CheckOld name) = None
-watch_in s number (cmds.Put key term) = None
-watch_in s number (cmds.Erase key) = None
-watch_in s number (cmds.Trace target on) = None
-watch_in s number (cmds.Spawn target args) = None
-watch_in s number (cmds.Release serial) = None
+watch_in s number _ = None
 
 -- what these entries make to be watched of a process in a state, in order
 abbrev pub watches_in : ServerState → ℕ → List Entry → List Watch
@@ -151,17 +141,13 @@ pub record AreSeen (s : Script) (log : RunLog) (generation : ℕ) (seen : List �
 
 -- ---- the sweep
 
--- a purge as the journal has it
-abbrev pub half_of : Half → HalfPurge
-half_of half = record { who = half.who; name = half.«module» }
-
 -- the entries before a place meet what a lawful log says of them, the server has the state before that place, and the purge that waits there waits
-pub record IsAt (s : Script) (log : RunLog) (place : ℕ) (server : ServerState) (half : Option Half) : Type 0 where
+pub record IsAt (s : Script) (log : RunLog) (place : ℕ) (server : ServerState) (half : Option HalfPurge) : Type 0 where
   pub within : place ≤ length log.journal
   pub meet : MeetBefore s log place
   pub server_is : server ≡ state_before s.modules place log.journal
   pub sound : IsSound server
-  pub half_is : option_map half_of half ≡ half_before place log.journal
+  pub half_is : half ≡ half_before place log.journal
 
 -- a generation was just made, and nothing of it is judged yet
 pub record IsMade (s : Script) (log : RunLog) (place : ℕ) (sweep : Sweep) : Type 0 where
@@ -187,7 +173,7 @@ pub record IsKnown (s : Script) (log : RunLog) (known : Known) : Type 0 where
 -- an entry is made by whom it may be, stands where it may, and tells the truth of the processes as they stand
 pub record MayBeMade (sweep : Sweep) (processes : List ProcessLog) (e : Entry) : Type 0 where
   pub by_whom : is_runtime e.who ≡ is_release e.cmd
-  pub stands : MayStand sweep.server (option_map half_of sweep.half) e
+  pub stands : MayStand sweep.server sweep.half e
   pub told : IsTold sweep.server sweep.standings.items processes e.cmd
 
 -- an entry was made on the server: it follows from the state before, and the server has the state after it

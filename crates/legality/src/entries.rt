@@ -1,6 +1,6 @@
-ghost use Rattle.std.specs.Prelude.{◌≡◌, ◌+◌, ◌<◌, ◌↔◌, true, false, length, All, IfOk, IsTrue};
+ghost use Rattle.std.specs.Prelude.{◌≡◌, ◌<◌, ◌↔◌, true, false, length, All, IfOk, IsTrue};
 ghost use Rattle.server_core.specs.CommandTable.{AreTexts, IsOfText};
-ghost use Rattle.script_text.specs.Sound.{IsScript};
+ghost use Rattle.script_core.specs.Sound.{IsScript};
 ghost use Rattle.run_log.specs.Legal.{EntryFollows, Legal, is_release, is_runtime};
 ghost use Rattle.span_check.specs.Standings.{HasItsNames};
 ghost use Rattle.legality.specs.Looks.{AreKilled};
@@ -14,7 +14,7 @@ use crate::replies::is_same_reply;
 use crate::sweep::Sweep;
 use mod_core::ModuleList;
 use run_log::{Entry, RunLog, Who};
-use script_text::Script;
+use script_core::Script;
 use server_core::{Applied, ApplyFault, Cmd, Server};
 use term_core::NoMemory;
 

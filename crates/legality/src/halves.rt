@@ -1,14 +1,12 @@
-ghost use Rattle.std.specs.Prelude.{◌≡◌, ◌↔◌, IsTrue, option_map};
+ghost use Rattle.std.specs.Prelude.{◌≡◌, ◌↔◌, IsTrue};
 ghost use Rattle.run_log.specs.Legal.{MayStand, MayStandBetween, MayStart, half_after};
-ghost use Rattle.legality.specs.Sweeps.{half_of};
 
-use crate::sweep::Half;
-use run_log::{Entry, Who};
+use run_log::{Entry, HalfPurge, Who};
 use server_core::{Cmd, Server};
 
 /// Whether the entry may stand where this purge waits, or none.
-pub fn may_stand(server: &Server, half: Option<Half>, entry: &Entry) -> bool
-    ensures { IsTrue result ↔ MayStand server.now (option_map half_of half) entry.now }
+pub fn may_stand(server: &Server, half: Option<HalfPurge>, entry: &Entry) -> bool
+    ensures { IsTrue result ↔ MayStand server.now half entry.now }
 {
     match half {
         Some(half) => may_stand_between(half, entry.who, &entry.cmd),
@@ -27,8 +25,8 @@ fn may_start(server: &Server, cmd: &Cmd) -> bool
 }
 
 /// Whether the command may stand between the halves of a purge.
-fn may_stand_between(half: Half, who: Who, cmd: &Cmd) -> bool
-    ensures { IsTrue result ↔ MayStandBetween (half_of half) who cmd.now }
+fn may_stand_between(half: HalfPurge, who: Who, cmd: &Cmd) -> bool
+    ensures { IsTrue result ↔ MayStandBetween half who cmd.now }
 {
     match cmd {
         Cmd::Purge { module, .. } => is_same_who(who, half.who) && *module == half.module,
@@ -45,11 +43,11 @@ fn is_same_who(who: Who, other: Who) -> bool
 }
 
 /// The purge that waits after the entry, if one does.
-pub fn half_after(half: Option<Half>, entry: &Entry) -> Option<Half>
-    ensures { option_map half_of result ≡ half_after (option_map half_of half) entry.now.who entry.now.cmd }
+pub fn half_after(half: Option<HalfPurge>, entry: &Entry) -> Option<HalfPurge>
+    ensures { result ≡ half_after half entry.now.who entry.now.cmd }
 {
     match &entry.cmd {
-        Cmd::Doom(module) => Some(Half {
+        Cmd::Doom(module) => Some(HalfPurge {
             who: entry.who,
             module: *module,
         }),

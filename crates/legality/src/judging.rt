@@ -1,6 +1,6 @@
 ghost use Rattle.std.specs.Prelude.{◌≡◌, ◌↔◌, ◌<◌, ◌+◌, ◌^◌, true, false, length, All, IfOk, IsTrue};
-ghost use Rattle.script_text.specs.declared.script.Script.{Script};
-ghost use Rattle.script_text.specs.Sound.{IsScript};
+ghost use Rattle.script_core.specs.declared.script.Script.{Script};
+ghost use Rattle.script_core.specs.Sound.{IsScript};
 ghost use Rattle.run_log.specs.Legal.{Legal};
 ghost use Rattle.legality.specs.Shape.{IsShaped};
 ghost use Rattle.legality.specs.Sweeps.{AreBegun, HasEnded, IsKnown, IsMade, IsSwept};
@@ -8,14 +8,12 @@ ghost use Rattle.legality.specs.Sweeps.{AreBegun, HasEnded, IsKnown, IsMade, IsS
 use crate::entries::make_entry;
 use crate::known::Known;
 use crate::observers::see_snapshots;
-use crate::shape::is_shaped;
+use crate::shape::{is_shaped, killed_serials};
 use crate::spans::{stretch, take_all_spans};
 use crate::sweep::Sweep;
-use log_shape::killed_serials;
-use run_log::{ProcessLog, RunLog};
-use script_text::Script;
+use run_log::{ProcessLog, RunLog, exported_functions};
+use script_core::Script;
 use server_core::Server;
-use snapshots::exported_functions;
 use span_check::Standing;
 use std::alloc::Global;
 use term_core::NoMemory;

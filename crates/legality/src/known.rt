@@ -1,4 +1,4 @@
-use snapshots::MfaList;
+use run_log::MfaList;
 use term_core::CountList;
 
 /// What is looked up of a script and a log, and made once.

@@ -11,8 +11,10 @@ mod replies;
 mod shape;
 mod spans;
 mod sweep;
-#[cfg(test)]
-mod tests;
 mod watches;
 
 pub use judging::legal;
+pub use shape::{
+    has_commands_in_order, is_complete, is_killed, killed_serials, snapshots_fit, spans_rise,
+    spawns_come_first,
+};

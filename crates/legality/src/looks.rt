@@ -2,7 +2,7 @@ ghost use Rattle.std.specs.Prelude.{◌≡◌, ◌<◌, ◌↔◌, false, length
 ghost use Rattle.span_check.specs.Standings.{HasItsNames};
 ghost use Rattle.legality.specs.Looks.{AreKilled, IsPurged, IsTold, names_area, some_names, some_stands, stands_in};
 
-use log_shape::is_killed;
+use crate::shape::is_killed;
 use run_log::ProcessLogList;
 use server_core::{Cmd, Linger, Server};
 use span_check::Standing;

@@ -1,14 +1,13 @@
 ghost use Rattle.std.specs.Prelude.{◌≡◌, ◌≤◌, ◌↔◌, ℕ, List, length, slice_get, IfOk, IsTrue, Some};
 ghost use Rattle.run_log.specs.declared.logs.Snapshot.{Snapshot};
 ghost use Rattle.run_log.specs.Snapshots.{AreExports};
-ghost use Rattle.snapshots.specs.Functions.{AreExportedFunctions};
-ghost use Rattle.snapshots.specs.Texts.{AreOfTexts};
+ghost use Rattle.run_log.specs.ExportedFunctions.{AreExportedFunctions};
+ghost use Rattle.run_log.specs.InstanceTexts.{AreOfTexts};
 ghost use Rattle.legality.specs.Observers.{AreShotsJudged, SeesSo};
 
-use run_log::{ExportList, Snapshot, SnapshotList};
-use script_text::Script;
+use run_log::{ExportList, MfaList, Snapshot, SnapshotList, exports_of};
+use script_core::Script;
 use server_core::Server;
-use snapshots::{MfaList, exports_of};
 use std::alloc::Global;
 use term_core::NoMemory;
 

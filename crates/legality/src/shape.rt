@@ -1,10 +1,28 @@
+//! What of a log's lawfulness can be judged without a run: whether it is complete, its commands in order, its spawns before their turns.
+
+mod commands;
+mod completeness;
+mod generations;
+mod kills;
+mod matching;
+mod order;
+mod same;
+mod snapshots;
+mod spans;
+mod spawns;
+
 ghost use Rattle.std.specs.Prelude.{◌↔◌, IsTrue};
-ghost use Rattle.script_text.specs.Sound.{IsScript};
+ghost use Rattle.script_core.specs.Sound.{IsScript};
 ghost use Rattle.legality.specs.Shape.{IsShaped};
 
-use log_shape::{has_commands_in_order, is_complete, snapshots_fit, spans_rise, spawns_come_first};
+pub use completeness::is_complete;
+pub use kills::{is_killed, killed_serials};
+pub use order::has_commands_in_order;
 use run_log::RunLog;
-use script_text::Script;
+use script_core::Script;
+pub use snapshots::snapshots_fit;
+pub use spans::spans_rise;
+pub use spawns::spawns_come_first;
 
 /// Whether the log has what needs no run.
 pub fn is_shaped(script: &Script, log: &RunLog) -> bool

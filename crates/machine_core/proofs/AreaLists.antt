@@ -10,7 +10,7 @@ use Rattle.term_core.specs.declared.no_memory.NoMemory.{NoMemory}
 use Rattle.machine_core.specs.Holds.{Holds, is_among, serials_of, with_serial}
 use Rattle.machine_core.specs.declared.process.Frame.{Frame}
 use Rattle.machine_core.specs.declared.process.Value.{Value}
-use Rattle.machine_core.specs.declared.process.Value.TheVariants.{Owned, Literal}
+use Rattle.machine_core.specs.declared.process.Value.TheVariants.{Literal}
 use Rattle.machine_core.specs.declared.process.LitRef.{LitRef}
 use Rattle.machine_core.specs.Process.{area_serials, code_names, value_area, value_areas}
 use Rattle.machine_core.proofs.SerialLists.{among-serials_of, increasing-serials_of, serials_of-same, with-there}
@@ -59,9 +59,6 @@ pub noted_literal : (r : Result (Unit {0}) NoMemory) (before after : List AreaRe
     OnOk r (serials_of (area_serials after) ≡ serials_of (area_serials before ++ value_area value))
 noted_literal (Ok done) before after value at e h = h ∙ sym (serials_of-push (area_serials before) at.area.serial) ∙ ap (λ v. serials_of (area_serials before ++ value_area v)) (sym e)
 noted_literal (Err refused) before after value at e h = h
-
-pub noted_owned : (areas : List AreaRef) (value : Value) → value_area value ≡ [] → serials_of (area_serials areas) ≡ serials_of (area_serials areas ++ value_area value)
-noted_owned areas value e = ap serials_of (sym (append-nil (area_serials areas)) ∙ ap (λ ns. area_serials areas ++ ns) (sym e))
 
 more_of : {X : Type 0} (g : X → List ℕ) (xs : List X) (n : ℕ) (x : X) → n < length xs → x ≡ get_or xs n x → flat_map g (take (n + 1) xs) ≡ flat_map g (take n xs) ++ g x
 more_of g xs n x below is =

@@ -1,15 +1,15 @@
 -- That the words of an instance say its module's name, and the name and the arity of each of its functions.
-use Rattle.std.proofs.Common.{◌≡◌, ◌<◌, ◌≤◌, ◌+◌, ◌*◌, ◌/◌, ◌∙◌, ℕ, zero, suc, Bool, true, false, refl, sym, ap, arith, List, [], ◌∷◌, ◌++◌, length, length-append, slice_get, slice_index, get_or, Option, Some, None, unwrap_or, IsSomeAnd, subst, if◌then◌else◌}
+use Rattle.std.proofs.Common.{◌≡◌, ◌<◌, ◌≤◌, ◌+◌, ◌*◌, ◌/◌, ◌∙◌, ℕ, zero, suc, Bool, true, false, refl, sym, ap, arith, List, [], ◌∷◌, ◌++◌, length, length-append, slice_get, slice_index, get_or, Some, unwrap_or, subst, if◌then◌else◌}
 use Rattle.std.proofs.lemmas.Option.{same_Some, slice_get-get_or, unwrap_or-slice_get}
 use Rattle.mod_core.specs.declared.code.Function.{Function}
 use Rattle.mod_core.specs.declared.code.Module.{Module}
-use Rattle.mod_core.specs.Module.{IsModule}
 use Rattle.mod_core.specs.ModuleImage.{code_start, constants_of, constants_start, constants_words, function_heads, function_len, functions_words, module_image}
 use Rattle.mod_core.proofs.Lengths.{heads_len}
-use Rattle.server_core.specs.ServerState.{ServerState, Entry, code_of}
-use Rattle.machine_core.specs.View.{HasFunction, IsImagePlace, IsLawful, IsReadable, Shown}
-use Rattle.machine_core.specs.Turn.{arity_of, function_name, module_name}
-use Rattle.machine_core.proofs.Fetching.{readable_at, sound_function, view_word}
+use Rattle.server_core.specs.ServerState.{Entry}
+use Rattle.machine_core.specs.View.{IsImagePlace, IsLawful, IsOfModule, IsReadable, Shown}
+use Rattle.machine_core.proofs.Fetching.{readable_at, view_word}
+use Rattle.machine_core.proofs.NextInstr.{sound_function}
+use Rattle.machine_core.specs.Reads.{HasFunction}
 
 -- the word of arity and export
 abbrev pub export_word : Function → ℕ
@@ -54,14 +54,14 @@ index_of words at word h = sym (unwrap_or-slice_get words at 0) ∙ ap (λ o. un
 
 -- a word of an instance, as the view shows it
 pub record IsWordOf (shown : Shown) (serial at word : ℕ) : Type 0 where
-  pub readable : IsReadable shown.state serial at
+  pub readable : IsReadable shown serial at
   pub value : slice_index (shown.words serial) at ≡ word
 
-word_of_image : (shown : Shown) (serial at word : ℕ) (m : Module) → IsLawful shown → code_of shown.state serial ≡ Some m → IsImagePlace m at → 1 ≤ at → slice_get (module_image m) at ≡ Some word →
+word_of_image : (shown : Shown) (serial at word : ℕ) (m : Module) → IsOfModule shown serial m → IsImagePlace m at → 1 ≤ at → slice_get (module_image m) at ≡ Some word →
     IsWordOf shown serial at word
-word_of_image shown serial at word m lawful c p h w = record {
-  readable = readable_at shown.state serial at m c p;
-  value = view_word shown serial at m lawful c p h ∙ index_of (module_image m) at word w;
+word_of_image shown serial at word m is p h w = record {
+  readable = readable_at shown serial at m is p;
+  value = view_word shown serial at m is p h ∙ index_of (module_image m) at word w;
 }
 
 halved : (n : ℕ) (b : Bool) → (n * 2 + (if b then 1 else 0)) / 2 ≡ n
@@ -70,50 +70,36 @@ halved n false = omega arith
 
 -- what the words of an instance say of one of its functions
 pub record IsNamed (shown : Shown) (e : Entry) : Type 0 where
-  pub module_word : IsWordOf shown e.serial 1 (module_name shown.state e.serial).0
-  pub name_word : IsWordOf shown e.serial (4 + 4 * e.function) (function_name shown.state e).0
-  pub arity_readable : IsReadable shown.state e.serial (4 + 4 * e.function + 1)
-  pub arity_value : slice_index (shown.words e.serial) (4 + 4 * e.function + 1) / 2 ≡ arity_of shown.state e
-  pub module_few : (module_name shown.state e.serial).0 < 4096
-  pub name_few : (function_name shown.state e).0 < 4096
-  pub arity_few : arity_of shown.state e ≤ 15
+  pub module_word : IsWordOf shown e.serial 1 (shown.reads.module_name e.serial).0
+  pub name_word : IsWordOf shown e.serial (4 + 4 * e.function) (shown.reads.function_name e).0
+  pub arity_readable : IsReadable shown e.serial (4 + 4 * e.function + 1)
+  pub arity_value : slice_index (shown.words e.serial) (4 + 4 * e.function + 1) / 2 ≡ shown.reads.arity e
+  pub module_few : (shown.reads.module_name e.serial).0 < 4096
+  pub name_few : (shown.reads.function_name e).0 < 4096
+  pub arity_few : shown.reads.arity e ≤ 15
 
-module_found : (s : ServerState) (serial : ℕ) (m : Module) → code_of s serial ≡ Some m → m.name ≡ module_name s serial
-module_found s serial m c = rw c refl
-
-name_found : (s : ServerState) (e : Entry) (m : Module) (f : Function) → code_of s e.serial ≡ Some m → slice_get m.functions e.function ≡ Some f → f.name ≡ function_name s e
-name_found s e m f c h = rw (c, h) refl
-
-arity_found : (s : ServerState) (e : Entry) (m : Module) (f : Function) → code_of s e.serial ≡ Some m → slice_get m.functions e.function ≡ Some f → f.arity ≡ arity_of s e
-arity_found s e m f c h = rw (c, h) refl
-
-named_from : (shown : Shown) (e : Entry) (m : Module) (f : Function) → IsLawful shown → IsModule m → code_of shown.state e.serial ≡ Some m → slice_get m.functions e.function ≡ Some f →
-    e.function < length m.functions → IsNamed shown e
-named_from shown e m f lawful sound c found h =
+named_from : (shown : Shown) (e : Entry) (m : Module) (f : Function) → IsOfModule shown e.serial m → slice_get m.functions e.function ≡ Some f → e.function < length m.functions → IsNamed shown e
+named_from shown e m f is found h =
     let head = head_in_image m e.function f found in
-    let is = sound_function m.functions m.functions e.function f sound.functions found in
-    let own = module_found shown.state e.serial m c in
-    let name = name_found shown.state e m f c found in
-    let arity = arity_found shown.state e m f c found in
+    let sound = sound_function m.functions m.functions e.function f is.sound.functions found in
+    let read = is.functions e.function f found in
     let next : suc (4 + 4 * e.function) ≡ 4 + 4 * e.function + 1 = omega arith in
     let export = subst (λ k. slice_get (module_image m) k ≡ Some (export_word f)) next head.arity in
-    let at = word_of_image shown e.serial (4 + 4 * e.function + 1) (export_word f) m lawful c (arity_place m e.function h) (omega arith) export in
+    let at = word_of_image shown e.serial (4 + 4 * e.function + 1) (export_word f) m is (arity_place m e.function h) (omega arith) export in
     record {
-      module_word = subst (λ a. IsWordOf shown e.serial 1 a.0) own (word_of_image shown e.serial 1 m.name.0 m lawful c (module_place m (omega arith)) (omega arith) refl);
-      name_word = subst (λ a. IsWordOf shown e.serial (4 + 4 * e.function) a.0) name (word_of_image shown e.serial (4 + 4 * e.function) f.name.0 m lawful c (name_place m e.function h) (omega arith) head.name);
+      module_word = subst (λ a. IsWordOf shown e.serial 1 a.0) (sym is.name) (word_of_image shown e.serial 1 m.name.0 m is (module_place m (omega arith)) (omega arith) refl);
+      name_word = subst (λ a. IsWordOf shown e.serial (4 + 4 * e.function) a.0) (sym read.name) (word_of_image shown e.serial (4 + 4 * e.function) f.name.0 m is (name_place m e.function h) (omega arith) head.name);
       arity_readable = at.readable;
-      arity_value = ap (λ n. n / 2) at.value ∙ (halved f.arity f.exported ∙ arity);
-      module_few = subst (λ a. a.0 < 4096) own sound.named;
-      name_few = subst (λ a. a.0 < 4096) name is.named;
-      arity_few = subst (λ n. n ≤ 15) arity is.arity;
+      arity_value = ap (λ n. n / 2) at.value ∙ (halved f.arity f.exported ∙ sym read.arity);
+      module_few = subst (λ a. a.0 < 4096) (sym is.name) is.sound.named;
+      name_few = subst (λ a. a.0 < 4096) (sym read.name) sound.named;
+      arity_few = subst (λ n. n ≤ 15) (sym read.arity) sound.arity;
     }
 
-named_in : (shown : Shown) (e : Entry) (o : Option Module) → IsLawful shown → code_of shown.state e.serial ≡ o → IsSomeAnd o (λ m. e.function < length m.functions) → IsNamed shown e
-named_in shown e None lawful c h = absurd h
-named_in shown e (Some m) lawful c h =
-    let none : Function = record { name = m.name; arity = 0; exported = false; code = [] } in
-    named_from shown e m (get_or m.functions e.function none) lawful (rw c at (lawful.sound.modules e.serial)).0 c (slice_get-get_or m.functions e.function none h) h
-
 -- a lawful view shows the name of each function of its instances
-pub named_at : (shown : Shown) (e : Entry) → IsLawful shown → HasFunction shown.state e → IsNamed shown e
-named_at shown e lawful h = named_in shown e (code_of shown.state e.serial) lawful refl h
+pub named_at : (shown : Shown) (e : Entry) → IsLawful shown → HasFunction shown.reads e → IsNamed shown e
+named_at shown e lawful h =
+    let l = lawful.instances e.serial (omega (arith, h)) in
+    let none : Function = record { name = l.m.name; arity = 0; exported = false; code = [] } in
+    let within : e.function < length l.m.functions = omega (arith, h, l.is.count) in
+    named_from shown e l.m (get_or l.m.functions e.function none) l.is (slice_get-get_or l.m.functions e.function none within) within

@@ -1,33 +1,33 @@
 -- That a call does what the turn says: whom it reaches, and what it leaves.
-use Rattle.std.proofs.Common.{◌≡◌, ◌<◌, ◌+◌, ◌∙◌, ℕ, Bool, true, false, refl, sym, ap, arith, List, [], ◌∷◌, ◌++◌, length, map, Option, Some, None, option_map, option_and_then, IsTrue, Result, Ok, Err, OnOk, is_err, ◌||◌, ◌==◌, subst, inl, inr}
+use Rattle.std.proofs.Common.{◌≡◌, ◌+◌, ◌∙◌, ℕ, Bool, true, false, refl, sym, ap, arith, List, [], ◌∷◌, ◌++◌, length, map, Option, Some, None, option_map, IsTrue, Result, Ok, Err, OnOk, is_err, ◌||◌, ◌==◌, subst, inl, inr}
 use Rattle.std.proofs.lemmas.Bool.Decides.{nat_tests}
 use Rattle.std.proofs.Common.{All, drop, get_or, replicate, take}
 use Rattle.std.proofs.lemmas.List.{drop-map, length-map, length-reverse, map-append, take-map}
 use Rattle.std.proofs.lemmas.List.Elements.{All-append, All-cons, All-drop, All-map, All-nil, All-replicate, All-take}
 use Rattle.std.proofs.lemmas.Option.{option_and_then_some}
-use Rattle.std.proofs.lemmas.List.Quantifiers.{position-Some}
 use Rattle.term_core.specs.declared.atom.Mfa.{Mfa}
 use Rattle.term_core.specs.declared.hold.Full.{Full}
 use Rattle.term_core.specs.declared.hold.Kind.TheVariants.{Frame, Literal as for_literals}
 use Rattle.term_core.specs.Plain.{term_of}
 use Rattle.term_core.specs.PlainTerm.{PlainTerm}
-use Rattle.mod_core.specs.declared.code.Module.{Module}
-use Rattle.server_core.specs.ServerState.{ServerState, Entry, code_of, current_of, dispatch_of, export_of, is_export}
+use Rattle.server_core.specs.ServerState.{Entry}
 use Rattle.machine_core.specs.declared.process.Line.{Line}
 use Rattle.machine_core.specs.declared.process.End.TheVariants.{SystemLimit}
 use Rattle.machine_core.specs.declared.process.Value.{Value}
 use Rattle.machine_core.specs.declared.process.Value.TheVariants.{Owned, Literal}
-use Rattle.machine_core.specs.Holds.{Holds, MayHold, is_among, is_held, with_hold}
-use Rattle.machine_core.specs.View.{AreValues, HasFunction, HasValues, IsValue, Shown}
+use Rattle.machine_core.specs.Holds.{Holds, is_among, is_held, with_hold}
+use Rattle.machine_core.specs.View.{AreValues, HasValues, IsLawful, IsValue, Shown}
 use Rattle.machine_core.specs.declared.process.Frame.{Frame as CodeFrame}
 use Rattle.machine_core.specs.Process.{PlainFrame, PlainValue, Words, arguments_at, arguments_of, entered_values, first_registers, frame_of, frames_of, no_held, owned, owned_terms, owned_values, value_shown, values_shown}
 use Rattle.machine_core.specs.Turn.{called, called_by_name, called_out, entered, stacked, trace_of}
 use Rattle.machine_core.specs.Stand.{IsUsable, over, runs, stand_after}
 use Rattle.machine_core.proofs.CodeNames.{frames_of-push}
 use Rattle.machine_core.proofs.SerialLists.{among-with}
+use Rattle.machine_core.specs.Reach.{MayHold}
+use Rattle.machine_core.specs.Reads.{HasFunction, IsCurrent, Reads, dispatched}
 
 -- what was just held may be read
-pub held_now : (s : ServerState) (before now : Holds) (serial : ℕ) → now ≡ with_hold before serial Frame → MayHold s now serial Frame
+pub held_now : (s : Reads) (before now : Holds) (serial : ℕ) → now ≡ with_hold before serial Frame → MayHold s now serial Frame
 held_now s before now serial e = inl (subst (λ h. IsTrue (is_held h serial Frame)) (sym e) (among-with before.frames serial serial ∙ first serial (is_among before.frames serial)))
   where
     first : (n : ℕ) (b : Bool) → (n == n || b) ≡ true
@@ -39,40 +39,33 @@ ok_of (Ok done) P h e = h
 ok_of (Err full) P h e = absurd (cc)
 
 -- a call that enters its function, with the line that it makes
-pub called_enters : (s : ServerState) (frames : List PlainFrame) (held now : Holds) (e : Entry) (to : Mfa) (back : ℕ) (args : List PlainValue) (f : PlainFrame) (made lines : List Line) →
+pub called_enters : (s : Reads) (frames : List PlainFrame) (held now : Holds) (e : Entry) (to : Mfa) (back : ℕ) (args : List PlainValue) (f : PlainFrame) (made lines : List Line) →
     Some f ≡ entered s (length frames) held e back (first_registers args) → now ≡ with_hold held e.serial Frame → lines ≡ made ++ trace_of s e to args →
     stand_after held made (called s frames held e to back args) ≡ runs (f ∷ frames) now lines
 called_enters s frames held now e to back args f made lines enters holds traced = rw (← enters) (cc (holds, traced))
 
-exported : (m : Module) (to : Mfa) (i : ℕ) → export_of m to ≡ Some i → i < length m.functions
-exported m to i e = (position-Some (is_export to) m.functions i (record { name = to.name; arity = 0; exported = false; code = [] }) e).0
+module _ (s : Reads) where
+  -- what a name reaches: a function that a current instance exports
+  pub record IsReached (to : Mfa) (e : Entry) : Type 0 where
+    pub current : IsCurrent s e.serial
+    pub exported : s.export e.serial to ≡ Some e.function
 
-module _ (s : ServerState) where
-  has_function : (serial i : ℕ) (m : Module) → code_of s serial ≡ Some m → i < length m.functions → HasFunction s (record { serial = serial; function = i })
-  has_function serial i m e h = rw e h
+  function_exported : (serial : ℕ) (to : Mfa) (e : Entry) (o : Option ℕ) → s.current to.«module».0 ≡ Some serial → s.export serial to ≡ o →
+      option_map (λ i. record { serial = serial; function = i }) o ≡ Some e → IsReached to e
+  function_exported serial to e None current x h = absurd (cc)
+  function_exported serial to e (Some i) current x h =
+      let k : record { serial = serial; function = i } ≡ e = cc in
+      subst (IsReached to) k (record { current = (to.«module».0, current); exported = x })
 
-  -- what a name reaches: a function of a current instance
-  pub record IsReached (e : Entry) : Type 0 where
-    pub known : HasFunction s e
-    pub may_hold : (held : Holds) → MayHold s held e.serial Frame
-
-  reached_at : (to : Mfa) (serial i : ℕ) (m : Module) (e : Entry) → current_of s to.«module».0 ≡ Some serial → code_of s serial ≡ Some m → i < length m.functions →
-      record { serial = serial; function = i } ≡ e → IsReached e
-  reached_at to serial i m e current c h k =
-      subst IsReached k (record { known = has_function serial i m c h; may_hold = λ held. inr (to.«module».0, current) })
-
-  function_exported : (serial : ℕ) (m : Module) (to : Mfa) (e : Entry) (o : Option ℕ) → current_of s to.«module».0 ≡ Some serial → code_of s serial ≡ Some m → export_of m to ≡ o →
-      option_map (λ i. record { serial = serial; function = i }) o ≡ Some e → IsReached e
-  function_exported serial m to e None current c x h = absurd (cc)
-  function_exported serial m to e (Some i) current c x h =
-      let k : record { serial = serial; function = i } ≡ e = cc in reached_at to serial i m e current c (exported m to i x) k
-
-  -- so is what dispatch answers
-  pub dispatch_reaches : (to : Mfa) (e : Entry) → dispatch_of s to ≡ Some e → IsReached e
+  -- so is what a call reaches
+  pub dispatch_reaches : (to : Mfa) (e : Entry) → dispatched s to ≡ Some e → IsReached to e
   dispatch_reaches to e h =
-      option_and_then_some (λ serial. option_and_then (λ m. option_map (λ i. record { serial = serial; function = i }) (export_of m to)) (code_of s serial)) (current_of s to.«module».0) e h
-      (λ serial current k. option_and_then_some (λ m. option_map (λ i. record { serial = serial; function = i }) (export_of m to)) (code_of s serial) e k
-      (λ m code l. function_exported serial m to e (export_of m to) current code refl l))
+      option_and_then_some (λ serial. option_map (λ i. record { serial = serial; function = i }) (s.export serial to)) (s.current to.«module».0) e h
+      (λ serial current k. function_exported serial to e (s.export serial to) current refl k)
+
+-- under a lawful view it is a function of its instance
+pub reached_known : (shown : Shown) (to : Mfa) (e : Entry) → IsLawful shown → dispatched shown.reads to ≡ Some e → HasFunction shown.reads e
+reached_known shown to e lawful h = lawful.exports e.serial to e.function (dispatch_reaches shown.reads to e h).exported
 
 module _ (words : Words) where
   -- as many frames as the code's frames
@@ -93,7 +86,7 @@ module _ (words : Words) where
   owned_shown (t ∷ ts) = ap (λ vs. owned (term_of t) ∷ vs) (owned_shown ts)
 
   -- a call whose caller was put on the frames below it
-  pub call_gives : (s : ServerState) (caller f : PlainFrame) (below pushed : List CodeFrame) (left : CodeFrame) (held now : Holds) (e : Entry) (to : Mfa) (back standing : ℕ) (args registers : List PlainValue) (made lines : List Line) →
+  pub call_gives : (s : Reads) (caller f : PlainFrame) (below pushed : List CodeFrame) (left : CodeFrame) (held now : Holds) (e : Entry) (to : Mfa) (back standing : ℕ) (args registers : List PlainValue) (made lines : List Line) →
       frame_of words left ≡ caller → pushed ≡ below ++ left ∷ [] → standing ≡ length below + 1 → registers ≡ first_registers args →
       Some f ≡ entered s standing held e back registers → now ≡ with_hold held e.serial Frame → lines ≡ made ++ trace_of s e to args →
       stand_after held made (called s (caller ∷ frames_of words below) held e to back args) ≡ runs (f ∷ frames_of words pushed) now lines
@@ -104,7 +97,7 @@ module _ (words : Words) where
       ∙ ap (λ fs. runs (f ∷ fs) now lines) (sym (ap (frames_of words) p ∙ frames_of-push words below left ∙ ap (λ g. g ∷ frames_of words below) c))
 
   -- a call past a limit
-  pub call_refused : (s : ServerState) (caller : PlainFrame) (below : List CodeFrame) (held now : Holds) (e : Entry) (to : Mfa) (back standing : ℕ) (args registers : List PlainValue) (made : List Line) →
+  pub call_refused : (s : Reads) (caller : PlainFrame) (below : List CodeFrame) (held now : Holds) (e : Entry) (to : Mfa) (back standing : ℕ) (args registers : List PlainValue) (made : List Line) →
       standing ≡ length below + 1 → registers ≡ first_registers args → None ≡ entered s standing held e back registers → now ≡ held →
       stand_after held made (called s (caller ∷ frames_of words below) held e to back args) ≡ over SystemLimit now made
   call_refused s caller below held now e to back standing args registers made n r enters h =
@@ -116,21 +109,21 @@ module _ (words : Words) where
 -- ---- the target of a process
 
 -- it cannot be entered
-pub target_refused : (shown seen : Shown) (held still now : Holds) (e : Entry) (to : Mfa) (args registers : List PlainValue) (made : List Line) → seen ≡ shown → still ≡ held → Some e ≡ dispatch_of shown.state to → registers ≡ first_registers args →
-    None ≡ entered seen.state 0 still e 0 registers → now ≡ still → stand_after held made (called_out shown.state [] held to 0 args) ≡ over SystemLimit now made
+pub target_refused : (shown seen : Shown) (held still now : Holds) (e : Entry) (to : Mfa) (args registers : List PlainValue) (made : List Line) → seen ≡ shown → still ≡ held → Some e ≡ dispatched shown.reads to → registers ≡ first_registers args →
+    None ≡ entered seen.reads 0 still e 0 registers → now ≡ still → stand_after held made (called_out shown.reads [] held to 0 args) ≡ over SystemLimit now made
 target_refused shown seen held still now e to args registers made s h d r enters n =
-    let at : None ≡ entered shown.state 0 held e 0 (first_registers args) = enters ∙ ap (λ (v : Shown). entered v.state 0 still e 0 registers) s ∙ ap (λ k. entered shown.state 0 k e 0 registers) h ∙ ap (entered shown.state 0 held e 0) r in
-    ap (λ o. stand_after held made (called_by_name shown.state [] held to 0 args o)) (sym d)
-    ∙ ap (λ o. stand_after held made (stacked [] held e.serial (trace_of shown.state e to args) o)) (sym at) ∙ ap (λ x. over SystemLimit x made) (sym (n ∙ h))
+    let at : None ≡ entered shown.reads 0 held e 0 (first_registers args) = enters ∙ ap (λ (v : Shown). entered v.reads 0 still e 0 registers) s ∙ ap (λ k. entered shown.reads 0 k e 0 registers) h ∙ ap (entered shown.reads 0 held e 0) r in
+    ap (λ o. stand_after held made (called_by_name shown.reads [] held to 0 args o)) (sym d)
+    ∙ ap (λ o. stand_after held made (stacked [] held e.serial (trace_of shown.reads e to args) o)) (sym at) ∙ ap (λ x. over SystemLimit x made) (sym (n ∙ h))
 
 -- it is entered
-pub target_enters : (shown seen : Shown) (held still now : Holds) (e : Entry) (to : Mfa) (args registers : List PlainValue) (f : PlainFrame) (made lines : List Line) → seen ≡ shown → still ≡ held → Some e ≡ dispatch_of shown.state to →
-    registers ≡ first_registers args → Some f ≡ entered seen.state 0 still e 0 registers → now ≡ with_hold still e.serial Frame → lines ≡ made ++ trace_of shown.state e to args →
-    stand_after held made (called_out shown.state [] held to 0 args) ≡ runs (f ∷ []) now lines
+pub target_enters : (shown seen : Shown) (held still now : Holds) (e : Entry) (to : Mfa) (args registers : List PlainValue) (f : PlainFrame) (made lines : List Line) → seen ≡ shown → still ≡ held → Some e ≡ dispatched shown.reads to →
+    registers ≡ first_registers args → Some f ≡ entered seen.reads 0 still e 0 registers → now ≡ with_hold still e.serial Frame → lines ≡ made ++ trace_of shown.reads e to args →
+    stand_after held made (called_out shown.reads [] held to 0 args) ≡ runs (f ∷ []) now lines
 target_enters shown seen held still now e to args registers f made lines s h d r enters n traced =
-    let at : Some f ≡ entered shown.state 0 held e 0 (first_registers args) = enters ∙ ap (λ (v : Shown). entered v.state 0 still e 0 registers) s ∙ ap (λ k. entered shown.state 0 k e 0 registers) h ∙ ap (entered shown.state 0 held e 0) r in
-    ap (λ o. stand_after held made (called_by_name shown.state [] held to 0 args o)) (sym d)
-    ∙ called_enters shown.state [] held now e to 0 args f made lines at (n ∙ ap (λ k. with_hold k e.serial Frame) h) traced
+    let at : Some f ≡ entered shown.reads 0 held e 0 (first_registers args) = enters ∙ ap (λ (v : Shown). entered v.reads 0 still e 0 registers) s ∙ ap (λ k. entered shown.reads 0 k e 0 registers) h ∙ ap (entered shown.reads 0 held e 0) r in
+    ap (λ o. stand_after held made (called_by_name shown.reads [] held to 0 args o)) (sym d)
+    ∙ called_enters shown.reads [] held now e to 0 args f made lines at (n ∙ ap (λ k. with_hold k e.serial Frame) h) traced
 
 -- ---- values
 
@@ -139,7 +132,7 @@ usable_more : (shown : Shown) (held : Holds) (serial : ℕ) (value : Value) → 
 usable_more shown held serial (Owned term) h = tt
 usable_more shown held serial (Literal at) h = (h.0, may h.1)
   where
-    may : MayHold shown.state held at.area.serial for_literals → MayHold shown.state (with_hold held serial Frame) at.area.serial for_literals
+    may : MayHold shown.reads held at.area.serial for_literals → MayHold shown.reads (with_hold held serial Frame) at.area.serial for_literals
     may (inl here) = inl here
     may (inr (inl key)) = inr (inl key)
     may (inr (inr frame)) = inr (inr (among-with held.frames serial at.area.serial ∙ or_true (serial == at.area.serial) (is_among held.frames at.area.serial) frame))
@@ -151,11 +144,6 @@ usable_more shown held serial (Literal at) h = (h.0, may h.1)
 pub all_usable : (shown : Shown) (held now : Holds) (serial : ℕ) (values : List Value) → now ≡ with_hold held serial Frame → All (IsUsable shown held) values → All (IsUsable shown now) values
 all_usable shown held now serial values e h =
     subst (λ (k : Holds). All (IsUsable shown k) values) (sym e) (λ k d l. usable_more shown held serial (get_or values k d) (h k d l))
-
--- what may be used is a value
-value_of_usable : (shown : Shown) (held : Holds) (value : Value) → IsUsable shown held value → IsValue shown value
-value_of_usable shown held (Owned term) h = tt
-value_of_usable shown held (Literal at) h = h.0
 
 -- the arguments among values
 pub all_arguments : (P : Value → Type 0) (registers : List Value) (at count : ℕ) → All P registers → All P (arguments_of registers at count)

@@ -1,5 +1,5 @@
 -- That what the code's frames name is what the frames name that they stand for.
-use Rattle.std.proofs.Common.{◌≡◌, ◌∙◌, ℕ, refl, sym, ap, Bool, true, false, ◌||◌, ◌==◌, List, [], ◌∷◌, ◌++◌, map, reverse}
+use Rattle.std.proofs.Common.{◌≡◌, ◌∙◌, ℕ, refl, sym, ap, Bool, true, false, ◌||◌, ◌==◌, List, [], ◌∷◌, ◌++◌, map}
 use Rattle.std.proofs.lemmas.List.{append-nil, map-append, reverse-append}
 use Rattle.std.proofs.lemmas.List.Folds.{list_any-append}
 use Rattle.std.proofs.lemmas.Grind.{flat_map-append}
@@ -9,8 +9,8 @@ use Rattle.machine_core.specs.declared.areas.HeldAreas.{HeldAreas}
 use Rattle.machine_core.specs.declared.process.Process.{Process}
 use Rattle.machine_core.specs.declared.process.Value.{Value}
 use Rattle.machine_core.specs.declared.process.Value.TheVariants.{Owned, Literal}
-use Rattle.machine_core.specs.Holds.{is_among, serials_of}
-use Rattle.machine_core.specs.Process.{Words, area_holds, code_names, frame_names, frame_of, frames_of, literal_serials, names_of, process_of, register_serials, value_area, value_areas, values_shown}
+use Rattle.machine_core.specs.Holds.{is_among}
+use Rattle.machine_core.specs.Process.{Words, area_holds, code_names, frame_names, frame_of, frames_of, literal_serials, names_of, process_of, register_serials, value_areas, values_shown}
 use Rattle.machine_core.proofs.AreaLists.{same_holds}
 use Rattle.machine_core.proofs.SerialLists.{serials_of-same}
 

@@ -1,13 +1,13 @@
 -- Which instruction stands at a place of code: the one with the number that has this place.
-use Rattle.std.proofs.Common.{◌≡◌, ◌≤◌, ◌+◌, ◌∙◌, ℕ, zero, suc, refl, arith, ap, List, [], ◌∷◌, length-append, take, slice_get, option_map, unwrap_or, Some, None, Option}
+use Rattle.std.proofs.Common.{◌≡◌, ◌≤◌, ◌+◌, ◌∙◌, ℕ, zero, suc, refl, arith, ap, List, [], ◌∷◌, slice_get, option_map, unwrap_or, Some, None, Option}
 use Rattle.std.proofs.lemmas.Bool.Decides.{nat_tests}
 use Rattle.std.proofs.lemmas.Option.{slice_get-map}
 use Rattle.mod_core.specs.declared.code.Instr.{Instr}
 use Rattle.mod_core.specs.declared.code.Module.{Module}
 use Rattle.mod_core.specs.ModuleImage.{function_place, instr_len, place_in, placed, placed_code, return_ok}
 use Rattle.mod_core.proofs.Places.{numbered}
-use Rattle.machine_core.specs.Turn.{code_at, instr_from, module_instr}
 use Rattle.machine_core.proofs.Decoding.{len_least}
+use Rattle.machine_core.specs.ServerReads.{code_at, instr_from, module_instr}
 
 -- the place of what stands behind the first instruction
 pub place_in-cons : (start number : ℕ) (i : Instr) (is : List Instr) → place_in start (i ∷ is) (suc number) ≡ place_in (start + instr_len i) is number

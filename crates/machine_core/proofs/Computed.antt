@@ -1,5 +1,5 @@
 -- What instructions that compute of two terms come to.
-use Rattle.std.proofs.Common.{◌≡◌, ◌∙◌, ◌+◌, ℕ, refl, sym, ap, subst, Bool, List, [], ◌∷◌, ◌++◌, slice_set, Result, Ok, Err}
+use Rattle.std.proofs.Common.{◌≡◌, ◌∙◌, ◌+◌, ℕ, ap, subst, List, [], ◌∷◌, ◌++◌, slice_set, Result, Ok}
 use Rattle.std.proofs.lemmas.List.{append-nil}
 use Rattle.term_core.specs.declared.term.Term.{Term}
 use Rattle.mod_core.specs.declared.code.Instr.{Instr}
@@ -10,7 +10,7 @@ use Rattle.machine_core.specs.declared.process.Frame.{Frame}
 use Rattle.machine_core.specs.declared.process.Line.{Line}
 use Rattle.machine_core.specs.Decode.{operand_shown}
 use Rattle.machine_core.specs.Holds.{Holds}
-use Rattle.machine_core.specs.Process.{PlainFrame, Words, frame_of, owned, values_shown}
+use Rattle.machine_core.specs.Process.{PlainFrame, frame_of, owned}
 use Rattle.machine_core.specs.Stand.{runs, stand_after}
 use Rattle.machine_core.specs.Turn.{computed, operand_term}
 use Rattle.machine_core.specs.View.{Shown}

@@ -1,14 +1,12 @@
 -- What is known of the values of frames, one by one and with the topmost frame apart, and that nothing is copied where nothing is retired.
-use Rattle.std.proofs.Common.{◌≡◌, ◌<◌, ◌+◌, ◌∙◌, ◌||◌, ◌==◌, ℕ, zero, suc, refl, sym, ap, arith, subst, Bool, true, false, IsTrue, All, List, [], ◌∷◌, ◌++◌, length, map, take, get_or, if◌then◌else◌}
+use Rattle.std.proofs.Common.{◌≡◌, ◌<◌, ◌∙◌, ◌||◌, ◌==◌, ℕ, zero, suc, refl, sym, ap, arith, subst, Bool, true, false, IsTrue, All, List, [], ◌∷◌, ◌++◌, length, map, get_or, if◌then◌else◌}
 use Rattle.std.proofs.lemmas.Bool.Decides.{nat_tests}
 use Rattle.std.proofs.Common.{length-append}
 use Rattle.std.proofs.Math.ListN.{get_or-append}
 use Rattle.std.proofs.lemmas.List.Elements.{All-head, All-map, All-tail}
 use Rattle.std.specs.List.{list_any}
 use Rattle.term_core.specs.declared.area.AreaRef.{AreaRef}
-use Rattle.term_core.specs.declared.term.Term.{Term}
 use Rattle.term_core.specs.declared.hold.Kind.TheVariants.{Literal as for_literals}
-use Rattle.server_core.specs.ServerState.{ServerState, is_retired}
 use Rattle.machine_core.specs.declared.areas.HeldAreas.{HeldAreas}
 use Rattle.machine_core.specs.declared.process.Frame.{Frame}
 use Rattle.machine_core.specs.declared.process.Value.{Value}
@@ -16,12 +14,13 @@ use Rattle.machine_core.specs.HoldKinds.{holding}
 use Rattle.machine_core.specs.Holds.{Holds, is_among, is_area_held, serials_of}
 use Rattle.machine_core.specs.Process.{PlainFrame, PlainValue, Words, area_holds, area_serials, code_names, frame_names, frame_of, frames_of, literal, owned, value_shown, values_shown}
 use Rattle.machine_core.specs.Stand.{AreHeld, IsValueHeld}
-use Rattle.machine_core.specs.Turn.{copied, copied_frame, copied_value}
-use Rattle.machine_core.specs.View.{AreValues, HasValues, IsValue, Shown}
+use Rattle.machine_core.specs.Turn.{copied, copied_value}
+use Rattle.machine_core.specs.View.{AreValues, HasValues, Shown}
 use Rattle.machine_core.proofs.AreaLists.{same_holds}
 use Rattle.machine_core.proofs.CodeNames.{code_names-shown, frames_of-push}
-use Rattle.machine_core.proofs.NamedAreas.{instance_serials, literals_held, names_held}
+use Rattle.machine_core.proofs.NamedAreas.{literals_held, names_held}
 use Rattle.machine_core.proofs.SerialLists.{among-serials_of}
+use Rattle.machine_core.specs.Reads.{Reads}
 
 -- ---- one of the areas that are held for literals
 
@@ -71,18 +70,18 @@ module _ (shown now : Shown) (frames rest : List Frame) (f : Frame) (same : now 
 
 -- ---- what is copied
 
-module _ (s : ServerState) where
-  none_retired : (areas : List AreaRef) (n : ℕ) → list_any (λ a. is_retired s a.serial) areas ≡ false → is_among (area_serials areas) n ≡ true → is_retired s n ≡ false
+module _ (s : Reads) where
+  none_retired : (areas : List AreaRef) (n : ℕ) → list_any (λ a. s.retired a.serial) areas ≡ false → is_among (area_serials areas) n ≡ true → s.retired n ≡ false
   none_retired [] n none h = absurd (cc)
-  none_retired (a ∷ areas) n none h = none_first (a.serial == n) refl (is_retired s a.serial) refl none h (none_retired areas n)
+  none_retired (a ∷ areas) n none h = none_first (a.serial == n) refl (s.retired a.serial) refl none h (none_retired areas n)
     where
-      none_first : (b : Bool) → (a.serial == n) ≡ b → (c : Bool) → is_retired s a.serial ≡ c → (c || list_any (λ a. is_retired s a.serial) areas) ≡ false → (b || is_among (area_serials areas) n) ≡ true →
-          (list_any (λ a. is_retired s a.serial) areas ≡ false → is_among (area_serials areas) n ≡ true → is_retired s n ≡ false) → is_retired s n ≡ false
+      none_first : (b : Bool) → (a.serial == n) ≡ b → (c : Bool) → s.retired a.serial ≡ c → (c || list_any (λ a. s.retired a.serial) areas) ≡ false → (b || is_among (area_serials areas) n) ≡ true →
+          (list_any (λ a. s.retired a.serial) areas ≡ false → is_among (area_serials areas) n ≡ true → s.retired n ≡ false) → s.retired n ≡ false
       none_first b e true r none h later = absurd (cc)
-      none_first true e false r none h later = let same : a.serial ≡ n = grind (arith, nat_tests) in subst (λ m. is_retired s m ≡ false) same r
+      none_first true e false r none h later = let same : a.serial ≡ n = grind (arith, nat_tests) in subst (λ m. s.retired m ≡ false) same r
       none_first false e false r none h later = later none h
 
-  module _ (held : Holds) (kept : (n : ℕ) → is_among held.literals n ≡ true → is_retired s n ≡ false) where
+  module _ (held : Holds) (kept : (n : ℕ) → is_among held.literals n ≡ true → s.retired n ≡ false) where
     value_same : (value : PlainValue) → IsValueHeld held value → copied_value s value ≡ value
     value_same (owned term) h = refl
     value_same (literal serial term) h = ap (λ b. if b then owned term else literal serial term) (kept serial h)
@@ -98,14 +97,14 @@ module _ (s : ServerState) where
 
   -- where no area that is held for literals is retired, nothing is copied
   pub nothing_copied : (held : Holds) (frames : List PlainFrame) (areas : HeldAreas) (listed : List AreaRef) → held ≡ frame_names frames → held ≡ area_holds areas → listed ≡ areas.literals →
-      list_any (λ a. is_retired s a.serial) listed ≡ false → copied s frames ≡ frames
+      list_any (λ a. s.retired a.serial) listed ≡ false → copied s frames ≡ frames
   nothing_copied held frames areas listed names tracked is none =
       frames_same held (λ n h. none_retired listed n none (ap (λ xs. is_among (area_serials xs) n) is ∙ sym (among-serials_of (area_serials areas.literals) n) ∙ ap (λ (x : Holds). is_among x.literals n) (sym tracked) ∙ h)) frames
       (subst (λ (x : Holds). AreHeld x frames) (sym names) (names_held frames))
 
   value_held : (held : Holds) (value : PlainValue) → IsValueHeld held value → IsValueHeld held (copied_value s value)
   value_held held (owned term) h = tt
-  value_held held (literal serial term) h = elim (is_retired s serial) as (λ b. IsValueHeld held (if b then owned term else literal serial term)) [ true ↦ tt | false ↦ h ]
+  value_held held (literal serial term) h = elim (s.retired serial) as (λ b. IsValueHeld held (if b then owned term else literal serial term)) [ true ↦ tt | false ↦ h ]
 
   copied_held : (held : Holds) (frames : List PlainFrame) → AreHeld held frames → AreHeld held (copied s frames)
   copied_held held [] h = tt

@@ -1,5 +1,5 @@
 -- That what an instruction is written as reads back as it, where its constants stand at their places.
-use Rattle.std.proofs.Common.{◌≡◌, ◌<◌, ◌≤◌, ◌%◌, ◌/◌, ◌+◌, ◌*◌, ◌∙◌, ◌==◌, ℕ, Bool, true, false, refl, sym, arith, ap, subst, cond, List, [], ◌∷◌, ◌++◌, slice_index}
+use Rattle.std.proofs.Common.{◌≡◌, ◌<◌, ◌≤◌, ◌%◌, ◌/◌, ◌+◌, ◌*◌, ◌∙◌, ℕ, true, false, refl, sym, arith, ap, subst, List, [], ◌∷◌, ◌++◌, slice_index}
 use Rattle.std.proofs.lemmas.Bool.Decides.{nat_tests}
 use Rattle.term_core.specs.declared.area.AreaRef.{AreaRef}
 use Rattle.term_core.specs.declared.atom.AtomId.{AtomId}
@@ -15,13 +15,13 @@ use Rattle.mod_core.specs.declared.code.Operand.{Operand}
 use Rattle.mod_core.specs.declared.code.Operand.TheVariants.{Reg, Const}
 use Rattle.mod_core.specs.declared.code.Instr.{Instr}
 use Rattle.mod_core.specs.declared.code.Instr.TheVariants.{Move, Add, Sub, Eq, Less, Jump, Call, CallExt, Ret, Pget, PgetOr, Elem, Print, Yield}
-use Rattle.mod_core.specs.Module.{IsConstant, IsFunctionName, IsOperand}
+use Rattle.mod_core.specs.Module.{IsFunctionName, IsOperand}
 use Rattle.mod_core.specs.ModuleImage.{constants_len, instr_constants, name_word, operand_constants, operand_word, register_word, instr_words, instr_len}
 use Rattle.machine_core.specs.declared.op.Source.{Source}
 use Rattle.machine_core.specs.declared.op.Source.TheVariants as sources
 use Rattle.machine_core.specs.declared.op.Op.{Op}
 use Rattle.machine_core.specs.Decode.{atom_of_word, instr_shown, len_of_number, name_of_word, number_of_word, op_of_words, operand_shown, register_of_word, source_of_word}
-use Rattle.machine_core.specs.Stand.{HasSources, IsConstantAt, IsSource}
+use Rattle.machine_core.specs.Stand.{HasSources, IsSource}
 use Rattle.machine_core.specs.View.{IsLiteral, Shown}
 use Rattle.machine_core.proofs.OwnedTerms.{term_of-plain}
 
@@ -185,33 +185,9 @@ module _ (shown : Shown) (area : AreaRef) (place : ℕ) where
 -- an instruction's number tells how many words it has
 pub len_back : (place : ℕ) (i : Instr) → len_of_number (slice_index (instr_words place i) 0) ≡ instr_len i
 len_back place (Move from to) = refl
-len_back place (Add a b to) = refl
-len_back place (Sub a b to) = refl
-len_back place (Eq a b target) = refl
-len_back place (Less a b target) = refl
-len_back place (Jump target) = refl
-len_back place (Call function at) = refl
-len_back place (CallExt to at) = refl
-len_back place (Ret value) = refl
-len_back place (Pget key to) = refl
-len_back place (PgetOr key other to) = refl
-len_back place (Elem index from to) = refl
-len_back place (Print value) = refl
-len_back place Yield = refl
+len_back place i = refl
 
 -- an instruction has a number
 pub len_least : (i : Instr) → 1 ≤ instr_len i
 len_least (Move from to) = omega arith
-len_least (Add a b to) = omega arith
-len_least (Sub a b to) = omega arith
-len_least (Eq a b target) = omega arith
-len_least (Less a b target) = omega arith
-len_least (Jump target) = omega arith
-len_least (Call function at) = omega arith
-len_least (CallExt to at) = omega arith
-len_least (Ret value) = omega arith
-len_least (Pget key to) = omega arith
-len_least (PgetOr key other to) = omega arith
-len_least (Elem index from to) = omega arith
-len_least (Print value) = omega arith
-len_least Yield = omega arith
+len_least i = omega arith

@@ -1,15 +1,12 @@
 -- The topmost frame that stands in doomed code, as frames are gone through from the lowest up.
-use Rattle.std.proofs.Common.{◌≡◌, ◌<◌, ◌+◌, ◌∙◌, ◌||◌, ◌==◌, ℕ, zero, suc, refl, sym, ap, arith, Bool, true, false, IsTrue, List, [], ◌∷◌, ◌++◌, length, take, get_or, Some, if◌then◌else◌}
+use Rattle.std.proofs.Common.{◌≡◌, ◌<◌, ◌∙◌, ◌||◌, ◌==◌, ℕ, zero, suc, refl, ap, arith, Bool, true, false, IsTrue, List, [], ◌∷◌, length, get_or}
 use Rattle.std.proofs.lemmas.Bool.Decides.{nat_tests}
-use Rattle.std.proofs.lemmas.List.{take_more}
 use Rattle.std.specs.List.{list_any}
-use Rattle.server_core.specs.ServerState.{ServerState, is_doomed}
 use Rattle.machine_core.specs.declared.process.Frame.{Frame}
 use Rattle.machine_core.specs.Holds.{Holds, is_area_held, is_among}
-use Rattle.machine_core.specs.Process.{Words, frame_names, frames_of}
+use Rattle.machine_core.specs.Process.{Words, frames_of}
 use Rattle.machine_core.specs.Stand.{AreHeld}
-use Rattle.machine_core.specs.Turn.{doomed_serial}
-use Rattle.machine_core.proofs.CodeNames.{among-frames, frames_of-push}
+use Rattle.machine_core.proofs.CodeNames.{among-frames}
 use Rattle.machine_core.proofs.NamedAreas.{frames_held, instance_serials}
 use Rattle.machine_core.proofs.SerialLists.{among-serials_of}
 
@@ -36,9 +33,3 @@ module _ (words : Words) where
       let any : list_any (λ g. g.code.area.serial == f.code.area.serial) fs ≡ true = ap (λ (e : Frame). list_any (λ g. g.code.area.serial == e.code.area.serial) fs) is ∙ any_at fs n f below in
       or_first (is_among held.frames f.code.area.serial) (is_among held.literals f.code.area.serial)
       (frames_held held (frames_of words fs) f.code.area.serial h (among-serials_of (instance_serials (frames_of words fs)) f.code.area.serial ∙ among-frames words fs f.code.area.serial ∙ any))
-
-  -- with one more frame, it is that one where it stands in doomed code, else the one so far
-  pub doomed_next : (s : ServerState) (fs : List Frame) (n : ℕ) (f : Frame) → n < length fs → f ≡ get_or fs n f →
-      doomed_serial s (frames_of words (take (n + 1) fs)) ≡ (if is_doomed s f.code.area.serial then Some f.code.area.serial else doomed_serial s (frames_of words (take n fs)))
-  doomed_next s fs n f below is =
-      ap (λ xs. doomed_serial s (frames_of words xs)) (take_more fs n f below) ∙ ap (λ g. doomed_serial s (frames_of words (take n fs ++ g ∷ []))) (sym is) ∙ ap (doomed_serial s) (frames_of-push words (take n fs) f)

@@ -11,7 +11,6 @@ use Rattle.machine_core.specs.declared.process.Frame.{Frame}
 use Rattle.machine_core.specs.HoldKinds.{held_for, holding}
 use Rattle.machine_core.specs.Holds.{Holds, is_among, is_held, serials_of, without_hold, without_serial}
 use Rattle.machine_core.specs.Process.{area_serials, code_names, value_area, value_areas}
-use Rattle.machine_core.proofs.AreaLists.{among-areas}
 use Rattle.machine_core.proofs.CodeNames.{among-flat_map}
 use Rattle.machine_core.proofs.SerialLists.{among-serials_of, among-without, increasing-serials_of, increasing-without, same_serials, serials_of-same}
 

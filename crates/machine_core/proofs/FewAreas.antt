@@ -2,17 +2,19 @@
 use Rattle.std.proofs.Common.{◌≡◌, ◌<◌, ◌≤◌, ◌+◌, ◌==◌, ◌||◌, ◌&&◌, ◌∙◌, ℕ, refl, sym, ap, arith, subst, not, Bool, cond, true, false, List, [], ◌∷◌, ◌++◌, filter, length, length-append, Some, None, if◌then◌else◌}
 use Rattle.std.proofs.lemmas.Bool.Decides.{nat_tests}
 use Rattle.term_core.specs.declared.hold.Kind.TheVariants.{Frame, Literal}
-use Rattle.server_core.specs.ServerState.{ServerState, Entry}
+use Rattle.server_core.specs.ServerState.{Entry, ServerState}
 use Rattle.machine_core.specs.Holds.{AllAbove, Holds, IsIncreasing, area_count, is_among, is_full, other_areas, with_hold, without_serial}
 use Rattle.machine_core.specs.Process.{PlainFrame, PlainProcess, PlainValue, first_registers, frame_names, literal, literal_serials, names_of, owned, owned_values}
 use Rattle.machine_core.specs.Stand.{AreHeld}
-use Rattle.machine_core.specs.Turn.{Ran, Step, begun, copied, ends, executed, goes_on, held_with, instr_at, step_of, turn_of, yields}
+use Rattle.machine_core.specs.Turn.{Ran, Step, begun, copied, ends, executed, goes_on, held_with, step_of, turn_by, turn_of, yields}
 use Rattle.machine_core.proofs.CopiedFrames.{IsKeptArea, copied_within}
 use Rattle.machine_core.proofs.HeldSteps.{KeepsHeld, begun_held, step_held}
 use Rattle.machine_core.proofs.NamedAreas.{IsFrameHeld, IsLiteralHeld, among_append, frames_held, held_within, instance_serials, literals_held, names_held, within_held, within_wider}
 use Rattle.machine_core.proofs.RunLaws.{IsKept, KeepsSo, ran_kept}
 use Rattle.machine_core.proofs.SerialLists.{among-filter, among-with, among-without, increasing-serials_of, increasing-with, length-taken}
 use Rattle.machine_core.proofs.StepCases.{Came, it_calls, it_calls_out, it_ends, it_moves, it_pauses, it_returns, it_stores, IsCalled, call_refused, call_stacks, IsCalledOut, out_reaches, out_refused, called_out_is, came}
+use Rattle.machine_core.specs.Reads.{Reads, instr_at}
+use Rattle.machine_core.specs.ServerReads.{reads_of}
 
 -- ---- how many serials there are
 
@@ -192,7 +194,7 @@ value_few held now (literal serial term) f e = value_case held now serial (is_fu
 
 -- ---- turns
 
-module _ (s : ServerState) where
+module _ (s : Reads) where
   StandsFew : List PlainFrame → Holds → Type 0
   StandsFew frames held = IsFew held × AreHeld held frames
 
@@ -220,7 +222,7 @@ module _ (s : ServerState) where
 
   called_out_few : (standing : List PlainFrame) (held : Holds) (back : ℕ) (registers : List PlainValue) (step : Step) → IsFew held → IsCalledOut s standing held back registers step → HoldsFew step
   called_out_few standing held back registers step f (out_refused end own) = tt
-  called_out_few standing held back registers step f (out_reaches e same current known called) = called_few standing held e back registers step f called
+  called_out_few standing held back registers step f (out_reaches e same current to known called) = called_few standing held e back registers step f called
 
   came_few : (f : PlainFrame) (below : List PlainFrame) (held : Holds) (step : Step) → IsFew held → Came s f below held step → HoldsFew step
   came_few f below held step few (it_ends end own) = tt
@@ -266,11 +268,15 @@ module _ (s : ServerState) where
       record { sets = names_sets (copied s frames); few = omega (arith, fewer, h) }
 
   -- a turn leaves a process that names at most 16 areas
-  pub turn_few : (p : PlainProcess) → area_count (names_of p) ≤ 16 → area_count (names_of (turn_of s p).process) ≤ 16
+  pub turn_few_by : (p : PlainProcess) → area_count (names_of p) ≤ 16 → area_count (names_of (turn_by s p).process) ≤ 16
   unfolding LeavesFew
-  turn_few p h =
+  turn_few_by p h =
       let held = frame_names (copied s p.frames) in
       let few = copied_few p.frames h in
       ran_kept s StandsFew (λ _. Unit {0}) LeavesFew p few_kept
       (both_few held (begun s p.target p.args held (copied s p.frames)) few (begun_few p held (copied s p.frames) few) (begun_held s p.target p.args held (copied s p.frames) (names_held (copied s p.frames))))
       (λ serial t d. omega arith) (omega arith)
+
+-- the same under a state of the server
+pub turn_few : (s : ServerState) (p : PlainProcess) → area_count (names_of p) ≤ 16 → area_count (names_of (turn_of s p).process) ≤ 16
+turn_few s p h = turn_few_by (reads_of s) p h

@@ -5,14 +5,15 @@ use Rattle.std.proofs.lemmas.List.Elements.{All-set}
 use Rattle.term_core.specs.declared.atom.Mfa.{Mfa}
 use Rattle.term_core.specs.declared.hold.Kind.TheVariants.{Frame, Literal}
 use Rattle.term_core.specs.PlainTerm.{PlainTerm}
-use Rattle.server_core.specs.ServerState.{ServerState, Entry}
+use Rattle.server_core.specs.ServerState.{Entry}
 use Rattle.machine_core.specs.Holds.{Holds, is_among, is_full, is_held, with_hold}
 use Rattle.machine_core.specs.Process.{PlainFrame, PlainValue, first_registers, literal, owned, owned_values}
 use Rattle.machine_core.specs.Stand.{AreHeld, IsValueHeld}
-use Rattle.machine_core.specs.Turn.{Step, begun, ends, executed, goes_on, held_with, instr_at, step_of, yields}
+use Rattle.machine_core.specs.Turn.{Step, begun, ends, executed, goes_on, held_with, step_of, yields}
 use Rattle.machine_core.proofs.NamedAreas.{HasArea, IsLiteralHeld, area_held, held_area, register_area}
 use Rattle.machine_core.proofs.SerialLists.{among-with}
 use Rattle.machine_core.proofs.StepCases.{Came, it_calls, it_calls_out, it_ends, it_moves, it_pauses, it_returns, it_stores, IsCalled, call_refused, call_stacks, IsCalledOut, out_reaches, out_refused, IsRegisterArea, called_out_is, came, owned_area}
+use Rattle.machine_core.specs.Reads.{Reads, instr_at}
 
 or_true : (a b : Bool) → b ≡ true → (a || b) ≡ true
 or_true true b e = refl
@@ -86,7 +87,7 @@ KeepsHeld held (goes_on frames now line) = AreHeld now frames
 KeepsHeld held (yields frames) = AreHeld held frames
 KeepsHeld held (ends end) = Unit {0}
 
-module _ (s : ServerState) where
+module _ (s : Reads) where
   called_held : (standing : List PlainFrame) (held : Holds) (e : Entry) (back : ℕ) (registers : List PlainValue) (step : Step) → AreHeld held standing → All (IsValueHeld held) registers →
       IsCalled s standing held e back registers step → KeepsHeld held step
   called_held standing held e back registers step h r (call_refused end own) = tt
@@ -97,7 +98,7 @@ module _ (s : ServerState) where
   called_out_held : (standing : List PlainFrame) (held : Holds) (back : ℕ) (registers : List PlainValue) (step : Step) → AreHeld held standing → All (IsValueHeld held) registers →
       IsCalledOut s standing held back registers step → KeepsHeld held step
   called_out_held standing held back registers step h r (out_refused end own) = tt
-  called_out_held standing held back registers step h r (out_reaches e same current known called) = called_held standing held e back registers step h r called
+  called_out_held standing held back registers step h r (out_reaches e same current to known called) = called_held standing held e back registers step h r called
 
   came_held : (f : PlainFrame) (below : List PlainFrame) (held : Holds) (step : Step) → AreHeld held (f ∷ below) → Came s f below held step → KeepsHeld held step
   came_held f below held step h (it_ends end own) = tt

@@ -1,35 +1,21 @@
 -- Going over images in an area word by word, and reading a literal.
-use Rattle.std.proofs.Common.{◌≡◌, ◌<◌, ◌≤◌, ◌+◌, ◌-◌, ◌*◌, ◌∙◌, ℕ, zero, suc, refl, sym, ap, subst, arith, List, [], ◌∷◌, length, drop, take, get_or, slice_index, Option, Some, None, option_map, unwrap_or, IfSome, IsSomeAnd, ⊎_elim, ◌⊎◌, Result, Ok, Err, IfOk}
-use Rattle.std.proofs.lemmas.List.{drop-drop, get_or-drop, length-drop}
-use Rattle.term_core.specs.declared.image_fault.ImageFault.{ImageFault}
-use Rattle.term_core.specs.declared.no_memory.NoMemory.{NoMemory}
+use Rattle.std.proofs.Common.{◌≡◌, ◌<◌, ◌≤◌, ◌+◌, ◌-◌, ◌∙◌, ℕ, zero, suc, refl, sym, ap, subst, arith, List, [], ◌∷◌, ◌++◌, length, drop, take, slice_index, Option, Some, None, option_map, unwrap_or}
+use Rattle.std.proofs.lemmas.List.{drop-drop, get_or-drop, length-drop, take_more}
 use Rattle.term_core.specs.declared.term.Term.{Term}
-use Rattle.term_core.specs.Image.{IsImageAt, image_of, images_len, parts_of_word, term_at}
+use Rattle.term_core.specs.Image.{IsImageAt, images_len, parts_of_word, term_at}
 use Rattle.term_core.specs.Plain.{plain, term_of}
-use Rattle.term_core.specs.PlainTerm.{PlainTerm, term_words}
-use Rattle.term_core.proofs.ImagePlaces.{images_len-at, stands_same, term_at-is, within-at}
-use Rattle.term_core.proofs.ImageTerms.{length-image, some_words}
-use Rattle.mod_core.specs.declared.code.Module.{Module}
-use Rattle.mod_core.specs.Module.{IsModule}
-use Rattle.server_core.specs.ServerState.{ServerState, IsSound, IsTermArea, code_of, term_of_area}
+use Rattle.term_core.specs.PlainTerm.{term_words}
+use Rattle.term_core.proofs.ImagePlaces.{images_len-at, stands_same, term_at-is}
 use Rattle.machine_core.specs.declared.process.LitRef.{LitRef}
-use Rattle.machine_core.specs.View.{IsImagePlace, IsLawful, IsLiteral, IsReadable, Shown}
+use Rattle.machine_core.specs.View.{IsLawful, IsLiteral, IsReadable, Shown}
 use Rattle.machine_core.specs.Stand.{AreImages, images_end}
 use Rattle.machine_core.proofs.OwnedTerms.{term_of-plain}
 
 -- ---- places that may be asked for
 
-low_code : (next at serial : ℕ) (o : Option Module) → IfSome o (λ m. IsModule m × (serial < next)) → IsSomeAnd o (λ m. IsImagePlace m at) → at < 1024
-low_code next at serial None sound h = absurd h
-low_code next at serial (Some m) sound h = let short = sound.0.short in let within = h.within in omega arith
-
-low_term : (s : ServerState) (at serial : ℕ) (o : Option PlainTerm) → IfSome o (IsTermArea s serial) → IsSomeAnd o (λ t. at < length (image_of t)) → at < 1024
-low_term s at serial None sound h = absurd h
-low_term s at serial (Some t) sound h = let short = sound.sound.short in omega (arith, length-image t, h)
-
 -- a place that may be asked for is one of an image, which is short
-pub readable_low : (s : ServerState) (serial at : ℕ) → IsSound s → IsReadable s serial at → at < 1024
-readable_low s serial at sound h = ⊎_elim (low_code s.next_serial at serial (code_of s serial) (sound.modules serial)) (low_term s at serial (term_of_area s serial) (sound.terms serial)) h
+pub readable_low : (shown : Shown) (serial at : ℕ) → IsLawful shown → IsReadable shown serial at → at < 1024
+readable_low shown serial at lawful h = let within = h.within in let short = lawful.short serial in omega arith
 
 -- ---- the next word of images
 
@@ -64,7 +50,7 @@ least words n len h = least_by (length words) words n len (omega arith) h
 
 -- what is known before the next word is read, and after it
 pub record IsStep (shown : Shown) (serial place needed word : ℕ) : Type 0 where
-  pub readable : IsReadable shown.state serial place
+  pub readable : IsReadable shown serial place
   pub low : place < 1024
   pub few : needed - 1 + parts_of_word word ≤ 1024
   pub next : AreImages shown serial (place + 1) (needed - 1 + parts_of_word word)
@@ -74,9 +60,9 @@ pub record IsStep (shown : Shown) (serial place needed word : ℕ) : Type 0 wher
 same_len : (words : List ℕ) (n len : ℕ) → images_len n words ≡ Some len → unwrap_or (images_len n words) 0 ≡ len
 same_len words n len h = ap (λ o. unwrap_or o 0) h
 
-step_of : (shown : Shown) (serial place n word : ℕ) → IsSound shown.state → (a : AreImages shown serial place (suc n)) → IsFront n a.len (drop place (shown.words serial)) → word ≡ slice_index (shown.words serial) place →
+step_of : (shown : Shown) (serial place n word : ℕ) → IsLawful shown → (a : AreImages shown serial place (suc n)) → IsFront n a.len (drop place (shown.words serial)) → word ≡ slice_index (shown.words serial) place →
     IsStep shown serial place (suc n) word
-step_of shown serial place n word sound a f e =
+step_of shown serial place n word lawful a f e =
     let words = shown.words serial in
     let here : slice_index words place ≡ f.word = ap (λ k. slice_index words k) (omega arith) ∙ sym (get_or-drop place words 0 0) ∙ ap (λ ws. slice_index ws 0) f.whole in
     let is : word ≡ f.word = e ∙ here in
@@ -84,24 +70,24 @@ step_of shown serial place n word sound a f e =
     let one : suc n - 1 + parts_of_word word ≡ n + parts_of_word f.word = ap (λ w. suc n - 1 + parts_of_word w) is ∙ omega arith in
     let left : images_len (suc n - 1 + parts_of_word word) (drop (place + 1) words) ≡ Some f.later = ap (images_len (suc n - 1 + parts_of_word word)) rest ∙ ap (λ k. images_len k f.rest) one ∙ f.left in
     let sum = f.sum in
-    let first : IsReadable shown.state serial place = subst (IsReadable shown.state serial) (omega arith) (a.readable 0 (omega arith)) in
-    let low = readable_low shown.state serial place sound first in
-    let last = readable_low shown.state serial (place + f.later) sound (a.readable f.later (omega arith)) in
+    let first : IsReadable shown serial place = subst (IsReadable shown serial) (omega arith) (a.readable 0 (omega arith)) in
+    let low = readable_low shown serial place lawful first in
+    let last = readable_low shown serial (place + f.later) lawful (a.readable f.later (omega arith)) in
     let few = least (drop (place + 1) words) (suc n - 1 + parts_of_word word) f.later left in
     record {
       readable = first;
       low = low;
       few = omega (arith, few, last);
-      next = record { len = f.later; is = left; readable = λ i l. subst (IsReadable shown.state serial) (omega arith) (a.readable (suc i) (omega arith)) };
+      next = record { len = f.later; is = left; readable = λ i l. subst (IsReadable shown serial) (omega arith) (a.readable (suc i) (omega arith)) };
       end = omega (arith, same_len (drop (place + 1) words) (suc n - 1 + parts_of_word word) f.later left, same_len (drop place words) (suc n) a.len a.is);
       less = omega (arith, same_len (drop (place + 1) words) (suc n - 1 + parts_of_word word) f.later left, same_len (drop place words) (suc n) a.len a.is);
     }
 
 -- the next word of images that are needed still
-pub image_step : (shown : Shown) (serial place needed word : ℕ) → IsSound shown.state → AreImages shown serial place needed → 0 < needed → word ≡ slice_index (shown.words serial) place →
+pub image_step : (shown : Shown) (serial place needed word : ℕ) → IsLawful shown → AreImages shown serial place needed → 0 < needed → word ≡ slice_index (shown.words serial) place →
     IsStep shown serial place needed word
-image_step shown serial place zero word sound a some e = absurd (omega arith)
-image_step shown serial place (suc n) word sound a some e = step_of shown serial place n word sound a (front n a.len (drop place (shown.words serial)) a.is) e
+image_step shown serial place zero word lawful a some e = absurd (omega arith)
+image_step shown serial place (suc n) word lawful a some e = step_of shown serial place n word lawful a (front n a.len (drop place (shown.words serial)) a.is) e
 
 -- ---- a literal
 
@@ -114,8 +100,8 @@ pub literal_end : (shown : Shown) (at : LitRef) (h : IsLiteral shown at) → ima
 literal_end shown at h = ap (λ o. at.at + unwrap_or o 0) (images_len-at (shown.words at.area.serial) at.at h.term h.image)
 
 -- and may be asked for
-pub literal_readable : (shown : Shown) (at : LitRef) (h : IsLiteral shown at) (place : ℕ) → at.at ≤ place → place < at.at + term_words h.term → IsReadable shown.state at.area.serial place
-literal_readable shown at h place from to = subst (IsReadable shown.state at.area.serial) (omega arith) (h.readable (place - at.at) (omega arith))
+pub literal_readable : (shown : Shown) (at : LitRef) (h : IsLiteral shown at) (place : ℕ) → at.at ≤ place → place < at.at + term_words h.term → IsReadable shown at.area.serial place
+literal_readable shown at h place from to = subst (IsReadable shown at.area.serial) (omega arith) (h.readable (place - at.at) (omega arith))
 
 -- the term that was read from a literal's words is the literal's
 pub literal_read : (shown : Shown) (at : LitRef) (h : IsLiteral shown at) (words : List ℕ) (end : ℕ) (term : Term) → end ≡ at.at + term_words h.term →
@@ -132,3 +118,16 @@ literal_read shown at h words end term e w r =
     twice zero xs = refl
     twice (suc n) [] = refl
     twice (suc n) (x ∷ xs) = ap (λ ys. x ∷ ys) (twice n xs)
+
+-- ---- words of an area, one after another
+
+-- the words up to a place, and the one that stands there
+pub more_words : (words read after : List ℕ) (from place word : ℕ) → from ≤ place → place < length words → read ≡ take (place - from) (drop from words) → word ≡ slice_index words place → after ≡ read ++ word ∷ [] →
+    after ≡ take (place + 1 - from) (drop from words)
+more_words words read after from place word low within r w e =
+    let n = place - from in
+    let here : place ≡ from + n = omega arith in
+    let more : n + 1 ≡ place + 1 - from = omega arith in
+    let below : n < length (drop from words) = omega (arith, length-drop from words) in
+    let is : word ≡ slice_index (drop from words) n = w ∙ ap (slice_index words) here ∙ sym (get_or-drop from words n 0) in
+    e ∙ ap (λ ws. ws ++ word ∷ []) r ∙ ap (λ x. take n (drop from words) ++ x ∷ []) is ∙ sym (take_more (drop from words) n 0 below) ∙ ap (λ k. take k (drop from words)) more

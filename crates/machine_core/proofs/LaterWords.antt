@@ -1,18 +1,19 @@
 -- That a process is the same under a later state of the server, where each area that was known has its words still.
-use Rattle.std.proofs.Common.{◌≡◌, ◌<◌, ◌+◌, ◌∙◌, ℕ, refl, sym, ap, arith, inl, inr, subst, All, List, [], ◌∷◌, length, map, reverse, Option, Some, None, IsSomeAnd, option_map}
+use Rattle.std.proofs.Common.{◌≡◌, ◌≢◌, ◌⊎◌, ◌<◌, ◌+◌, ◌*◌, ◌∙◌, ℕ, true, refl, sym, ap, arith, inl, inr, subst, All, List, [], ◌∷◌, length, map, reverse, Option, Some, None, is_some, option_map, unwrap_or}
 use Rattle.std.proofs.lemmas.List.Elements.{All-head, All-tail}
-use Rattle.term_core.specs.Image.{IsImageAt, image_of, term_at}
+use Rattle.term_core.specs.Image.{IsImageAt, term_at}
 use Rattle.term_core.specs.Plain.{term_of}
 use Rattle.term_core.specs.PlainTerm.{PlainTerm, atom_leaf, integer_leaf, list_of, term_words, tuple_of}
 use Rattle.mod_core.specs.declared.code.Module.{Module}
-use Rattle.server_core.specs.ServerState.{IsSound, ServerState, code_of, first_words, instance_image, term_of_area, words_of_area}
+use Rattle.server_core.specs.ServerState.{ServerState, code_of, term_of_area, words_of_area}
 use Rattle.machine_core.specs.declared.process.Frame.{Frame}
 use Rattle.machine_core.specs.declared.process.LitRef.{LitRef}
 use Rattle.machine_core.specs.declared.process.Process.{Process}
 use Rattle.machine_core.specs.declared.process.Value.{Value}
 use Rattle.machine_core.specs.declared.process.Value.TheVariants.{Literal, Owned}
 use Rattle.machine_core.specs.Process.{frame_of, frames_of, literal, process_of, value_shown, values_shown}
-use Rattle.machine_core.specs.View.{AreValues, HasValues, IsImagePlace, IsLiteral, IsReadable, IsValue, server_words, shown_of}
+use Rattle.machine_core.specs.View.{AreValues, HasValues, IsLiteral, IsNoEntry, IsReadable, IsValue, server_words, shown_of}
+use Rattle.machine_core.specs.ServerReads.{reads_of}
 
 -- the instances that one state has, another has too
 abbrev pub HasInstances : ServerState → ServerState → Type 0
@@ -36,19 +37,13 @@ pub record HasAreas (before after : ServerState) : Type 0 where
 abbrev IsKnown : ServerState → ℕ → Type 0
 IsKnown s serial = (words : List ℕ) × (words_of_area s serial ≡ Some words)
 
-code_known : (s : ServerState) (serial at : ℕ) (o : Option Module) → code_of s serial ≡ o → IsSomeAnd o (λ m. IsImagePlace m at) → IsKnown s serial
-code_known s serial at None e h = absurd h
-code_known s serial at (Some m) e h = (instance_image serial m, rw e refl)
-
-term_known : (s : ServerState) (serial at : ℕ) (o : Option Module) (r : Option PlainTerm) → code_of s serial ≡ o → term_of_area s serial ≡ r → IsSomeAnd r (λ t. at < length (image_of t)) → IsKnown s serial
-term_known s serial at o None e f h = absurd h
-term_known s serial at None (Some t) e f h = (image_of t, rw (e, f) refl)
-term_known s serial at (Some m) (Some t) e f h = (instance_image serial m, rw e refl)
+known_in : (s : ServerState) (serial at : ℕ) (o : Option (List ℕ)) → words_of_area s serial ≡ o → at < length (unwrap_or o []) → IsKnown s serial
+known_in s serial at None e h = absurd (omega (arith, h))
+known_in s serial at (Some words) e h = (words, e)
 
 -- what may be read is a word of an area
-readable_known : (s : ServerState) (serial at : ℕ) → IsReadable s serial at → IsKnown s serial
-readable_known s serial at (inl h) = code_known s serial at (code_of s serial) refl h
-readable_known s serial at (inr h) = term_known s serial at (code_of s serial) (term_of_area s serial) refl refl h
+readable_known : (s : ServerState) (serial at : ℕ) → IsReadable (shown_of s) serial at → IsKnown s serial
+readable_known s serial at h = known_in s serial at (words_of_area s serial) refl h.within
 
 some_word : (t : PlainTerm) → 0 < term_words t
 some_word (integer_leaf z) = omega arith
@@ -91,17 +86,25 @@ module _ (before after : ServerState) (has : HasWords before after) where
   process_later p h = ap (λ frames. record { number = p.number; target = p.target; args = p.args; turns = p.turns; frames = frames }) (frames_later p.frames h)
 
 module _ (before after : ServerState) (has : HasAreas before after) where
-  code_readable : (serial at : ℕ) (o : Option Module) → code_of before serial ≡ o → IsSomeAnd o (λ m. IsImagePlace m at) → IsSomeAnd (code_of after serial) (λ m. IsImagePlace m at)
-  code_readable serial at None e h = absurd h
-  code_readable serial at (Some m) e h = rw (has.instances serial m e) h
+  -- an area without code or term has no words
+  nothing_known : (serial : ℕ) → code_of before serial ≡ None → term_of_area before serial ≡ None → IsKnown before serial → ⊥
+  nothing_known serial c t known = let e : None ≡ Some known.0 = rw (c, t) at known.1 in cc
 
-  term_readable : (serial at : ℕ) (o : Option PlainTerm) → term_of_area before serial ≡ o → IsSomeAnd o (λ t. at < length (image_of t)) → IsSomeAnd (term_of_area after serial) (λ t. at < length (image_of t))
-  term_readable serial at None e h = absurd h
-  term_readable serial at (Some t) e h = rw (has.terms serial t e) h
+  no_entry_later : (serial at : ℕ) (o : Option Module) (r : Option PlainTerm) → code_of before serial ≡ o → term_of_area before serial ≡ r → IsKnown before serial →
+      (is_some r ≡ true) ⊎ ((i : ℕ) → i < unwrap_or (option_map (λ m. length m.functions) o) 0 → at ≢ 4 + 4 * i + 2) →
+      ((reads_of after).is_term serial ≡ true) ⊎ IsNoEntry (reads_of after) serial at
+  no_entry_later serial at o (Some t) c e known h = inl (rw (has.terms serial t e) refl)
+  no_entry_later serial at None None c e known h = absurd (nothing_known serial c e known)
+  no_entry_later serial at (Some m) None c e known (inl h) = absurd (cc)
+  no_entry_later serial at (Some m) None c e known (inr h) = inr (rw (has.instances serial m c) h)
 
-  readable_later : (serial at : ℕ) → IsReadable before serial at → IsReadable after serial at
-  readable_later serial at (inl h) = inl (code_readable serial at (code_of before serial) refl h)
-  readable_later serial at (inr h) = inr (term_readable serial at (term_of_area before serial) refl h)
+  readable_later : (serial at : ℕ) → IsReadable (shown_of before) serial at → IsReadable (shown_of after) serial at
+  readable_later serial at h =
+      let known = readable_known before serial at h in
+      record {
+        within = subst (λ words. at < length words) (sym (words_case before after serial known has.words)) h.within;
+        no_entry = no_entry_later serial at (code_of before serial) (term_of_area before serial) refl refl known h.no_entry;
+      }
 
   literal_later : (at : LitRef) → IsLiteral (shown_of before) at → IsLiteral (shown_of after) at
   literal_later at l = record {
@@ -117,20 +120,3 @@ module _ (before after : ServerState) (has : HasAreas before after) where
   -- and its literals begin images still
   pub values_later : (fs : List Frame) → AreValues (shown_of before) fs → AreValues (shown_of after) fs
   values_later fs h k d l j e m = value_later _ (h k d l j e m)
-
-no_instance : (s : ServerState) (serial : ℕ) (t : PlainTerm) → IsSound s → term_of_area s serial ≡ Some t → code_of s serial ≡ None
-no_instance s serial t sound e = (rw e at (sound.terms serial)).no_code
-
-words_later : (before after : ServerState) (serial : ℕ) (words : List ℕ) (o : Option Module) (r : Option PlainTerm) → code_of before serial ≡ o → term_of_area before serial ≡ r → HasInstances before after → HasTerms before after → IsSound after →
-    first_words (option_map (instance_image serial) o) (option_map image_of r) ≡ Some words → words_of_area after serial ≡ Some words
-words_later before after serial words (Some m) r e f i t sound h = rw (i serial m e) h
-words_later before after serial words None (Some term) e f i t sound h = rw (no_instance after serial term sound (t serial term f), t serial term f) h
-words_later before after serial words None None e f i t sound h = absurd (cc)
-
--- a sound state that has the instances and the terms of another has its areas
-pub areas_later : (before after : ServerState) → HasInstances before after → HasTerms before after → IsSound after → HasAreas before after
-areas_later before after i t sound = record {
-  instances = i;
-  terms = t;
-  words = λ serial words h. words_later before after serial words (code_of before serial) (term_of_area before serial) refl refl i t sound h;
-}

@@ -7,7 +7,9 @@ pub mod HoldLists
 pub mod LiteralPlaces
 pub mod Decoding
 pub mod Codes
+pub mod StateReads
 pub mod Viewing
+pub mod NextInstr
 pub mod Fetching
 pub mod ImageSteps
 pub mod LiteralParts
@@ -28,7 +30,6 @@ pub mod Runs
 pub mod Turns
 pub mod LaterWords
 pub mod TurnLaws
-pub mod NoLiterals
 pub mod TurnNames
 pub mod Killing
 pub mod TurnAgrees
@@ -37,5 +38,6 @@ pub mod DroppedHolds
 pub mod Pausing
 pub mod CopiedValues
 pub mod DoomedFrames
+pub mod SameReads
 pub mod Steps
 pub mod TurnAnswers

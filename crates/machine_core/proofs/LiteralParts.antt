@@ -1,34 +1,29 @@
 -- The parts of a literal, and what a key holds, as values.
-use Rattle.std.proofs.Common.{◌≡◌, ◌<◌, ◌≤◌, ◌+◌, ◌*◌, ◌%◌, ◌/◌, ◌∙◌, ◌==◌, ◌||◌, ℕ, zero, suc, refl, sym, ap, subst, arith, Bool, true, false, ℤ, pos, negsuc, List, [], ◌∷◌, ◌++◌, length, drop, get_or, slice_get, slice_index, Option, Some, None, option_map, unwrap_or, if◌then◌else◌, IfSome, IsSomeAnd, inl, inr, cond}
-use Rattle.std.proofs.lemmas.Bool.Decides.{nat_tests}
+use Rattle.std.proofs.Common.{◌≡◌, ◌<◌, ◌≤◌, ◌+◌, ◌*◌, ◌%◌, ◌∙◌, ℕ, zero, suc, refl, sym, ap, subst, arith, Bool, true, false, ℤ, pos, negsuc, List, ◌++◌, length, drop, get_or, slice_get, slice_index, Option, Some, None, option_map, unwrap_or, if◌then◌else◌, inl, inr, cond}
 use Rattle.std.proofs.lemmas.List.{drop-drop}
 use Rattle.std.proofs.lemmas.Option.{slice_get-get_or, slice_get_past}
-use Rattle.term_core.specs.declared.area.AreaRef.{AreaRef}
-use Rattle.term_core.specs.declared.area.Found.{Found}
-use Rattle.term_core.specs.declared.area.Found.TheVariants.{Absent, Word, Area}
 use Rattle.std.proofs.Common.{◌⊎◌, Result, Ok, Err, IfOk}
 use Rattle.term_core.specs.declared.no_memory.NoMemory.{NoMemory}
 use Rattle.term_core.specs.declared.term.Term.{Term}
-use Rattle.term_core.specs.declared.term.Term.TheVariants.{Int, Atom, Tuple, List as ListOf}
+use Rattle.term_core.specs.declared.term.Term.TheVariants.{Tuple, List as ListOf}
 use Rattle.term_core.specs.declared.hold.Kind.TheVariants.{Literal as for_literals}
-use Rattle.term_core.specs.Image.{IsImageAt, image_of, images_len, immediate_word, is_immediate, low_bits, parts_of_word, row_image, term_at, term_of_word}
+use Rattle.term_core.specs.Image.{IsImageAt, images_len, is_immediate, low_bits, parts_of_word, row_image, term_at, term_of_word}
 use Rattle.term_core.specs.Plain.{plain, term_of}
-use Rattle.term_core.specs.PlainTerm.{RowOf, PlainTerm, integer_leaf, atom_leaf, tuple_of, list_of, no_terms, term_then, row_count, row_words, term_words, terms_of}
-use Rattle.term_core.proofs.ImagePlaces.{PartAt, first_word, first_word-at, first_word-immediate, first_word-parts, part_at, part_count, row_in, stands_alone, term_at-is, term_of_word-first_word}
-use Rattle.term_core.proofs.ImageTerms.{length-image, some_words}
+use Rattle.term_core.specs.PlainTerm.{RowOf, PlainTerm, integer_leaf, atom_leaf, tuple_of, list_of, no_terms, term_then, row_count, term_words, terms_of}
+use Rattle.term_core.proofs.ImagePlaces.{first_word, first_word-at, first_word-parts, part_at, part_count, row_in, term_at-is, term_of_word-first_word}
+use Rattle.term_core.proofs.ImageTerms.{some_words}
 use Rattle.term_core.proofs.PlainTerms.{plain-term_of}
-use Rattle.server_core.specs.ServerState.{HasItsArea, IsPersistent, KeyFound, Persistent, ServerState, absent, found_as, found_in, found_of, key_area, key_found, one_word, persistent_of, term_of_area, whole_area}
 use Rattle.machine_core.specs.declared.process.LitRef.{LitRef}
 use Rattle.machine_core.specs.declared.process.Value.{Value}
 use Rattle.machine_core.specs.declared.process.Value.TheVariants.{Owned, Literal}
-use Rattle.machine_core.specs.Holds.{Holds, MayHold}
+use Rattle.machine_core.specs.Holds.{Holds}
 use Rattle.machine_core.specs.Process.{PlainValue, literal, owned, value_shown}
 use Rattle.machine_core.specs.Stand.{AreImages, IsUsable, images_end, is_immediate_word, place_number}
-use Rattle.machine_core.specs.Turn.{element_at, element_of, integer_of, key_value, part_value, parts_of, persistent_value, term_of as value_term, value_in}
-use Rattle.machine_core.specs.View.{IsLawful, IsLiteral, IsReadable, Shown}
-use Rattle.machine_core.proofs.ImageSteps.{readable_low}
+use Rattle.machine_core.specs.Turn.{element_at, element_of, integer_of, part_value, parts_of, term_of as value_term, value_in}
+use Rattle.machine_core.specs.View.{IsLiteral, IsReadable, Shown}
 use Rattle.machine_core.proofs.LiteralPlaces.{part_within}
 use Rattle.machine_core.proofs.OwnedTerms.{term_of-plain}
+use Rattle.machine_core.specs.Reach.{MayHold}
 
 -- ---- elements by their place
 
@@ -38,19 +33,9 @@ element_by ts (Some (pos zero)) place e = absurd (cc)
 element_by ts (Some (negsuc n)) place e = absurd (cc)
 element_by ts None place e = absurd (cc)
 
-no_element : (ts : List PlainTerm) (o : Option ℤ) → place_number o ≡ None → element_at ts o ≡ None
-no_element ts (Some (pos (suc n))) e = absurd (cc)
-no_element ts (Some (pos zero)) e = refl
-no_element ts (Some (negsuc n)) e = refl
-no_element ts None e = refl
-
 -- the element of a value is the part at its place
 pub element_placed : (index : Term) (value : PlainValue) (place : ℕ) → place_number (integer_of index) ≡ Some place → element_of index value ≡ option_map (part_value value) (slice_get (parts_of (value_term value)) place)
 element_placed index value place e = ap (option_map (part_value value)) (element_by (parts_of (value_term value)) (integer_of index) place e)
-
--- there is none with a number that has no place
-pub element_nowhere : (index : Term) (value : PlainValue) → place_number (integer_of index) ≡ None → element_of index value ≡ None
-element_nowhere index value e = ap (option_map (part_value value)) (no_element (parts_of (value_term value)) (integer_of index) e)
 
 -- ---- parts of a literal
 
@@ -107,9 +92,9 @@ part_stands shown at h place u found =
     let ends = part_ends words at.at h.term place u p.skip h.image found p.behind in
     record {
       skip = p.skip;
-      images = record { len = p.skip; is = p.behind; readable = λ i l. subst (IsReadable shown.state at.area.serial) (omega arith) (h.readable (1 + i) (omega arith)) };
+      images = record { len = p.skip; is = p.behind; readable = λ i l. subst (IsReadable shown at.area.serial) (omega arith) (h.readable (1 + i) (omega arith)) };
       end = ap (λ o. at.at + 1 + unwrap_or o 0) p.behind;
-      part = record { term = u; image = p.stands; readable = λ i l. subst (IsReadable shown.state at.area.serial) (omega arith) (h.readable (1 + p.skip + i) (omega arith)) };
+      part = record { term = u; image = p.stands; readable = λ i l. subst (IsReadable shown at.area.serial) (omega arith) (h.readable (1 + p.skip + i) (omega arith)) };
       found = ap (λ t. slice_get (parts_of (term_of t)) place) (term_at-is words at.at h.term h.image) ∙ ap (λ ts. slice_get ts place) (parts_row h.term) ∙ found;
     }
 
@@ -130,15 +115,15 @@ no_part shown at h place word parts e p past =
     ∙ slice_get_past (terms_of (row_in h.term)) place (omega (arith, parts_len shown at h word e))
 
 -- the first word of a literal may be asked for
-pub first_readable : (shown : Shown) (at : LitRef) → IsLiteral shown at → IsReadable shown.state at.area.serial at.at
-first_readable shown at h = subst (IsReadable shown.state at.area.serial) (omega arith) (h.readable 0 (omega (arith, some_words h.term)))
+pub first_readable : (shown : Shown) (at : LitRef) → IsLiteral shown at → IsReadable shown at.area.serial at.at
+first_readable shown at h = subst (IsReadable shown at.area.serial) (omega arith) (h.readable 0 (omega (arith, some_words h.term)))
 
 -- the value of a literal by its first word
 record IsPartValue (shown : Shown) (held : Holds) (at : LitRef) (t : PlainTerm) (value : Value) : Type 0 where
   shows : value_shown shown.words value ≡ value_in at.area.serial (term_of t)
   usable : IsUsable shown held value
 
-value_by : (shown : Shown) (held : Holds) (at : LitRef) (h : IsLiteral shown at) (first : ℕ) (b : Bool) → MayHold shown.state held at.area.serial for_literals → first ≡ first_word h.term → is_immediate h.term ≡ b →
+value_by : (shown : Shown) (held : Holds) (at : LitRef) (h : IsLiteral shown at) (first : ℕ) (b : Bool) → MayHold shown.reads held at.area.serial for_literals → first ≡ first_word h.term → is_immediate h.term ≡ b →
     IsPartValue shown held at h.term (if b then Owned (term_of_word first) else Literal at)
 value_by shown held at h first true may e is = record {
   shows =
@@ -153,7 +138,7 @@ value_by shown held at h first false may e is = record {
   usable = (h, may);
 }
 
-literal_value : (shown : Shown) (held : Holds) (at : LitRef) (h : IsLiteral shown at) (first : ℕ) (value : Value) → MayHold shown.state held at.area.serial for_literals → first ≡ slice_index (shown.words at.area.serial) at.at →
+literal_value : (shown : Shown) (held : Holds) (at : LitRef) (h : IsLiteral shown at) (first : ℕ) (value : Value) → MayHold shown.reads held at.area.serial for_literals → first ≡ slice_index (shown.words at.area.serial) at.at →
     value ≡ (if is_immediate_word first then Owned (term_of_word first) else Literal at) → IsPartValue shown held at h.term value
 literal_value shown held at h first value may e v =
     let word = e ∙ first_word-at (shown.words at.area.serial) at.at h.term h.image in
@@ -161,7 +146,7 @@ literal_value shown held at h first value may e v =
     subst (IsPartValue shown held at h.term) (sym (v ∙ ap (λ b. if b then Owned (term_of_word first) else Literal at) test)) (value_by shown held at h first (is_immediate h.term) may word refl)
 
 -- so a part of a literal is the part that its value has
-pub part_shows : (shown : Shown) (held : Holds) (at : LitRef) (place at_part first : ℕ) (value : Value) (p : IsPartOf shown at place) → MayHold shown.state held at.area.serial for_literals → at_part ≡ at.at + 1 + p.skip →
+pub part_shows : (shown : Shown) (held : Holds) (at : LitRef) (place at_part first : ℕ) (value : Value) (p : IsPartOf shown at place) → MayHold shown.reads held at.area.serial for_literals → at_part ≡ at.at + 1 + p.skip →
     first ≡ slice_index (shown.words at.area.serial) at_part → value ≡ (if is_immediate_word first then Owned (term_of_word first) else Literal (record { area = at.area; at = at_part })) →
     (option_map (value_shown shown.words) (Some value) ≡ option_map (part_value (value_shown shown.words (Literal at))) (slice_get (parts_of (term_of (term_at (shown.words at.area.serial) at.at))) place))
     × IsUsable shown held value

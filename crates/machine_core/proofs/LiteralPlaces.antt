@@ -1,16 +1,13 @@
 -- Where literals stand: the constants of an instruction as the view shows them, the terms of areas, and the parts of a literal.
-use Rattle.std.proofs.Common.{◌≡◌, ◌<◌, ◌≤◌, ◌+◌, ◌*◌, ◌∙◌, ℕ, zero, suc, refl, sym, ap, subst, arith, ℤ, List, [], ◌∷◌, ◌++◌, length, length-append, drop, take, get_or, slice_get, slice_index, Option, Some, None, All, IfSome, IsSomeAnd, inl, inr}
+use Rattle.std.proofs.Common.{◌≡◌, ◌<◌, ◌≤◌, ◌+◌, ◌∙◌, ℕ, zero, suc, refl, sym, ap, arith, ℤ, List, [], ◌∷◌, ◌++◌, length, drop, slice_get, slice_index, Option, Some, None, All}
 use Rattle.std.proofs.Common.{append_assoc}
-use Rattle.std.proofs.lemmas.List.{append-nil, get_or-drop, get_or_past, drop-drop}
+use Rattle.std.proofs.lemmas.List.{get_or-drop}
 use Rattle.std.proofs.Math.ListN.{get_or-append}
 use Rattle.std.proofs.lemmas.List.Elements.{All-append, All-cons, All-nil}
-use Rattle.term_core.specs.declared.area.AreaRef.{AreaRef}
-use Rattle.term_core.specs.Image.{IsImageAt, image_of, images_len, is_immediate, row_image, term_at}
+use Rattle.term_core.specs.Image.{IsImageAt, image_of, images_len, row_image}
 use Rattle.term_core.specs.PlainTerm.{RowOf, TermOf, PlainTerm, integer_leaf, atom_leaf, tuple_of, list_of, no_terms, term_then, terms_of, row_words, term_words}
 use Rattle.term_core.specs.Written.{place_or}
 use Rattle.term_core.proofs.ImageTerms.{images_len-image, length-image}
-use Rattle.term_core.proofs.ImagePlaces.{image_at, row_in, term_at-is, within-at}
-use Rattle.machine_core.specs.View.{IsLiteral, IsReadable, Shown}
 
 -- ---- words that stand for a term
 

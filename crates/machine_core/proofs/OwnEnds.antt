@@ -3,19 +3,15 @@ use Rattle.std.proofs.Common.{ℤ, ◌+ℤ◌, ◌-ℤ◌, int_lt, Bool, true, f
 use Rattle.term_core.specs.declared.term.Term.{Term}
 use Rattle.term_core.specs.declared.term.Term.TheVariants.{Int}
 use Rattle.machine_core.specs.declared.process.End.{End}
-use Rattle.machine_core.specs.declared.process.End.TheVariants.{Normal, Undef, Badarg, Badarith, SystemLimit, Killed}
+use Rattle.machine_core.specs.declared.process.End.TheVariants.{Badarg, Badarith, SystemLimit, Killed}
 use Rattle.machine_core.specs.declared.process.TurnEnd.{TurnEnd}
 use Rattle.machine_core.specs.declared.process.TurnEnd.TheVariants.{Again, Ended}
 use Rattle.machine_core.specs.Turn.{difference_of, fits, fitting, integer_of, less_of, of_integers, sum_of}
 
 -- an end that is none of a doomed instance
 abbrev pub IsOwnEnd : End → Type 0
-IsOwnEnd Normal = Unit {0}
-IsOwnEnd (Undef to) = Unit {0}
-IsOwnEnd Badarg = Unit {0}
-IsOwnEnd Badarith = Unit {0}
-IsOwnEnd SystemLimit = Unit {0}
 IsOwnEnd (Killed serial) = ⊥
+IsOwnEnd end = Unit {0}
 
 abbrev pub IsOwnTurnEnd : TurnEnd → Type 0
 IsOwnTurnEnd Again = Unit {0}

@@ -1,5 +1,5 @@
 -- That what is held where a turn pauses is just what its frames name.
-use Rattle.std.proofs.Common.{◌≡◌, ◌∙◌, ℕ, refl, sym, ap, subst, IsTrue, List, [], ◌∷◌, ◌++◌}
+use Rattle.std.proofs.Common.{◌≡◌, ◌∙◌, ℕ, sym, ap, IsTrue, List, [], ◌∷◌, ◌++◌}
 use Rattle.term_core.specs.declared.hold.Kind.TheVariants.{Frame as for_frames, Literal as for_literals}
 use Rattle.machine_core.specs.declared.process.Frame.{Frame}
 use Rattle.machine_core.specs.declared.process.Line.{Line}
@@ -8,7 +8,7 @@ use Rattle.machine_core.specs.HoldKinds.{held_for, holding}
 use Rattle.machine_core.specs.Holds.{Holds, is_among}
 use Rattle.machine_core.specs.Process.{Words, code_names, frame_names, frame_of, frames_of}
 use Rattle.machine_core.specs.Stand.{AreHeld}
-use Rattle.machine_core.specs.Turn.{Ran, paused}
+use Rattle.machine_core.specs.Turn.{paused}
 use Rattle.machine_core.proofs.CodeNames.{code_names-shown, frames_of-push}
 use Rattle.machine_core.proofs.NamedAreas.{frames_held, literals_held}
 

@@ -1,19 +1,18 @@
 -- What a source and a key are read as: a value that may be used, and that stands for what the turn says.
-use Rattle.std.proofs.Common.{◌≡◌, ◌<◌, ◌+◌, ◌∙◌, ℕ, zero, suc, refl, sym, ap, subst, arith, Bool, true, false, List, [], ◌∷◌, length, All, get_or, slice_get, Option, Some, None, option_and_then, option_map, unwrap_or, IfSome, IsSomeAnd, IsTrue, Result, Ok, Err, IfOk, inl, inr, cond}
-use Rattle.std.proofs.lemmas.Option.{slice_get-map}
+use Rattle.std.proofs.Common.{◌≡◌, ◌∙◌, ℕ, zero, suc, refl, sym, ap, subst, arith, true, false, List, [], ◌∷◌, length, All, slice_get, Option, Some, None, option_and_then, option_map, unwrap_or, IfSome, Result, Ok, Err, IfOk, inl, inr, cond}
 use Rattle.std.proofs.lemmas.List.Elements.{All-head, All-tail}
 use Rattle.term_core.specs.declared.area.AreaRef.{AreaRef}
 use Rattle.term_core.specs.declared.area.Found.{Found}
 use Rattle.term_core.specs.declared.area.Found.TheVariants.{Absent, Word, Area}
 use Rattle.term_core.specs.declared.no_memory.NoMemory.{NoMemory}
 use Rattle.term_core.specs.declared.term.Term.{Term}
-use Rattle.term_core.specs.Image.{image_of, immediate_word, is_immediate, term_at, term_of_word, IsImageAt, IsPlainTerm}
+use Rattle.term_core.specs.Image.{immediate_word, is_immediate, term_at, term_of_word, IsImageAt, IsPlainTerm}
 use Rattle.term_core.specs.Plain.{plain, term_of}
 use Rattle.term_core.specs.PlainTerm.{PlainTerm}
 use Rattle.term_core.proofs.ImagePlaces.{first_word-immediate, stands_alone, term_at-is, term_of_word-first_word}
 use Rattle.term_core.proofs.ImageTerms.{length-image}
 use Rattle.term_core.proofs.PlainTerms.{plain-term_of}
-use Rattle.server_core.specs.ServerState.{HasItsArea, IsPersistent, IsShortTerm, IsSound, KeyFound, Persistent, ServerState, absent, found_as, found_in, found_of, key_area, key_found, one_word, persistent_of, term_of_area, whole_area}
+use Rattle.server_core.specs.ServerState.{absent, found_as, one_word, whole_area}
 use Rattle.machine_core.specs.declared.op.Source.{Source}
 use Rattle.machine_core.specs.declared.op.Source.TheVariants.{Register, Immediate, Constant}
 use Rattle.machine_core.specs.declared.process.Frame.{Frame}
@@ -21,10 +20,11 @@ use Rattle.machine_core.specs.declared.process.Value.{Value}
 use Rattle.machine_core.specs.declared.process.Value.TheVariants.{Owned, Literal}
 use Rattle.machine_core.specs.Decode.{operand_shown}
 use Rattle.machine_core.specs.Holds.{Holds}
-use Rattle.machine_core.specs.Process.{Words, frame_of, literal, no_held, no_value, owned, register_of, value_shown, values_shown}
+use Rattle.machine_core.specs.Process.{PlainValue, Words, frame_of, literal, no_held, owned, register_of, value_shown, values_shown}
 use Rattle.machine_core.specs.Stand.{IsReadyFrame, IsSource, IsUsable, IsValueOf}
-use Rattle.machine_core.specs.Turn.{key_value, operand_term, persistent_value, term_of as value_term, value_of}
-use Rattle.machine_core.specs.View.{IsLawful, IsLiteral, Shown}
+use Rattle.machine_core.specs.Turn.{operand_term, term_of as value_term}
+use Rattle.machine_core.specs.View.{IsKeyValue, IsLawful, IsLiteral, IsTermIn, Shown}
+use Rattle.machine_core.specs.Reads.{area_of, found_of}
 
 -- ---- sources
 
@@ -69,7 +69,7 @@ module _ (shown : Shown) (held : Holds) (f : Frame) (ready : IsReadyFrame shown 
 
 -- what a key is read as
 pub record IsKeyRead (shown : Shown) (held : Holds) (key : ℕ) (value : Option Value) : Type 0 where
-  pub shows : option_map (value_shown shown.words) value ≡ key_value shown.state key
+  pub shows : option_map (value_shown shown.words) value ≡ shown.reads.key key
   pub usable : IfSome value (IsUsable shown held)
 
 -- the value that was found
@@ -78,67 +78,49 @@ found_value Absent = None
 found_value (Word word) = Some (Owned (term_of_word word))
 found_value (Area area) = Some (Literal (record { area = area; at = 0 }))
 
-absent_read : (shown : Shown) (held : Holds) (key : ℕ) (o : Option Persistent) → persistent_of shown.state key ≡ o → found_of o ≡ absent → IsKeyRead shown held key None
-absent_read shown held key None p e = record { shows = ap (option_map (λ q. persistent_value q.term q.area)) (sym p); usable = tt }
-absent_read shown held key (Some q) p e = absurd (some_found q.term q.area e)
-  where
-    some_found : (t : PlainTerm) (area : Option ℕ) → found_in t area ≡ absent → ⊥
-    some_found t None e = cc
-    some_found t (Some serial) e = cc
+absent_read : (shown : Shown) (held : Holds) (key : ℕ) (o : Option PlainValue) → shown.reads.key key ≡ o → found_of o ≡ absent → IsKeyRead shown held key None
+absent_read shown held key None p e = record { shows = sym p; usable = tt }
+absent_read shown held key (Some (owned term)) p e = absurd (cc)
+absent_read shown held key (Some (literal serial term)) p e = absurd (cc)
 
 word_back : (t : PlainTerm) (word : ℕ) → is_immediate t ≡ true → word ≡ immediate_word (term_of t) → IsPlainTerm t → term_of_word word ≡ term_of t
 word_back t word is e fits = ap term_of_word (e ∙ sym (first_word-immediate t is)) ∙ term_of_word-first_word t is fits
 
-word_in : (s : ServerState) (t : PlainTerm) (area : Option ℕ) (word : ℕ) → HasItsArea s t area → IsPlainTerm t → found_in t area ≡ one_word word → owned (term_of_word word) ≡ persistent_value t area
-word_in s t None word has fits e = let k : immediate_word (term_of t) ≡ word = cc in ap owned (word_back t word has (sym k) fits)
-word_in s t (Some serial) word has fits e = absurd (cc)
-
-word_read : (shown : Shown) (held : Holds) (key word : ℕ) (o : Option Persistent) → persistent_of shown.state key ≡ o → IfSome o (IsPersistent shown.state) → found_of o ≡ one_word word → IsKeyRead shown held key (Some (Owned (term_of_word word)))
-word_read shown held key word None p sound e = absurd (cc)
-word_read shown held key word (Some q) p sound e = record {
-  shows = ap Some (word_in shown.state q.term q.area word sound.area sound.sound.fits e) ∙ ap (option_map (λ r. persistent_value r.term r.area)) (sym p);
-  usable = tt;
-}
+word_read : (shown : Shown) (held : Holds) (key word : ℕ) (o : Option PlainValue) → shown.reads.key key ≡ o → IsKeyValue shown o → found_of o ≡ one_word word → IsKeyRead shown held key (Some (Owned (term_of_word word)))
+word_read shown held key word None p is e = absurd (cc)
+word_read shown held key word (Some (literal serial term)) p is e = absurd (cc)
+word_read shown held key word (Some (owned term)) p is e =
+    let k : immediate_word term ≡ word = cc in
+    record { shows = ap (λ t. Some (owned t)) (word_back is.plain word is.immediate (sym k ∙ ap immediate_word is.is) is.fits ∙ sym is.is) ∙ sym p; usable = tt }
 
 -- the area of a complex term has its image
-area_words : (shown : Shown) (serial : ℕ) (t : PlainTerm) → IsLawful shown → term_of_area shown.state serial ≡ Some t → shown.words serial ≡ image_of t
-area_words shown serial t lawful e = rw e at (lawful.terms serial)
-
-term_literal : (shown : Shown) (area : AreaRef) (t : PlainTerm) → IsLawful shown → IsShortTerm t → term_of_area shown.state area.serial ≡ Some t → IsLiteral shown (record { area = area; at = 0 })
-term_literal shown area t lawful short e = record {
-  term = t;
-  image = subst (λ words. IsImageAt words 0 t) (sym (area_words shown area.serial t lawful e)) (stands_alone t short.fits short.short);
-  readable = λ i l. inr (rw e (omega (arith, length-image t)));
+term_literal : (shown : Shown) (area : AreaRef) (term : Term) → IsTermIn shown area.serial term → IsLiteral shown (record { area = area; at = 0 })
+term_literal shown area term is = record {
+  term = is.plain;
+  image = subst (λ words. IsImageAt words 0 is.plain) (sym is.image) (stands_alone is.plain is.sound.fits is.sound.short);
+  readable = λ i l. record { within = omega (arith, length-image is.plain, ap length is.image); no_entry = inl is.area };
 }
 
--- a complex term that a key holds
-record IsAreaOf (s : ServerState) (t : PlainTerm) (area : Option ℕ) (serial : ℕ) : Type 0 where
-  is : area ≡ Some serial
-  has : term_of_area s serial ≡ Some t
-
-area_in : (s : ServerState) (t : PlainTerm) (area : Option ℕ) (serial : ℕ) → HasItsArea s t area → found_in t area ≡ whole_area serial → IsAreaOf s t area serial
-area_in s t None serial has e = absurd (cc)
-area_in s t (Some n) serial has e = let k : n ≡ serial = cc in record { is = ap Some k; has = subst (λ m. term_of_area s m ≡ Some t) k has }
-
-area_read : (shown : Shown) (held : Holds) (key : ℕ) (area : AreaRef) (o : Option Persistent) → IsLawful shown → persistent_of shown.state key ≡ o → IfSome o (IsPersistent shown.state) → found_of o ≡ whole_area area.serial →
+area_read : (shown : Shown) (held : Holds) (key : ℕ) (area : AreaRef) (o : Option PlainValue) → shown.reads.key key ≡ o → IsKeyValue shown o → found_of o ≡ whole_area area.serial →
     IsKeyRead shown held key (Some (Literal (record { area = area; at = 0 })))
-unfolding term_literal
-area_read shown held key area None lawful p sound e = absurd (cc)
-area_read shown held key area (Some q) lawful p sound e =
-    let a = area_in shown.state q.term q.area area.serial sound.area e in
-    let l = term_literal shown area q.term lawful sound.sound a.has in
+area_read shown held key area None p is e = absurd (cc)
+area_read shown held key area (Some (owned term)) p is e = absurd (cc)
+area_read shown held key area (Some (literal serial term)) p is e =
+    let k : serial ≡ area.serial = cc in
+    let here : IsTermIn shown area.serial term = subst (λ n. IsTermIn shown n term) k is in
+    let image : IsImageAt (shown.words area.serial) 0 here.plain = subst (λ words. IsImageAt words 0 here.plain) (sym here.image) (stands_alone here.plain here.sound.fits here.sound.short) in
     record {
       shows =
-          ap (λ t. Some (literal area.serial (term_of t))) (term_at-is (shown.words area.serial) 0 q.term l.image)
-          ∙ ap (λ b. Some (persistent_value q.term b)) (sym a.is) ∙ ap (option_map (λ r. persistent_value r.term r.area)) (sym p);
-      usable = (l, inr (inl (key, ap (λ r. option_and_then (λ x. x.area) r) p ∙ a.is)));
+          ap (λ t. Some (literal area.serial (term_of t))) (term_at-is (shown.words area.serial) 0 here.plain image)
+          ∙ ap (λ t. Some (literal area.serial t)) (sym here.is) ∙ ap (λ n. Some (literal n term)) (sym k) ∙ sym p;
+      usable = (term_literal shown area term here, inr (inl (key, ap (option_and_then area_of) p ∙ ap Some k)));
     }
 
 -- what the view finds under a key is read as the turn says
-pub key_read : (shown : Shown) (held : Holds) (key : ℕ) (found : Found) → IsLawful shown → found_as found ≡ key_found shown.state key → IsKeyRead shown held key (found_value found)
-key_read shown held key Absent lawful e = absent_read shown held key (persistent_of shown.state key) refl (sym e)
-key_read shown held key (Word word) lawful e = word_read shown held key word (persistent_of shown.state key) refl (lawful.sound.keys key) (sym e)
-key_read shown held key (Area area) lawful e = area_read shown held key area (persistent_of shown.state key) lawful refl (lawful.sound.keys key) (sym e)
+pub key_read : (shown : Shown) (held : Holds) (key : ℕ) (found : Found) → IsLawful shown → found_as found ≡ found_of (shown.reads.key key) → IsKeyRead shown held key (found_value found)
+key_read shown held key Absent lawful e = absent_read shown held key (shown.reads.key key) refl (sym e)
+key_read shown held key (Word word) lawful e = word_read shown held key word (shown.reads.key key) refl (lawful.keys key) (sym e)
+key_read shown held key (Area area) lawful e = area_read shown held key area (shown.reads.key key) refl (lawful.keys key) (sym e)
 
 -- the answer of a look into a register
 pub register_read : (r : Result Value NoMemory) (f : Frame) (source : Source) (register : ℕ) → source ≡ Register register → IfOk r (λ value. value ≡ unwrap_or (slice_get f.registers register) no_held) →

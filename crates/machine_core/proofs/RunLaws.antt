@@ -1,6 +1,5 @@
 -- What each step keeps, a run and a turn keep: a law on turns is then one on steps, on a pause and on an end.
 use Rattle.std.proofs.Common.{◌≡◌, ◌==◌, ℕ, zero, suc, refl, Bool, true, false, List, [], ◌++◌, Option, Some, None}
-use Rattle.server_core.specs.ServerState.{ServerState}
 use Rattle.machine_core.specs.declared.process.End.{End}
 use Rattle.machine_core.specs.declared.process.End.TheVariants.{Killed, SystemLimit}
 use Rattle.machine_core.specs.declared.process.Line.{Line}
@@ -8,8 +7,9 @@ use Rattle.machine_core.specs.declared.process.TheConstants.{MOST_TURNS, TURN_IN
 use Rattle.machine_core.specs.Holds.{Holds}
 use Rattle.machine_core.specs.Process.{PlainFrame, PlainProcess, frame_names, names_of}
 use Rattle.machine_core.specs.Turn.{Ran, Step, after_step, begun, copied, doomed_serial, ended_with, ends, goes_on, paused, ran_of, ran_unless_doomed, run_of, step_of, yields}
+use Rattle.machine_core.specs.Reads.{Reads}
 
-module _ (s : ServerState) (Stands : List PlainFrame → Holds → Type 0) (IsEnd : End → Type 0) (Leaves : Ran → Type 0) where
+module _ (s : Reads) (Stands : List PlainFrame → Holds → Type 0) (IsEnd : End → Type 0) (Leaves : Ran → Type 0) where
   -- a step leaves what stands so, or an end that may be
   abbrev pub KeepsSo : Holds → Step → Type 0
   KeepsSo held (goes_on frames now line) = Stands frames now

@@ -2,7 +2,6 @@
 use Rattle.std.proofs.Common.{◌≡◌, ◌<◌, ◌+◌, ◌-◌, ℕ, zero, suc, refl, arith, ap, sym, ◌∙◌, subst, List, [], ◌++◌, append_assoc, Result, Ok, Err, IfOk}
 use Rattle.std.proofs.lemmas.List.{append-nil}
 use Rattle.term_core.specs.declared.no_memory.NoMemory.{NoMemory}
-use Rattle.server_core.specs.ServerState.{ServerState, IsSound}
 use Rattle.machine_core.specs.declared.process.Line.{Line}
 use Rattle.machine_core.specs.declared.process.End.{End}
 use Rattle.machine_core.specs.declared.process.TurnEnd.{TurnEnd}
@@ -10,7 +9,8 @@ use Rattle.machine_core.specs.Holds.{Holds}
 use Rattle.machine_core.specs.Process.{PlainFrame}
 use Rattle.machine_core.specs.Turn.{Step, goes_on, yields, ends, Ran, after_step, ended_with, paused, run_of, step_of}
 use Rattle.machine_core.specs.Stand.{AreStanding, runs, pauses, over, stand_after}
-use Rattle.machine_core.proofs.Placing.{Keeps, step_keeps}
+use Rattle.machine_core.proofs.Placing.{Keeps, KeepsStanding}
+use Rattle.machine_core.specs.Reads.{Reads}
 
 -- a run, its lines behind those that stood
 abbrev pub with_lines : List Line → Ran → Ran
@@ -40,7 +40,7 @@ pub after_on : (rest : List PlainFrame → Holds → List Line → Ran) (held no
     stand_after held made step ≡ runs frames now lines → after_step rest held made step ≡ rest frames now lines
 after_on = after_runs
 
-module _ (s : ServerState) where
+module _ (s : Reads) where
   run_on : (n : ℕ) (before frames : List PlainFrame) (held now : Holds) (made lines : List Line) → stand_after held made (step_of s before held) ≡ runs frames now lines →
       run_of s (suc n) before held made ≡ run_of s n frames now lines
   unfolding run_of
@@ -94,13 +94,13 @@ module _ (s : ServerState) where
       let f : before ≡ frames = cc in let h : held ≡ now = cc in subst (λ fs. AreStanding s now fs) f (subst (λ (x : Holds). AreStanding s x before) h k)
   standing_pauses held now made (ends end) frames lines k e = absurd (cc)
 
-  pub standing_on : (held now : Holds) (made : List Line) (before frames : List PlainFrame) (lines : List Line) → IsSound s → AreStanding s held before →
+  pub standing_on : (held now : Holds) (made : List Line) (before frames : List PlainFrame) (lines : List Line) → KeepsStanding s → AreStanding s held before →
       stand_after held made (step_of s before held) ≡ runs frames now lines → AreStanding s now frames
-  standing_on held now made before frames lines sound h e = standing_runs held now made (step_of s before held) frames lines (step_keeps s held before sound h) e
+  standing_on held now made before frames lines keeps h e = standing_runs held now made (step_of s before held) frames lines (keeps.step held before h) e
 
-  pub standing_paused : (held now : Holds) (made : List Line) (before frames : List PlainFrame) (lines : List Line) → IsSound s → AreStanding s held before →
+  pub standing_paused : (held now : Holds) (made : List Line) (before frames : List PlainFrame) (lines : List Line) → KeepsStanding s → AreStanding s held before →
       stand_after held made (step_of s before held) ≡ pauses frames now lines → AreStanding s now frames
-  standing_paused held now made before frames lines sound h e = standing_pauses held now made (step_of s before held) frames lines (step_keeps s held before sound h) e
+  standing_paused held now made before frames lines keeps h e = standing_pauses held now made (step_of s before held) frames lines (keeps.step held before h) e
 
   after_with : (n : ℕ) (before made : List Line) (held : Holds) (step : Step) →
       ((frames : List PlainFrame) (held : Holds) (made : List Line) → run_of s n frames held (before ++ made) ≡ with_lines before (run_of s n frames held made)) →
@@ -118,10 +118,6 @@ module _ (s : ServerState) where
   pub after_behind : (n : ℕ) (before : List Line) (held : Holds) (step : Step) → after_step (run_of s n) held before step ≡ with_lines before (after_step (run_of s n) held [] step)
   after_behind n before held step =
       ap (λ lines. after_step (run_of s n) held lines step) (sym (append-nil before)) ∙ after_with n before [] held step (λ frames held made. run_with n frames held before made)
-
-  -- the lines of a run stand behind those that stood
-  pub run_behind : (n : ℕ) (frames : List PlainFrame) (held : Holds) (before : List Line) → run_of s n frames held before ≡ with_lines before (run_of s n frames held [])
-  run_behind n frames held before = ap (run_of s n frames held) (sym (append-nil before)) ∙ run_with n frames held before []
 
 -- a turn that pauses here gives what is left of it
 pub paused_ok : (r : Result TurnEnd NoMemory) (whole : Ran) (frames after : List PlainFrame) (now : Holds) (lines : List Line) →

@@ -12,47 +12,44 @@ use Rattle.mod_core.specs.declared.code.Operand.TheVariants.{Reg, Const}
 use Rattle.mod_core.specs.declared.code.Instr.{Instr}
 use Rattle.mod_core.specs.declared.code.Instr.TheVariants as instrs
 use Rattle.mod_core.specs.ModuleImage.{instr_len}
-use Rattle.server_core.specs.ServerState.{ServerState, Entry, Persistent, current_of, dispatch_of, key_area, persistent_of}
+use Rattle.server_core.specs.ServerState.{Entry}
 use Rattle.machine_core.specs.declared.process.End.{End}
 use Rattle.machine_core.specs.declared.process.Line.{Line}
 use Rattle.machine_core.specs.declared.process.TheConstants.{MOST_FRAMES}
-use Rattle.machine_core.specs.Holds.{Holds, IsKeyArea, MayHold, is_among, is_full, with_hold}
+use Rattle.machine_core.specs.Holds.{Holds, is_among, is_full, with_hold}
 use Rattle.machine_core.specs.Process.{PlainFrame, PlainValue, arguments_at, first_registers, literal, owned, owned_values, register_of, register_serials}
-use Rattle.machine_core.specs.Turn.{Step, branched, called, called_by_name, called_out, computed, difference_of, element_at, element_of, ends, executed, frame_at, goes_on, held_with, integer_of, is_same, key_value, less_of, moved_past, operand_term, part_value, parts_of, persistent_value, put_found, put_value, returned, stacked, stored, sum_of, term_of, tested, trace_of, value_of, with_register, yields}
-use Rattle.machine_core.specs.View.{HasFunction}
+use Rattle.machine_core.specs.Turn.{Step, branched, called, called_by_name, called_out, computed, difference_of, element_at, element_of, ends, executed, frame_at, goes_on, held_with, integer_of, is_same, less_of, moved_past, operand_term, part_value, parts_of, put_found, put_value, returned, stacked, stored, sum_of, term_of, tested, trace_of, value_of, with_register, yields}
 use Rattle.machine_core.proofs.Calling.{dispatch_reaches}
 use Rattle.machine_core.proofs.NamedAreas.{HasArea, all_first, registers_within}
 use Rattle.machine_core.proofs.OwnEnds.{IsOwnEnd, IsOwnFault, difference_own, less_own, sum_own}
-
--- the instance is the current code of some module
-abbrev pub IsCurrent : ServerState → ℕ → Type 0
-IsCurrent s serial = (name : ℕ) × (current_of s name ≡ Some serial)
+use Rattle.machine_core.specs.Reach.{IsKeyArea}
+use Rattle.machine_core.specs.Reads.{IsCurrent, Reads, area_of, dispatched}
 
 -- the area of one of a frame's literals
 abbrev pub IsRegisterArea : PlainFrame → ℕ → Type 0
 IsRegisterArea f serial = IsTrue (is_among (register_serials f.registers) serial)
 
 -- an area with a term that may come into a register: that of one of the frame's literals, the frame's instance, or a key's
-abbrev pub IsAtHand : ServerState → PlainFrame → ℕ → Type 0
+abbrev pub IsAtHand : Reads → PlainFrame → ℕ → Type 0
 IsAtHand s f serial = IsRegisterArea f serial ⊎ ((serial ≡ f.serial) ⊎ IsKeyArea s serial)
 
 -- a function is entered on these frames, or the process ends
-pub data IsCalled (s : ServerState) (standing : List PlainFrame) (held : Holds) (e : Entry) (back : ℕ) (registers : List PlainValue) : Step → Type 0 where
+pub data IsCalled (s : Reads) (standing : List PlainFrame) (held : Holds) (e : Entry) (back : ℕ) (registers : List PlainValue) : Step → Type 0 where
   call_refused : (end : End) → IsOwnEnd end → IsCalled s standing held e back registers (ends end)
   call_stacks : (line : List Line) → is_full held e.serial ≡ false → IsCalled s standing held e back registers (goes_on (frame_at s e back registers ∷ standing) (with_hold held e.serial Frame) line)
 
 -- the same of a name: it reaches no function, or one of a current instance
-pub data IsCalledOut (s : ServerState) (standing : List PlainFrame) (held : Holds) (back : ℕ) (registers : List PlainValue) : Step → Type 0 where
+pub data IsCalledOut (s : Reads) (standing : List PlainFrame) (held : Holds) (back : ℕ) (registers : List PlainValue) : Step → Type 0 where
   out_refused : (end : End) → IsOwnEnd end → IsCalledOut s standing held back registers (ends end)
-  out_reaches : (e : Entry) (step : Step) → IsCurrent s e.serial → HasFunction s e → IsCalled s standing held e back registers step → IsCalledOut s standing held back registers step
+  out_reaches : (e : Entry) (step : Step) → IsCurrent s e.serial → (to : Mfa) → dispatched s to ≡ Some e → IsCalled s standing held e back registers step → IsCalledOut s standing held back registers step
 
 -- a value from these areas comes into a register, where its own area can be held
-pub record Fetched (s : ServerState) (f : PlainFrame) (held now : Holds) (value : PlainValue) : Type 0 where
+pub record Fetched (s : Reads) (f : PlainFrame) (held now : Holds) (value : PlainValue) : Type 0 where
   pub at_hand : HasArea (IsAtHand s f) value
   pub holds : held_with held value ≡ Some now
 
 -- what an instruction of a frame on others comes to
-pub data Came (s : ServerState) (f : PlainFrame) (below : List PlainFrame) (held : Holds) : Step → Type 0 where
+pub data Came (s : Reads) (f : PlainFrame) (below : List PlainFrame) (held : Holds) : Step → Type 0 where
   it_ends : (end : End) → IsOwnEnd end → Came s f below held (ends end)
   it_pauses : (place : ℕ) → Came s f below held (yields (record f { place = place } ∷ below))
   it_moves : (place : ℕ) (line : List Line) → Came s f below held (goes_on (record f { place = place } ∷ below) held line)
@@ -65,7 +62,7 @@ pub data Came (s : ServerState) (f : PlainFrame) (below : List PlainFrame) (held
   it_calls_out : (place back : ℕ) (registers : List PlainValue) (step : Step) → All (HasArea (IsRegisterArea f)) registers →
       IsCalledOut s (record f { place = place } ∷ below) held back registers step → Came s f below held step
 
-module _ (s : ServerState) where
+module _ (s : Reads) where
   called_case : (frames : List PlainFrame) (held : Holds) (e : Entry) (back : ℕ) (registers : List PlainValue) (line : List Line) (b c : Bool) → is_full held e.serial ≡ c →
       IsCalled s frames held e back registers (stacked frames held e.serial line (if b then None else if c then None else Some (frame_at s e back registers)))
   called_case frames held e back registers line true c full = call_refused _ tt
@@ -76,20 +73,14 @@ module _ (s : ServerState) where
   pub called_is : (frames : List PlainFrame) (held : Holds) (e : Entry) (to : Mfa) (back : ℕ) (args : List PlainValue) → IsCalled s frames held e back (first_registers args) (called s frames held e to back args)
   called_is frames held e to back args = called_case frames held e back (first_registers args) (trace_of s e to args) (nat_le MOST_FRAMES (length frames)) (is_full held e.serial) refl
 
-  reached_current : (serial : ℕ) → MayHold s (record { frames = []; literals = [] }) serial Frame → IsCurrent s serial
-  reached_current serial (inl h) = absurd (cc)
-  reached_current serial (inr h) = h
-
-  by_name_case : (frames : List PlainFrame) (held : Holds) (to : Mfa) (back : ℕ) (args : List PlainValue) (o : Option Entry) → dispatch_of s to ≡ o →
+  by_name_case : (frames : List PlainFrame) (held : Holds) (to : Mfa) (back : ℕ) (args : List PlainValue) (o : Option Entry) → dispatched s to ≡ o →
       IsCalledOut s frames held back (first_registers args) (called_by_name s frames held to back args o)
   by_name_case frames held to back args None d = out_refused _ tt
-  by_name_case frames held to back args (Some e) d =
-      let reached = dispatch_reaches s to e d in
-      out_reaches e _ (reached_current e.serial (reached.may_hold (record { frames = []; literals = [] }))) reached.known (called_is frames held e to back args)
+  by_name_case frames held to back args (Some e) d = out_reaches e _ (dispatch_reaches s to e d).current to d (called_is frames held e to back args)
 
   -- an external call
   pub called_out_is : (frames : List PlainFrame) (held : Holds) (to : Mfa) (back : ℕ) (args : List PlainValue) → IsCalledOut s frames held back (first_registers args) (called_out s frames held to back args)
-  called_out_is frames held to back args = by_name_case frames held to back args (dispatch_of s to) refl
+  called_out_is frames held to back args = by_name_case frames held to back args (dispatched s to) refl
 
 module _ (Area : ℕ → Type 0) where
   -- a constant's area
@@ -118,7 +109,7 @@ module _ (Area : ℕ → Type 0) where
   pub owned_area : (args : List PlainTerm) → All (HasArea Area) (first_registers (owned_values args))
   owned_area args = all_first (HasArea Area) (owned_values args) tt (owned_all args)
 
-module _ (s : ServerState) (f : PlainFrame) where
+module _ (s : Reads) (f : PlainFrame) where
   register_kept : (n : ℕ) → is_among (register_serials f.registers) n ≡ true → IsAtHand s f n
   register_kept n h = inl h
 
@@ -135,13 +126,10 @@ module _ (s : ServerState) (f : PlainFrame) where
   AreAtHand None = Unit {0}
   AreAtHand (Some value) = HasArea (IsAtHand s f) value
 
-  persistent_at_hand : (key : ℕ) (term : PlainTerm) (area : Option ℕ) → key_area s key ≡ area → HasArea (IsAtHand s f) (persistent_value term area)
-  persistent_at_hand key term None e = tt
-  persistent_at_hand key term (Some serial) e = inr (inr (key, e))
-
-  key_at_hand : (key : ℕ) (o : Option Persistent) → persistent_of s key ≡ o → AreAtHand (option_map (λ p. persistent_value p.term p.area) o)
+  key_at_hand : (key : ℕ) (o : Option PlainValue) → s.key key ≡ o → AreAtHand o
   key_at_hand key None e = tt
-  key_at_hand key (Some p) e = persistent_at_hand key p.term p.area (ap (option_and_then (λ p. p.area)) e)
+  key_at_hand key (Some (owned term)) e = tt
+  key_at_hand key (Some (literal serial term)) e = inr (inr (key, ap (option_and_then area_of) e))
 
   other_at_hand : (o : Option PlainValue) (other : PlainValue) → AreAtHand o → HasArea (IsAtHand s f) other → HasArea (IsAtHand s f) (unwrap_or o other)
   other_at_hand None other h g = g
@@ -151,7 +139,7 @@ module _ (s : ServerState) (f : PlainFrame) where
   element_at_hand value None h = tt
   element_at_hand value (Some part) h = part_area (IsAtHand s f) value part h
 
-module _ (s : ServerState) (f : PlainFrame) (below : List PlainFrame) (held : Holds) where
+module _ (s : Reads) (f : PlainFrame) (below : List PlainFrame) (held : Holds) where
   computed_came : (i : Instr) (to : ℕ) (r : Result Term End) → IsOwnFault r → Came s f below held (computed f below held i to r)
   computed_came i to (Ok term) h = it_stores (f.place + instr_len i) to (owned term) held (record { at_hand = tt; holds = refl })
   computed_came i to (Err end) h = it_ends end h
@@ -198,9 +186,9 @@ module _ (s : ServerState) (f : PlainFrame) (below : List PlainFrame) (held : Ho
   came (instrs.CallExt to at) =
       it_calls_out (f.place + instr_len (instrs.CallExt to at)) at _ _ (arguments_from s f at to.arity) (called_out_is s (moved_past f (instrs.CallExt to at) ∷ below) held to at _)
   came (instrs.Ret value) = returned_came below f.back (value_of f value) refl (operand_at_hand s f value)
-  came (instrs.Pget key to) = found_came (instrs.Pget key to) to (key_value s key.0) (key_at_hand s f key.0 (persistent_of s key.0) refl)
+  came (instrs.Pget key to) = found_came (instrs.Pget key to) to (s.key key.0) (key_at_hand s f key.0 (s.key key.0) refl)
   came (instrs.PgetOr key other to) =
-      put_came (instrs.PgetOr key other to) to _ (other_at_hand s f (key_value s key.0) (value_of f other) (key_at_hand s f key.0 (persistent_of s key.0) refl) (operand_at_hand s f other))
+      put_came (instrs.PgetOr key other to) to _ (other_at_hand s f (s.key key.0) (value_of f other) (key_at_hand s f key.0 (s.key key.0) refl) (operand_at_hand s f other))
   came (instrs.Elem index from to) =
       found_came (instrs.Elem index from to) to (element_of (operand_term f index) (value_of f from))
       (element_at_hand s f (value_of f from) (element_at (parts_of (term_of (value_of f from))) (integer_of (operand_term f index))) (operand_at_hand s f from))

@@ -1,63 +1,57 @@
 -- That what a part of the machine says of an instruction is what is asked of the whole.
-use Rattle.std.proofs.Common.{◌≡◌, ◌∙◌, ◌+◌, ℕ, refl, sym, ap, subst, All, List, [], ◌∷◌, ◌++◌, length, map, slice_get, slice_set, Option, Some, None, IsSomeAnd, Result, Ok, Err, IfOk, OnOk, inl}
-use Rattle.std.proofs.lemmas.Option.{slice_get_within}
+use Rattle.std.proofs.Common.{◌≡◌, ◌∙◌, ◌+◌, ℕ, sym, ap, subst, All, List, [], ◌∷◌, ◌++◌, slice_set, Some, Result, Ok, Err, IfOk, OnOk, inl}
 use Rattle.std.proofs.lemmas.List.Elements.{All-cons, All-head, All-nil, All-tail}
 use Rattle.term_core.specs.declared.atom.Mfa.{Mfa}
 use Rattle.term_core.specs.declared.no_memory.NoMemory.{NoMemory}
-use Rattle.mod_core.specs.declared.code.Function.{Function}
 use Rattle.mod_core.specs.declared.code.Instr.{Instr}
 use Rattle.mod_core.specs.declared.code.Instr.TheVariants as instrs
-use Rattle.mod_core.specs.declared.code.Module.{Module}
-use Rattle.mod_core.specs.Module.{IsCallPlace, IsInstr}
-use Rattle.mod_core.specs.ModuleImage.{function_place, place_in, placed}
-use Rattle.mod_core.proofs.Places.{numbered}
-use Rattle.server_core.specs.ServerState.{ServerState, Entry, IsSound, code_of, dispatch_of}
+use Rattle.server_core.specs.ServerState.{Entry}
 use Rattle.machine_core.specs.declared.op.Op.{Op}
-use Rattle.machine_core.specs.declared.op.Source.{Source}
 use Rattle.machine_core.specs.declared.outcome.Outcome.{Outcome}
 use Rattle.machine_core.specs.declared.process.Frame.{Frame as CodeFrame}
 use Rattle.machine_core.specs.declared.process.Line.{Line}
 use Rattle.machine_core.specs.declared.process.Value.{Value}
 use Rattle.machine_core.specs.declared.process.Value.TheVariants.{Owned, Literal}
-use Rattle.machine_core.specs.Decode.{instr_shown, operand_shown}
+use Rattle.machine_core.specs.Decode.{instr_shown}
 use Rattle.machine_core.specs.Holds.{Holds}
-use Rattle.machine_core.specs.View.{AreValues, HasFunction, HasValues, IsValue, Shown}
-use Rattle.machine_core.specs.Process.{PlainFrame, PlainValue, Words, arguments_at, frame_of, frames_of, value_shown, values_shown}
-use Rattle.machine_core.specs.Turn.{IsPlaced, called, called_by_name, called_out, called_within, executed, held_with, instr_at, mfa_of, moved_past, returned, stored, value_of}
+use Rattle.machine_core.specs.View.{AreValues, HasValues, IsLawful, IsValue, Shown}
+use Rattle.machine_core.specs.Process.{PlainFrame, PlainValue, arguments_at, frame_of, frames_of, value_shown, values_shown}
+use Rattle.machine_core.specs.Turn.{IsPlaced, called, called_by_name, executed, held_with, returned, stored}
 use Rattle.machine_core.specs.Stand.{AreReady, ComesTo, HasCallee, IsReadyFrame, IsUsable, IsValueHeld, Stand, stand_after, stand_of}
 use Rattle.machine_core.proofs.CodeNames.{frames_of-push}
-use Rattle.machine_core.proofs.Fetching.{IsNext, is_instr, is_next}
+use Rattle.machine_core.proofs.Placing.{MayCall, next_calls}
+use Rattle.machine_core.specs.Reads.{Reads, dispatched, instr_at, mfa_of}
 
 -- ---- instructions
 
 -- of an instruction that the topmost frame and the holds alone show
 pub comes_to : (r : Result Outcome NoMemory) (shown : Shown) (held now : Holds) (top after : CodeFrame) (op other : Op) (below : List PlainFrame) (made : List Line) → other ≡ op →
     IfOk r (λ o. ComesTo shown held top op o after now) →
-    IfOk r (λ o. stand_after held made (executed shown.state (frame_of shown.words top) below held (instr_shown (shown.words top.code.area.serial) other)) ≡ stand_of o (frame_of shown.words after ∷ below) now made)
-comes_to (Ok o) shown held now top after op other below made e h = ap (λ p. stand_after held made (executed shown.state (frame_of shown.words top) below held (instr_shown (shown.words top.code.area.serial) p))) e ∙ h below made
+    IfOk r (λ o. stand_after held made (executed shown.reads (frame_of shown.words top) below held (instr_shown (shown.words top.code.area.serial) other)) ≡ stand_of o (frame_of shown.words after ∷ below) now made)
+comes_to (Ok o) shown held now top after op other below made e h = ap (λ p. stand_after held made (executed shown.reads (frame_of shown.words top) below held (instr_shown (shown.words top.code.area.serial) p))) e ∙ h below made
 comes_to (Err refused) shown held now top after op other below made e h = tt
 
 -- of one that holds what was held
 pub comes_still : (r : Result Outcome NoMemory) (shown : Shown) (held now : Holds) (top after : CodeFrame) (op other : Op) (below : List PlainFrame) (made : List Line) → other ≡ op → now ≡ held →
     IfOk r (λ o. ComesTo shown held top op o after held) →
-    IfOk r (λ o. stand_after held made (executed shown.state (frame_of shown.words top) below held (instr_shown (shown.words top.code.area.serial) other)) ≡ stand_of o (frame_of shown.words after ∷ below) now made)
+    IfOk r (λ o. stand_after held made (executed shown.reads (frame_of shown.words top) below held (instr_shown (shown.words top.code.area.serial) other)) ≡ stand_of o (frame_of shown.words after ∷ below) now made)
 comes_still (Ok o) shown held now top after op other below made e n h =
-    ap (λ p. stand_after held made (executed shown.state (frame_of shown.words top) below held (instr_shown (shown.words top.code.area.serial) p))) e ∙ h below made ∙ ap (λ k. stand_of o (frame_of shown.words after ∷ below) k made) (sym n)
+    ap (λ p. stand_after held made (executed shown.reads (frame_of shown.words top) below held (instr_shown (shown.words top.code.area.serial) p))) e ∙ h below made ∙ ap (λ k. stand_of o (frame_of shown.words after ∷ below) k made) (sym n)
 comes_still (Err refused) shown held now top after op other below made e n h = tt
 
 -- of the same instruction
 pub comes_same : (r : Result Outcome NoMemory) (shown : Shown) (held : Holds) (top : CodeFrame) (op other : Op) (below : List PlainFrame) (made : List Line) (stand : Outcome → Stand) → other ≡ op →
-    IfOk r (λ o. stand_after held made (executed shown.state (frame_of shown.words top) below held (instr_shown (shown.words top.code.area.serial) op)) ≡ stand o) →
-    IfOk r (λ o. stand_after held made (executed shown.state (frame_of shown.words top) below held (instr_shown (shown.words top.code.area.serial) other)) ≡ stand o)
-comes_same (Ok o) shown held top op other below made stand e h = ap (λ p. stand_after held made (executed shown.state (frame_of shown.words top) below held (instr_shown (shown.words top.code.area.serial) p))) e ∙ h
+    IfOk r (λ o. stand_after held made (executed shown.reads (frame_of shown.words top) below held (instr_shown (shown.words top.code.area.serial) op)) ≡ stand o) →
+    IfOk r (λ o. stand_after held made (executed shown.reads (frame_of shown.words top) below held (instr_shown (shown.words top.code.area.serial) other)) ≡ stand o)
+comes_same (Ok o) shown held top op other below made stand e h = ap (λ p. stand_after held made (executed shown.reads (frame_of shown.words top) below held (instr_shown (shown.words top.code.area.serial) p))) e ∙ h
 comes_same (Err refused) shown held top op other below made stand e h = tt
 
 -- of one that makes a line
 pub comes_printed : (r : Result Outcome NoMemory) (shown : Shown) (held now : Holds) (top after : CodeFrame) (op other : Op) (below : List PlainFrame) (made lines : List Line) → other ≡ op → now ≡ held →
-    IfOk r (λ o. stand_after held made (executed shown.state (frame_of shown.words top) below held (instr_shown (shown.words top.code.area.serial) op)) ≡ stand_of o (frame_of shown.words after ∷ below) held lines) →
-    IfOk r (λ o. stand_after held made (executed shown.state (frame_of shown.words top) below held (instr_shown (shown.words top.code.area.serial) other)) ≡ stand_of o (frame_of shown.words after ∷ below) now lines)
+    IfOk r (λ o. stand_after held made (executed shown.reads (frame_of shown.words top) below held (instr_shown (shown.words top.code.area.serial) op)) ≡ stand_of o (frame_of shown.words after ∷ below) held lines) →
+    IfOk r (λ o. stand_after held made (executed shown.reads (frame_of shown.words top) below held (instr_shown (shown.words top.code.area.serial) other)) ≡ stand_of o (frame_of shown.words after ∷ below) now lines)
 comes_printed (Ok o) shown held now top after op other below made lines e n h =
-    ap (λ p. stand_after held made (executed shown.state (frame_of shown.words top) below held (instr_shown (shown.words top.code.area.serial) p))) e ∙ h ∙ ap (λ k. stand_of o (frame_of shown.words after ∷ below) k lines) (sym n)
+    ap (λ p. stand_after held made (executed shown.reads (frame_of shown.words top) below held (instr_shown (shown.words top.code.area.serial) p))) e ∙ h ∙ ap (λ k. stand_of o (frame_of shown.words after ∷ below) k lines) (sym n)
 comes_printed (Err refused) shown held now top after op other below made lines e n h = tt
 
 -- what holds anyway holds of an answer
@@ -68,12 +62,12 @@ on_any (Err e) P h = tt
 -- an instruction that was read from a view, which shows and holds what it did
 pub executes_read : (r : Result Outcome NoMemory) (shown seen : Shown) (held still now : Holds) (top after : CodeFrame) (below left : List CodeFrame) (op : Op) (i : Instr) (made lines : List Line) → seen ≡ shown → still ≡ held →
     instr_shown (shown.words top.code.area.serial) op ≡ i →
-    IfOk r (λ o. stand_after still made (executed seen.state (frame_of seen.words top) (frames_of seen.words below) still (instr_shown (seen.words top.code.area.serial) op)) ≡ stand_of o (frame_of seen.words after ∷ frames_of seen.words left) now lines) →
-    IfOk r (λ o. stand_after held made (executed shown.state (frame_of shown.words top) (frames_of shown.words below) held i) ≡ stand_of o (frame_of shown.words after ∷ frames_of shown.words left) now lines)
+    IfOk r (λ o. stand_after still made (executed seen.reads (frame_of seen.words top) (frames_of seen.words below) still (instr_shown (seen.words top.code.area.serial) op)) ≡ stand_of o (frame_of seen.words after ∷ frames_of seen.words left) now lines) →
+    IfOk r (λ o. stand_after held made (executed shown.reads (frame_of shown.words top) (frames_of shown.words below) held i) ≡ stand_of o (frame_of shown.words after ∷ frames_of shown.words left) now lines)
 executes_read (Ok o) shown seen held still now top after below left op i made lines s h e is =
-    ap (λ j. stand_after held made (executed shown.state (frame_of shown.words top) (frames_of shown.words below) held j)) (sym e)
-    ∙ subst (λ (v : Shown). stand_after held made (executed v.state (frame_of v.words top) (frames_of v.words below) held (instr_shown (v.words top.code.area.serial) op)) ≡ stand_of o (frame_of v.words after ∷ frames_of v.words left) now lines) s
-    (subst (λ (k : Holds). stand_after k made (executed seen.state (frame_of seen.words top) (frames_of seen.words below) k (instr_shown (seen.words top.code.area.serial) op)) ≡ stand_of o (frame_of seen.words after ∷ frames_of seen.words left) now lines) h is)
+    ap (λ j. stand_after held made (executed shown.reads (frame_of shown.words top) (frames_of shown.words below) held j)) (sym e)
+    ∙ subst (λ (v : Shown). stand_after held made (executed v.reads (frame_of v.words top) (frames_of v.words below) held (instr_shown (v.words top.code.area.serial) op)) ≡ stand_of o (frame_of v.words after ∷ frames_of v.words left) now lines) s
+    (subst (λ (k : Holds). stand_after k made (executed seen.reads (frame_of seen.words top) (frames_of seen.words below) k (instr_shown (seen.words top.code.area.serial) op)) ≡ stand_of o (frame_of seen.words after ∷ frames_of seen.words left) now lines) h is)
 executes_read (Err refused) shown seen held still now top after below left op i made lines s h e is = tt
 
 -- ---- calls
@@ -81,7 +75,7 @@ executes_read (Err refused) shown seen held still now top after below left op i 
 -- what a call that was made of a function leaves
 abbrev pub Calls : Shown → Holds → CodeFrame → List CodeFrame → Entry → Mfa → ℕ → Result Outcome NoMemory → (Shown → Outcome → Stand) → List Line → Type 0
 Calls shown held top below e to at r stand made =
-    IfOk r (λ o. stand_after held made (called shown.state (record (frame_of shown.words top) { place = top.place + 3 } ∷ frames_of shown.words below) held e to at (arguments_at (values_shown shown.words top.registers) at to.arity)) ≡ stand shown o)
+    IfOk r (λ o. stand_after held made (called shown.reads (record (frame_of shown.words top) { place = top.place + 3 } ∷ frames_of shown.words below) held e to at (arguments_at (values_shown shown.words top.registers) at to.arity)) ≡ stand shown o)
 
 calls_seen : (r : Result Outcome NoMemory) (shown seen : Shown) (held still : Holds) (top : CodeFrame) (below : List CodeFrame) (e : Entry) (to : Mfa) (at : ℕ) (stand : Shown → Outcome → Stand) (made : List Line) → seen ≡ shown → still ≡ held →
     Calls seen still top below e to at r stand made → Calls shown held top below e to at r stand made
@@ -90,19 +84,19 @@ calls_seen r shown seen held still top below e to at stand made s h is =
 
 -- an external call
 pub called_outside : (r : Result Outcome NoMemory) (shown seen : Shown) (held still : Holds) (top : CodeFrame) (below : List CodeFrame) (e : Entry) (to : Mfa) (at : ℕ) (stand : Shown → Outcome → Stand) (made : List Line) → seen ≡ shown → still ≡ held →
-    Some e ≡ dispatch_of shown.state to → Calls seen still top below e to at r stand made →
-    IfOk r (λ o. stand_after held made (executed shown.state (frame_of shown.words top) (frames_of shown.words below) held (instrs.CallExt to at)) ≡ stand shown o)
+    Some e ≡ dispatched shown.reads to → Calls seen still top below e to at r stand made →
+    IfOk r (λ o. stand_after held made (executed shown.reads (frame_of shown.words top) (frames_of shown.words below) held (instrs.CallExt to at)) ≡ stand shown o)
 called_outside (Ok o) shown seen held still top below e to at stand made s h d is =
-    ap (λ x. stand_after held made (called_by_name shown.state (record (frame_of shown.words top) { place = top.place + 3 } ∷ frames_of shown.words below) held to at (arguments_at (values_shown shown.words top.registers) at to.arity) x)) (sym d)
+    ap (λ x. stand_after held made (called_by_name shown.reads (record (frame_of shown.words top) { place = top.place + 3 } ∷ frames_of shown.words below) held to at (arguments_at (values_shown shown.words top.registers) at to.arity) x)) (sym d)
     ∙ calls_seen (Ok o) shown seen held still top below e to at stand made s h is
 called_outside (Err refused) shown seen held still top below e to at stand made s h d is = tt
 
 -- a local one
 pub called_inside : (r : Result Outcome NoMemory) (shown seen : Shown) (held still : Holds) (top : CodeFrame) (below : List CodeFrame) (function : ℕ) (to : Mfa) (at : ℕ) (stand : Shown → Outcome → Stand) (made : List Line) → seen ≡ shown → still ≡ held →
-    to ≡ mfa_of shown.state (record { serial = top.code.area.serial; function = function }) → Calls seen still top below (record { serial = top.code.area.serial; function = function }) to at r stand made →
-    IfOk r (λ o. stand_after held made (executed shown.state (frame_of shown.words top) (frames_of shown.words below) held (instrs.Call function at)) ≡ stand shown o)
+    to ≡ mfa_of shown.reads (record { serial = top.code.area.serial; function = function }) → Calls seen still top below (record { serial = top.code.area.serial; function = function }) to at r stand made →
+    IfOk r (λ o. stand_after held made (executed shown.reads (frame_of shown.words top) (frames_of shown.words below) held (instrs.Call function at)) ≡ stand shown o)
 called_inside (Ok o) shown seen held still top below function to at stand made s h d is =
-    ap (λ (t : Mfa). stand_after held made (called shown.state (record (frame_of shown.words top) { place = top.place + 3 } ∷ frames_of shown.words below) held (record { serial = top.code.area.serial; function = function }) t at (arguments_at (values_shown shown.words top.registers) at t.arity))) (sym d)
+    ap (λ (t : Mfa). stand_after held made (called shown.reads (record (frame_of shown.words top) { place = top.place + 3 } ∷ frames_of shown.words below) held (record { serial = top.code.area.serial; function = function }) t at (arguments_at (values_shown shown.words top.registers) at t.arity))) (sym d)
     ∙ calls_seen (Ok o) shown seen held still top below (record { serial = top.code.area.serial; function = function }) to at stand made s h is
 called_inside (Err refused) shown seen held still top below function to at stand made s h d is = tt
 
@@ -148,36 +142,14 @@ top_ready shown seen held still top below s h ready =
 
 -- ---- local calls
 
-callee_in : (s : ServerState) (serial function at : ℕ) (m : Module) (o : Option Function) → code_of s serial ≡ Some m → slice_get m.functions function ≡ o →
-    IsSomeAnd o (λ g. IsCallPlace at g.arity) → HasFunction s (record { serial = serial; function = function })
-callee_in s serial function at m None c e h = absurd h
-callee_in s serial function at m (Some g) c e h = rw c (slice_get_within m.functions function g e)
-
 -- where a local call goes, there is a function
-callee_of : (s : ServerState) (f : PlainFrame) (m : Module) (len : ℕ) (place : ℕ → ℕ) (i : Instr) → code_of s f.serial ≡ Some m → IsInstr m.functions len i → HasCallee s f (placed place i)
-callee_of s f m len place (instrs.Call function at) c h = callee_in s f.serial function at m (slice_get m.functions function) c refl h
-callee_of s f m len place (instrs.Move from to) c h = tt
-callee_of s f m len place (instrs.Add a b to) c h = tt
-callee_of s f m len place (instrs.Sub a b to) c h = tt
-callee_of s f m len place (instrs.Eq a b target) c h = tt
-callee_of s f m len place (instrs.Less a b target) c h = tt
-callee_of s f m len place (instrs.Jump target) c h = tt
-callee_of s f m len place (instrs.CallExt to at) c h = tt
-callee_of s f m len place (instrs.Ret value) c h = tt
-callee_of s f m len place (instrs.Pget key to) c h = tt
-callee_of s f m len place (instrs.PgetOr key other to) c h = tt
-callee_of s f m len place (instrs.Elem index from to) c h = tt
-callee_of s f m len place (instrs.Print value) c h = tt
-callee_of s f m len place instrs.Yield c h = tt
-
-callee_next : (s : ServerState) (f : PlainFrame) (n : IsNext s f) → HasCallee s f (instr_at s f)
-callee_next s f n =
-    subst (HasCallee s f) (sym n.instr)
-    (callee_of s f n.m (length n.function.code) (place_in (function_place n.m f.function) n.function.code) (numbered n.function.code n.number) n.loaded (is_instr s f n))
+callee_of : (r : Reads) (f : PlainFrame) (i : Instr) → MayCall r f i → HasCallee r f i
+callee_of r f (instrs.Call function at) h = h.0
+callee_of r f i h = tt
 
 -- the same of the instruction that was read
-pub callee_read : (shown seen : Shown) (top : CodeFrame) (op : Op) → IsSound shown.state → IsPlaced shown.state (frame_of shown.words top) → seen ≡ shown → instr_shown (shown.words top.code.area.serial) op ≡ instr_at shown.state (frame_of shown.words top) →
-    HasCallee seen.state (frame_of seen.words top) (instr_shown (seen.words top.code.area.serial) op)
-callee_read shown seen top op sound p s e =
-    subst (λ (v : Shown). HasCallee v.state (frame_of v.words top) (instr_shown (v.words top.code.area.serial) op)) (sym s)
-    (subst (HasCallee shown.state (frame_of shown.words top)) (sym e) (callee_next shown.state (frame_of shown.words top) (is_next shown.state (frame_of shown.words top) sound p)))
+pub callee_read : (shown seen : Shown) (top : CodeFrame) (op : Op) → IsLawful shown → IsPlaced shown.reads (frame_of shown.words top) → seen ≡ shown → instr_shown (shown.words top.code.area.serial) op ≡ instr_at shown.reads (frame_of shown.words top) →
+    HasCallee seen.reads (frame_of seen.words top) (instr_shown (seen.words top.code.area.serial) op)
+callee_read shown seen top op lawful p s e =
+    subst (λ (v : Shown). HasCallee v.reads (frame_of v.words top) (instr_shown (v.words top.code.area.serial) op)) (sym s)
+    (subst (HasCallee shown.reads (frame_of shown.words top)) (sym e) (callee_of shown.reads (frame_of shown.words top) (instr_at shown.reads (frame_of shown.words top)) (next_calls shown (frame_of shown.words top) lawful p)))

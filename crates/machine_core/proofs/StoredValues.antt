@@ -1,5 +1,5 @@
 -- What a value that comes into a register leaves, and that a frame's values stay values.
-use Rattle.std.proofs.Common.{◌≡◌, ◌∙◌, ◌+◌, ℕ, zero, suc, refl, sym, ap, Bool, true, false, List, [], ◌∷◌, ◌++◌, length, map, slice_set, Option, Some, None, Result, Ok, Err, IfOk, if◌then◌else◌}
+use Rattle.std.proofs.Common.{◌≡◌, ◌∙◌, ◌+◌, ℕ, zero, suc, refl, sym, ap, Bool, true, false, List, [], ◌∷◌, ◌++◌, slice_set, Option, Some, None, Result, Ok, Err, IfOk, if◌then◌else◌}
 use Rattle.std.proofs.lemmas.List.{append-nil}
 use Rattle.std.proofs.Common.{subst, option_map, unwrap_or}
 use Rattle.term_core.specs.declared.no_memory.NoMemory.{NoMemory}
@@ -17,7 +17,7 @@ use Rattle.machine_core.specs.Decode.{instr_shown, operand_shown}
 use Rattle.machine_core.specs.Holds.{Holds}
 use Rattle.machine_core.specs.Process.{PlainFrame, PlainValue, Words, frame_of, value_shown, values_shown}
 use Rattle.machine_core.specs.Stand.{ComesTo, IsReadyFrame, IsSource, IsValueOf, over, runs, stand_after, stand_of, stored_found}
-use Rattle.machine_core.specs.Turn.{Step, element_of, executed, held_with, key_value, put_found, stored, value_of}
+use Rattle.machine_core.specs.Turn.{Step, element_of, executed, held_with, put_found, stored, value_of}
 use Rattle.machine_core.specs.View.{Shown}
 
 -- a register of the code's that is set is one that is set
@@ -52,7 +52,7 @@ StoresFound shown held top len to value r after now = (below : List PlainFrame) 
 
 -- an instruction comes to what its step does
 pub comes : (r : Result Outcome NoMemory) (shown : Shown) (held now : Holds) (top after : Frame) (op : Op) (step : List PlainFrame → Step) →
-    ((below : List PlainFrame) → executed shown.state (frame_of shown.words top) below held (instr_shown (shown.words top.code.area.serial) op) ≡ step below) →
+    ((below : List PlainFrame) → executed shown.reads (frame_of shown.words top) below held (instr_shown (shown.words top.code.area.serial) op) ≡ step below) →
     ((below : List PlainFrame) (made : List Line) → IfOk r (λ o. stand_after held made (step below) ≡ stand_of o (frame_of shown.words after ∷ below) now made)) →
     IfOk r (λ o. ComesTo shown held top op o after now)
 comes (Ok o) shown held now top after op step e h = λ below made. ap (stand_after held made) (e below) ∙ h below made
@@ -60,7 +60,7 @@ comes (Err refused) shown held now top after op step e h = tt
 
 -- so does one that stores a value
 pub comes_stored : (r : Result Outcome NoMemory) (shown : Shown) (held now : Holds) (top after : Frame) (op : Op) (len to : ℕ) (value other : PlainValue) →
-    ((below : List PlainFrame) → executed shown.state (frame_of shown.words top) below held (instr_shown (shown.words top.code.area.serial) op)
+    ((below : List PlainFrame) → executed shown.reads (frame_of shown.words top) below held (instr_shown (shown.words top.code.area.serial) op)
     ≡ stored (record (frame_of shown.words top) { place = top.place + len; registers = slice_set (values_shown shown.words top.registers) to other }) below (held_with held other)) →
     value ≡ other → Stores shown held top len to value r after now → IfOk r (λ o. ComesTo shown held top op o after now)
 comes_stored r shown held now top after op len to value other e same h =
@@ -73,7 +73,7 @@ found_step f below held i to (Some value) = refl
 
 -- and one that stores what was found
 pub comes_found : (r : Result Outcome NoMemory) (shown : Shown) (held now : Holds) (top after : Frame) (op : Op) (i : Instr) (len to : ℕ) (value other : Option PlainValue) → instr_len i ≡ len →
-    ((below : List PlainFrame) → executed shown.state (frame_of shown.words top) below held (instr_shown (shown.words top.code.area.serial) op) ≡ put_found (frame_of shown.words top) below held i to other) →
+    ((below : List PlainFrame) → executed shown.reads (frame_of shown.words top) below held (instr_shown (shown.words top.code.area.serial) op) ≡ put_found (frame_of shown.words top) below held i to other) →
     value ≡ other → StoresFound shown held top len to value r after now → IfOk r (λ o. ComesTo shown held top op o after now)
 comes_found r shown held now top after op i len to value other l e same h =
     comes r shown held now top after op (λ below. stored_found (frame_of shown.words top) (top.place + len) to below held value)
@@ -100,9 +100,9 @@ stores_found r shown held now top after len to found value e h = subst (λ (o : 
 -- ---- what is read for it
 
 -- the other value where a key holds none
-pub key_or : (r : Result Value NoMemory) (shown : Shown) (held : Holds) (f : Frame) (other : Source) (key : ℕ) → None ≡ key_value shown.state key → IsReadyFrame shown held f → IsSource shown f.code.area other →
+pub key_or : (r : Result Value NoMemory) (shown : Shown) (held : Holds) (f : Frame) (other : Source) (key : ℕ) → None ≡ shown.reads.key key → IsReadyFrame shown held f → IsSource shown f.code.area other →
     IfOk r (λ value. (shown : Shown) (held : Holds) → IsReadyFrame shown held f → IsSource shown f.code.area other → IsValueOf shown held f other value) →
-    IfOk r (λ value. value_shown shown.words value ≡ unwrap_or (key_value shown.state key) (value_of (frame_of shown.words f) (operand_shown (shown.words f.code.area.serial) other)))
+    IfOk r (λ value. value_shown shown.words value ≡ unwrap_or (shown.reads.key key) (value_of (frame_of shown.words f) (operand_shown (shown.words f.code.area.serial) other)))
 key_or (Ok value) shown held f other key none ready is h = (h shown held ready is).shows ∙ ap (λ o. unwrap_or o (value_of (frame_of shown.words f) (operand_shown (shown.words f.code.area.serial) other))) none
 key_or (Err refused) shown held f other key none ready is h = tt
 

@@ -1,10 +1,12 @@
 -- What a turn keeps of its process, and how it counts. Runs over many turns cite these.
-use Rattle.std.proofs.Common.{◌≡◌, ◌+◌, ◌==◌, ℕ, ap, arith, refl, subst, sym, Bool, true, false, List, [], ◌∷◌, length, map}
+use Rattle.std.proofs.Common.{◌≡◌, ◌∙◌, ◌<◌, ◌+◌, ◌==◌, ℕ, ap, arith, refl, subst, sym, Bool, true, false, List, [], ◌∷◌, length, map, Option, Some, None, option_map, unwrap_or}
 use Rattle.std.proofs.lemmas.List.{length-map, length-reverse}
 use Rattle.std.proofs.lemmas.List.Elements.{All-nil}
 use Rattle.term_core.specs.declared.atom.Mfa.{Mfa}
 use Rattle.term_core.specs.PlainTerm.{PlainTerm}
-use Rattle.server_core.specs.ServerState.{ServerState, IsSound}
+use Rattle.mod_core.specs.declared.code.Module.{Module}
+use Rattle.mod_core.specs.ModuleImage.{function_place, return_ok}
+use Rattle.server_core.specs.ServerState.{ServerState, code_of}
 use Rattle.machine_core.specs.declared.process.End.{End}
 use Rattle.machine_core.specs.declared.process.End.TheVariants.{SystemLimit}
 use Rattle.machine_core.specs.declared.process.Frame.{Frame}
@@ -14,14 +16,12 @@ use Rattle.machine_core.specs.declared.process.TurnEnd.TheVariants.{Ended}
 use Rattle.machine_core.specs.Holds.{Holds}
 use Rattle.machine_core.specs.Process.{HasNotEnded, PlainFrame, PlainProcess, Words, frame_names, frame_of, frames_of, names_of, new_process, process_of}
 use Rattle.machine_core.specs.View.{AreValues, HasValues, Shown, server_words, shown_of}
-use Rattle.machine_core.specs.Turn.{ArePlaced, IsPlaced, MayTurn, Ran, Step, goes_on, yields, ends, begun, copied, counted, ended_with, ran_of, step_of, turn_of}
-use Rattle.machine_core.specs.Stand.{AreStanding}
-use Rattle.machine_core.proofs.CopiedFrames.{copied_placed}
+use Rattle.machine_core.specs.Turn.{ArePlaced, IsPlaceIn, IsPlaced, MayTurn, Ran, Step, goes_on, yields, ends, begun, copied, ended_with, ran_of, step_of, turn_by, turn_of}
 use Rattle.machine_core.proofs.LaterWords.{HasAreas, frames_later, process_later, values_later}
-use Rattle.machine_core.proofs.NamedAreas.{names_held}
-use Rattle.machine_core.proofs.Placing.{Keeps, begun_keeps, step_keeps}
 use Rattle.machine_core.proofs.RunLaws.{IsKept, KeepsSo, ran_kept}
 use Rattle.machine_core.proofs.Turns.{counted_below, is_below}
+use Rattle.machine_core.specs.Reads.{Reads}
+use Rattle.machine_core.specs.ServerReads.{functions_of, module_instr, reads_of}
 pub use Rattle.machine_core.proofs.LaterWords.{HasInstances}
 
 -- one process is the other after some turns: its number, its target and its arguments are the same
@@ -30,33 +30,26 @@ pub record IsSameProcess (before after : PlainProcess) : Type 0 where
   pub target : after.target ≡ before.target
   pub args : after.args ≡ before.args
 
-same_counted : (s : ServerState) (p : PlainProcess) (b : Bool) → (p.turns == MOST_TURNS) ≡ b → IsSameProcess p (turn_of s p).process
+same_counted : (s : Reads) (p : PlainProcess) (b : Bool) → (p.turns == MOST_TURNS) ≡ b → IsSameProcess p (turn_by s p).process
 same_counted s p true e = rw e (record { number = refl; target = refl; args = refl })
 same_counted s p false e = rw e (record { number = refl; target = refl; args = refl })
 
 -- a turn keeps number, target and arguments
-pub turn_same : (s : ServerState) (p : PlainProcess) → IsSameProcess p (turn_of s p).process
-turn_same s p = same_counted s p (p.turns == MOST_TURNS) refl
+pub turn_same_by : (s : Reads) (p : PlainProcess) → IsSameProcess p (turn_by s p).process
+turn_same_by s p = same_counted s p (p.turns == MOST_TURNS) refl
 
 -- below the limit a turn counts
-pub turn_counts : (s : ServerState) (p : PlainProcess) → (p.turns ≡ MOST_TURNS → ⊥) → (turn_of s p).process.turns ≡ p.turns + 1
-turn_counts s p h = ap (λ q. q.turns) (counted_below s p (is_below p.turns h))
+pub turn_counts_by : (s : Reads) (p : PlainProcess) → (p.turns ≡ MOST_TURNS → ⊥) → (turn_by s p).process.turns ≡ p.turns + 1
+turn_counts_by s p h = ap (λ q. q.turns) (counted_below s p (is_below p.turns h))
 
 is_limit : (p : PlainProcess) → p.turns ≡ MOST_TURNS → (p.turns == MOST_TURNS) ≡ true
 is_limit p e = rw e
 
-counted_at : (p : PlainProcess) → (p.turns == MOST_TURNS) ≡ true → counted p ≡ p
-counted_at p e = rw e
-
-ran_at : (s : ServerState) (p : PlainProcess) → (p.turns == MOST_TURNS) ≡ true → ran_of s p ≡ ended_with (names_of p) [] SystemLimit
+ran_at : (s : Reads) (p : PlainProcess) → (p.turns == MOST_TURNS) ≡ true → ran_of s p ≡ ended_with (names_of p) [] SystemLimit
 ran_at s p e = rw e
 
--- at the limit the process ends, and the turn does not count
-pub limit_counts : (s : ServerState) (p : PlainProcess) → p.turns ≡ MOST_TURNS → (turn_of s p).process.turns ≡ p.turns
-limit_counts s p e = ap (λ q. q.turns) (counted_at p (is_limit p e))
-
-pub limit_ends : (s : ServerState) (p : PlainProcess) → p.turns ≡ MOST_TURNS → (turn_of s p).end ≡ Ended SystemLimit
-limit_ends s p e = ap (λ ran. ran.end) (ran_at s p (is_limit p e))
+pub limit_ends_by : (s : Reads) (p : PlainProcess) → p.turns ≡ MOST_TURNS → (turn_by s p).end ≡ Ended SystemLimit
+limit_ends_by s p e = ap (λ ran. ran.end) (ran_at s p (is_limit p e))
 
 none_reversed : (fs : List Frame) (words : Words) → frames_of words fs ≡ [] → fs ≡ []
 none_reversed [] words e = refl
@@ -69,15 +62,30 @@ may_turn_new shown p number target args e =
     record {
       going = λ _. ap (λ q. q.turns) e;
       names = refl;
-      placed = subst (ArePlaced shown.state) (sym none) tt;
+      placed = subst (ArePlaced shown.reads) (sym none) tt;
       values = subst (AreValues shown) (sym (none_reversed p.frames shown.words none)) (All-nil (HasValues shown));
     }
 
-placed_later : (before after : ServerState) (f : PlainFrame) → HasInstances before after → IsPlaced before f → IsPlaced after f
-placed_later before after f h p = record { m = p.m; number = p.number; loaded = h f.serial p.m p.loaded; known = p.known; within = p.within; at = p.at; back = p.back }
+-- a function of a module that may be none is one of its functions
+abbrev IsCounted : ℕ → Option Module → Type 0
+IsCounted function o = function < unwrap_or (option_map (λ m. length m.functions) o) 0
+
+-- a place of such a function
+abbrev IsPlaceOf : ℕ → ℕ → Option Module → Type 0
+IsPlaceOf function place o =
+    IsPlaceIn (unwrap_or (option_map (λ m. function_place m function) o) 0) (λ at. unwrap_or (option_map (λ m. module_instr m function at) o) return_ok) place
+
+placed_case : (before after : ServerState) (f : PlainFrame) (o : Option Module) → code_of before f.serial ≡ o → HasInstances before after → IsPlaced (reads_of before) f → IsPlaced (reads_of after) f
+placed_case before after f None c h p = let none : functions_of before f.serial ≡ 0 = rw c refl in absurd (omega (arith, p.known))
+placed_case before after f (Some m) c h p =
+    let same : code_of before f.serial ≡ code_of after f.serial = c ∙ sym (h f.serial m c) in
+    record { known = subst (IsCounted f.function) same p.known; at = subst (IsPlaceOf f.function f.place) same p.at; back = p.back }
+
+placed_later : (before after : ServerState) (f : PlainFrame) → HasInstances before after → IsPlaced (reads_of before) f → IsPlaced (reads_of after) f
+placed_later before after f h p = placed_case before after f (code_of before f.serial) refl h p
 
 -- frames stand at instructions where these instances are still
-pub all_later : (before after : ServerState) (frames : List PlainFrame) → HasInstances before after → ArePlaced before frames → ArePlaced after frames
+pub all_later : (before after : ServerState) (frames : List PlainFrame) → HasInstances before after → ArePlaced (reads_of before) frames → ArePlaced (reads_of after) frames
 all_later before after [] h ps = tt
 all_later before after (f ∷ below) h ps = (placed_later before after f h ps.0, all_later before after below h ps.1)
 
@@ -88,58 +96,39 @@ may_turn_later before after held now p has e ready =
     record {
       going = subst HasNotEnded (sym (process_later before after has.words p ready.values)) ready.going;
       names = e;
-      placed = subst (ArePlaced after) (sym same) (all_later before after (frames_of (server_words before) p.frames) has.instances ready.placed);
+      placed = subst (ArePlaced (reads_of after)) (sym same) (all_later before after (frames_of (server_words before) p.frames) has.instances ready.placed);
       values = values_later before after has p.frames ready.values;
     }
-
-module _ (s : ServerState) where
-  StandsSo : List PlainFrame → Holds → Type 0
-  StandsSo frames held = AreStanding s held frames
-
-  PlacesSo : Ran → Type 0
-  PlacesSo ran = ArePlaced s ran.frames
-
-  keeps_so : (held : Holds) (step : Step) → Keeps s held step → KeepsSo s StandsSo (λ _. Unit {0}) PlacesSo held step
-  unfolding StandsSo Keeps
-  keeps_so held (goes_on frames now line) k = k
-  keeps_so held (yields frames) k = k
-  keeps_so held (ends end) k = tt
-
-  places_kept : IsSound s → IsKept s StandsSo (λ _. Unit {0}) PlacesSo
-  unfolding StandsSo PlacesSo
-  places_kept sound = record {
-    step = λ frames held h. keeps_so held (step_of s frames held) (step_keeps s held frames sound h);
-    pause = λ frames held made h. h.placed;
-    end = λ held made end h. tt;
-  }
-
-  -- a turn leaves each frame at an instruction
-  pub turn_placed : (p : PlainProcess) → IsSound s → ArePlaced s p.frames → ArePlaced s (turn_of s p).process.frames
-  unfolding PlacesSo
-  turn_placed p sound h =
-      let frames = copied s p.frames in
-      ran_kept s StandsSo (λ _. Unit {0}) PlacesSo p (places_kept sound)
-      (keeps_so (frame_names frames) (begun s p.target p.args (frame_names frames) frames) (begun_keeps s p.target p.args (frame_names frames) frames (copied_placed s p.frames h) (names_held frames))) (λ serial t d. tt) tt
-
-  -- so is a process that has had no turn
-  pub new_placed : (number : ℕ) (target : Mfa) (args : List PlainTerm) → ArePlaced s (new_process number target args).frames
-  new_placed number target args = tt
 
 FramesEnd : Ran → Type 0
 FramesEnd ran = (end : End) → ran.end ≡ Ended end → ran.frames ≡ []
 
-any_step : (s : ServerState) (held : Holds) (step : Step) → KeepsSo s (λ _ _. Unit {0}) (λ _. Unit {0}) FramesEnd held step
+any_step : (s : Reads) (held : Holds) (step : Step) → KeepsSo s (λ _ _. Unit {0}) (λ _. Unit {0}) FramesEnd held step
 any_step s held (goes_on frames now line) = tt
 any_step s held (yields frames) = tt
 any_step s held (ends end) = tt
 
-end_kept : (s : ServerState) → IsKept s (λ _ _. Unit {0}) (λ _. Unit {0}) FramesEnd
+end_kept : (s : Reads) → IsKept s (λ _ _. Unit {0}) (λ _. Unit {0}) FramesEnd
 unfolding FramesEnd
 end_kept s = record { step = λ frames held h. any_step s held (step_of s frames held); pause = λ frames held made h end e. absurd (cc); end = λ held made end h last e. refl }
 
 -- a turn that ends the process leaves no frame
-pub turn_ended : (s : ServerState) (p : PlainProcess) (end : End) → (turn_of s p).end ≡ Ended end → (turn_of s p).process.frames ≡ []
+pub turn_ended_by : (s : Reads) (p : PlainProcess) (end : End) → (turn_by s p).end ≡ Ended end → (turn_by s p).process.frames ≡ []
 unfolding FramesEnd
-turn_ended s p end e =
+turn_ended_by s p end e =
     let frames = copied s p.frames in
     ran_kept s (λ _ _. Unit {0}) (λ _. Unit {0}) FramesEnd p (end_kept s) (any_step s (frame_names frames) (begun s p.target p.args (frame_names frames) frames)) (λ serial t d last f. refl) (λ last f. refl) end e
+
+-- ---- the same under a state of the server
+
+pub turn_same : (s : ServerState) (p : PlainProcess) → IsSameProcess p (turn_of s p).process
+turn_same s p = turn_same_by (reads_of s) p
+
+pub turn_counts : (s : ServerState) (p : PlainProcess) → (p.turns ≡ MOST_TURNS → ⊥) → (turn_of s p).process.turns ≡ p.turns + 1
+turn_counts s p h = turn_counts_by (reads_of s) p h
+
+pub limit_ends : (s : ServerState) (p : PlainProcess) → p.turns ≡ MOST_TURNS → (turn_of s p).end ≡ Ended SystemLimit
+limit_ends s p e = limit_ends_by (reads_of s) p e
+
+pub turn_ended : (s : ServerState) (p : PlainProcess) (end : End) → (turn_of s p).end ≡ Ended end → (turn_of s p).process.frames ≡ []
+turn_ended s p end e = turn_ended_by (reads_of s) p end e

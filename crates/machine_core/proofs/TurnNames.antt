@@ -2,24 +2,27 @@
 use Rattle.std.proofs.Common.{◌≡◌, ◌⊎◌, ◌∙◌, ℕ, refl, sym, inl, inr, subst, Bool, true, false, All, List, [], ◌∷◌, IsTrue}
 use Rattle.std.proofs.lemmas.List.Elements.{All-set}
 use Rattle.term_core.specs.declared.hold.Kind.TheVariants.{Frame, Literal}
-use Rattle.server_core.specs.ServerState.{ServerState, Entry, IsDropped, is_retired}
-use Rattle.machine_core.specs.Holds.{Holds, IsKeyArea, is_held}
+use Rattle.server_core.specs.ServerState.{Entry, IsDropped, ServerState, is_retired}
+use Rattle.machine_core.specs.Holds.{Holds, is_held}
 use Rattle.machine_core.specs.Process.{PlainFrame, PlainProcess, PlainValue, first_registers, frame_names, literal, literal_serials, names_of, owned, owned_values}
-use Rattle.machine_core.specs.Turn.{Ran, Step, begun, copied, executed, instr_at, step_of, turn_of}
+use Rattle.machine_core.specs.Turn.{Ran, Step, begun, copied, executed, step_of, turn_by, turn_of}
 use Rattle.machine_core.proofs.CopiedFrames.{IsKeptArea, copied_within}
 use Rattle.machine_core.proofs.NamedAreas.{AreWithin, HasArea, instance_serials, instance_within, literal_within, register_area, frames_within, within_wider}
 use Rattle.machine_core.proofs.RunLaws.{IsKept, KeepsSo, ran_kept}
 use Rattle.machine_core.proofs.SerialLists.{among-serials_of}
 use Rattle.machine_core.proofs.StepCases.{Came, it_calls, it_calls_out, it_ends, it_moves, it_pauses, it_returns, it_stores, IsAtHand, IsCalled, call_refused, call_stacks, IsCalledOut, out_reaches, out_refused, IsRegisterArea, called_out_is, came, owned_area}
-pub use Rattle.machine_core.proofs.StepCases.{IsCurrent}
+use Rattle.machine_core.specs.Reach.{IsKeyArea}
+use Rattle.machine_core.specs.Reads.{IsCurrent, Reads, instr_at}
+use Rattle.machine_core.specs.ServerReads.{reads_of}
+use Rattle.machine_core.proofs.StateReads.{key_area-read}
 
 -- what takes in all that a turn may newly name: current instances, the areas of keys, and those of its own instances
-pub record TakesIn (s : ServerState) (Instance Area : ℕ → Type 0) : Type 0 where
+pub record TakesIn (s : Reads) (Instance Area : ℕ → Type 0) : Type 0 where
   pub current : (n : ℕ) → IsCurrent s n → Instance n
   pub key : (n : ℕ) → IsKeyArea s n → Area n
   pub constant : (n : ℕ) → Instance n → Area n
 
-module _ (s : ServerState) (Instance Area : ℕ → Type 0) where
+module _ (s : Reads) (Instance Area : ℕ → Type 0) where
   StaysWithin : List PlainFrame → Holds → Type 0
   StaysWithin frames held = AreWithin Instance Area frames
 
@@ -38,7 +41,7 @@ module _ (s : ServerState) (Instance Area : ℕ → Type 0) where
   called_out_within : (standing : List PlainFrame) (held : Holds) (back : ℕ) (registers : List PlainValue) (step : Step) → TakesIn s Instance Area → All (HasArea Area) registers → AreWithin Instance Area standing →
       IsCalledOut s standing held back registers step → StepWithin held step
   called_out_within standing held back registers step takes r h (out_refused end own) = tt
-  called_out_within standing held back registers step takes r h (out_reaches e same current known called) = called_within standing held e back registers step (takes.current e.serial current) r h called
+  called_out_within standing held back registers step takes r h (out_reaches e same current to known called) = called_within standing held e back registers step (takes.current e.serial current) r h called
 
   module _ (takes : TakesIn s Instance Area) (f : PlainFrame) (i : Instance f.serial) (r : All (HasArea Area) f.registers) where
     at_hand_within : (n : ℕ) → IsAtHand s f n → Area n
@@ -82,31 +85,31 @@ module _ (s : ServerState) (Instance Area : ℕ → Type 0) where
   within_kept takes = record { step = λ frames held h. step_within frames held takes h; pause = λ frames held made h. h; end = λ held made end h. tt }
 
   -- what copied frames name and a turn may newly name takes in what the turn leaves named
-  pub turn_within : (p : PlainProcess) → TakesIn s Instance Area → AreWithin Instance Area (copied s p.frames) → AreWithin Instance Area (turn_of s p).process.frames
+  pub turn_within : (p : PlainProcess) → TakesIn s Instance Area → AreWithin Instance Area (copied s p.frames) → AreWithin Instance Area (turn_by s p).process.frames
   unfolding LeavesWithin
   turn_within p takes h =
       ran_kept s StaysWithin (λ _. Unit {0}) LeavesWithin p (within_kept takes) (begun_within p (frame_names (copied s p.frames)) (copied s p.frames) takes h) (λ serial t d. tt) tt
 
 -- an instance that a process names, or a current one
-abbrev pub IsFrom : ServerState → PlainProcess → ℕ → Type 0
+abbrev pub IsFrom : Reads → PlainProcess → ℕ → Type 0
 IsFrom s p serial = IsTrue (is_held (names_of p) serial Frame) ⊎ IsCurrent s serial
 
 -- an area that a process names for literals and that is not retired
-abbrev pub IsStillNamed : ServerState → PlainProcess → ℕ → Type 0
-IsStillNamed s p serial = IsTrue (is_held (names_of p) serial Literal) × (is_retired s serial ≡ false)
+abbrev pub IsStillNamed : Reads → PlainProcess → ℕ → Type 0
+IsStillNamed s p serial = IsTrue (is_held (names_of p) serial Literal) × (s.retired serial ≡ false)
 
 -- one of these areas, a key's, or an instance that frames name or that is current
-abbrev pub IsLiteralFrom : ServerState → PlainProcess → ℕ → Type 0
+abbrev pub IsLiteralFrom : Reads → PlainProcess → ℕ → Type 0
 IsLiteralFrom s p serial = IsStillNamed s p serial ⊎ (IsKeyArea s serial ⊎ IsFrom s p serial)
 
-module _ (s : ServerState) (p : PlainProcess) where
+module _ (s : Reads) (p : PlainProcess) where
   takes_names : TakesIn s (IsFrom s p) (IsLiteralFrom s p)
   takes_names = record { current = λ n h. inr h; key = λ n h. inr (inl h); constant = λ n h. inr (inr h) }
 
   abbrev IsNamed : ℕ → Type 0
   IsNamed n = IsTrue (is_held (names_of p) n Literal)
 
-  names_from : AreWithin (IsFrom s p) (IsLiteralFrom s p) (turn_of s p).process.frames
+  names_from : AreWithin (IsFrom s p) (IsLiteralFrom s p) (turn_by s p).process.frames
   names_from =
       turn_within s (IsFrom s p) (IsLiteralFrom s p) p takes_names
       (within_wider (IsFrom s p) (IsKeptArea s IsNamed) (IsLiteralFrom s p) (copied s p.frames) (λ n h. inl h)
@@ -114,15 +117,19 @@ module _ (s : ServerState) (p : PlainProcess) where
       (frames_within (IsFrom s p) IsNamed p.frames (λ n e. inl (among-serials_of (instance_serials p.frames) n ∙ e)) (λ n e. among-serials_of (literal_serials p.frames) n ∙ e))))
 
 -- after a turn a process names, for frames, instances that it named before or that are current
-pub turn_names : (s : ServerState) (p : PlainProcess) (serial : ℕ) → IsTrue (is_held (names_of (turn_of s p).process) serial Frame) → IsTrue (is_held (names_of p) serial Frame) ⊎ IsCurrent s serial
-turn_names s p serial h =
-    let after = (turn_of s p).process.frames in
+pub turn_names_by : (s : Reads) (p : PlainProcess) (serial : ℕ) → IsTrue (is_held (names_of (turn_by s p).process) serial Frame) → IsTrue (is_held (names_of p) serial Frame) ⊎ IsCurrent s serial
+turn_names_by s p serial h =
+    let after = (turn_by s p).process.frames in
     instance_within (IsFrom s p) (IsLiteralFrom s p) after serial (names_from s p) (sym (among-serials_of (instance_serials after) serial) ∙ h)
 
+-- the same under a state of the server
+pub turn_names : (s : ServerState) (p : PlainProcess) (serial : ℕ) → IsTrue (is_held (names_of (turn_of s p).process) serial Frame) → IsTrue (is_held (names_of p) serial Frame) ⊎ IsCurrent (reads_of s) serial
+turn_names s p serial h = turn_names_by (reads_of s) p serial h
+
 -- and for literals areas that it so named before and that are not retired, those of keys, and instances that its frames named before or that are current
-pub turn_names_literals : (s : ServerState) (p : PlainProcess) (serial : ℕ) → IsTrue (is_held (names_of (turn_of s p).process) serial Literal) → IsLiteralFrom s p serial
+pub turn_names_literals : (s : Reads) (p : PlainProcess) (serial : ℕ) → IsTrue (is_held (names_of (turn_by s p).process) serial Literal) → IsLiteralFrom s p serial
 turn_names_literals s p serial h =
-    let after = (turn_of s p).process.frames in
+    let after = (turn_by s p).process.frames in
     literal_within (IsFrom s p) (IsLiteralFrom s p) after serial (names_from s p) (sym (among-serials_of (literal_serials after) serial) ∙ h)
 
 -- an area is named in neither way
@@ -135,19 +142,19 @@ is_false true h = absurd (h refl)
 is_false false h = refl
 
 module _ (s : ServerState) (p : PlainProcess) (serial : ℕ) (dropped : IsDropped s serial) (unframed : is_held (names_of p) serial Frame ≡ false) where
-  not_from : IsFrom s p serial → ⊥
+  not_from : IsFrom (reads_of s) p serial → ⊥
   not_from (inl h) = absurd (cc)
   not_from (inr current) = dropped.not_current current.0 current.1
 
-  not_literal : (is_retired s serial ≡ true) ⊎ (is_held (names_of p) serial Literal ≡ false) → IsLiteralFrom s p serial → ⊥
+  not_literal : (is_retired s serial ≡ true) ⊎ (is_held (names_of p) serial Literal ≡ false) → IsLiteralFrom (reads_of s) p serial → ⊥
   not_literal (inl retired) (inl h) = let r = h.1 in absurd (cc)
   not_literal (inr unnamed) (inl h) = let n = h.0 in absurd (cc)
-  not_literal either (inr (inl key)) = dropped.not_held key.0 key.1
+  not_literal either (inr (inl key)) = dropped.not_held key.0 (sym (key_area-read s key.0) ∙ key.1)
   not_literal either (inr (inr from)) = not_from from
 
   -- a dropped area that no frame names, and which is retired or not named for literals, is named in neither way after a turn
   pub turn_unnames : (is_retired s serial ≡ true) ⊎ (is_held (names_of p) serial Literal ≡ false) → IsUnnamed (turn_of s p).process serial
   turn_unnames either = record {
     frames = is_false (is_held (names_of (turn_of s p).process) serial Frame) (λ h. not_from (turn_names s p serial h));
-    literals = is_false (is_held (names_of (turn_of s p).process) serial Literal) (λ h. not_literal either (turn_names_literals s p serial h));
+    literals = is_false (is_held (names_of (turn_of s p).process) serial Literal) (λ h. not_literal either (turn_names_literals (reads_of s) p serial h));
   }

@@ -1,11 +1,10 @@
 -- What a turn holds: areas by their serials, each for frames that run its code or for literals among its words.
 -- Source: this project's profile, after hazard pointers. Serials stand once and in increasing order, so that equal sets are equal lists.
-use Rattle.std.specs.Prelude.{◌≡◌, ℕ, ◌+◌, ◌<◌, ◌≤◌, Bool, not, ◌&&◌, ◌||◌, ◌==◌, nat_lt, nat_le, List, [], ◌∷◌, length, filter, IsTrue, Some, ◌⊎◌, if◌then◌else◌}
+use Rattle.std.specs.Prelude.{ℕ, ◌+◌, ◌<◌, ◌≤◌, Bool, not, ◌&&◌, ◌||◌, ◌==◌, nat_lt, nat_le, List, [], ◌∷◌, length, filter, if◌then◌else◌}
 use Rattle.std.specs.List.{list_any}
 use Rattle.term_core.specs.declared.hold.TheConstants.{MOST_AREAS}
 use Rattle.term_core.specs.declared.hold.Kind.{Kind}
 use Rattle.term_core.specs.declared.hold.Kind.TheVariants.{Frame, Literal}
-use Rattle.server_core.specs.ServerState.{ServerState, current_of, key_area}
 
 -- whether a serial is one of these
 abbrev pub is_among : List ℕ → ℕ → Bool
@@ -68,23 +67,6 @@ other_areas held serial =
 -- whether as many other areas are held as can be
 abbrev pub is_full : Holds → ℕ → Bool
 is_full held serial = nat_le MOST_AREAS (other_areas held serial)
-
--- a key holds the complex term with this area
-abbrev pub IsKeyArea : ServerState → ℕ → Type 0
-IsKeyArea s serial = (key : ℕ) × (key_area s key ≡ Some serial)
-
--- what a turn under a state may newly hold: current instances for frames, and for literals the areas of keys and the instances of frames
-abbrev pub Reach : ServerState → Holds → ℕ → Kind → Type 0
-Reach s held serial Frame = (name : ℕ) × (current_of s name ≡ Some serial)
-Reach s held serial Literal = IsKeyArea s serial ⊎ IsTrue (is_held held serial Frame)
-
--- what may be held: what is held already, and what may newly be
-abbrev pub MayHold : ServerState → Holds → ℕ → Kind → Type 0
-MayHold s held serial kind = IsTrue (is_held held serial kind) ⊎ Reach s held serial kind
-
--- an area may be held for frames or for literals, so that its words may be read
-abbrev pub MayRead : ServerState → Holds → ℕ → Type 0
-MayRead s held serial = MayHold s held serial Frame ⊎ MayHold s held serial Literal
 
 -- how many areas are held, in either way
 abbrev pub area_count : Holds → ℕ

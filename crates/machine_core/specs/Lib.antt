@@ -1,6 +1,9 @@
 pub mod Holds
 pub mod HoldKinds
 pub mod Process
+pub mod Reads
+pub mod ServerReads
+pub mod Reach
 pub mod View
 pub mod Decode
 pub mod Turn

@@ -6,7 +6,6 @@ use Rattle.term_core.specs.Image.{images_len, is_immediate, term_at}
 use Rattle.term_core.specs.Plain.{plain}
 use Rattle.mod_core.specs.declared.code.Instr.{Instr}
 use Rattle.mod_core.specs.declared.code.Instr.TheVariants.{Call}
-use Rattle.server_core.specs.ServerState.{ServerState}
 use Rattle.machine_core.specs.declared.process.End.{End}
 use Rattle.machine_core.specs.declared.process.End.TheVariants.{Badarg}
 use Rattle.machine_core.specs.declared.process.Frame.{Frame as CodeFrame}
@@ -15,17 +14,18 @@ use Rattle.machine_core.specs.declared.process.Value.TheVariants.{Owned, Literal
 use Rattle.machine_core.specs.declared.op.Source.{Source}
 use Rattle.machine_core.specs.declared.op.Source.TheVariants.{Register, Immediate, Constant}
 use Rattle.machine_core.specs.declared.op.Op.{Op}
-use Rattle.machine_core.specs.declared.op.Op.TheVariants as ops
-use Rattle.machine_core.specs.declared.op.Op.TheVariants.{Move, Add, Sub, Eq, Less, Jump, CallExt, Ret, Pget, PgetOr, Elem, Print, Yield}
+use Rattle.machine_core.specs.declared.op.Op.TheVariants.{Move, Add, Sub, Eq, Less, Ret, PgetOr, Elem, Print}
 use Rattle.machine_core.specs.declared.process.Line.{Line}
 use Rattle.machine_core.specs.declared.outcome.Outcome.{Outcome}
 use Rattle.machine_core.specs.declared.outcome.Outcome.TheVariants.{GoesOn, Yields, Ends}
 use Rattle.term_core.specs.declared.hold.Kind.TheVariants.{Frame as for_frames, Literal as for_literals}
-use Rattle.machine_core.specs.Holds.{Holds, MayHold, is_held}
+use Rattle.machine_core.specs.Holds.{Holds, is_held}
+use Rattle.machine_core.specs.Reach.{MayHold}
+use Rattle.machine_core.specs.Reads.{HasFunction, Reads}
 use Rattle.machine_core.specs.Decode.{instr_shown, operand_shown}
 use Rattle.machine_core.specs.Process.{PlainFrame, PlainValue, Words, frame_of, frames_of, literal, owned, value_shown}
 use Rattle.machine_core.specs.Turn.{ArePlaced, Step, goes_on, yields, ends, executed, held_with, stored, value_of}
-use Rattle.machine_core.specs.View.{AreValues, HasFunction, HasValues, IsLiteral, IsReadable, Shown}
+use Rattle.machine_core.specs.View.{AreValues, HasValues, IsLiteral, IsReadable, Shown}
 
 -- where a process stands, with what is held and the lines so far: it goes on, its turn ends, or it ended
 pub data Stand : Type 0 where
@@ -51,9 +51,9 @@ stand_entered words (Ok f) below held made = runs (frame_of words f ∷ below) h
 stand_entered words (Err end) below held made = over end held made
 
 -- where a local call goes, there is a function
-abbrev pub HasCallee : ServerState → PlainFrame → Instr → Type 0
-HasCallee s f (Call function at) = HasFunction s (record { serial = f.serial; function = function })
-HasCallee s f i = Unit {0}
+abbrev pub HasCallee : Reads → PlainFrame → Instr → Type 0
+HasCallee r f (Call function at) = HasFunction r (record { serial = f.serial; function = function })
+HasCallee r f i = Unit {0}
 
 -- the area of a literal is held for literals
 abbrev pub IsValueHeld : Holds → PlainValue → Type 0
@@ -66,9 +66,9 @@ AreHeld held [] = Unit {0}
 AreHeld held (f ∷ below) = IsTrue (is_held held f.serial for_frames) × All (IsValueHeld held) f.registers × AreHeld held below
 
 -- what a turn keeps of its frames: there are some, each stands at an instruction, and the areas that they name are held
-pub record AreStanding (s : ServerState) (held : Holds) (frames : List PlainFrame) : Type 0 where
+pub record AreStanding (r : Reads) (held : Holds) (frames : List PlainFrame) : Type 0 where
   pub some : frames ≡ [] → ⊥
-  pub placed : ArePlaced s frames
+  pub placed : ArePlaced r frames
   pub named : AreHeld held frames
 
 -- ---- what the code reads
@@ -76,7 +76,7 @@ pub record AreStanding (s : ServerState) (held : Holds) (frames : List PlainFram
 -- the machine may read a value and keep it in a register: it is a term, or a literal whose area may be held for literals
 abbrev pub IsUsable : Shown → Holds → Value → Type 0
 IsUsable shown held (Owned term) = Unit {0}
-IsUsable shown held (Literal at) = IsLiteral shown at × MayHold shown.state held at.area.serial for_literals
+IsUsable shown held (Literal at) = IsLiteral shown at × MayHold shown.reads held at.area.serial for_literals
 
 -- the place behind so many images that stand one behind another from a place on
 abbrev pub images_end : List ℕ → ℕ → ℕ → ℕ
@@ -86,7 +86,7 @@ images_end words at count = at + unwrap_or (images_len count (drop at words)) 0
 pub record AreImages (shown : Shown) (serial at count : ℕ) : Type 0 where
   pub len : ℕ
   pub is : images_len count (drop at (shown.words serial)) ≡ Some len
-  pub readable : (i : ℕ) → i < len → IsReadable shown.state serial (at + i)
+  pub readable : (i : ℕ) → i < len → IsReadable shown serial (at + i)
 
 -- whether a word is that of an integer or an atom
 abbrev pub is_immediate_word : ℕ → Bool
@@ -117,15 +117,11 @@ HasSources shown area (Add a b to) = IsSource shown area a × IsSource shown are
 HasSources shown area (Sub a b to) = IsSource shown area a × IsSource shown area b
 HasSources shown area (Eq a b target) = IsSource shown area a × IsSource shown area b
 HasSources shown area (Less a b target) = IsSource shown area a × IsSource shown area b
-HasSources shown area (Jump target) = Unit {0}
-HasSources shown area (ops.Call function at) = Unit {0}
-HasSources shown area (CallExt to at) = Unit {0}
 HasSources shown area (Ret value) = IsSource shown area value
-HasSources shown area (Pget key to) = Unit {0}
 HasSources shown area (PgetOr key other to) = IsSource shown area other
 HasSources shown area (Elem index from to) = IsSource shown area index × IsSource shown area from
 HasSources shown area (Print value) = IsSource shown area value
-HasSources shown area Yield = Unit {0}
+HasSources shown area op = Unit {0}
 
 -- a frame that stands in an instance which is held, and whose values the machine may read
 pub record IsReadyFrame (shown : Shown) (held : Holds) (f : CodeFrame) : Type 0 where
@@ -140,7 +136,7 @@ pub record IsValueOf (shown : Shown) (held : Holds) (f : CodeFrame) (source : So
 -- an instruction of the topmost frame comes to this, whatever stands below it
 abbrev pub ComesTo : Shown → Holds → CodeFrame → Op → Outcome → CodeFrame → Holds → Type 0
 ComesTo shown held top op outcome after now = (below : List PlainFrame) (made : List Line) →
-    stand_after held made (executed shown.state (frame_of shown.words top) below held (instr_shown (shown.words top.code.area.serial) op))
+    stand_after held made (executed shown.reads (frame_of shown.words top) below held (instr_shown (shown.words top.code.area.serial) op))
     ≡ stand_of outcome (frame_of shown.words after ∷ below) now made
 
 -- a frame at a place, a register of which gets the value that was found; or the end of the process
@@ -150,6 +146,6 @@ stored_found f place to below held (Some value) = stored (record f { place = pla
 
 -- what a turn keeps of the code's frames, the topmost taken out of the others
 pub record AreReady (shown : Shown) (held : Holds) (top : CodeFrame) (below : List CodeFrame) : Type 0 where
-  pub frames : AreStanding shown.state held (frame_of shown.words top ∷ frames_of shown.words below)
+  pub frames : AreStanding shown.reads held (frame_of shown.words top ∷ frames_of shown.words below)
   pub top_values : HasValues shown top
   pub below_values : AreValues shown below

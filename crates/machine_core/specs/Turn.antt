@@ -1,8 +1,7 @@
 -- A turn of a process under one generation: it ends where it stands in doomed code; its literals of retired areas become terms of its own; where it has no frames it enters its target; then instructions run, 200 at most.
 -- Source: erts internal documentation, CodeLoading, for external and local calls and breakpoints; the manual page `code` for the end of what stands in purged code; the manual page `persistent_term` for terms that are read without a copy until they are replaced; the machine and its numbers are this project's own.
--- The definition steps over the modules and terms of the state; the code reads words of their images. Places count words in both.
-use Rattle.std.specs.Prelude.{◌≡◌, ◌<◌, ◌≤◌, ℕ, zero, suc, ◌+◌, ◌==◌, nat_le, Bool, ◌&&◌, ℤ, pos, negsuc, ◌+ℤ◌, ◌-ℤ◌, int_le, int_lt, List, [], ◌∷◌, ◌++◌, length, map, find, Option, Some, None, Result, Ok, Err, unwrap_or, option_map, option_and_then, slice_get, slice_set, if◌then◌else◌}
-use Rattle.term_core.specs.declared.atom.AtomId.{AtomId}
+-- The definition steps over what is read of the server, be that the modules and terms of its state or words; the code reads words of their images. Places count words in both.
+use Rattle.std.specs.Prelude.{◌≡◌, ◌<◌, ℕ, zero, suc, ◌+◌, ◌==◌, nat_le, Bool, true, false, ◌&&◌, ℤ, pos, negsuc, ◌+ℤ◌, ◌-ℤ◌, int_le, int_lt, List, [], ◌∷◌, ◌++◌, length, map, find, Option, Some, None, Result, Ok, Err, unwrap_or, option_map, slice_get, slice_set, if◌then◌else◌}
 use Rattle.term_core.specs.declared.atom.Mfa.{Mfa}
 use Rattle.term_core.specs.declared.hold.Kind.TheVariants.{Frame, Literal}
 use Rattle.term_core.specs.declared.term.Term.{Term}
@@ -14,12 +13,10 @@ use Rattle.term_core.specs.Same as plain_terms
 use Rattle.mod_core.specs.declared.code.TheConstants.{REGISTERS}
 use Rattle.mod_core.specs.declared.code.Operand.{Operand}
 use Rattle.mod_core.specs.declared.code.Operand.TheVariants.{Reg, Const}
-use Rattle.mod_core.specs.declared.code.Function.{Function}
 use Rattle.mod_core.specs.declared.code.Instr.{Instr}
 use Rattle.mod_core.specs.declared.code.Instr.TheVariants as instrs
-use Rattle.mod_core.specs.declared.code.Module.{Module}
-use Rattle.mod_core.specs.ModuleImage.{function_place, instr_len, place_in, placed, return_ok}
-use Rattle.server_core.specs.ServerState.{ServerState, Entry, code_of, dispatch_of, is_doomed, is_retired, is_traced, persistent_of}
+use Rattle.mod_core.specs.ModuleImage.{instr_len}
+use Rattle.server_core.specs.ServerState.{Entry, ServerState}
 use Rattle.machine_core.specs.declared.process.TheConstants.{MOST_FRAMES, MOST_TURNS, TURN_INSTRUCTIONS}
 use Rattle.machine_core.specs.declared.process.Process.{Process}
 use Rattle.machine_core.specs.declared.process.Line.{Line}
@@ -30,7 +27,9 @@ use Rattle.machine_core.specs.declared.process.TurnEnd.{TurnEnd}
 use Rattle.machine_core.specs.declared.process.TurnEnd.TheVariants.{Again, Ended}
 use Rattle.machine_core.specs.Holds.{Holds, is_full, with_hold}
 use Rattle.machine_core.specs.Process.{HasNotEnded, PlainFrame, PlainProcess, PlainValue, arguments_at, first_registers, frame_names, frames_of, literal, names_of, owned, owned_values, process_of, register_of}
-use Rattle.machine_core.specs.View.{AreValues, Shown, place_of}
+use Rattle.machine_core.specs.Reads.{HasFunction, Reads, dispatched, entry_at, instr_at, mfa_of}
+use Rattle.machine_core.specs.ServerReads.{reads_of}
+use Rattle.machine_core.specs.View.{AreValues, Shown}
 
 -- the term that a value is
 abbrev pub term_of : PlainValue → Term
@@ -106,59 +105,9 @@ part_value (literal serial term) part = value_in serial (plain_to_term part)
 abbrev pub element_of : Term → PlainValue → Option PlainValue
 element_of index value = option_map (part_value value) (element_at (parts_of (term_of value)) (integer_of index))
 
--- what a key holds, as a value: a complex term is a literal of its own area
-abbrev pub persistent_value : PlainTerm → Option ℕ → PlainValue
-persistent_value term None = owned (plain_to_term term)
-persistent_value term (Some serial) = literal serial (plain_to_term term)
-
--- the value of a key, if it holds one
-abbrev pub key_value : ServerState → ℕ → Option PlainValue
-key_value s key = option_map (λ p. persistent_value p.term p.area) (persistent_of s key)
-
 -- whether two terms are equal
 abbrev pub is_same : Term → Term → Bool
 is_same a b = plain_terms.is_same (plain a) (plain b)
-
--- a function of an instance
-abbrev pub function_of : ServerState → Entry → Option Function
-function_of s e = option_and_then (λ m. slice_get m.functions e.function) (code_of s e.serial)
-
--- how many arguments a function of an instance takes
-abbrev pub arity_of : ServerState → Entry → ℕ
-arity_of s e = unwrap_or (option_map (λ f. f.arity) (function_of s e)) 0
-
--- the atom that stands where a name is asked of what is not there
-abbrev pub no_name : AtomId
-no_name = record { 0 = 0 }
-
--- the name of an instance's module
-abbrev pub module_name : ServerState → ℕ → AtomId
-module_name s serial = unwrap_or (option_map (λ m. m.name) (code_of s serial)) no_name
-
--- the name of a function of an instance, without its module
-abbrev pub function_name : ServerState → Entry → AtomId
-function_name s e = unwrap_or (option_map (λ f. f.name) (function_of s e)) no_name
-
--- the name of a function of an instance: module, name and arity
-abbrev pub mfa_of : ServerState → Entry → Mfa
-mfa_of s e = record { «module» = module_name s e.serial; name = function_name s e; arity = arity_of s e }
-
--- the instruction that stands at a place of code that begins at another; past its end a function returns ok
-abbrev pub instr_from : ℕ → List Instr → ℕ → Instr
-instr_from start [] place = return_ok
-instr_from start (i ∷ is) place = if place == start then i else instr_from (start + instr_len i) is place
-
--- the code of a function of a module
-abbrev pub code_at : Module → ℕ → List Instr
-code_at m function = unwrap_or (option_map (λ f. f.code) (slice_get m.functions function)) []
-
--- the instruction that stands at a place of a function of a module, its target a place too
-abbrev pub module_instr : Module → ℕ → ℕ → Instr
-module_instr m function place = placed (place_in (function_place m function) (code_at m function)) (instr_from (function_place m function) (code_at m function) place)
-
--- the next instruction of a frame
-abbrev pub instr_at : ServerState → PlainFrame → Instr
-instr_at s f = unwrap_or (option_map (λ m. module_instr m f.function f.place) (code_of s f.serial)) return_ok
 
 -- what an instruction comes to: frames, what is then held, and a line or none; the end of the turn with these frames; or the end of the process
 pub data Step : Type 0 where
@@ -213,23 +162,23 @@ returned [] held back value = ends Normal
 returned (caller ∷ below) held back value = stored (record caller { registers = slice_set caller.registers back value }) below (held_with held value)
 
 -- the frame of a function with these registers, whose value comes into that register of the caller
-abbrev pub frame_at : ServerState → Entry → ℕ → List PlainValue → PlainFrame
-frame_at s e back registers = record { serial = e.serial; function = e.function; place = place_of s e; back = back; registers = registers }
+abbrev pub frame_at : Reads → Entry → ℕ → List PlainValue → PlainFrame
+frame_at r e back registers = record { serial = e.serial; function = e.function; place = r.first e; back = back; registers = registers }
 
 -- the frame of a function that is entered where so many frames stand; none where no more may stand, or where its area cannot be held
-abbrev pub entered : ServerState → ℕ → Holds → Entry → ℕ → List PlainValue → Option PlainFrame
-entered s standing held e back registers =
+abbrev pub entered : Reads → ℕ → Holds → Entry → ℕ → List PlainValue → Option PlainFrame
+entered r standing held e back registers =
     if nat_le MOST_FRAMES standing then None
     else if is_full held e.serial then None
-    else Some (frame_at s e back registers)
+    else Some (frame_at r e back registers)
 
 -- the terms of values
 abbrev pub terms_of : List PlainValue → List PlainTerm
 terms_of values = map (λ v. plain (term_of v)) values
 
 -- the line of a call with its name and its arguments, where the function that it enters has a breakpoint
-abbrev pub trace_of : ServerState → Entry → Mfa → List PlainValue → List Line
-trace_of s e to args = if is_traced s e then lines.Trace to (terms_of args) ∷ [] else []
+abbrev pub trace_of : Reads → Entry → Mfa → List PlainValue → List Line
+trace_of r e to args = if r.traced e then lines.Trace to (terms_of args) ∷ [] else []
 
 -- the frame of a function that is entered stands on the others, its area is held for it, and its call may make a line; or the process ends
 abbrev pub stacked : List PlainFrame → Holds → ℕ → List Line → Option PlainFrame → Step
@@ -237,43 +186,43 @@ stacked frames held serial line None = ends SystemLimit
 stacked frames held serial line (Some f) = goes_on (f ∷ frames) (with_hold held serial Frame) line
 
 -- a function is entered under this name with these arguments, on the frames that stand
-abbrev pub called : ServerState → List PlainFrame → Holds → Entry → Mfa → ℕ → List PlainValue → Step
-called s frames held e to back args = stacked frames held e.serial (trace_of s e to args) (entered s (length frames) held e back (first_registers args))
+abbrev pub called : Reads → List PlainFrame → Holds → Entry → Mfa → ℕ → List PlainValue → Step
+called r frames held e to back args = stacked frames held e.serial (trace_of r e to args) (entered r (length frames) held e back (first_registers args))
 
 -- the same for the function that a name reaches, if it reaches one
-abbrev pub called_by_name : ServerState → List PlainFrame → Holds → Mfa → ℕ → List PlainValue → Option Entry → Step
-called_by_name s frames held to back args None = ends (Undef to)
-called_by_name s frames held to back args (Some e) = called s frames held e to back args
+abbrev pub called_by_name : Reads → List PlainFrame → Holds → Mfa → ℕ → List PlainValue → Option Entry → Step
+called_by_name r frames held to back args None = ends (Undef to)
+called_by_name r frames held to back args (Some e) = called r frames held e to back args
 
 -- an external call: it reaches the function that the current instance exports
-abbrev pub called_out : ServerState → List PlainFrame → Holds → Mfa → ℕ → List PlainValue → Step
-called_out s frames held to back args = called_by_name s frames held to back args (dispatch_of s to)
+abbrev pub called_out : Reads → List PlainFrame → Holds → Mfa → ℕ → List PlainValue → Step
+called_out r frames held to back args = called_by_name r frames held to back args (dispatched r to)
 
 -- a local call: it enters a function of the frame's own instance, be it current or not
-abbrev pub called_within : ServerState → PlainFrame → List PlainFrame → Holds → Instr → Entry → ℕ → Step
-called_within s f below held i e at = called s (moved_past f i ∷ below) held e (mfa_of s e) at (arguments_at f.registers at (arity_of s e))
+abbrev pub called_within : Reads → PlainFrame → List PlainFrame → Holds → Instr → Entry → ℕ → Step
+called_within r f below held i e at = called r (moved_past f i ∷ below) held e (mfa_of r e) at (arguments_at f.registers at (r.arity e))
 
 -- what an instruction does to the topmost frame, those below it and what is held
-abbrev pub executed : ServerState → PlainFrame → List PlainFrame → Holds → Instr → Step
-executed s f below held (instrs.Move from to) = put_value f below held (instrs.Move from to) to (value_of f from)
-executed s f below held (instrs.Add a b to) = computed f below held (instrs.Add a b to) to (sum_of (operand_term f a) (operand_term f b))
-executed s f below held (instrs.Sub a b to) = computed f below held (instrs.Sub a b to) to (difference_of (operand_term f a) (operand_term f b))
-executed s f below held (instrs.Eq a b target) = tested f below held (instrs.Eq a b target) target (Ok (is_same (operand_term f a) (operand_term f b)))
-executed s f below held (instrs.Less a b target) = tested f below held (instrs.Less a b target) target (less_of (operand_term f a) (operand_term f b))
-executed s f below held (instrs.Jump target) = goes_on (record f { place = target } ∷ below) held []
-executed s f below held (instrs.Call function at) = called_within s f below held (instrs.Call function at) (record { serial = f.serial; function = function }) at
-executed s f below held (instrs.CallExt to at) = called_out s (moved_past f (instrs.CallExt to at) ∷ below) held to at (arguments_at f.registers at to.arity)
-executed s f below held (instrs.Ret value) = returned below held f.back (value_of f value)
-executed s f below held (instrs.Pget key to) = put_found f below held (instrs.Pget key to) to (key_value s key.0)
-executed s f below held (instrs.PgetOr key other to) = put_value f below held (instrs.PgetOr key other to) to (unwrap_or (key_value s key.0) (value_of f other))
-executed s f below held (instrs.Elem index from to) = put_found f below held (instrs.Elem index from to) to (element_of (operand_term f index) (value_of f from))
-executed s f below held (instrs.Print value) = goes_on (moved_past f (instrs.Print value) ∷ below) held (lines.Print (operand_term f value) ∷ [])
-executed s f below held instrs.Yield = yields (moved_past f instrs.Yield ∷ below)
+abbrev pub executed : Reads → PlainFrame → List PlainFrame → Holds → Instr → Step
+executed r f below held (instrs.Move from to) = put_value f below held (instrs.Move from to) to (value_of f from)
+executed r f below held (instrs.Add a b to) = computed f below held (instrs.Add a b to) to (sum_of (operand_term f a) (operand_term f b))
+executed r f below held (instrs.Sub a b to) = computed f below held (instrs.Sub a b to) to (difference_of (operand_term f a) (operand_term f b))
+executed r f below held (instrs.Eq a b target) = tested f below held (instrs.Eq a b target) target (Ok (is_same (operand_term f a) (operand_term f b)))
+executed r f below held (instrs.Less a b target) = tested f below held (instrs.Less a b target) target (less_of (operand_term f a) (operand_term f b))
+executed r f below held (instrs.Jump target) = goes_on (record f { place = target } ∷ below) held []
+executed r f below held (instrs.Call function at) = called_within r f below held (instrs.Call function at) (record { serial = f.serial; function = function }) at
+executed r f below held (instrs.CallExt to at) = called_out r (moved_past f (instrs.CallExt to at) ∷ below) held to at (arguments_at f.registers at to.arity)
+executed r f below held (instrs.Ret value) = returned below held f.back (value_of f value)
+executed r f below held (instrs.Pget key to) = put_found f below held (instrs.Pget key to) to (r.key key.0)
+executed r f below held (instrs.PgetOr key other to) = put_value f below held (instrs.PgetOr key other to) to (unwrap_or (r.key key.0) (value_of f other))
+executed r f below held (instrs.Elem index from to) = put_found f below held (instrs.Elem index from to) to (element_of (operand_term f index) (value_of f from))
+executed r f below held (instrs.Print value) = goes_on (moved_past f (instrs.Print value) ∷ below) held (lines.Print (operand_term f value) ∷ [])
+executed r f below held instrs.Yield = yields (moved_past f instrs.Yield ∷ below)
 
 -- what the next instruction of a process comes to
-abbrev pub step_of : ServerState → List PlainFrame → Holds → Step
-step_of s [] held = ends Normal
-step_of s (f ∷ below) held = executed s f below held (instr_at s f)
+abbrev pub step_of : Reads → List PlainFrame → Holds → Step
+step_of r [] held = ends Normal
+step_of r (f ∷ below) held = executed r f below held (instr_at r f)
 
 -- what is left of a process, what is held, the lines that it made, and whether it goes on; an ended process has no frames
 pub record Ran : Type 0 where
@@ -297,44 +246,44 @@ after_step rest held made (yields frames) = paused frames made
 after_step rest held made (ends end) = ended_with held made end
 
 -- so many instructions at most, after these lines
-unfoldable pub run_of : ServerState → ℕ → List PlainFrame → Holds → List Line → Ran
-run_of s zero frames held made = paused frames made
-run_of s (suc n) frames held made = after_step (run_of s n) held made (step_of s frames held)
+unfoldable pub run_of : Reads → ℕ → List PlainFrame → Holds → List Line → Ran
+run_of r zero frames held made = paused frames made
+run_of r (suc n) frames held made = after_step (run_of r n) held made (step_of r frames held)
 
 -- with what a turn begins: its process's frames; where there are none, the target is entered as by an external call
-abbrev pub begun : ServerState → Mfa → List PlainTerm → Holds → List PlainFrame → Step
-begun s target args held [] = called_out s [] held target 0 (owned_values args)
-begun s target args held (f ∷ below) = goes_on (f ∷ below) held []
+abbrev pub begun : Reads → Mfa → List PlainTerm → Holds → List PlainFrame → Step
+begun r target args held [] = called_out r [] held target 0 (owned_values args)
+begun r target args held (f ∷ below) = goes_on (f ∷ below) held []
 
 -- the serial of the topmost frame whose instance is doomed, if there is one
-abbrev pub doomed_serial : ServerState → List PlainFrame → Option ℕ
-doomed_serial s frames = find (is_doomed s) (map (λ f. f.serial) frames)
+abbrev pub doomed_serial : Reads → List PlainFrame → Option ℕ
+doomed_serial r frames = find r.doomed (map (λ f. f.serial) frames)
 
 -- a literal of a retired area becomes a term of the process's own
-abbrev pub copied_value : ServerState → PlainValue → PlainValue
-copied_value s (owned term) = owned term
-copied_value s (literal serial term) = if is_retired s serial then owned term else literal serial term
+abbrev pub copied_value : Reads → PlainValue → PlainValue
+copied_value r (owned term) = owned term
+copied_value r (literal serial term) = if r.retired serial then owned term else literal serial term
 
 -- so does each of a frame
-abbrev pub copied_frame : ServerState → PlainFrame → PlainFrame
-copied_frame s f = record f { registers = map (copied_value s) f.registers }
+abbrev pub copied_frame : Reads → PlainFrame → PlainFrame
+copied_frame r f = record f { registers = map (copied_value r) f.registers }
 
 -- and each of frames, which then name no retired area as a literal's
-abbrev pub copied : ServerState → List PlainFrame → List PlainFrame
-copied s frames = map (copied_frame s) frames
+abbrev pub copied : Reads → List PlainFrame → List PlainFrame
+copied r frames = map (copied_frame r) frames
 
 -- what a turn does once its literals are copied
-abbrev pub ran_copied : ServerState → PlainProcess → List PlainFrame → Ran
-ran_copied s p frames = after_step (run_of s TURN_INSTRUCTIONS) (frame_names frames) [] (begun s p.target p.args (frame_names frames) frames)
+abbrev pub ran_copied : Reads → PlainProcess → List PlainFrame → Ran
+ran_copied r p frames = after_step (run_of r TURN_INSTRUCTIONS) (frame_names frames) [] (begun r p.target p.args (frame_names frames) frames)
 
 -- what a turn that counts does, by that serial: where there is one, the process is killed before any instruction
-abbrev pub ran_unless_doomed : ServerState → PlainProcess → Option ℕ → Ran
-ran_unless_doomed s p None = ran_copied s p (copied s p.frames)
-ran_unless_doomed s p (Some serial) = ended_with (names_of p) [] (Killed serial)
+abbrev pub ran_unless_doomed : Reads → PlainProcess → Option ℕ → Ran
+ran_unless_doomed r p None = ran_copied r p (copied r p.frames)
+ran_unless_doomed r p (Some serial) = ended_with (names_of p) [] (Killed serial)
 
 -- what a turn does to the frames of a process: none runs where it has had as many turns as can be
-abbrev pub ran_of : ServerState → PlainProcess → Ran
-ran_of s p = if p.turns == MOST_TURNS then ended_with (names_of p) [] SystemLimit else ran_unless_doomed s p (doomed_serial s p.frames)
+abbrev pub ran_of : Reads → PlainProcess → Ran
+ran_of r p = if p.turns == MOST_TURNS then ended_with (names_of p) [] SystemLimit else ran_unless_doomed r p (doomed_serial r p.frames)
 
 -- what a turn comes to: the process after it, its lines, and whether it goes on
 pub record Turn : Type 0 where
@@ -351,37 +300,55 @@ abbrev pub turn_from : PlainProcess → Ran → Turn
 turn_from p ran = record { process = record p { frames = ran.frames }; made = ran.made; end = ran.end }
 
 -- a turn of a process that holds just what it names
+abbrev pub turn_by : Reads → PlainProcess → Turn
+turn_by r p = turn_from (counted p) (ran_of r p)
+
+-- the turn under a state of the plain server
 abbrev pub turn_of : ServerState → PlainProcess → Turn
-turn_of s p = turn_from (counted p) (ran_of s p)
+turn_of s p = turn_by (reads_of s) p
 
 -- what is held after that turn: what the process then names, or what was held when it ended
-abbrev pub held_after : ServerState → PlainProcess → Holds
-held_after s p = (ran_of s p).held
+abbrev pub held_after : Reads → PlainProcess → Holds
+held_after r p = (ran_of r p).held
 
 -- this turn leaves that process and those lines, and ends so
-pub record TurnGives (s : ServerState) (before after : PlainProcess) (lines_before lines_after : List Line) (end : TurnEnd) : Type 0 where
-  pub process : (turn_of s before).process ≡ after
-  pub lines : lines_after ≡ lines_before ++ (turn_of s before).made
-  pub end_is : (turn_of s before).end ≡ end
+pub record TurnGives (r : Reads) (before after : PlainProcess) (lines_before lines_after : List Line) (end : TurnEnd) : Type 0 where
+  pub process : (turn_by r before).process ≡ after
+  pub lines : lines_after ≡ lines_before ++ (turn_by r before).made
+  pub end_is : (turn_by r before).end ≡ end
+
+-- the place to which an instruction may go besides the one behind it
+abbrev pub target_of : Instr → Option ℕ
+target_of (instrs.Eq a b target) = Some target
+target_of (instrs.Less a b target) = Some target
+target_of (instrs.Jump target) = Some target
+target_of i = None
+
+-- whether a frame may stand behind an instruction: behind all but the return
+abbrev pub goes_past : Instr → Bool
+goes_past (instrs.Ret value) = false
+goes_past i = true
+
+-- a place at which a frame may stand in code that begins at a place: there, behind an instruction, and where one goes
+pub data IsPlaceIn (first : ℕ) (instr : ℕ → Instr) : ℕ → Type 0 where
+  stands_first : IsPlaceIn first instr first
+  stands_behind : (place : ℕ) → IsPlaceIn first instr place → goes_past (instr place) ≡ true → IsPlaceIn first instr (place + instr_len (instr place))
+  stands_at : (place target : ℕ) → IsPlaceIn first instr place → target_of (instr place) ≡ Some target → IsPlaceIn first instr target
 
 -- the frame stands at an instruction of its function, or at the return past its end, and its value comes into a register
-pub record IsPlaced (s : ServerState) (f : PlainFrame) : Type 0 where
-  pub m : Module
-  pub number : ℕ
-  pub loaded : code_of s f.serial ≡ Some m
-  pub known : f.function < length m.functions
-  pub within : number ≤ length (code_at m f.function)
-  pub at : f.place ≡ place_in (function_place m f.function) (code_at m f.function) number
+pub record IsPlaced (r : Reads) (f : PlainFrame) : Type 0 where
+  pub known : HasFunction r (entry_at f)
+  pub at : IsPlaceIn (r.first (entry_at f)) (r.instr (entry_at f)) f.place
   pub back : f.back < REGISTERS
 
 -- each frame stands so
-abbrev pub ArePlaced : ServerState → List PlainFrame → Type 0
-ArePlaced s [] = Unit {0}
-ArePlaced s (f ∷ below) = IsPlaced s f × ArePlaced s below
+abbrev pub ArePlaced : Reads → List PlainFrame → Type 0
+ArePlaced r [] = Unit {0}
+ArePlaced r (f ∷ below) = IsPlaced r f × ArePlaced r below
 
 -- a process may have a turn: it has not ended, just what it names is held, each frame stands at an instruction, and the place of each literal begins the image of a term
 pub record MayTurn (shown : Shown) (held : Holds) (p : Process) : Type 0 where
   pub going : HasNotEnded (process_of shown.words p)
   pub names : held ≡ names_of (process_of shown.words p)
-  pub placed : ArePlaced shown.state (frames_of shown.words p.frames)
+  pub placed : ArePlaced shown.reads (frames_of shown.words p.frames)
   pub values : AreValues shown p.frames

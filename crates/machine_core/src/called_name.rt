@@ -1,8 +1,8 @@
 ghost use Rattle.std.specs.Prelude.{◌≡◌};
 ghost use Rattle.server_core.specs.ServerState.{entry_of};
-ghost use Rattle.machine_core.specs.Holds.{MayHold};
-ghost use Rattle.machine_core.specs.View.{IsLawful, HasFunction};
-ghost use Rattle.machine_core.specs.Turn.{arity_of, function_name, mfa_of, module_name};
+ghost use Rattle.machine_core.specs.View.{IsLawful};
+ghost use Rattle.machine_core.specs.Reads.{HasFunction, mfa_of};
+ghost use Rattle.machine_core.specs.Reach.{MayHold};
 
 use crate::layout::{ARITY_WORD, HEAD_LEN, MODULE_PLACE, TABLE_PLACE};
 use crate::view::CodeView;
@@ -11,9 +11,9 @@ use term_core::{AtomId, CodeRef, Kind, Mfa};
 /// The name of a function of an instance, as the words of the instance say it.
 pub fn mfa_of<V: CodeView>(code: CodeRef, view: &mut V) -> Mfa
     requires lawful { IsLawful (V.shown view.old) }
-    requires known { HasFunction (V.shown view.old).state (entry_of code) }
-    requires reached { MayHold (V.shown view.old).state (V.held view.old) code.area.serial Kind.Frame }
-    ensures value { result ≡ mfa_of (V.shown view.old).state (entry_of code) }
+    requires known { HasFunction (V.shown view.old).reads (entry_of code) }
+    requires reached { MayHold (V.shown view.old).reads (V.held view.old) code.area.serial Kind.Frame }
+    ensures value { result ≡ mfa_of (V.shown view.old).reads (entry_of code) }
     ensures same { V.shown view.new ≡ V.shown view.old }
     ensures holds { V.held view.new ≡ V.held view.old }
 {
@@ -30,9 +30,9 @@ pub fn mfa_of<V: CodeView>(code: CodeRef, view: &mut V) -> Mfa
 /// The name of the module of a function's instance.
 fn module_name<V: CodeView>(code: CodeRef, view: &mut V) -> AtomId
     requires lawful { IsLawful (V.shown view.old) }
-    requires known { HasFunction (V.shown view.old).state (entry_of code) }
-    requires reached { MayHold (V.shown view.old).state (V.held view.old) code.area.serial Kind.Frame }
-    ensures value { result ≡ module_name (V.shown view.old).state code.area.serial }
+    requires known { HasFunction (V.shown view.old).reads (entry_of code) }
+    requires reached { MayHold (V.shown view.old).reads (V.held view.old) code.area.serial Kind.Frame }
+    ensures value { result ≡ (V.shown view.old).reads.module_name code.area.serial }
     ensures same { V.shown view.new ≡ V.shown view.old }
     ensures holds { V.held view.new ≡ V.held view.old }
 {
@@ -42,9 +42,9 @@ fn module_name<V: CodeView>(code: CodeRef, view: &mut V) -> AtomId
 /// The name of a function of an instance, without its module.
 fn function_name<V: CodeView>(code: CodeRef, view: &mut V) -> AtomId
     requires lawful { IsLawful (V.shown view.old) }
-    requires known { HasFunction (V.shown view.old).state (entry_of code) }
-    requires reached { MayHold (V.shown view.old).state (V.held view.old) code.area.serial Kind.Frame }
-    ensures value { result ≡ function_name (V.shown view.old).state (entry_of code) }
+    requires known { HasFunction (V.shown view.old).reads (entry_of code) }
+    requires reached { MayHold (V.shown view.old).reads (V.held view.old) code.area.serial Kind.Frame }
+    ensures value { result ≡ (V.shown view.old).reads.function_name (entry_of code) }
     ensures same { V.shown view.new ≡ V.shown view.old }
     ensures holds { V.held view.new ≡ V.held view.old }
 {
@@ -55,9 +55,9 @@ fn function_name<V: CodeView>(code: CodeRef, view: &mut V) -> AtomId
 /// How many arguments a function of an instance takes.
 fn arity<V: CodeView>(code: CodeRef, view: &mut V) -> u32
     requires lawful { IsLawful (V.shown view.old) }
-    requires known { HasFunction (V.shown view.old).state (entry_of code) }
-    requires reached { MayHold (V.shown view.old).state (V.held view.old) code.area.serial Kind.Frame }
-    ensures value { result ≡ arity_of (V.shown view.old).state (entry_of code) }
+    requires known { HasFunction (V.shown view.old).reads (entry_of code) }
+    requires reached { MayHold (V.shown view.old).reads (V.held view.old) code.area.serial Kind.Frame }
+    ensures value { result ≡ (V.shown view.old).reads.arity (entry_of code) }
     ensures same { V.shown view.new ≡ V.shown view.old }
     ensures holds { V.held view.new ≡ V.held view.old }
 {

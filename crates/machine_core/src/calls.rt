@@ -1,10 +1,12 @@
 ghost use Rattle.std.specs.Prelude.{◌≡◌, ◌+◌, ◌++◌, ◌∷◌, ◌≤◌, [], All, IfOk, IfSome, OnOk, is_some, if◌then◌else◌, option_map};
 ghost use Rattle.server_core.specs.ServerState.{entry_of};
-ghost use Rattle.machine_core.specs.Holds.{MayHold, with_hold};
-ghost use Rattle.machine_core.specs.View.{AreValues, HasFunction, HasValues, IsLawful};
+ghost use Rattle.machine_core.specs.Holds.{with_hold};
+ghost use Rattle.machine_core.specs.View.{AreValues, HasValues, IsLawful};
 ghost use Rattle.machine_core.specs.Process.{Words, area_holds, arguments_at, frame_of, frames_of, owned_values, values_shown};
 ghost use Rattle.machine_core.specs.Turn.{called, called_out, entered, trace_of};
 ghost use Rattle.machine_core.specs.Stand.{IsUsable, stand_after, stand_entered, stand_of};
+ghost use Rattle.machine_core.specs.Reads.{HasFunction};
+ghost use Rattle.machine_core.specs.Reach.{MayHold};
 
 use crate::areas::{HeldAreas, note};
 use crate::literals::terms_of;
@@ -39,11 +41,11 @@ pub fn enter<V: CodeView>(
     areas: &mut HeldAreas,
 ) -> Result<Option<Frame>, NoMemory>
     requires lawful { IsLawful (V.shown view.old) }
-    requires known { HasFunction (V.shown view.old).state (entry_of code) }
-    requires reached { MayHold (V.shown view.old).state (V.held view.old) code.area.serial Kind.Frame }
+    requires known { HasFunction (V.shown view.old).reads (entry_of code) }
+    requires reached { MayHold (V.shown view.old).reads (V.held view.old) code.area.serial Kind.Frame }
     requires tracked { V.held view.old ≡ area_holds areas.old }
     ensures ok { (words : Words) → IfOk result (λ f. option_map (frame_of words) f
-        ≡ entered (V.shown view.old).state standing (V.held view.old) (entry_of code) back (values_shown words registers)) }
+        ≡ entered (V.shown view.old).reads standing (V.held view.old) (entry_of code) back (values_shown words registers)) }
     ensures registers { IfOk result (λ f. IfSome f (λ f. f.registers ≡ registers)) }
     ensures holds { IfOk result (λ f. V.held view.new
         ≡ (if is_some f then with_hold (V.held view.old) code.area.serial Kind.Frame else V.held view.old)) }
@@ -74,15 +76,15 @@ pub fn call<V: CodeView>(
 ) -> Result<Outcome, NoMemory>
     requires room { top.old.place + 1 ≤ 1024 }
     requires lawful { IsLawful (V.shown view.old) }
-    requires known { HasFunction (V.shown view.old).state (entry_of callee.code) }
-    requires reached { MayHold (V.shown view.old).state (V.held view.old) callee.code.area.serial Kind.Frame }
+    requires known { HasFunction (V.shown view.old).reads (entry_of callee.code) }
+    requires reached { MayHold (V.shown view.old).reads (V.held view.old) callee.code.area.serial Kind.Frame }
     requires tracked { V.held view.old ≡ area_holds areas.old }
     requires usable { All (IsUsable (V.shown view.old) (V.held view.old)) top.old.registers }
     requires values { HasValues (V.shown view.old) top.old }
     requires below { AreValues (V.shown view.old) below.old }
     ensures ok { IfOk result (λ outcome.
         stand_after (V.held view.old) lines.old
-        (called (V.shown view.old).state (record (frame_of (V.shown view.old).words top.old) { place = top.old.place + 3 } ∷ frames_of (V.shown view.old).words below.old) (V.held view.old)
+        (called (V.shown view.old).reads (record (frame_of (V.shown view.old).words top.old) { place = top.old.place + 3 } ∷ frames_of (V.shown view.old).words below.old) (V.held view.old)
         (entry_of callee.code) callee.to callee.at (arguments_at (values_shown (V.shown view.old).words top.old.registers) callee.at callee.to.arity))
         ≡ stand_of outcome (frame_of (V.shown view.old).words top.new ∷ frames_of (V.shown view.old).words below.new) (V.held view.new) lines.new) }
     ensures values { OnOk result (HasValues (V.shown view.old) top.new) }
@@ -113,11 +115,11 @@ fn trace_call<V: CodeView>(
     lines: &mut LineList,
 ) -> Result<(), NoMemory>
     requires lawful { IsLawful (V.shown view.old) }
-    requires known { HasFunction (V.shown view.old).state (entry_of callee.now.code) }
-    requires reached { MayHold (V.shown view.old).state (V.held view.old) callee.now.code.area.serial Kind.Frame }
+    requires known { HasFunction (V.shown view.old).reads (entry_of callee.now.code) }
+    requires reached { MayHold (V.shown view.old).reads (V.held view.old) callee.now.code.area.serial Kind.Frame }
     requires usable { All (IsUsable (V.shown view.old) (V.held view.old)) registers.now }
     ensures ok { OnOk result (lines.new ≡ lines.old
-        ++ trace_of (V.shown view.old).state (entry_of callee.now.code) callee.now.to (arguments_at (values_shown (V.shown view.old).words registers.now) callee.now.at callee.now.to.arity)) }
+        ++ trace_of (V.shown view.old).reads (entry_of callee.now.code) callee.now.to (arguments_at (values_shown (V.shown view.old).words registers.now) callee.now.at callee.now.to.arity)) }
     ensures same { V.shown view.new ≡ V.shown view.old }
     ensures holds { V.held view.new ≡ V.held view.old }
 {
@@ -141,7 +143,7 @@ pub fn enter_target<V: CodeView>(
     requires lawful { IsLawful (V.shown view.old) }
     requires tracked { V.held view.old ≡ area_holds areas.old }
     ensures ok { IfOk result (λ first.
-        stand_after (V.held view.old) lines.old (called_out (V.shown view.old).state [] (V.held view.old) target 0 (owned_values args.now))
+        stand_after (V.held view.old) lines.old (called_out (V.shown view.old).reads [] (V.held view.old) target 0 (owned_values args.now))
         ≡ stand_entered (V.shown view.old).words first [] (V.held view.new) lines.new) }
     ensures values { IfOk result (λ first. IfOk first (HasValues (V.shown view.old))) }
     ensures tracked { OnOk result (V.held view.new ≡ area_holds areas.new) }
@@ -170,10 +172,10 @@ fn trace_target<V: CodeView>(
     lines: &mut LineList,
 ) -> Result<(), NoMemory>
     requires lawful { IsLawful (V.shown view.old) }
-    requires known { HasFunction (V.shown view.old).state (entry_of code) }
-    requires reached { MayHold (V.shown view.old).state (V.held view.old) code.area.serial Kind.Frame }
+    requires known { HasFunction (V.shown view.old).reads (entry_of code) }
+    requires reached { MayHold (V.shown view.old).reads (V.held view.old) code.area.serial Kind.Frame }
     ensures ok { OnOk result (lines.new ≡ lines.old
-        ++ trace_of (V.shown view.old).state (entry_of code) target (owned_values args.now)) }
+        ++ trace_of (V.shown view.old).reads (entry_of code) target (owned_values args.now)) }
     ensures same { V.shown view.new ≡ V.shown view.old }
     ensures holds { V.held view.new ≡ V.held view.old }
 {

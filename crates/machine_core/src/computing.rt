@@ -1,4 +1,4 @@
-ghost use Rattle.std.specs.Prelude.{◌≡◌, ◌+◌, ◌++◌, ◌≤◌, ◌∷◌, [], ℕ, List, IfOk, OnOk};
+ghost use Rattle.std.specs.Prelude.{◌≡◌, ◌+◌, ◌≤◌, ◌∷◌, List, IfOk, OnOk};
 ghost use Rattle.mod_core.specs.declared.code.Instr.{Instr as PlainInstr};
 ghost use Rattle.mod_core.specs.ModuleImage.{instr_len};
 ghost use Rattle.machine_core.specs.Decode.{instr_shown};
@@ -181,7 +181,7 @@ pub fn print<V: CodeView>(
     requires values { HasValues (V.shown view.old) top.old }
     requires source { IsSource (V.shown view.old) top.old.code.area value.now }
     ensures ok { (below : List PlainFrame) → IfOk result (λ outcome.
-        stand_after (V.held view.old) lines.old (executed (V.shown view.old).state (frame_of (V.shown view.old).words top.old) below (V.held view.old)
+        stand_after (V.held view.old) lines.old (executed (V.shown view.old).reads (frame_of (V.shown view.old).words top.old) below (V.held view.old)
         (instr_shown ((V.shown view.old).words top.old.code.area.serial) (Op.Print value.now)))
         ≡ stand_of outcome (frame_of (V.shown view.old).words top.new ∷ below) (V.held view.old) lines.new) }
     ensures values { OnOk result (HasValues (V.shown view.old) top.new) }

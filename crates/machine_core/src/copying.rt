@@ -1,6 +1,5 @@
 ghost use Rattle.std.specs.Prelude.{◌≡◌, All, IfOk, OnOk, map};
 ghost use Rattle.std.specs.List.{list_any};
-ghost use Rattle.server_core.specs.ServerState.{is_retired};
 ghost use Rattle.machine_core.specs.Holds.{serials_of};
 ghost use Rattle.machine_core.specs.Process.{area_holds, area_serials, frame_names, frames_of, value_shown, values_shown};
 ghost use Rattle.machine_core.specs.Stand.{AreHeld, IsValueHeld};
@@ -30,9 +29,9 @@ pub fn copy_retired<V: CodeView>(
     requires tracked { V.held view.old ≡ area_holds areas.old }
     requires values { AreValues (V.shown view.old) frames.old }
     ensures copied { OnOk result (frames_of (V.shown view.old).words frames.new
-        ≡ copied (V.shown view.old).state (frames_of (V.shown view.old).words frames.old)) }
+        ≡ copied (V.shown view.old).reads (frames_of (V.shown view.old).words frames.old)) }
     ensures names { OnOk result (V.held view.new
-        ≡ frame_names (copied (V.shown view.old).state (frames_of (V.shown view.old).words frames.old))) }
+        ≡ frame_names (copied (V.shown view.old).reads (frames_of (V.shown view.old).words frames.old))) }
     ensures tracked { OnOk result (V.held view.new ≡ area_holds areas.new) }
     ensures values { OnOk result (AreValues (V.shown view.old) frames.new) }
     ensures same { V.shown view.new ≡ V.shown view.old }
@@ -50,7 +49,7 @@ pub fn copy_retired<V: CodeView>(
 fn is_one_retired<V: CodeView>(areas: &[AreaRef], view: &mut V) -> bool
     requires lawful { IsLawful (V.shown view.old) }
     requires tracked { (V.held view.old).literals ≡ serials_of (area_serials areas.now) }
-    ensures value { result ≡ list_any (λ a. is_retired (V.shown view.old).state a.serial) areas.now }
+    ensures value { result ≡ list_any (λ a. (V.shown view.old).reads.retired a.serial) areas.now }
     ensures same { V.shown view.new ≡ V.shown view.old }
     ensures holds { V.held view.new ≡ V.held view.old }
 {
@@ -72,7 +71,7 @@ fn copy_frames<V: CodeView>(
     requires named { AreHeld (V.held view.old) (frames_of (V.shown view.old).words frames.old) }
     requires values { AreValues (V.shown view.old) frames.old }
     ensures copied { OnOk result (frames_of (V.shown view.old).words frames.new
-        ≡ copied (V.shown view.old).state (frames_of (V.shown view.old).words frames.old)) }
+        ≡ copied (V.shown view.old).reads (frames_of (V.shown view.old).words frames.old)) }
     ensures values { OnOk result (AreValues (V.shown view.old) frames.new) }
     ensures same { V.shown view.new ≡ V.shown view.old }
     ensures holds { V.held view.new ≡ V.held view.old }
@@ -95,7 +94,7 @@ fn copied_registers<V: CodeView>(
     requires named { All (IsValueHeld (V.held view.old)) (values_shown (V.shown view.old).words registers.now) }
     requires values { All (IsValue (V.shown view.old)) registers.now }
     ensures copied { IfOk result (λ copies. values_shown (V.shown view.old).words copies
-        ≡ map (copied_value (V.shown view.old).state) (values_shown (V.shown view.old).words registers.now)) }
+        ≡ map (copied_value (V.shown view.old).reads) (values_shown (V.shown view.old).words registers.now)) }
     ensures values { IfOk result (λ copies. All (IsValue (V.shown view.old)) copies) }
     ensures same { V.shown view.new ≡ V.shown view.old }
     ensures holds { V.held view.new ≡ V.held view.old }
@@ -113,7 +112,7 @@ fn copied_value<V: CodeView>(alloc: Global, value: &Value, view: &mut V) -> Resu
     requires named { IsValueHeld (V.held view.old) (value_shown (V.shown view.old).words value.now) }
     requires is { IsValue (V.shown view.old) value.now }
     ensures copied { IfOk result (λ copy. value_shown (V.shown view.old).words copy
-        ≡ copied_value (V.shown view.old).state (value_shown (V.shown view.old).words value.now)) }
+        ≡ copied_value (V.shown view.old).reads (value_shown (V.shown view.old).words value.now)) }
     ensures is { IfOk result (λ copy. IsValue (V.shown view.old) copy) }
     ensures same { V.shown view.new ≡ V.shown view.old }
     ensures holds { V.held view.new ≡ V.held view.old }

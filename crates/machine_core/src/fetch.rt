@@ -4,7 +4,8 @@ ghost use Rattle.machine_core.specs.Holds.{is_held};
 ghost use Rattle.machine_core.specs.View.{IsLawful};
 ghost use Rattle.machine_core.specs.Process.{frame_of};
 ghost use Rattle.machine_core.specs.Stand.{HasSources};
-ghost use Rattle.machine_core.specs.Turn.{IsPlaced, instr_at};
+ghost use Rattle.machine_core.specs.Turn.{IsPlaced};
+ghost use Rattle.machine_core.specs.Reads.{instr_at};
 
 use crate::decode::{decode, len_of_number};
 use crate::op::Op;
@@ -15,10 +16,10 @@ use term_core::Kind;
 /// The instruction at which the frame stands. Its words are within an image, so that a place past them is a place too.
 pub fn fetch<V: CodeView>(frame: &Frame, view: &mut V) -> Op
     requires lawful { IsLawful (V.shown view.old) }
-    requires placed { IsPlaced (V.shown view.old).state (frame_of (V.shown view.old).words frame.now) }
+    requires placed { IsPlaced (V.shown view.old).reads (frame_of (V.shown view.old).words frame.now) }
     requires standing { IsTrue (is_held (V.held view.old) frame.now.code.area.serial Kind.Frame) }
     ensures value { instr_shown ((V.shown view.old).words frame.now.code.area.serial) result
-        ≡ instr_at (V.shown view.old).state (frame_of (V.shown view.old).words frame.now) }
+        ≡ instr_at (V.shown view.old).reads (frame_of (V.shown view.old).words frame.now) }
     ensures sources { HasSources (V.shown view.old) frame.now.code.area result }
     ensures within { frame.now.place + 1 ≤ 1024 }
     ensures same { V.shown view.new ≡ V.shown view.old }
@@ -34,7 +35,7 @@ pub fn fetch<V: CodeView>(frame: &Frame, view: &mut V) -> Op
 /// A word of the instruction at which the frame stands, counted from its number; 0 past its last word.
 fn operand_word<V: CodeView>(frame: &Frame, number: u64, at: u32, view: &mut V) -> u64
     requires lawful { IsLawful (V.shown view.old) }
-    requires placed { IsPlaced (V.shown view.old).state (frame_of (V.shown view.old).words frame.now) }
+    requires placed { IsPlaced (V.shown view.old).reads (frame_of (V.shown view.old).words frame.now) }
     requires standing { IsTrue (is_held (V.held view.old) frame.now.code.area.serial Kind.Frame) }
     requires number { number ≡ slice_index ((V.shown view.old).words frame.now.code.area.serial) frame.now.place }
     ensures value { result ≡ instr_word ((V.shown view.old).words frame.now.code.area.serial) frame.now.place at }

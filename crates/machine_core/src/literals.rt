@@ -1,9 +1,9 @@
 ghost use Rattle.std.specs.Prelude.{◌≡◌, ◌-◌, ◌≤◌, ℕ, ◌<◌, All, IfOk, drop, length, take};
-ghost use Rattle.machine_core.specs.Holds.{MayRead};
 ghost use Rattle.machine_core.specs.Process.{value_shown, values_shown};
 ghost use Rattle.machine_core.specs.Stand.{AreImages, IsUsable, images_end};
 ghost use Rattle.machine_core.specs.Turn.{term_of, terms_of};
 ghost use Rattle.machine_core.specs.View.{IsLawful, IsReadable};
+ghost use Rattle.machine_core.specs.Reach.{MayRead};
 
 use crate::process::{LitRef, Value};
 use crate::view::CodeView;
@@ -65,7 +65,7 @@ fn read_literal<V: CodeView>(alloc: Global, at: LitRef, view: &mut V) -> Result<
 pub fn place_behind<V: CodeView>(area: AreaRef, at: u32, count: u64, view: &mut V) -> u32
     requires lawful { IsLawful (V.shown view.old) }
     requires images { AreImages (V.shown view.old) area.serial at count }
-    requires reached { MayRead (V.shown view.old).state (V.held view.old) area.serial }
+    requires reached { MayRead (V.shown view.old).reads (V.held view.old) area.serial }
     ensures value { result ≡ images_end ((V.shown view.old).words area.serial) at count }
     ensures same { V.shown view.new ≡ V.shown view.old }
     ensures holds { V.held view.new ≡ V.held view.old }
@@ -91,8 +91,8 @@ fn words_between<V: CodeView>(
     requires lawful { IsLawful (V.shown view.old) }
     requires order { from ≤ to }
     requires within { to ≤ length ((V.shown view.old).words area.serial) }
-    requires readable { (at : ℕ) → from ≤ at → at < to → IsReadable (V.shown view.old).state area.serial at }
-    requires reached { MayRead (V.shown view.old).state (V.held view.old) area.serial }
+    requires readable { (at : ℕ) → from ≤ at → at < to → IsReadable (V.shown view.old) area.serial at }
+    requires reached { MayRead (V.shown view.old).reads (V.held view.old) area.serial }
     ensures ok { IfOk result (λ words. words ≡ take (to - from) (drop from ((V.shown view.old).words area.serial))) }
     ensures same { V.shown view.new ≡ V.shown view.old }
     ensures holds { V.held view.new ≡ V.held view.old }

@@ -1,4 +1,4 @@
-ghost use Rattle.std.specs.Prelude.{◌≡◌, ◌∷◌, [], List, IfOk, OnOk};
+ghost use Rattle.std.specs.Prelude.{◌≡◌, ◌∷◌, IfOk, OnOk};
 ghost use Rattle.machine_core.specs.View.{AreValues, HasValues, IsLawful};
 ghost use Rattle.machine_core.specs.Process.{area_holds, frame_of, frames_of, process_of};
 ghost use Rattle.machine_core.specs.Turn.{MayTurn, TurnGives, begun, held_after, run_of};
@@ -11,7 +11,7 @@ use crate::doom::doomed_serial;
 use crate::outcome::Outcome;
 use crate::pause::pause;
 use crate::process::{
-    End, Frame, FrameList, Line, LineList, MOST_TURNS, Process, TURN_INSTRUCTIONS, TurnEnd,
+    End, Frame, FrameList, LineList, MOST_TURNS, Process, TURN_INSTRUCTIONS, TurnEnd,
 };
 use crate::step::step;
 use crate::view::CodeView;
@@ -35,8 +35,8 @@ pub fn turn<V: CodeView>(
     requires lawful { IsLawful (V.shown view.old) }
     requires ready { MayTurn (V.shown view.old) (V.held view.old) process.old }
     ensures ok { IfOk result (λ end.
-        TurnGives (V.shown view.old).state (process_of (V.shown view.old).words process.old) (process_of (V.shown view.old).words process.new) lines.old lines.new end) }
-    ensures held { IfOk result (λ _. V.held view.new ≡ held_after (V.shown view.old).state (process_of (V.shown view.old).words process.old)) }
+        TurnGives (V.shown view.old).reads (process_of (V.shown view.old).words process.old) (process_of (V.shown view.old).words process.new) lines.old lines.new end) }
+    ensures held { IfOk result (λ _. V.held view.new ≡ held_after (V.shown view.old).reads (process_of (V.shown view.old).words process.old)) }
     ensures again { IfOk result (λ end. end ≡ TurnEnd.Again →
         MayTurn (V.shown view.old) (V.held view.new) process.new) }
     ensures same { V.shown view.new ≡ V.shown view.old }
@@ -84,7 +84,7 @@ fn begin<V: CodeView>(
     requires tracked { V.held view.old ≡ area_holds areas.old }
     requires values { AreValues (V.shown view.old) frames.old }
     ensures ok { IfOk result (λ top.
-        stand_after (V.held view.old) lines.old (begun (V.shown view.old).state target args.now (V.held view.old) (frames_of (V.shown view.old).words frames.old))
+        stand_after (V.held view.old) lines.old (begun (V.shown view.old).reads target args.now (V.held view.old) (frames_of (V.shown view.old).words frames.old))
         ≡ stand_entered (V.shown view.old).words top (frames_of (V.shown view.old).words frames.new) (V.held view.new) lines.new) }
     ensures top { IfOk result (λ top. IfOk top (HasValues (V.shown view.old))) }
     ensures values { OnOk result (AreValues (V.shown view.old) frames.new) }
@@ -110,7 +110,7 @@ fn run<V: CodeView>(
     requires ready { AreReady (V.shown view.old) (V.held view.old) top frames.old }
     requires tracked { V.held view.old ≡ area_holds areas.old }
     ensures ok { IfOk result (λ end.
-        run_of (V.shown view.old).state TURN_INSTRUCTIONS (frame_of (V.shown view.old).words top ∷ frames_of (V.shown view.old).words frames.old) (V.held view.old) lines.old
+        run_of (V.shown view.old).reads TURN_INSTRUCTIONS (frame_of (V.shown view.old).words top ∷ frames_of (V.shown view.old).words frames.old) (V.held view.old) lines.old
         ≡ record { frames = frames_of (V.shown view.old).words frames.new; held = V.held view.new; made = lines.new; end = end }) }
     ensures values { IfOk result (λ _. AreValues (V.shown view.old) frames.new) }
     ensures same { V.shown view.new ≡ V.shown view.old }

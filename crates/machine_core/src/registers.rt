@@ -1,4 +1,4 @@
-ghost use Rattle.std.specs.Prelude.{◌≡◌, ◌++◌, All, IfOk, OnOk, drop, map, replicate, slice_get, slice_set, take, unwrap_or};
+ghost use Rattle.std.specs.Prelude.{◌≡◌, ◌++◌, IfOk, OnOk, drop, map, replicate, slice_get, slice_set, take, unwrap_or};
 ghost use Rattle.term_core.specs.Plain.{plain};
 ghost use Rattle.machine_core.specs.Process.{arguments_of, entered_values, no_held, owned_terms};
 

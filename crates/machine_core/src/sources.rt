@@ -3,7 +3,7 @@ ghost use Rattle.machine_core.specs.Decode.{operand_shown};
 ghost use Rattle.machine_core.specs.Holds.{Holds};
 ghost use Rattle.machine_core.specs.Process.{frame_of, value_shown};
 ghost use Rattle.machine_core.specs.Stand.{IsReadyFrame, IsSource, IsUsable, IsValueOf};
-ghost use Rattle.machine_core.specs.Turn.{key_value, operand_term};
+ghost use Rattle.machine_core.specs.Turn.{operand_term};
 ghost use Rattle.machine_core.specs.View.{IsLawful, Shown};
 
 use crate::literals::term_of;
@@ -50,7 +50,7 @@ pub fn term_in<V: CodeView>(
 /// What a key holds, if it holds a term.
 pub fn key_value<V: CodeView>(key: AtomId, view: &mut V) -> Option<Value>
     requires lawful { IsLawful (V.shown view.old) }
-    ensures value { option_map (value_shown (V.shown view.old).words) result ≡ key_value (V.shown view.old).state key.0 }
+    ensures value { option_map (value_shown (V.shown view.old).words) result ≡ (V.shown view.old).reads.key key.0 }
     ensures usable { IfSome result (IsUsable (V.shown view.old) (V.held view.old)) }
     ensures same { V.shown view.new ≡ V.shown view.old }
     ensures holds { V.held view.new ≡ V.held view.old }

@@ -35,7 +35,7 @@ pub fn step<V: CodeView>(
     requires ready { AreReady (V.shown view.old) (V.held view.old) top.old below.old }
     requires tracked { V.held view.old ≡ area_holds areas.old }
     ensures ok { IfOk result (λ outcome.
-        stand_after (V.held view.old) lines.old (step_of (V.shown view.old).state (frame_of (V.shown view.old).words top.old ∷ frames_of (V.shown view.old).words below.old) (V.held view.old))
+        stand_after (V.held view.old) lines.old (step_of (V.shown view.old).reads (frame_of (V.shown view.old).words top.old ∷ frames_of (V.shown view.old).words below.old) (V.held view.old))
         ≡ stand_of outcome (frame_of (V.shown view.old).words top.new ∷ frames_of (V.shown view.old).words below.new) (V.held view.new) lines.new) }
     ensures values { OnOk result (HasValues (V.shown view.old) top.new) }
     ensures below { OnOk result (AreValues (V.shown view.old) below.new) }
@@ -63,9 +63,9 @@ fn execute<V: CodeView>(
     requires below { AreValues (V.shown view.old) below.old }
     requires sources { HasSources (V.shown view.old) top.old.code.area op.now }
     requires tracked { V.held view.old ≡ area_holds areas.old }
-    requires callee { HasCallee (V.shown view.old).state (frame_of (V.shown view.old).words top.old) (instr_shown ((V.shown view.old).words top.old.code.area.serial) op.now) }
+    requires callee { HasCallee (V.shown view.old).reads (frame_of (V.shown view.old).words top.old) (instr_shown ((V.shown view.old).words top.old.code.area.serial) op.now) }
     ensures ok { IfOk result (λ outcome.
-        stand_after (V.held view.old) lines.old (executed (V.shown view.old).state (frame_of (V.shown view.old).words top.old) (frames_of (V.shown view.old).words below.old) (V.held view.old)
+        stand_after (V.held view.old) lines.old (executed (V.shown view.old).reads (frame_of (V.shown view.old).words top.old) (frames_of (V.shown view.old).words below.old) (V.held view.old)
         (instr_shown ((V.shown view.old).words top.old.code.area.serial) op.now))
         ≡ stand_of outcome (frame_of (V.shown view.old).words top.new ∷ frames_of (V.shown view.old).words below.new) (V.held view.new) lines.new) }
     ensures values { OnOk result (HasValues (V.shown view.old) top.new) }
@@ -116,9 +116,9 @@ fn call_within<V: CodeView>(
     requires values { HasValues (V.shown view.old) top.old }
     requires below { AreValues (V.shown view.old) below.old }
     requires tracked { V.held view.old ≡ area_holds areas.old }
-    requires callee { HasCallee (V.shown view.old).state (frame_of (V.shown view.old).words top.old) (instr_shown ((V.shown view.old).words top.old.code.area.serial) (Op.Call function at)) }
+    requires callee { HasCallee (V.shown view.old).reads (frame_of (V.shown view.old).words top.old) (instr_shown ((V.shown view.old).words top.old.code.area.serial) (Op.Call function at)) }
     ensures ok { IfOk result (λ outcome.
-        stand_after (V.held view.old) lines.old (executed (V.shown view.old).state (frame_of (V.shown view.old).words top.old) (frames_of (V.shown view.old).words below.old) (V.held view.old)
+        stand_after (V.held view.old) lines.old (executed (V.shown view.old).reads (frame_of (V.shown view.old).words top.old) (frames_of (V.shown view.old).words below.old) (V.held view.old)
         (instr_shown ((V.shown view.old).words top.old.code.area.serial) (Op.Call function at)))
         ≡ stand_of outcome (frame_of (V.shown view.old).words top.new ∷ frames_of (V.shown view.old).words below.new) (V.held view.new) lines.new) }
     ensures values { OnOk result (HasValues (V.shown view.old) top.new) }
@@ -158,7 +158,7 @@ fn call_out<V: CodeView>(
     requires below { AreValues (V.shown view.old) below.old }
     requires tracked { V.held view.old ≡ area_holds areas.old }
     ensures ok { IfOk result (λ outcome.
-        stand_after (V.held view.old) lines.old (executed (V.shown view.old).state (frame_of (V.shown view.old).words top.old) (frames_of (V.shown view.old).words below.old) (V.held view.old)
+        stand_after (V.held view.old) lines.old (executed (V.shown view.old).reads (frame_of (V.shown view.old).words top.old) (frames_of (V.shown view.old).words below.old) (V.held view.old)
         (instr_shown ((V.shown view.old).words top.old.code.area.serial) (Op.CallExt to at)))
         ≡ stand_of outcome (frame_of (V.shown view.old).words top.new ∷ frames_of (V.shown view.old).words below.new) (V.held view.new) lines.new) }
     ensures values { OnOk result (HasValues (V.shown view.old) top.new) }
@@ -195,7 +195,7 @@ fn leave<V: CodeView>(
     requires source { IsSource (V.shown view.old) top.old.code.area value.now }
     requires tracked { V.held view.old ≡ area_holds areas.old }
     ensures ok { (made : List Line) → IfOk result (λ outcome.
-        stand_after (V.held view.old) made (executed (V.shown view.old).state (frame_of (V.shown view.old).words top.old) (frames_of (V.shown view.old).words below.old) (V.held view.old)
+        stand_after (V.held view.old) made (executed (V.shown view.old).reads (frame_of (V.shown view.old).words top.old) (frames_of (V.shown view.old).words below.old) (V.held view.old)
         (instr_shown ((V.shown view.old).words top.old.code.area.serial) (Op.Ret value.now)))
         ≡ stand_of outcome (frame_of (V.shown view.old).words top.new ∷ frames_of (V.shown view.old).words below.new) (V.held view.new) made) }
     ensures values { OnOk result (HasValues (V.shown view.old) top.new) }

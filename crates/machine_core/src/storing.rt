@@ -2,7 +2,7 @@ ghost use Rattle.std.specs.Prelude.{◌≡◌, ◌+◌, ◌≤◌, ◌∷◌, Li
 ghost use Rattle.machine_core.specs.Decode.{operand_shown};
 ghost use Rattle.machine_core.specs.Process.{PlainFrame, area_holds, frame_of, value_shown, values_shown};
 ghost use Rattle.machine_core.specs.Stand.{ComesTo, IsReadyFrame, IsSource, IsUsable, stand_after, stand_of, stored_found};
-ghost use Rattle.machine_core.specs.Turn.{element_of, held_with, key_value, operand_term, stored, value_of};
+ghost use Rattle.machine_core.specs.Turn.{element_of, held_with, operand_term, stored, value_of};
 ghost use Rattle.machine_core.specs.View.{HasValues, IsLawful};
 
 use crate::areas::{HeldAreas, note};
@@ -185,7 +185,7 @@ fn key_value_or<V: CodeView>(
     requires lawful { IsLawful (V.shown view.old) }
     requires ready { IsReadyFrame (V.shown view.old) (V.held view.old) top.now }
     requires source { IsSource (V.shown view.old) top.now.code.area other.now }
-    ensures value { IfOk result (λ value. value_shown (V.shown view.old).words value ≡ unwrap_or (key_value (V.shown view.old).state key.0)
+    ensures value { IfOk result (λ value. value_shown (V.shown view.old).words value ≡ unwrap_or ((V.shown view.old).reads.key key.0)
         (value_of (frame_of (V.shown view.old).words top.now) (operand_shown ((V.shown view.old).words top.now.code.area.serial) other.now))) }
     ensures usable { IfOk result (IsUsable (V.shown view.old) (V.held view.old)) }
     ensures same { V.shown view.new ≡ V.shown view.old }

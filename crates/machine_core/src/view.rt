@@ -1,7 +1,9 @@
-ghost use Rattle.std.specs.Prelude.{◌≡◌, ◌↔◌, ℕ, ◌<◌, length, option_map, slice_index, IsErr, IsTrue, OnErr, OnOk};
-ghost use Rattle.server_core.specs.ServerState.{dispatch_of, entry_of, found_as, is_doomed, is_retired, is_traced, key_found};
-ghost use Rattle.machine_core.specs.Holds.{Holds, MayHold, MayRead, is_area_held, is_full, is_held, with_hold, without_hold};
-ghost use Rattle.machine_core.specs.View.{Shown, IsLawful, HasFunction, IsReadable, place_of};
+ghost use Rattle.std.specs.Prelude.{◌≡◌, ◌↔◌, option_map, slice_index, IsErr, IsTrue, OnErr, OnOk};
+ghost use Rattle.server_core.specs.ServerState.{entry_of, found_as};
+ghost use Rattle.machine_core.specs.Holds.{Holds, is_area_held, is_full, is_held, with_hold, without_hold};
+ghost use Rattle.machine_core.specs.View.{Shown, IsLawful, IsReadable};
+ghost use Rattle.machine_core.specs.Reads.{HasFunction, dispatched, found_of};
+ghost use Rattle.machine_core.specs.Reach.{MayHold, MayRead};
 
 use term_core::{AreaRef, AtomId, CodeRef, Found, Full, Kind, Mfa};
 
@@ -19,25 +21,25 @@ pub trait CodeView {
     /// What a call of `m:f/a` reaches.
     fn export(&mut self, to: Mfa) -> Option<CodeRef>
         requires { IsLawful (shown self.old) }
-        ensures value { option_map entry_of result ≡ dispatch_of (shown self.old).state to }
+        ensures value { option_map entry_of result ≡ dispatched (shown self.old).reads to }
         ensures same { shown self.new ≡ shown self.old }
         ensures holds { held self.new ≡ held self.old };
 
     /// The place of a function's first instruction, in words of the image.
     fn entry(&mut self, at: CodeRef) -> u32
         requires lawful { IsLawful (shown self.old) }
-        requires known { HasFunction (shown self.old).state (entry_of at) }
-        requires reached { MayHold (shown self.old).state (held self.old) at.area.serial Kind.Frame }
-        ensures value { result ≡ place_of (shown self.old).state (entry_of at) }
+        requires known { HasFunction (shown self.old).reads (entry_of at) }
+        requires reached { MayHold (shown self.old).reads (held self.old) at.area.serial Kind.Frame }
+        ensures value { result ≡ (shown self.old).reads.first (entry_of at) }
         ensures same { shown self.new ≡ shown self.old }
         ensures holds { held self.new ≡ held self.old };
 
     /// Whether calls of the function are traced.
     fn decision(&mut self, at: CodeRef) -> bool
         requires lawful { IsLawful (shown self.old) }
-        requires known { HasFunction (shown self.old).state (entry_of at) }
-        requires reached { MayHold (shown self.old).state (held self.old) at.area.serial Kind.Frame }
-        ensures value { result ≡ is_traced (shown self.old).state (entry_of at) }
+        requires known { HasFunction (shown self.old).reads (entry_of at) }
+        requires reached { MayHold (shown self.old).reads (held self.old) at.area.serial Kind.Frame }
+        ensures value { result ≡ (shown self.old).reads.traced (entry_of at) }
         ensures same { shown self.new ≡ shown self.old }
         ensures holds { held self.new ≡ held self.old };
 
@@ -45,7 +47,7 @@ pub trait CodeView {
     fn doomed(&mut self, area: AreaRef) -> bool
         requires lawful { IsLawful (shown self.old) }
         requires named { IsTrue (is_area_held (held self.old) area.serial) }
-        ensures value { result ≡ is_doomed (shown self.old).state area.serial }
+        ensures value { result ≡ (shown self.old).reads.doomed area.serial }
         ensures same { shown self.new ≡ shown self.old }
         ensures holds { held self.new ≡ held self.old };
 
@@ -53,22 +55,22 @@ pub trait CodeView {
     fn retired(&mut self, area: AreaRef) -> bool
         requires lawful { IsLawful (shown self.old) }
         requires named { IsTrue (is_area_held (held self.old) area.serial) }
-        ensures value { result ≡ is_retired (shown self.old).state area.serial }
+        ensures value { result ≡ (shown self.old).reads.retired area.serial }
         ensures same { shown self.new ≡ shown self.old }
         ensures holds { held self.new ≡ held self.old };
 
     /// What a key holds: an integer or an atom by its word, a tuple or a list by its area.
     fn term(&mut self, key: AtomId) -> Found
         requires { IsLawful (shown self.old) }
-        ensures value { found_as result ≡ key_found (shown self.old).state key.0 }
+        ensures value { found_as result ≡ found_of ((shown self.old).reads.key key.0) }
         ensures same { shown self.new ≡ shown self.old }
         ensures holds { held self.new ≡ held self.old };
 
     /// A word of an area. An entry word is not asked for.
     fn word(&mut self, area: AreaRef, at: u32) -> u64
         requires lawful { IsLawful (shown self.old) }
-        requires readable { IsReadable (shown self.old).state area.serial at }
-        requires reached { MayRead (shown self.old).state (held self.old) area.serial }
+        requires readable { IsReadable (shown self.old) area.serial at }
+        requires reached { MayRead (shown self.old).reads (held self.old) area.serial }
         ensures value { result ≡ slice_index ((shown self.old).words area.serial) at }
         ensures same { shown self.new ≡ shown self.old }
         ensures holds { held self.new ≡ held self.old };
@@ -78,7 +80,7 @@ pub trait CodeView {
     /// `Full` comes exactly where 16 other areas are held, and then nothing changes. It takes no memory.
     fn hold(&mut self, area: AreaRef, kind: Kind) -> Result<(), Full>
         requires lawful { IsLawful (shown self.old) }
-        requires reached { MayHold (shown self.old).state (held self.old) area.serial kind }
+        requires reached { MayHold (shown self.old).reads (held self.old) area.serial kind }
         ensures full { IsErr result ↔ IsTrue (is_full (held self.old) area.serial) }
         ensures ok { OnOk result (held self.new ≡ with_hold (held self.old) area.serial kind) }
         ensures err { OnErr result (held self.new ≡ held self.old) }

@@ -9,7 +9,7 @@ use Rattle.std.proofs.lemmas.List.Elements.{All-head, All-tail}
 use Rattle.std.proofs.lemmas.List.FromFn.{get_or-map-range_with_len, length-map-range_with_len, map-range_with_len_more}
 use Rattle.mod_core.specs.declared.code.Operand.{Operand}
 use Rattle.mod_core.specs.declared.code.Instr.{Instr}
-use Rattle.mod_core.specs.declared.code.Instr.TheVariants.{Move, Add, Sub, Eq, Less, Jump, Call, CallExt, Ret, Pget, PgetOr, Elem, Print, Yield}
+use Rattle.mod_core.specs.declared.code.Instr.TheVariants.{Eq, Less, Jump}
 use Rattle.mod_core.specs.declared.code.Function.{Function}
 use Rattle.mod_core.specs.declared.code.Module.{Module}
 use Rattle.mod_core.specs.declared.image.Draft.{Draft}
@@ -66,20 +66,10 @@ function_within place fs i d h =
 module _ (f g : ℕ → ℕ) (places : ℕ) (same : (k : ℕ) → k < places → f k ≡ g k) where
   -- two ways to place targets that agree on the places there are give the same instruction
   pub same_below : (fs : List Function) (len : ℕ) (i : Instr) → len < places → IsInstr fs len i → placed f i ≡ placed g i
-  same_below fs len (Move from to) h is = refl
-  same_below fs len (Add a b to) h is = refl
-  same_below fs len (Sub a b to) h is = refl
   same_below fs len (Eq a b target) h is = ap (Eq a b) (same target (omega (arith, is.2)))
   same_below fs len (Less a b target) h is = ap (Less a b) (same target (omega (arith, is.2)))
   same_below fs len (Jump target) h is = ap Jump (same target (omega (arith, is)))
-  same_below fs len (Call function at) h is = refl
-  same_below fs len (CallExt to at) h is = refl
-  same_below fs len (Ret value) h is = refl
-  same_below fs len (Pget key to) h is = refl
-  same_below fs len (PgetOr key other to) h is = refl
-  same_below fs len (Elem index from to) h is = refl
-  same_below fs len (Print value) h is = refl
-  same_below fs len Yield h is = refl
+  same_below fs len i h is = refl
 
   -- and the same code
   pub same_code : (is : List Instr) → All (IsInstrAmong places) is → map (placed f) is ≡ map (placed g) is

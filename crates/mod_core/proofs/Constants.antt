@@ -8,7 +8,7 @@ use Rattle.std.proofs.lemmas.Option.{same_Some}
 use Rattle.term_core.specs.declared.names.TheConstants.{MOST_NAMES}
 use Rattle.term_core.specs.declared.term_text.TheConstants.{MOST_WORDS}
 use Rattle.term_core.specs.declared.term.Term.{Term}
-use Rattle.term_core.specs.declared.term.Term.TheVariants.{Int, Atom, Tuple, List as ListOf}
+use Rattle.term_core.specs.declared.term.Term.TheVariants.{Tuple, List as ListOf}
 use Rattle.term_core.specs.Image.{HasTermIntegers, IsImageAt, IsPlainTerm, image_of}
 use Rattle.term_core.specs.PlainTerm.{PlainTerm, term_words}
 use Rattle.term_core.specs.Plain.{plain}
@@ -16,9 +16,9 @@ use Rattle.term_core.specs.Written.{IsTermInteger}
 use Rattle.term_core.proofs.ImageTerms.{length-image}
 use Rattle.term_core.proofs.LeafFacts.{EachLeaf-weaker, EachOf, EachOf-append}
 use Rattle.mod_core.specs.declared.code.Operand.{Operand}
-use Rattle.mod_core.specs.declared.code.Operand.TheVariants.{Reg, Const}
+use Rattle.mod_core.specs.declared.code.Operand.TheVariants.{Const}
 use Rattle.mod_core.specs.declared.code.Instr.{Instr}
-use Rattle.mod_core.specs.declared.code.Instr.TheVariants.{Move, Add, Sub, Eq, Less, Jump, Call, CallExt, Ret, Pget, PgetOr, Elem, Print, Yield}
+use Rattle.mod_core.specs.declared.code.Instr.TheVariants.{Move, Add, Sub, Eq, Less, Ret, PgetOr, Elem, Print}
 use Rattle.mod_core.specs.declared.code.Function.{Function}
 use Rattle.mod_core.specs.declared.code.Module.{Module}
 use Rattle.mod_core.specs.Module.{IsConstant, IsFunction, IsInstr, IsModule, IsOperand}
@@ -68,11 +68,9 @@ pub constant_integers : (term : Term) → IsConstant term → HasTermIntegers (p
 constant_integers term is = EachLeaf-weaker IsTermInteger IsTermInteger (λ (a : ℕ). a < MOST_NAMES) (λ _. Unit {0}) (λ z h. h) (λ a h. tt) (plain term) is.leaves
 
 operand_has : (o : Operand) → IsOperand o → EachOf HasImage (operand_constants o)
-operand_has (Reg register) is = tt
-operand_has (Const (Int z)) is = tt
-operand_has (Const (Atom a)) is = tt
 operand_has (Const (Tuple ts)) is = (constant_has (Tuple ts) is, tt)
 operand_has (Const (ListOf ts)) is = (constant_has (ListOf ts) is, tt)
+operand_has o is = tt
 
 both_have : (a b : Operand) → IsOperand a → IsOperand b → EachOf HasImage (operand_constants a ++ operand_constants b)
 both_have a b first second = EachOf-append HasImage (operand_constants a) (operand_constants b) (operand_has a first) (operand_has b second)
@@ -84,15 +82,11 @@ instr_has fs len (Add a b to) is = both_have a b is.0 is.1
 instr_has fs len (Sub a b to) is = both_have a b is.0 is.1
 instr_has fs len (Eq a b target) is = both_have a b is.0 is.1
 instr_has fs len (Less a b target) is = both_have a b is.0 is.1
-instr_has fs len (Jump target) is = tt
-instr_has fs len (Call function at) is = tt
-instr_has fs len (CallExt to at) is = tt
 instr_has fs len (Ret value) is = operand_has value is
-instr_has fs len (Pget key to) is = tt
 instr_has fs len (PgetOr key other to) is = operand_has other is.1
 instr_has fs len (Elem index from to) is = both_have index from is.0 is.1
 instr_has fs len (Print value) is = operand_has value is
-instr_has fs len Yield is = tt
+instr_has fs len i is = tt
 
 code_has : (fs : List Function) (len : ℕ) (is : List Instr) → All (IsInstr fs len) is → EachOf HasImage (code_constants is)
 code_has fs len [] all = tt

@@ -5,7 +5,7 @@ use Rattle.term_core.specs.Image.{image_of}
 use Rattle.term_core.specs.PlainTerm.{PlainTerm}
 use Rattle.term_core.proofs.ImageTerms.{length-image}
 use Rattle.mod_core.specs.declared.code.Instr.{Instr}
-use Rattle.mod_core.specs.declared.code.Instr.TheVariants.{Move, Add, Sub, Eq, Less, Jump, Call, CallExt, Ret, Pget, PgetOr, Elem, Print, Yield}
+use Rattle.mod_core.specs.declared.code.Instr.TheVariants.{Move}
 use Rattle.mod_core.specs.declared.code.Function.{Function}
 use Rattle.mod_core.specs.declared.code.Module.{Module}
 use Rattle.mod_core.specs.ModuleImage.{code_constants, code_len, code_start, code_words, constants_len, constants_of, constants_start, constants_words, function_heads, function_len, function_words, functions_words, instr_constants, instr_len, instr_words, module_image, place_from, place_in, placed, placed_code, return_ok}
@@ -28,70 +28,22 @@ constants_len-append (t ∷ ts) us = omega (arith, constants_len-append ts us)
 -- an instruction has as many words, wherever its constants stand
 pub instr_words_len : (place : ℕ) (i : Instr) → length (instr_words place i) ≡ instr_len i
 instr_words_len place (Move from to) = refl
-instr_words_len place (Add a b to) = refl
-instr_words_len place (Sub a b to) = refl
-instr_words_len place (Eq a b target) = refl
-instr_words_len place (Less a b target) = refl
-instr_words_len place (Jump target) = refl
-instr_words_len place (Call function at) = refl
-instr_words_len place (CallExt to at) = refl
-instr_words_len place (Ret value) = refl
-instr_words_len place (Pget key to) = refl
-instr_words_len place (PgetOr key other to) = refl
-instr_words_len place (Elem index from to) = refl
-instr_words_len place (Print value) = refl
-instr_words_len place Yield = refl
+instr_words_len place i = refl
 
 -- and whatever the place of its target
 pub placed_len : (place : ℕ → ℕ) (i : Instr) → instr_len (placed place i) ≡ instr_len i
 placed_len place (Move from to) = refl
-placed_len place (Add a b to) = refl
-placed_len place (Sub a b to) = refl
-placed_len place (Eq a b target) = refl
-placed_len place (Less a b target) = refl
-placed_len place (Jump target) = refl
-placed_len place (Call function at) = refl
-placed_len place (CallExt to at) = refl
-placed_len place (Ret value) = refl
-placed_len place (Pget key to) = refl
-placed_len place (PgetOr key other to) = refl
-placed_len place (Elem index from to) = refl
-placed_len place (Print value) = refl
-placed_len place Yield = refl
+placed_len place i = refl
 
 -- it has the same constants
 pub placed_constants : (place : ℕ → ℕ) (i : Instr) → instr_constants (placed place i) ≡ instr_constants i
 placed_constants place (Move from to) = refl
-placed_constants place (Add a b to) = refl
-placed_constants place (Sub a b to) = refl
-placed_constants place (Eq a b target) = refl
-placed_constants place (Less a b target) = refl
-placed_constants place (Jump target) = refl
-placed_constants place (Call function at) = refl
-placed_constants place (CallExt to at) = refl
-placed_constants place (Ret value) = refl
-placed_constants place (Pget key to) = refl
-placed_constants place (PgetOr key other to) = refl
-placed_constants place (Elem index from to) = refl
-placed_constants place (Print value) = refl
-placed_constants place Yield = refl
+placed_constants place i = refl
 
 -- each instruction has a word, and at most four
 pub some_words : (i : Instr) → 1 ≤ instr_len i
 some_words (Move from to) = omega arith
-some_words (Add a b to) = omega arith
-some_words (Sub a b to) = omega arith
-some_words (Eq a b target) = omega arith
-some_words (Less a b target) = omega arith
-some_words (Jump target) = omega arith
-some_words (Call function at) = omega arith
-some_words (CallExt to at) = omega arith
-some_words (Ret value) = omega arith
-some_words (Pget key to) = omega arith
-some_words (PgetOr key other to) = omega arith
-some_words (Elem index from to) = omega arith
-some_words (Print value) = omega arith
-some_words Yield = omega arith
+some_words i = omega arith
 
 -- ---- code
 

@@ -1,6 +1,6 @@
 -- The serial and the entry words of an image, which may be any, and the words without them.
 use Rattle.std.proofs.Common.{◌≡◌, ◌⊎◌, ℕ, ◌+◌, ◌-◌, ◌*◌, ◌/◌, ◌%◌, ◌<◌, List, [], ◌∷◌, ◌++◌, length, get_or, refl, sym, ap, ◌∙◌, arith, ⊎_elim, inl, inr, Bool, true, false, ◌&&◌, ◌||◌, cond, nat_eq, nat_le, nat_lt, length-append, below_more, Result, Ok, Err, IsErrOf, slice_index}
-use Rattle.std.proofs.lemmas.Bool.{eqb-true, false≢true, leb-true}
+use Rattle.std.proofs.lemmas.Bool.{eqb-true, false≢true, leb-true, false_from_ne_true}
 use borrow.Author.Tests.{ltb-true}
 use Rattle.std.proofs.lemmas.Bool.Decides.{nat_tests}
 use Rattle.std.proofs.Math.Seq.{get_or-append_seam}
@@ -23,9 +23,7 @@ use Rattle.mod_core.proofs.Heads.{first_function, head_word}
 mark_cases : (a b c d : Bool) → (a || (b && (c && d))) ≡ true → (a ≡ true) ⊎ ((b ≡ true) × (c ≡ true) × (d ≡ true))
 mark_cases true b c d e = inl refl
 mark_cases false true true true e = inr (refl, refl, refl)
-mark_cases false true true false e = absurd (false≢true e)
-mark_cases false true false d e = absurd (false≢true e)
-mark_cases false false c d e = absurd (false≢true e)
+mark_cases false b c d e = absurd (false≢true e)
 
 -- a mark is the serial or an entry word
 pub mark_is : (count at : ℕ) → is_mark count at ≡ true → (at ≡ 0) ⊎ ((i : ℕ) × ((i < count) × (at ≡ 4 + 4 * i + 2)))
@@ -59,10 +57,6 @@ not_marked m at fixed mark = ⊎_elim (λ e. fixed.no_serial e) (λ h. fixed.no_
 -- an image has the number of its functions
 has_count : (m : Module) → 3 < length (module_image m)
 has_count m = omega (arith, image_end m, code_behind_heads m)
-
-is_false : (b : Bool) → (b ≡ true → ⊥) → b ≡ false
-is_false true h = absurd (h refl)
-is_false false h = refl
 
 at_place : (words copy : List ℕ) (m : Module) (at : ℕ) → at < length words → IsImageOfModule m words → (mark : Bool) → is_mark (length m.functions) at ≡ mark → slice_index copy at ≡ cond (is_mark (length m.functions) at) 0 (slice_index words at) → get_or copy at 0 ≡ get_or (module_image m) at 0
 at_place words copy m at below image true e here = here ∙ ap (λ b. cond b 0 (slice_index words at)) e ∙ sym (marks_are_zero m at e)
@@ -116,7 +110,7 @@ marked_is words copy m unmarked same =
     record {
       whole = long;
       same = λ at fixed.
-          sym (unmarked.each at (omega (arith, long, fixed.within)) ∙ ap (λ n. cond (is_mark n at) 0 (slice_index words at)) count ∙ ap (λ b. cond b 0 (slice_index words at)) (is_false (is_mark (length m.functions) at) (not_marked m at fixed)))
+          sym (unmarked.each at (omega (arith, long, fixed.within)) ∙ ap (λ n. cond (is_mark n at) 0 (slice_index words at)) count ∙ ap (λ b. cond b 0 (slice_index words at)) (false_from_ne_true (is_mark (length m.functions) at) (not_marked m at fixed)))
           ∙ ap (λ ws. get_or ws at 0) same;
     }
 

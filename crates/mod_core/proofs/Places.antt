@@ -9,7 +9,7 @@ use Rattle.mod_core.specs.declared.code.Function.{Function}
 use Rattle.mod_core.specs.declared.code.Module.{Module}
 use Rattle.mod_core.specs.Module.{IsModule}
 use Rattle.mod_core.specs.ModuleImage.{code_constants, code_len, code_start, code_words, constants_len, constants_of, constants_start, constants_words, function_heads, function_len, function_place, function_words, functions_words, instr_constants, instr_words, module_image, place_from, place_in, placed, placed_code, return_ok}
-use Rattle.mod_core.proofs.Constants.{ConstantsStand, code_constants_split, constants_in, constants_of_split, constants_place, module_constants_stand, split_at, stand_behind, stand_front}
+use Rattle.mod_core.proofs.Constants.{code_constants_split, constants_in, constants_of_split, constants_place, module_constants_stand, split_at, stand_behind, stand_front}
 use Rattle.mod_core.proofs.Lengths.{code_words-append, code_words_len, constants_len-append, function_words_len, heads_len, image_end, placed_code_constants, placed_code_len, placed_constants}
 pub use Rattle.mod_core.proofs.Lengths.{image_len, placed_len}
 pub use Rattle.mod_core.proofs.Constants.{ConstantsStand}
@@ -36,9 +36,8 @@ place_word m i h =
 
 -- no function begins before the first
 pub place_least : (place : ℕ) (fs : List Function) (n : ℕ) → place ≤ place_from place fs n
-place_least place [] n = omega arith
-place_least place (f ∷ fs) zero = omega arith
 place_least place (f ∷ fs) (suc n) = omega (arith, place_least (place + function_len f) fs n)
+place_least place fs n = omega arith
 
 -- ---- words at a place
 

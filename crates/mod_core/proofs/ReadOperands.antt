@@ -1,6 +1,6 @@
 -- What a word of an image is read as: the operand that it stands for.
 use Rattle.std.proofs.Common.{◌≡◌, ℕ, ◌/◌, ◌%◌, ◌<◌, List, length, ap, arith}
-use Rattle.term_core.specs.declared.term.Term.TheVariants.{Int, Atom, Tuple, List as ListOf}
+use Rattle.term_core.specs.declared.term.Term.TheVariants.{Tuple, List as ListOf}
 use Rattle.term_core.specs.Image.{IsImageAt}
 use Rattle.term_core.specs.Plain.{plain, term_of}
 use Rattle.term_core.specs.PlainTerm.{PlainTerm}
@@ -8,7 +8,7 @@ use Rattle.term_core.proofs.ImagePlaces.{within-at}
 use Rattle.term_core.proofs.ImageTerms.{some_words}
 use Rattle.term_core.proofs.PlainTerms.{term_of-plain}
 use Rattle.mod_core.specs.declared.code.Operand.{Operand}
-use Rattle.mod_core.specs.declared.code.Operand.TheVariants.{Reg, Const}
+use Rattle.mod_core.specs.declared.code.Operand.TheVariants.{Const}
 use Rattle.mod_core.specs.Decoding.{IsWordOf}
 
 -- an image stands within the words
@@ -23,8 +23,6 @@ pub record IsConstantAt (words : List ℕ) (word : ℕ) (o : Operand) : Type 0 w
 
 -- a word with the tag of a constant's place stands for one
 pub constant_word : (words : List ℕ) (word : ℕ) (o : Operand) → word % 16 ≡ 5 → IsWordOf words word o → IsConstantAt words word o
-constant_word words word (Reg register) tag is = absurd (omega (arith, is.0))
-constant_word words word (Const (Int z)) tag is = absurd (omega (arith, is.0))
-constant_word words word (Const (Atom a)) tag is = absurd (omega (arith, is.0))
 constant_word words word (Const (Tuple ts)) tag is = record { term = plain (Tuple ts); image = is.1; operand_is = ap Const (term_of-plain (Tuple ts)) }
 constant_word words word (Const (ListOf ts)) tag is = record { term = plain (ListOf ts); image = is.1; operand_is = ap Const (term_of-plain (ListOf ts)) }
+constant_word words word o tag is = absurd (omega (arith, is.0))

@@ -7,7 +7,7 @@ use Rattle.std.proofs.lemmas.List.{append-nil, drop_all, drop_more, get_or-map, 
 use Rattle.std.proofs.lemmas.List.Concat.{flat_map-append}
 use Rattle.std.proofs.lemmas.Option.{get_or_from_slice_get, same_Some, slice_get-get_or, slice_get_within}
 use Rattle.mod_core.specs.declared.code.Instr.{Instr}
-use Rattle.mod_core.specs.declared.code.Instr.TheVariants.{Move, Add, Sub, Eq, Less, Jump, Call, CallExt, Ret, Pget, PgetOr, Elem, Print, Yield}
+use Rattle.mod_core.specs.declared.code.Instr.TheVariants.{Eq, Less, Jump}
 use Rattle.mod_core.specs.declared.code.Function.{Function}
 use Rattle.mod_core.specs.declared.code.Module.{Module}
 use Rattle.mod_core.specs.declared.code_reading.Row.{Row}
@@ -52,20 +52,10 @@ front_constants is k =
 
 -- an instruction of a module with its target's place is one with numbers of few bits
 placed_is : (fs : List Function) (len : ℕ) (g : ℕ → ℕ) (i : Instr) → ((k : ℕ) → k ≤ len → g k ≤ 1024) → IsInstr fs len i → IsInstr fs 1024 (placed g i)
-placed_is fs len g (Move from to) small is = is
-placed_is fs len g (Add a b to) small is = is
-placed_is fs len g (Sub a b to) small is = is
 placed_is fs len g (Eq a b target) small is = (is.0, is.1, small target is.2)
 placed_is fs len g (Less a b target) small is = (is.0, is.1, small target is.2)
 placed_is fs len g (Jump target) small is = small target is
-placed_is fs len g (Call function at) small is = is
-placed_is fs len g (CallExt to at) small is = is
-placed_is fs len g (Ret value) small is = is
-placed_is fs len g (Pget key to) small is = is
-placed_is fs len g (PgetOr key other to) small is = is
-placed_is fs len g (Elem index from to) small is = is
-placed_is fs len g (Print value) small is = is
-placed_is fs len g Yield small is = is
+placed_is fs len g i small is = is
 
 -- a function of the module, with its instructions in range
 module _ (words : List ℕ) (m : Module) (n : ℕ) (f : Function) (h : IsFunctionIn words m n f) where

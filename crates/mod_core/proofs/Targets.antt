@@ -7,7 +7,7 @@ use Rattle.std.proofs.lemmas.List.Elements.{All-head, All-tail}
 use Rattle.std.proofs.lemmas.List.FromFn.{map-range_with_len_more}
 use Rattle.std.proofs.lemmas.List.Sums.{sum_by-append}
 use Rattle.mod_core.specs.declared.code.Instr.{Instr}
-use Rattle.mod_core.specs.declared.code.Instr.TheVariants.{Move, Add, Sub, Eq, Less, Jump, Call, CallExt, Ret, Pget, PgetOr, Elem, Print, Yield}
+use Rattle.mod_core.specs.declared.code.Instr.TheVariants.{Eq, Less, Jump}
 use Rattle.mod_core.specs.declared.code.Function.{Function}
 use Rattle.mod_core.specs.Module.{IsInstr}
 use Rattle.mod_core.specs.ModuleImage.{code_len, place_in, placed, placed_code}
@@ -17,10 +17,9 @@ use Rattle.mod_core.proofs.Lengths.{some_words}
 -- ---- places go up
 
 pub len_less : (is : List Instr) (i j : ℕ) → i < j → j ≤ length is → code_len (take i is) < code_len (take j is)
-len_less [] i j before within = absurd (omega arith)
-len_less (x ∷ is) i zero before within = absurd (omega arith)
 len_less (x ∷ is) zero (suc j) before within = omega (arith, some_words x)
 len_less (x ∷ is) (suc i) (suc j) before within = omega (arith, len_less is i j (omega arith) (omega arith))
+len_less is i j before within = absurd (omega arith)
 
 -- how many of the places before one are before another
 abbrev before : ℕ → List Instr → ℕ → ℕ → ℕ
@@ -59,20 +58,10 @@ number_of_place start is places k table few within =
 
 module _ (g h : ℕ → ℕ) (fs : List Function) (len : ℕ) (back : (k : ℕ) → k ≤ len → h (g k) ≡ k) where
   unplaced : (i : Instr) → IsInstr fs len i → placed h (placed g i) ≡ i
-  unplaced (Move from to) is = refl
-  unplaced (Add a b to) is = refl
-  unplaced (Sub a b to) is = refl
   unplaced (Eq a b target) is = ap (Eq a b) (back target is.2)
   unplaced (Less a b target) is = ap (Less a b) (back target is.2)
   unplaced (Jump target) is = ap Jump (back target is)
-  unplaced (Call function at) is = refl
-  unplaced (CallExt to at) is = refl
-  unplaced (Ret value) is = refl
-  unplaced (Pget key to) is = refl
-  unplaced (PgetOr key other to) is = refl
-  unplaced (Elem index from to) is = refl
-  unplaced (Print value) is = refl
-  unplaced Yield is = refl
+  unplaced i is = refl
 
   pub unplaced_code : (is : List Instr) → All (IsInstr fs len) is → map (placed h) (map (placed g) is) ≡ is
   unplaced_code [] all = refl

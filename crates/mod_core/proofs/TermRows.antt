@@ -1,18 +1,14 @@
 -- The terms of a row that are left, when a loop goes over them.
 use Rattle.std.proofs.Common.{◌≡◌, ℕ, ◌+◌, ◌<◌, ◌≤◌, zero, suc, List, [], ◌∷◌, length, map, drop, get_or, sym, ap, ◌∙◌, arith}
 use Rattle.std.proofs.Math.Seq.{drop-nil}
-use Rattle.std.proofs.lemmas.List.{drop_all, drop_more}
+use Rattle.std.proofs.lemmas.List.{drop_more}
 use Rattle.term_core.specs.declared.term.Term.{Term}
 use Rattle.term_core.specs.Plain.{plain}
-use Rattle.term_core.specs.PlainTerm.{PlainTerm, no_terms, term_then, row_of, row_words, term_words}
+use Rattle.term_core.specs.PlainTerm.{PlainTerm, term_then, row_of, row_words, term_words}
 
 -- what is left of a row is its next term and what is left behind it
 pub row_left : (ts : List Term) (k : ℕ) (t : Term) → k < length ts → t ≡ get_or ts k t → row_of (map plain (drop k ts)) ≡ term_then (plain t) (row_of (map plain (drop (k + 1) ts)))
 row_left ts k t below here = ap (λ us. row_of (map plain us)) (drop_more ts k t below) ∙ ap (λ u. term_then (plain u) (row_of (map plain (drop (k + 1) ts)))) (sym here)
-
--- at the end nothing is left
-pub row_done : (ts : List Term) (k : ℕ) → length ts ≤ k → row_of (map plain (drop k ts)) ≡ no_terms
-row_done ts k all = ap (λ us. row_of (map plain us)) (drop_all k ts all)
 
 left_words : (ts : List Term) (k : ℕ) → row_words (row_of (map plain (drop k ts))) ≤ row_words (row_of (map plain ts))
 left_words [] k = omega (arith, ap (λ us. row_words (row_of (map plain us))) (drop-nil k))

@@ -31,9 +31,7 @@ use Rattle.mod_core.proofs.Targets.{code_again}
 register_only : (words : List ℕ) (word : ℕ) (o : Operand) → word % 16 ≡ 6 → IsWordOf words word o → o ≡ Reg (word / 16)
 register_only words word (Reg register) tag is = ap Reg (let e : register ≡ word / 16 = omega (arith, is.0) in e)
 register_only words word (Const (Int z)) tag is = absurd (omega (arith, is.0))
-register_only words word (Const (Atom a)) tag is = absurd (omega (arith, is.0))
-register_only words word (Const (Tuple ts)) tag is = absurd (omega (arith, is.0))
-register_only words word (Const (ListOf ts)) tag is = absurd (omega (arith, is.0))
+register_only words word o tag is = absurd (omega (arith, is.0))
 
 -- the word of an integer or an atom tells it
 immediate_only : (words : List ℕ) (word : ℕ) (o : Operand) → word % 16 ≢ 5 → word % 16 ≢ 6 → IsWordOf words word o → o ≡ Const (term_of_word word)

@@ -64,11 +64,6 @@ apart_all fs number all so_far i j before same =
 
 -- ---- words
 
--- the words that are left behind a leading part and a second one are left behind both
-pub left_behind_both : (o : Option ℕ) (room left first second : ℕ) → first ≤ room → left ≡ room - first → MatchOption o (left < second) (λ n. n + second ≡ left) → MatchOption o (room < first + second) (λ n. n + (first + second) ≡ room)
-left_behind_both None room left first second enough less few = omega (arith, few)
-left_behind_both (Some n) room left first second enough less are = omega (arith, are)
-
 -- what is left behind the words of a function's code and constants is left behind the function
 pub behind_function : (o : Option ℕ) (room left : ℕ) (f : Function) (code : List Instr) → code ≡ f.code → 6 ≤ room → left ≡ room - 6 → MatchOption o (left < code_len code + constants_len (code_constants code)) (λ n. n + (code_len code + constants_len (code_constants code)) ≡ left) →
     MatchOption o (room < function_words_with f) (λ n. n + function_words_with f ≡ room)
@@ -106,6 +101,3 @@ module_is m fs same title functions =
 pub functions_are : (m : Module) (fs : List Function) → fs ≡ m.functions → IsModule m → AreFunctions fs
 functions_are m fs same is =
     subst AreFunctions (sym same) (record { few = is.few; functions = is.functions; apart = is.apart; short = omega (arith, image_len m, is.short) })
-
-pub title_is : (m : Module) → IsModule m → HasTitle m
-title_is m is = record { named = is.named; least_version = is.least_version; greatest_version = is.greatest_version }

@@ -3,3 +3,4 @@ pub mod Draft
 pub mod Module
 pub mod ModuleImage
 pub mod Valid
+pub mod HeldNames

@@ -29,15 +29,11 @@ instr_constants (Add a b to) = operand_constants a ++ operand_constants b
 instr_constants (Sub a b to) = operand_constants a ++ operand_constants b
 instr_constants (Eq a b target) = operand_constants a ++ operand_constants b
 instr_constants (Less a b target) = operand_constants a ++ operand_constants b
-instr_constants (Jump target) = []
-instr_constants (Call function at) = []
-instr_constants (CallExt to at) = []
 instr_constants (Ret value) = operand_constants value
-instr_constants (Pget key to) = []
 instr_constants (PgetOr key other to) = operand_constants other
 instr_constants (Elem index from to) = operand_constants index ++ operand_constants from
 instr_constants (Print value) = operand_constants value
-instr_constants Yield = []
+instr_constants _ = []
 
 -- the complex constants of code, in order
 abbrev pub code_constants : List Instr → List PlainTerm

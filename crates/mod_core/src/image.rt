@@ -1,4 +1,4 @@
-ghost use Rattle.std.specs.Prelude.{◌≡◌, ◌+◌, ◌<◌, ◌≤◌, ◌++◌, [], ◌∷◌, IfOk, OnOk, All, length, map, slice_index};
+ghost use Rattle.std.specs.Prelude.{◌≡◌, ◌+◌, ◌≤◌, ◌++◌, [], ◌∷◌, IfOk, OnOk, All, length, map, slice_index};
 ghost use Rattle.std.specs.List.{range_with_len};
 ghost use Rattle.mod_core.specs.declared.code.Operand.TheVariants.{Const};
 ghost use Rattle.mod_core.specs.Draft.{Wrote, next_place};

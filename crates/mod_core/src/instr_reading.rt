@@ -1,6 +1,6 @@
 //! Reading an instruction, its target still a place, from the words of an image.
 
-ghost use Rattle.std.specs.Prelude.{◌≡◌, ◌≤◌, IsTrue, length, slice_index};
+ghost use Rattle.std.specs.Prelude.{◌≤◌, IsTrue, length, slice_index};
 ghost use Rattle.term_core.specs.Gives.{GivesUnless};
 ghost use Rattle.term_core.specs.Image.{IsImageAt};
 ghost use Rattle.term_core.specs.Plain.{term_of};

@@ -8,9 +8,9 @@ use Rattle.mod_core.specs.declared.code.Instr.{Instr}
 use Rattle.mod_core.specs.declared.code.Function.{Function}
 use Rattle.mod_text.specs.Canonical.{label_text, written_instr, goes_to, labels_at, lines_from}
 use Rattle.mod_text.specs.LineFaults.{is_in_function, last_line}
-use Rattle.mod_text.specs.ModuleLine.{LineForm, title, header, label, instr, end}
+use Rattle.mod_text.specs.ModuleLine.{LineForm, label, instr}
 use Rattle.mod_text.specs.ModuleValue.{body_of, functions_in, headers_in, instrs_in, label_number}
-use Rattle.mod_text.proofs.Options.{some, same_bytes, passed, failed}
+use Rattle.term_core.proofs.Text.Options.{some, same_bytes, passed, failed}
 use Rattle.mod_text.proofs.Keepings.{last_line-push}
 use Rattle.mod_text.proofs.CanonicalParts.{labels_differ}
 
@@ -19,11 +19,9 @@ use Rattle.mod_text.proofs.CanonicalParts.{labels_differ}
 -- each of these lines is a label or an instruction
 abbrev pub IsBody : List LineForm → Type 0
 IsBody [] = Unit {0}
-IsBody (title name version ∷ lines) = ⊥
-IsBody (header exported name arity ∷ lines) = ⊥
 IsBody (label name ∷ lines) = IsBody lines
 IsBody (instr i ∷ lines) = IsBody lines
-IsBody (end ∷ lines) = ⊥
+IsBody _ = ⊥
 
 label_body : (t : Bool) (text : List ℕ) (lines : List LineForm) → IsBody lines → IsBody (cond t (label text ∷ []) [] ++ lines)
 label_body true text lines is = is
@@ -36,39 +34,31 @@ lines_are_body names fs code number (i ∷ is) = label_body (list_any (goes_to n
 
 pub body_of-body : (body rest : List LineForm) → IsBody body → body_of rest ≡ [] → body_of (body ++ rest) ≡ body
 body_of-body [] rest is stops = stops
-body_of-body (title name version ∷ body) rest is stops = absurd is
-body_of-body (header exported name arity ∷ body) rest is stops = absurd is
 body_of-body (label name ∷ body) rest is stops = ap (λ l. label name ∷ l) (body_of-body body rest is stops)
 body_of-body (instr i ∷ body) rest is stops = ap (λ l. instr i ∷ l) (body_of-body body rest is stops)
-body_of-body (end ∷ body) rest is stops = absurd is
+body_of-body body rest is stops = absurd is
 
 -- they begin no function
 pub functions_in-body : (body rest : List LineForm) → IsBody body → functions_in (body ++ rest) ≡ functions_in rest
 functions_in-body [] rest is = refl
-functions_in-body (title name version ∷ body) rest is = absurd is
-functions_in-body (header exported name arity ∷ body) rest is = absurd is
 functions_in-body (label name ∷ body) rest is = functions_in-body body rest is
 functions_in-body (instr i ∷ body) rest is = functions_in-body body rest is
-functions_in-body (end ∷ body) rest is = absurd is
+functions_in-body body rest is = absurd is
 
 pub headers_in-body : (body rest : List LineForm) → IsBody body → headers_in (body ++ rest) ≡ headers_in rest
 headers_in-body [] rest is = refl
-headers_in-body (title name version ∷ body) rest is = absurd is
-headers_in-body (header exported name arity ∷ body) rest is = absurd is
 headers_in-body (label name ∷ body) rest is = headers_in-body body rest is
 headers_in-body (instr i ∷ body) rest is = headers_in-body body rest is
-headers_in-body (end ∷ body) rest is = absurd is
+headers_in-body body rest is = absurd is
 
 -- behind them the function is still open
 pub in_function-body : (before body : List LineForm) → IsBody body → is_in_function (last_line before) ≡ true → is_in_function (last_line (before ++ body)) ≡ true
 in_function-body before [] is opened = ap (λ ls. is_in_function (last_line ls)) (append-nil before) ∙ opened
-in_function-body before (title name version ∷ body) is opened = absurd is
-in_function-body before (header exported name arity ∷ body) is opened = absurd is
 in_function-body before (label name ∷ body) is opened =
     ap (λ ls. is_in_function (last_line ls)) (sym (append_assoc before (label name ∷ []) body)) ∙ in_function-body (before ++ label name ∷ []) body is (ap is_in_function (last_line-push before (label name)))
 in_function-body before (instr i ∷ body) is opened =
     ap (λ ls. is_in_function (last_line ls)) (sym (append_assoc before (instr i ∷ []) body)) ∙ in_function-body (before ++ instr i ∷ []) body is (ap is_in_function (last_line-push before (instr i)))
-in_function-body before (end ∷ body) is opened = absurd is
+in_function-body before body is opened = absurd is
 
 -- ---- the instructions of a body
 

@@ -1,21 +1,16 @@
 -- The headers of a module's functions: no two are alike, so that each function is found by its own.
-use Rattle.std.proofs.Common.{◌≡◌, ℕ, ◌<◌, ◌≤◌, true, false, List, [], ◌∷◌, ◌++◌, length, map, decimal, Some, bytes_eq, slice_get, All, refl, ◌∙◌, subst, arith}
+use Rattle.std.proofs.Common.{◌≡◌, ℕ, ◌<◌, ◌≤◌, true, false, List, [], ◌∷◌, ◌++◌, length, map, decimal, Some, bytes_eq, slice_get, All, refl, ◌∙◌, arith}
 use Rattle.std.proofs.lemmas.Bool.{and_parts, and_from, false_from_ne_true}
 use Rattle.std.proofs.lemmas.Fmt.{decimal_injective}
-use Rattle.std.proofs.lemmas.Option.{get_or_from_slice_get, slice_get_within}
 use Rattle.term_core.specs.Names.{IsNames}
 use Rattle.term_core.specs.TermText.{atom_text}
-use Rattle.term_core.proofs.Places.{position-map}
+use Rattle.term_core.proofs.Places.{position-map, all_at}
 use Rattle.mod_core.specs.declared.code.Function.{Function}
 use Rattle.mod_core.specs.Module.{SameFunction}
 use Rattle.mod_text.specs.ModuleValue.{HeaderForm, is_header}
-use Rattle.mod_text.proofs.Options.{same_bytes, bytes_are}
+use Rattle.term_core.proofs.Text.Options.{same_bytes, bytes_are}
 use Rattle.mod_text.proofs.CanonicalParts.{position-at, held_apart}
 use Rattle.mod_text.proofs.CanonicalInstrs.{AreCalled}
-
--- what is true of each is true of the one at a place
-pub all_at : {X : Type 0} (P : X → Type 0) (xs : List X) (k : ℕ) (x : X) → All P xs → slice_get xs k ≡ Some x → P x
-all_at P xs k x each here = subst P (get_or_from_slice_get xs k x x here) (each k x (slice_get_within xs k x here))
 
 -- the one behind the front
 pub slice_get-behind : {X : Type 0} (xs : List X) (y : X) (ys : List X) → slice_get (xs ++ y ∷ ys) (length xs) ≡ Some y

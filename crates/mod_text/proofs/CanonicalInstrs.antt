@@ -10,13 +10,15 @@ use Rattle.mod_core.specs.declared.code.Operand.{Operand}
 use Rattle.mod_core.specs.declared.code.Instr.{Instr}
 use Rattle.mod_core.specs.declared.code.Instr.TheVariants.{Move, Add, Sub, Eq, Less, Jump, Call, CallExt, Ret, Pget, PgetOr, Elem, Print, Yield}
 use Rattle.mod_core.specs.declared.code.Function.{Function}
-use Rattle.mod_text.specs.Canonical.{label_text, written_operand, written_call, written_instr, goes_to, HasAtomsAmong}
+use Rattle.mod_text.specs.Canonical.{label_text, written_operand, written_call, written_instr, goes_to}
+use Rattle.mod_core.specs.HeldNames.{HasAtomsAmong}
 use Rattle.mod_text.specs.LineFaults.{is_high, has_high_operand, is_high_call, has_high_instr, is_wide_operand, has_wide_instr, is_long_operand, has_long_instr, operand_atoms, instr_atoms}
 use Rattle.mod_core.specs.Module.{IsInstr, IsFunctionName, IsCallPlace}
-use Rattle.mod_text.specs.ModuleLine.{OperandForm, InstrForm, LineForm, number_value, is_number_text, is_arity_text, is_operand_form, is_function_form, is_instr_form}
+use Rattle.term_core.specs.Text.Numbers.{number_value, is_number_text}
+use Rattle.mod_text.specs.ModuleLine.{OperandForm, InstrForm, LineForm, is_arity_text, is_operand_form, is_function_form, is_instr_form}
 use Rattle.mod_text.specs.ModuleValue.{HeaderForm, label_number, function_number, instr_in, is_settled}
 use Rattle.mod_text.proofs.LineNames.{names_with_all-append}
-use Rattle.mod_text.proofs.Numbers.{decimal-writes}
+use Rattle.term_core.proofs.Text.Numbers.{decimal-writes}
 use Rattle.mod_text.proofs.CanonicalParts.{held_atom, atom_back, no_new_name, arity_writes, register_writes, label_form, IsOperandBack, operand_back}
 
 -- an instruction as it is written has its form, passes no limit, adds no name, is read as that instruction and lacks nothing

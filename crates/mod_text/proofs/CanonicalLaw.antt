@@ -10,7 +10,8 @@ use Rattle.mod_core.specs.declared.code.Instr.{Instr}
 use Rattle.mod_core.specs.declared.code.Function.{Function}
 use Rattle.mod_core.specs.declared.code.Module.{Module}
 use Rattle.mod_text.specs.declared.fault.LineFault.TheVariants as faults
-use Rattle.mod_text.specs.Canonical.{label_text, goes_to, function_lines, canonical, IsModuleHeld}
+use Rattle.mod_text.specs.Canonical.{label_text, goes_to, function_lines, canonical}
+use Rattle.mod_core.specs.HeldNames.{IsModuleHeld}
 use Rattle.mod_text.specs.LineFaults.{ends_too_long}
 use Rattle.mod_core.specs.Module.{IsModule}
 use Rattle.mod_core.specs.ModuleImage.{module_image}
@@ -19,8 +20,8 @@ use Rattle.mod_text.specs.ModuleText.{ModuleText}
 use Rattle.mod_text.specs.ModuleValue.{HeaderForm, label_number, function_in, headers_in, module_of, first_unsettled}
 use Rattle.mod_core.proofs.ImageWords.{few_instrs}
 use Rattle.mod_text.proofs.Keepings.{last_line-push}
-use Rattle.mod_text.proofs.Numbers.{decimal-writes}
-use Rattle.mod_text.proofs.Options.{failed}
+use Rattle.term_core.proofs.Text.Numbers.{decimal-writes}
+use Rattle.term_core.proofs.Text.Options.{failed}
 use Rattle.mod_text.proofs.CanonicalParts.{atom_back}
 use Rattle.mod_text.proofs.CanonicalInstrs.{HasTargets, instr_back}
 use Rattle.mod_text.proofs.CanonicalBodies.{label_number-lines}

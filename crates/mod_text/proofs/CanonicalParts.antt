@@ -1,11 +1,10 @@
 -- The parts of canonical lines, atoms, numbers, labels and operands, and what they are read back as.
 use Rattle.std.proofs.Common.{◌≡◌, ℕ, zero, suc, ◌+◌, ◌<◌, ◌≤◌, ◌^◌, Bool, true, false, cond, ◌&&◌, nat_le, nat_lt, List, [], ◌∷◌, ◌++◌, length, decimal, drop, ℤ, pos, negsuc, Option, Some, option_map, is_some, unwrap_or, position, bytes_eq, slice_get, refl, sym, ap, ◌∙◌, arith, add-one}
-use Rattle.std.specs.Char.{is_ascii_digit}
 use Rattle.std.specs.Fmt.{signed_decimal}
 use Rattle.std.specs.List.{list_all, list_any}
-use Rattle.std.proofs.lemmas.Bool.{and_parts, and_from, or_from, lt-ltb, le-leb, not_from_true, false_from_ne_true}
+use Rattle.std.proofs.lemmas.Bool.{and_from, or_from, lt-ltb, le-leb, not_from_true, false_from_ne_true}
 use Rattle.std.proofs.lemmas.Bool.Decides.{nat_tests}
-use Rattle.std.proofs.lemmas.Fmt.{digits_decimal, decimal_injective, length-decimal-le}
+use Rattle.std.proofs.lemmas.Fmt.{decimal_injective, length-decimal-le}
 use Rattle.std.proofs.lemmas.Option.{slice_get-get_or, unwrap_or-slice_get}
 use Rattle.term_core.specs.declared.atom.AtomId.{AtomId}
 use Rattle.std.specs.Prelude.{IsSome}
@@ -20,18 +19,21 @@ use Rattle.term_core.proofs.LeafFacts.{EachLeaf-weaker, EachLeaf-both}
 use Rattle.term_core.proofs.PlainTerms.{term_of-plain}
 use Rattle.term_core.proofs.TermForms.{printed_is}
 use Rattle.term_core.specs.Written.{IsTermInteger, is_term_integer, integer_of}
-use Rattle.term_core.proofs.IntegerTexts.{own, range_pos, range_negsuc, signed_decimal-says}
+use Rattle.term_core.proofs.IntegerTexts.{range_pos, range_negsuc, signed_decimal-says}
 use Rattle.term_core.proofs.NameTables.{texts_are_atoms}
 use Rattle.term_core.proofs.Places.{position-cons}
 use Rattle.mod_core.specs.declared.code.Operand.{Operand}
 use Rattle.mod_core.specs.declared.code.Operand.TheVariants.{Reg, Const}
-use Rattle.mod_text.specs.Canonical.{label_text, written_operand, IsConstantAmong, IsOperandAmong}
+use Rattle.mod_text.specs.Canonical.{label_text, written_operand}
+use Rattle.mod_core.specs.HeldNames.{IsConstantAmong, IsOperandAmong}
 use Rattle.mod_text.specs.LineFaults.{is_high, has_high_operand, is_wide_operand, is_long_operand, operand_atoms}
 use Rattle.mod_core.specs.Module.{IsOperand, IsConstant}
-use Rattle.mod_text.specs.ModuleLine.{OperandForm, complex, number_value, is_number_text, is_arity_text, is_version_text, is_operand_form}
+use Rattle.term_core.specs.Text.Numbers.{number_value, is_number_text}
+use Rattle.mod_text.specs.ModuleLine.{OperandForm, complex, is_arity_text, is_version_text, is_operand_form}
 use Rattle.mod_text.specs.ModuleValue.{atom_in, operand_in}
-use Rattle.mod_text.proofs.Numbers.{decimal-writes}
-use Rattle.mod_text.proofs.Options.{same_bytes, bytes_are}
+use Rattle.term_core.proofs.Text.Numbers.{decimal-writes}
+use Rattle.term_core.proofs.Text.Options.{same_bytes, bytes_are}
+use Rattle.term_core.proofs.TermBytes.{name_bytes-decimal}
 
 -- ---- lists
 
@@ -108,19 +110,10 @@ register_writes number low =
 
 -- ---- labels
 
-digit_is_name : (c : ℕ) → is_ascii_digit c ≡ true → is_name_byte c ≡ true
-digit_is_name c h = grind (arith, nat_tests)
-
-digits_are_name : (text : List ℕ) → list_all is_ascii_digit text ≡ true → list_all is_name_byte text ≡ true
-digits_are_name [] h = refl
-digits_are_name (c ∷ rest) h =
-    let parts = and_parts (is_ascii_digit c) (list_all is_ascii_digit rest) h in
-    and_from (is_name_byte c) (list_all is_name_byte rest) (digit_is_name c parts.0) (digits_are_name rest parts.1)
-
 -- the label of a number is an atom's text
 pub label_form : (number : ℕ) → number < 2 ^ 64 → is_atom_text (label_text number) ≡ true
 label_form number small =
-    and_from (list_all is_name_byte (decimal number)) (nat_lt (length (decimal number)) 32) (digits_are_name (decimal number) (digits_decimal own number small))
+    and_from (list_all is_name_byte (decimal number)) (nat_lt (length (decimal number)) 32) (name_bytes-decimal number small)
     (lt-ltb (length (decimal number)) 32 (omega (arith, length-decimal-le 20 number (omega arith) (omega arith) small)))
 
 -- labels of two numbers differ

@@ -2,7 +2,7 @@
 use Rattle.std.proofs.Common.{◌≡◌, ℕ, ◌+◌, ◌<◌, ◌≤◌, ◌^◌, Bool, true, false, cond, nat_lt, List, [], ◌∷◌, ◌++◌, length, map, decimal, Option, Some, None, bytes_eq, slice_get, All, refl, sym, ap, ◌∙◌, subst, arith, append_assoc, length-append}
 use Rattle.std.specs.List.{list_any, flat_map}
 use Rattle.std.proofs.lemmas.Bool.{and_from, le-ltb, lt-leb}
-use Rattle.std.proofs.lemmas.List.{append-nil, length-map}
+use Rattle.std.proofs.lemmas.List.{append-nil, length-map, map-append}
 use Rattle.std.proofs.lemmas.List.Elements.{All-head, All-tail}
 use Rattle.std.proofs.lemmas.Option.{slice_get_within}
 use Rattle.term_core.specs.Names.{is_atom_text, IsNames}
@@ -16,8 +16,8 @@ use Rattle.mod_text.specs.LineFaults.{is_open, is_in_function, may_follow, last_
 use Rattle.mod_text.specs.ModuleLine.{InstrForm, LineForm, title, header, label, instr, end, is_version_text, is_line_form, line_written}
 use Rattle.mod_text.specs.ModuleText.{FollowOn, names_behind}
 use Rattle.mod_text.specs.ModuleValue.{HeaderForm, headers_in, is_header}
-use Rattle.mod_text.proofs.Keepings.{list_any-map, map-append, headers_in-append, labels_on-append, last_line-push}
-use Rattle.mod_text.proofs.Options.{failed}
+use Rattle.mod_text.proofs.Keepings.{list_any-map, headers_in-append, labels_on-append, last_line-push}
+use Rattle.term_core.proofs.Text.Options.{failed}
 use Rattle.mod_text.proofs.CanonicalParts.{list_any-none, held_atom, no_new_name, version_writes, label_form}
 use Rattle.mod_text.proofs.CanonicalInstrs.{IsInstrBack, name_form}
 use Rattle.mod_text.proofs.CanonicalBodies.{lines_are_body, headers_in-body, in_function-body, NewFrom, new_label}
@@ -136,12 +136,10 @@ function_rows names fs f before sound plain opened few new =
     )
 
 open_by : (o : Option LineForm) → is_in_function o ≡ true → is_open o ≡ true
-open_by None h = absurd cc
-open_by (Some (title name version)) h = absurd cc
 open_by (Some (header exported name arity)) h = refl
 open_by (Some (label name)) h = refl
 open_by (Some (instr i)) h = refl
-open_by (Some end) h = absurd cc
+open_by o h = absurd cc
 
 -- behind a function the module is open
 open_behind : (names : List (List ℕ)) (fs : List Function) (f : Function) (before : List LineForm) → is_open (last_line (before ++ function_lines names fs f)) ≡ true

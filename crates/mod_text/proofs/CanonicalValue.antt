@@ -8,9 +8,9 @@ use Rattle.term_core.specs.TermText.{atom_text}
 use Rattle.mod_core.specs.declared.code.Instr.{Instr}
 use Rattle.mod_core.specs.declared.code.Function.{Function}
 use Rattle.mod_text.specs.Canonical.{label_text, written_instr, goes_to, labels_at, lines_from, function_lines}
-use Rattle.mod_text.specs.ModuleLine.{LineForm, title, header, label, instr, end}
+use Rattle.mod_text.specs.ModuleLine.{LineForm, header, label, instr, end}
 use Rattle.mod_text.specs.ModuleValue.{FunctionForm, HeaderForm, body_of, functions_in, headers_in, instr_in, function_in, is_settled, unsettled_at, unsettled_in, earlier, first_unsettled}
-use Rattle.mod_text.proofs.Numbers.{decimal-writes}
+use Rattle.term_core.proofs.Text.Numbers.{decimal-writes}
 use Rattle.mod_text.proofs.CanonicalParts.{atom_back}
 use Rattle.mod_text.proofs.CanonicalInstrs.{IsInstrBack}
 use Rattle.mod_text.proofs.CanonicalBodies.{IsBody, lines_are_body, body_of-body, functions_in-body, headers_in-body, instrs_in-lines}
@@ -102,11 +102,9 @@ lines_settled names fs headers body code number (i ∷ is) settled =
 -- labels and instructions begin no function that lacks something
 body_settled : (headers : List HeaderForm) (body rest : List LineForm) → IsBody body → first_unsettled headers rest ≡ None → first_unsettled headers (body ++ rest) ≡ None
 body_settled headers [] rest is none = none
-body_settled headers (title name version ∷ body) rest is none = absurd is
-body_settled headers (header exported name arity ∷ body) rest is none = absurd is
 body_settled headers (label name ∷ body) rest is none = ap (option_map suc) (body_settled headers body rest is none)
 body_settled headers (instr i ∷ body) rest is none = ap (option_map suc) (body_settled headers body rest is none)
-body_settled headers (end ∷ body) rest is none = absurd is
+body_settled headers body rest is none = absurd is
 
 -- every label and every local function is found
 pub all_settled : (names : List (List ℕ)) (fs : List Function) (headers : List HeaderForm) (gs : List Function) → All (IsFunctionBack names fs headers) gs → first_unsettled headers (lines_to_end names fs gs) ≡ None

@@ -12,7 +12,7 @@ use Rattle.term_core.specs.Plain.{plain, term_of}
 use Rattle.term_core.specs.PlainTerm.{PlainTerm, EachLeaf, map_leaves, term_words}
 use Rattle.term_core.specs.TermForms.{is_term_text, is_bracketed, is_complex_text, tree_of, term_atoms, text_words, is_wide_text, term_in}
 use Rattle.term_core.specs.TermText.{number_in}
-use Rattle.term_core.specs.Tokens.{Token, opened, shut, leaf, tokens_in, atoms_among}
+use Rattle.term_core.specs.Tokens.{Token, leaf, tokens_in, atoms_among}
 use Rattle.term_core.specs.Written.{IsTermInteger, is_integer_text, is_positive_text, integer_of}
 use Rattle.term_core.proofs.LeafFacts.{EachLeaf-weaker, EachLeaf-both, EachLeaf-map, term_words-map}
 use Rattle.term_core.proofs.PlainTerms.{plain-term_of}
@@ -23,7 +23,7 @@ use Rattle.term_core.proofs.TextForms.{text_outside}
 use Rattle.mod_core.specs.Module.{IsConstant}
 use Rattle.mod_core.specs.ModuleImage.{constants_len, operand_constants}
 use Rattle.mod_text.specs.Keeping.{operand_form_words}
-use Rattle.mod_text.specs.ModuleLine.{OperandForm, register, integer, atom, complex, is_operand_form, LineForm, is_line_form}
+use Rattle.mod_text.specs.ModuleLine.{OperandForm, complex, is_operand_form, LineForm, is_line_form}
 use Rattle.mod_text.specs.ModuleValue.{operand_in}
 
 -- a line whose parts are of their forms
@@ -67,9 +67,8 @@ one_atom_by text false rest is h = h
 
 among_are_atoms : (tokens : List Token) → list_all is_atom_text (atoms_among tokens) ≡ true
 among_are_atoms [] = refl
-among_are_atoms (opened b ∷ tokens) = among_are_atoms tokens
-among_are_atoms (shut ∷ tokens) = among_are_atoms tokens
 among_are_atoms (leaf text ∷ tokens) = one_atom_by text (is_atom_text text) (atoms_among tokens) refl (among_are_atoms tokens)
+among_are_atoms (one ∷ tokens) = among_are_atoms tokens
 
 -- the atoms of a term's text are atoms' texts
 pub term_atoms_are : (text : List ℕ) → list_all is_atom_text (term_atoms text) ≡ true
@@ -102,12 +101,10 @@ says names text h =
 
 -- the words of an operand's constant
 pub operand_constant_words : (names : List (List ℕ)) (o : OperandForm) → is_operand_form o ≡ true → constants_len (operand_constants (operand_in names o)) ≡ operand_form_words o
-operand_constant_words names (register digits) h = refl
-operand_constant_words names (integer text) h = refl
-operand_constant_words names (atom text) h = refl
 operand_constant_words names (complex text) h =
     let s = says names text h in
     ap (λ t. constants_len (cond t [] (plain (term_of (term_in names text)) ∷ []))) s.complex ∙ omega (arith, s.words)
+operand_constant_words names o h = refl
 
 -- a constant within its limits
 pub constant_is : (names : List (List ℕ)) (text : List ℕ) → is_complex_text text ≡ true → is_wide_text text ≡ false → nat_lt 64 (text_words text) ≡ false → ((t : List ℕ) → number_in names t < 4096) → IsConstant (term_of (term_in names text))

@@ -44,16 +44,12 @@ module _ (before : List (List ℕ)) (bytes : List ℕ) (first : ℕ) (after : Li
   read_is _ (read forms m e value settled) =
       let is = bytes_are_read before bytes after forms e in
       record { lines = forms; spelled = is.spelled; faultless = is.faultless; closed = is.closed; settled = settled; named = is.names_are; value = value }
-  read_is _ (missing forms number fault e lacking is) = tt
-  read_is _ (stopped stop fault so is) = tt
-  read_is _ (no_memory fault is) = tt
+  read_is _ _ = tt
 
   -- and a module
   pub sound_is : (r : Result Module ModFault) → length before ≤ 4096 → Ends before bytes first after r → IfOk r IsModule
   sound_is _ room (read forms m e value settled) = module_is_sound before bytes m after room (read_is (Ok m) (read forms m e value settled))
-  sound_is _ room (missing forms number fault e lacking is) = tt
-  sound_is _ room (stopped stop fault so is) = tt
-  sound_is _ room (no_memory fault is) = tt
+  sound_is _ room _ = tt
 
   -- ---- each text of a module is read
 
@@ -64,15 +60,8 @@ module _ (before : List (List ℕ)) (bytes : List ℕ) (first : ℕ) (after : Li
       (ap (λ p. p.0) same, ap (λ p. p.1) same)
 
   stop_by : (stop : LineStop) (fault : LineFault) (forms : List LineForm) (named : List (List ℕ)) → UnlessNoMemory fault (bytes_on before [] bytes ≡ Err stop) → bytes_on before [] bytes ≡ Ok (named, forms) → fault ≡ faults.NoMemory
-  stop_by stop faults.Syntax forms named so e = absurd cc
-  stop_by stop faults.Register forms named so e = absurd cc
-  stop_by stop faults.Int forms named so e = absurd cc
-  stop_by stop faults.Term forms named so e = absurd cc
-  stop_by stop faults.Names forms named so e = absurd cc
-  stop_by stop faults.TooManyFunctions forms named so e = absurd cc
-  stop_by stop faults.TooLong forms named so e = absurd cc
-  stop_by stop faults.Duplicate forms named so e = absurd cc
   stop_by stop faults.NoMemory forms named so e = refl
+  stop_by stop fault forms named so e = absurd cc
 
   -- where the lines are read, no line stops the reading
   never_stops : (stop : LineStop) (fault : ModFault) (forms : List LineForm) (named : List (List ℕ)) → StopsSo (bytes_on before [] bytes) stop → fault ≡ mod_fault (first + stop.number) stop.fault → bytes_on before [] bytes ≡ Ok (named, forms) → fault ≡ mod_faults.NoMemory
@@ -96,15 +85,8 @@ module _ (before : List (List ℕ)) (bytes : List ℕ) (first : ℕ) (after : Li
   -- ---- the cause of each refusal
 
   stop_cause : (number : ℕ) (fault : LineFault) → UnlessNoMemory fault (bytes_on before [] bytes ≡ stop_at number fault) → HasModFault before bytes first (mod_fault (first + number) fault)
-  stop_cause number faults.Syntax so = (number, refl, first_fault before bytes (record { number = number; fault = faults.Syntax }) so)
-  stop_cause number faults.Register so = (number, refl, first_fault before bytes (record { number = number; fault = faults.Register }) so)
-  stop_cause number faults.Int so = (number, refl, first_fault before bytes (record { number = number; fault = faults.Int }) so)
-  stop_cause number faults.Term so = (number, refl, first_fault before bytes (record { number = number; fault = faults.Term }) so)
-  stop_cause number faults.Names so = (number, refl, first_fault before bytes (record { number = number; fault = faults.Names }) so)
-  stop_cause number faults.TooManyFunctions so = (number, refl, first_fault before bytes (record { number = number; fault = faults.TooManyFunctions }) so)
-  stop_cause number faults.TooLong so = (number, refl, first_fault before bytes (record { number = number; fault = faults.TooLong }) so)
-  stop_cause number faults.Duplicate so = (number, refl, first_fault before bytes (record { number = number; fault = faults.Duplicate }) so)
   stop_cause number faults.NoMemory so = tt
+  stop_cause number fault so = (number, refl, first_fault before bytes (record { number = number; fault = fault }) so)
 
   pub cause_is : (r : Result Module ModFault) → Ends before bytes first after r → IfErr r (HasModFault before bytes first)
   cause_is _ (read forms m e value settled) = tt
@@ -131,15 +113,8 @@ module _ (before : List (List ℕ)) (bytes : List ℕ) (first : ℕ) (after : Li
       ]
     where
       memory_or : (o : LineFault) → UnlessNoMemory o (bytes_on before [] bytes ≡ stop_at at other) → (o ≡ faults.NoMemory) ⊎ (bytes_on before [] bytes ≡ stop_at at other)
-      memory_or faults.Syntax h = inr h
-      memory_or faults.Register h = inr h
-      memory_or faults.Int h = inr h
-      memory_or faults.Term h = inr h
-      memory_or faults.Names h = inr h
-      memory_or faults.TooManyFunctions h = inr h
-      memory_or faults.TooLong h = inr h
-      memory_or faults.Duplicate h = inr h
       memory_or faults.NoMemory h = inl refl
+      memory_or fault h = inr h
 
   pub fault_refuses : (r : Result Module ModFault) → Ends before bytes first after r → (number : ℕ) (fault : LineFault) → FirstFault before bytes number fault → RefusesUnless mod_faults.NoMemory r (mod_fault (first + number) fault)
   fault_refuses r ends number fault is_first = by_end r ends (fault_again before bytes number fault is_first)

@@ -3,13 +3,13 @@ use Rattle.std.proofs.Common.{◌≡◌, ℕ, ◌<◌, ◌≤◌, length-append,
 use Rattle.std.specs.Prelude.{All, OnOk, IfErr, is_err, not, nat_le, unwrap_or}
 use Rattle.std.specs.Borrow.{Bor}
 use Rattle.std.specs.List.{list_any}
-use Rattle.std.proofs.lemmas.List.{append-nil, length-map}
+use Rattle.std.proofs.lemmas.List.{append-nil, length-map, map-append}
 use Rattle.std.proofs.lemmas.List.Elements.{All-push}
 use Rattle.mod_text.specs.declared.fault.LineFault.{LineFault}
 use Rattle.mod_text.specs.declared.fault.LineFault.TheVariants as faults
 use Rattle.mod_text.specs.declared.written.WrittenLine.{WrittenLine}
 use Rattle.mod_text.specs.LineViews.{line_form, text_form, form_of, forms_of, headers_of, words_of}
-use Rattle.mod_text.specs.ModuleLine.{LineForm, title, header, label, instr, end}
+use Rattle.mod_text.specs.ModuleLine.{LineForm, header, label, end}
 use Rattle.mod_text.specs.ModuleValue.{HeaderForm, headers_in}
 use Rattle.mod_text.specs.LineReading.{line_split, line_reading}
 use Rattle.mod_text.specs.LineFaults.{may_follow, last_line, has_high_register, has_wide_integer, has_long_term, line_atoms, names_after, overfills_names, labels_after, labels_on, open_labels, ends_too_long, place_fault}
@@ -25,17 +25,10 @@ pub list_any-map : {X Y : Type 0} (p : Y → Bool) (f : X → Y) (xs : List X) �
 list_any-map p f [] = refl
 list_any-map p f (x ∷ xs) = ap (λ t. p (f x) || t) (list_any-map p f xs)
 
-pub map-append : {X Y : Type 0} (f : X → Y) (xs ys : List X) → map f (xs ++ ys) ≡ map f xs ++ map f ys
-map-append f [] ys = refl
-map-append f (x ∷ xs) ys = ap (λ l. f x ∷ l) (map-append f xs ys)
-
 pub headers_in-append : (xs ys : List LineForm) → headers_in (xs ++ ys) ≡ headers_in xs ++ headers_in ys
 headers_in-append [] ys = refl
-headers_in-append (title name version ∷ xs) ys = headers_in-append xs ys
 headers_in-append (header exported name arity ∷ xs) ys = ap (λ l. (name, arity) ∷ l) (headers_in-append xs ys)
-headers_in-append (label name ∷ xs) ys = headers_in-append xs ys
-headers_in-append (instr i ∷ xs) ys = headers_in-append xs ys
-headers_in-append (end ∷ xs) ys = headers_in-append xs ys
+headers_in-append (line ∷ xs) ys = headers_in-append xs ys
 
 pub labels_on-append : (labels : List (List ℕ)) (xs ys : List LineForm) → labels_on labels (xs ++ ys) ≡ labels_on (labels_on labels xs) ys
 labels_on-append labels [] ys = refl
@@ -159,11 +152,8 @@ alone_is lines None line is = absurd cc
 alone_is lines (Some read) line is = ap (λ l. Some l) (by_tests (may_follow (last_line lines) read) (has_high_register read) (has_wide_integer read) (has_long_term read) is)
   where
     by_tests : (follows high wide long : Bool) → cond {A = Result LineForm LineFault} follows (cond high (Err faults.Register) (cond wide (Err faults.Int) (cond long (Err faults.Term) (Ok read)))) (Err faults.Syntax) ≡ Ok line → read ≡ line
-    by_tests false high wide long e = absurd cc
-    by_tests true true wide long e = absurd cc
-    by_tests true false true long e = absurd cc
-    by_tests true false false true e = absurd cc
     by_tests true false false false e = cc
+    by_tests follows high wide long e = absurd cc
 
 -- a text that was judged is that of its line
 pub said_alone : (lines : List LineForm) (text : List ℕ) (line : LineForm) → judged_alone lines (line_reading text) ≡ Ok line → text_form text ≡ line
@@ -220,15 +210,8 @@ fails_first (Ok x) more fault h = subst (λ f. Fails (more x) f) (sym (ok_fails 
 fails_first {A} {B} (Err e) more fault h = same_fault A B e fault h
   where
     same_fault : (A B : Type 0) (e fault : LineFault) → Fails {A = A} (Err e) fault → Fails {A = B} (Err e) fault
-    same_fault A B e faults.Syntax h = ap (λ f. Err f) (err_is e faults.Syntax h)
-    same_fault A B e faults.Register h = ap (λ f. Err f) (err_is e faults.Register h)
-    same_fault A B e faults.Int h = ap (λ f. Err f) (err_is e faults.Int h)
-    same_fault A B e faults.Term h = ap (λ f. Err f) (err_is e faults.Term h)
-    same_fault A B e faults.Names h = ap (λ f. Err f) (err_is e faults.Names h)
-    same_fault A B e faults.TooManyFunctions h = ap (λ f. Err f) (err_is e faults.TooManyFunctions h)
-    same_fault A B e faults.TooLong h = ap (λ f. Err f) (err_is e faults.TooLong h)
-    same_fault A B e faults.Duplicate h = ap (λ f. Err f) (err_is e faults.Duplicate h)
     same_fault A B e faults.NoMemory h = tt
+    same_fault A B e fault h = ap (λ f. Err f) (err_is e fault h)
 
 -- a fault of what the line is alone
 pub line_fails_alone : (names : List (List ℕ)) (lines : List LineForm) (text : List ℕ) (fault : LineFault) → Fails (judged_alone lines (line_reading text)) fault → Fails (line_step names lines text) fault

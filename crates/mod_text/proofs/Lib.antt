@@ -6,7 +6,6 @@ pub mod CanonicalParts
 pub mod CanonicalRows
 pub mod CanonicalValue
 pub mod Constants
-pub mod Cuts
 pub mod Endings
 pub mod Keepings
 pub mod LineAgain
@@ -15,8 +14,6 @@ pub mod LineNames
 pub mod LineWords
 pub mod ModuleHeld
 pub mod ModuleSound
-pub mod Numbers
-pub mod Options
 pub mod PlaceTables
 pub mod PrintedText
 pub mod Settles

@@ -10,31 +10,16 @@ use Rattle.term_core.specs.TermForms.{is_bracketed, is_term_text, is_complex_tex
 use Rattle.term_core.specs.Written.{is_integer_text, is_positive_text}
 use Rattle.term_core.proofs.TermBytes.{is_term_byte}
 use Rattle.term_core.proofs.IntegerTexts.{shape_of, Zero, Minus, Plain, Positive-from}
-use Rattle.mod_text.specs.ModuleLine.{OperandForm, register, integer, atom, complex, InstrForm, move, add, sub, eq, less, jump, call, call_ext, ret, pget, pget_or, elem, print, yield, LineForm, title, header, label, instr, end, parted_by, spaced, register_written, operand_written, function_written, instr_written, line_written, is_number_text, is_version_text, is_arity_text, is_operand_form, is_function_form, is_instr_form, is_line_form, LineText}
-use Rattle.mod_text.specs.LineReading.{◌>>=◌, cut_at, tested, register_reading, constant_reading, operand_reading, numbered_reading, operands_reading, sum_reading, branch_reading, move_reading, call_reading, call_ext_reading, pget_reading, pget_or_reading, line_split, is_sound_operand, has_sound_operands, has_sound_terms, sound_reading, line_reading}
+use Rattle.term_core.specs.Text.Numbers.{is_number_text}
+use Rattle.mod_text.specs.ModuleLine.{OperandForm, register, integer, atom, complex, InstrForm, move, add, sub, eq, less, jump, call, call_ext, ret, pget, pget_or, elem, print, yield, LineForm, title, header, label, instr, end, parted_by, spaced, register_written, operand_written, function_written, instr_written, line_written, is_version_text, is_arity_text, is_operand_form, is_function_form, is_instr_form, is_line_form, LineText}
+use Rattle.term_core.specs.Text.Steps.{◌>>=◌, tested, numbered_reading}
+use Rattle.term_core.specs.Text.Cuts.{cut_at}
+use Rattle.mod_text.specs.LineReading.{register_reading, constant_reading, operand_reading, operands_reading, sum_reading, branch_reading, move_reading, call_reading, call_ext_reading, pget_reading, pget_or_reading, line_split, is_sound_operand, has_sound_operands, has_sound_terms, sound_reading, line_reading}
 use Rattle.mod_text.proofs.Constants.{complex_bytes, no_atom, no_integer, no_register}
-use Rattle.mod_text.proofs.Numbers.{number_digits}
-use Rattle.mod_text.proofs.Options.{some, bind_at, passed, failed, tested_at}
-use Rattle.mod_text.proofs.Cuts.{lacks, lacks-all, lacks-append, lacks-cons, cut_here}
+use Rattle.term_core.proofs.Text.Options.{some, bind_at, passed, failed, tested_at}
+use Rattle.term_core.proofs.Text.Cuts.{atom_lacks, number_lacks, lacks, lacks-all, lacks-append, lacks-cons, cut_here}
 
 -- ---- the bytes of words
-
-lower_is_name : (c : ℕ) → is_ascii_lowercase c ≡ true → is_name_byte c ≡ true
-lower_is_name c h = grind (arith, nat_tests)
-
--- the bytes of an atom
-pub name_bytes : (text : List ℕ) → is_atom_text text ≡ true → list_all is_name_byte text ≡ true
-name_bytes [] h = absurd cc
-name_bytes (c ∷ rest) h =
-    let first = and_parts (is_ascii_lowercase c) (list_all is_name_byte rest && nat_lt (length rest) 32) h in
-    let second = and_parts (list_all is_name_byte rest) (nat_lt (length rest) 32) first.1 in
-    and_from (is_name_byte c) (list_all is_name_byte rest) (lower_is_name c first.0) second.0
-
-pub atom_lacks : (byte : ℕ) (text : List ℕ) → is_name_byte byte ≡ false → is_atom_text text ≡ true → lacks byte text ≡ true
-atom_lacks byte text apart h = lacks-all is_name_byte byte text apart (name_bytes text h)
-
-pub number_lacks : (byte : ℕ) (text : List ℕ) → is_ascii_digit byte ≡ false → is_number_text text ≡ true → lacks byte text ≡ true
-number_lacks byte text apart h = lacks-all is_ascii_digit byte text apart (number_digits text h).digits
 
 -- a byte that parts words or lines
 pub record IsApart (byte : ℕ) : Type 0 where
@@ -263,10 +248,8 @@ split_again end h = refl
 
 -- the terms of a line are terms
 sound_operand : (o : OperandForm) → is_operand_form o ≡ true → is_sound_operand o ≡ true
-sound_operand (register digits) h = refl
-sound_operand (integer text) h = refl
-sound_operand (atom text) h = refl
 sound_operand (complex text) h = (and_parts (is_bracketed text) (is_term_text text) h).1
+sound_operand o h = refl
 
 sound_both : (a b : OperandForm) (rest : Bool) → (is_operand_form a && (is_operand_form b && rest)) ≡ true → (is_sound_operand a && is_sound_operand b) ≡ true
 sound_both a b rest h =
@@ -280,22 +263,15 @@ sound_instr (add a b to) h = sound_both a b (is_number_text to) h
 sound_instr (sub a b to) h = sound_both a b (is_number_text to) h
 sound_instr (eq a b target) h = sound_both a b (is_atom_text target) h
 sound_instr (less a b target) h = sound_both a b (is_atom_text target) h
-sound_instr (jump target) h = refl
-sound_instr (call name arity at) h = refl
-sound_instr (call_ext name function arity at) h = refl
 sound_instr (ret value) h = sound_operand value h
-sound_instr (pget key to) h = refl
 sound_instr (pget_or key other to) h = sound_operand other (and_parts (is_operand_form other) (is_number_text to) (and_parts (is_atom_text key) (is_operand_form other && is_number_text to) h).1).0
 sound_instr (elem index from to) h = sound_both index from (is_number_text to) h
 sound_instr (print value) h = sound_operand value h
-sound_instr yield h = refl
+sound_instr i h = refl
 
 pub sound_terms : (line : LineForm) → is_line_form line ≡ true → has_sound_terms line ≡ true
-sound_terms (title name version) h = refl
-sound_terms (header exported name arity) h = refl
-sound_terms (label name) h = refl
 sound_terms (instr i) h = sound_instr i h
-sound_terms end h = refl
+sound_terms line h = refl
 
 -- each line is read from its text
 pub line_again : (line : LineForm) → is_line_form line ≡ true → line_reading (line_written line) ≡ Some line

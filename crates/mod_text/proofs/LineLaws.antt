@@ -5,13 +5,16 @@ use Rattle.std.proofs.lemmas.Bool.Decides.{Decides-eqb}
 use Rattle.term_core.specs.Names.{is_atom_text}
 use Rattle.term_core.specs.TermForms.{is_bracketed, is_term_text}
 use Rattle.term_core.specs.Written.{is_integer_text}
-use Rattle.mod_text.specs.ModuleLine.{OperandForm, register, integer, atom, complex, InstrForm, move, add, sub, eq, less, jump, call, call_ext, ret, pget, pget_or, elem, print, yield, LineForm, title, header, label, instr, end, parted_by, spaced, register_written, operand_written, instr_written, header_word, line_written, is_number_text, is_version_text, is_arity_text, is_operand_form, is_instr_form, is_line_form, LineText}
+use Rattle.term_core.specs.Text.Numbers.{is_number_text}
+use Rattle.mod_text.specs.ModuleLine.{OperandForm, register, integer, atom, complex, InstrForm, move, add, sub, eq, less, jump, call, call_ext, ret, pget, pget_or, elem, print, yield, LineForm, title, header, label, instr, end, parted_by, spaced, register_written, operand_written, instr_written, header_word, line_written, is_version_text, is_arity_text, is_operand_form, is_instr_form, is_line_form, LineText}
 use Rattle.std.specs.Prelude.{IfSome, IsTrue}
 use Rattle.mod_text.specs.declared.written.WrittenLine.{WrittenLine}
 use Rattle.mod_text.specs.LineViews.{line_form}
-use Rattle.mod_text.specs.LineReading.{◌>>=◌, cut_at, tested, register_reading, constant_reading, operand_reading, numbered_reading, operands_reading, sum_reading, branch_reading, move_reading, call_reading, call_ext_reading, add_reading, sub_reading, eq_reading, less_reading, jump_reading, ret_reading, pget_reading, pget_or_reading, elem_reading, print_reading, instr_reading, lone_reading, label_reading, title_reading, header_reading, instr_line_reading, keyed_reading, parts_reading, line_split, is_sound_operand, has_sound_operands, has_sound_terms, sound_reading, line_reading}
-use Rattle.mod_text.proofs.Options.{some_is, bind_some, map_some, guarded, bytes_are, tested_is}
-use Rattle.mod_text.proofs.Cuts.{cut_is}
+use Rattle.term_core.specs.Text.Steps.{◌>>=◌, tested, numbered_reading}
+use Rattle.term_core.specs.Text.Cuts.{cut_at}
+use Rattle.mod_text.specs.LineReading.{register_reading, constant_reading, operand_reading, operands_reading, sum_reading, branch_reading, move_reading, call_reading, call_ext_reading, add_reading, sub_reading, eq_reading, less_reading, jump_reading, ret_reading, pget_reading, pget_or_reading, elem_reading, print_reading, instr_reading, lone_reading, label_reading, title_reading, header_reading, instr_line_reading, keyed_reading, parts_reading, line_split, is_sound_operand, has_sound_operands, has_sound_terms, sound_reading, line_reading}
+use Rattle.term_core.proofs.Text.Options.{some_is, bind_some, map_some, guarded, bytes_are, tested_is}
+use Rattle.term_core.proofs.Text.Cuts.{cut_is}
 
 -- ---- what is read has this text
 

@@ -1,16 +1,15 @@
 -- The atoms of a line, and the names after them.
-use Rattle.std.proofs.Common.{◌≡◌, ℕ, ◌<◌, ◌≤◌, Bool, true, false, cond, ◌&&◌, nat_lt, List, [], ◌∷◌, ◌++◌, length, Option, Some, None, is_some, Result, Ok, Err, refl, sym, ap, ◌∙◌, subst, arith, length-append, append_assoc}
+use Rattle.std.proofs.Common.{◌≡◌, ℕ, ◌≤◌, Bool, true, false, cond, ◌&&◌, nat_lt, List, [], ◌∷◌, ◌++◌, length, Option, Some, None, is_some, Result, Ok, Err, refl, sym, ap, ◌∙◌, subst, arith, length-append}
 use Rattle.std.specs.List.{list_all}
 use Rattle.std.proofs.lemmas.Bool.{and_parts, and_from}
 use Rattle.std.proofs.lemmas.Bool.Decides.{nat_tests}
-use Rattle.std.proofs.lemmas.List.{append-nil}
 use Rattle.std.proofs.lemmas.List.Folds.{list_all-append}
-use Rattle.term_core.specs.Names.{is_atom_text, names_with, number_of, IsNames, Extends, AtomText}
+use Rattle.term_core.specs.Names.{is_atom_text, names_with, number_of}
 use Rattle.term_core.specs.TermText.{names_with_all}
-use Rattle.term_core.proofs.NameTables.{named_anew}
 use Rattle.mod_text.specs.declared.fault.LineFault.{LineFault}
 use Rattle.mod_text.specs.declared.fault.LineFault.TheVariants as faults
-use Rattle.mod_text.specs.ModuleLine.{OperandForm, register, integer, atom, complex, InstrForm, move, add, sub, eq, less, jump, call, call_ext, ret, pget, pget_or, elem, print, yield, LineForm, title, header, label, instr, end, is_number_text, is_operand_form, is_function_form, is_instr_form, is_line_form, is_arity_text, is_version_text}
+use Rattle.term_core.specs.Text.Numbers.{is_number_text}
+use Rattle.mod_text.specs.ModuleLine.{OperandForm, atom, complex, InstrForm, move, add, sub, eq, less, jump, call, call_ext, ret, pget, pget_or, elem, print, yield, LineForm, title, header, instr, is_operand_form, is_function_form, is_instr_form, is_line_form, is_arity_text, is_version_text}
 use Rattle.mod_text.specs.LineFaults.{operand_atoms, instr_atoms, line_atoms}
 use Rattle.mod_text.specs.Keeping.{naming}
 use Rattle.mod_text.specs.Reading.{Fails, Gives}
@@ -29,10 +28,9 @@ one_atom : (text : List ℕ) → is_atom_text text ≡ true → are_atoms (text 
 one_atom text h = and_from (is_atom_text text) true h refl
 
 operand_atoms_are : (o : OperandForm) → is_operand_form o ≡ true → are_atoms (operand_atoms o) ≡ true
-operand_atoms_are (register digits) h = refl
-operand_atoms_are (integer text) h = refl
 operand_atoms_are (atom text) h = one_atom text h
 operand_atoms_are (complex text) h = term_atoms_are text
+operand_atoms_are o h = refl
 
 two_operands : (a b : OperandForm) (rest : Bool) → (is_operand_form a && (is_operand_form b && rest)) ≡ true → are_atoms (operand_atoms a ++ operand_atoms b) ≡ true
 two_operands a b rest h =
@@ -68,9 +66,8 @@ instr_atoms_are yield h = refl
 pub line_atoms_are : (line : LineForm) → is_line_form line ≡ true → are_atoms (line_atoms line) ≡ true
 line_atoms_are (title name version) h = one_atom name (and_parts (is_atom_text name) (is_version_text version) h).0
 line_atoms_are (header exported name arity) h = one_atom name (and_parts (is_atom_text name) (is_arity_text arity) h).0
-line_atoms_are (label name) h = refl
 line_atoms_are (instr i) h = instr_atoms_are i h
-line_atoms_are end h = refl
+line_atoms_are line h = refl
 
 -- ---- names
 
@@ -100,15 +97,8 @@ naming_over names xs ys over =
     ∙ sym (ap (λ t. cond {A = Result (List (List ℕ)) LineFault} t (Err faults.Names) (Ok (names_with_all names xs))) over)
 
 pub ok_fails : {A : Type 0} (x : A) (fault : LineFault) → Fails (Ok x) fault → fault ≡ faults.NoMemory
-ok_fails x faults.Syntax h = absurd cc
-ok_fails x faults.Register h = absurd cc
-ok_fails x faults.Int h = absurd cc
-ok_fails x faults.Term h = absurd cc
-ok_fails x faults.Names h = absurd cc
-ok_fails x faults.TooManyFunctions h = absurd cc
-ok_fails x faults.TooLong h = absurd cc
-ok_fails x faults.Duplicate h = absurd cc
 ok_fails x faults.NoMemory h = refl
+ok_fails x fault h = absurd cc
 
 first_fails_by : (names xs ys : List (List ℕ)) (fault : LineFault) (t : Bool) → nat_lt 4096 (length (names_with_all names xs)) ≡ t → Fails (cond {A = Result (List (List ℕ)) LineFault} t (Err faults.Names) (Ok (names_with_all names xs))) fault → Fails (naming names (xs ++ ys)) fault
 first_fails_by names xs ys fault true over h =
@@ -139,55 +129,3 @@ pub goes_on : {X : Type 0} (view : X → List (List ℕ)) (r : Result X LineFaul
 goes_on view r names between xs ys first h = subst (Gives view r) (sym (second_goes_on names xs ys between first)) h
 
 -- ---- one atom
-
-pub Extends-trans : (a b c : List (List ℕ)) → Extends a b → Extends b c → Extends a c
-Extends-trans a b c e f = record { more = e.more ++ f.more; whole = f.whole ∙ ap (λ ns. ns ++ f.more) e.whole ∙ append_assoc a e.more f.more }
-
--- no atom is named at once
-pub naming_none : (names : List (List ℕ)) → IsNames names → naming names [] ≡ Ok names
-naming_none names sound =
-    let room = sound.room in
-    let fits : nat_lt 4096 (length names) ≡ false = grind (arith, nat_tests) in
-    ap (λ t. cond {A = Result (List (List ℕ)) LineFault} t (Err faults.Names) (Ok names)) fits
-
--- an atom with a number was named
-pub naming_one : (names after : List (List ℕ)) (text : List ℕ) (n : ℕ) → AtomText names text n after → naming names (text ∷ []) ≡ Ok after
-naming_one names after text n t =
-    let room : length (names_with names text) ≤ 4096 = omega (arith, t.room, ap length t.named) in
-    let fits : nat_lt 4096 (length (names_with names text)) ≡ false = grind (arith, nat_tests) in
-    ap (λ t. cond {A = Result (List (List ℕ)) LineFault} t (Err faults.Names) (Ok (names_with names text))) fits ∙ ap (λ ns. Ok ns) (sym t.named)
-
--- texts were named, within the room of a table
-pub naming_all : (names after : List (List ℕ)) (texts : List (List ℕ)) → after ≡ names_with_all names texts → IsNames after → naming names texts ≡ Ok after
-naming_all names after texts is sound =
-    let room = sound.room in
-    let few : length (names_with_all names texts) ≤ 4096 = omega (arith, room, ap length is) in
-    let fits : nat_lt 4096 (length (names_with_all names texts)) ≡ false = grind (arith, nat_tests) in
-    ap (λ t. cond {A = Result (List (List ℕ)) LineFault} t (Err faults.Names) (Ok (names_with_all names texts))) fits ∙ ap (λ ns. Ok ns) (sym is)
-
--- or else there are too many of them
-pub naming_over_all : (names texts : List (List ℕ)) → 4096 < length (names_with_all names texts) → naming names texts ≡ Err faults.Names
-naming_over_all names texts many =
-    let over : nat_lt 4096 (length (names_with_all names texts)) ≡ true = grind (arith, nat_tests) in
-    ap (λ t. cond {A = Result (List (List ℕ)) LineFault} t (Err faults.Names) (Ok (names_with_all names texts))) over
-
--- a new one has no room in a full table
-pub naming_full : (names : List (List ℕ)) (text : List ℕ) → number_of names text ≡ None → length names ≡ 4096 → naming names (text ∷ []) ≡ Err faults.Names
-naming_full names text none full =
-    let longer = ap length (named_anew names text none) ∙ length-append names (text ∷ []) in
-    let over : nat_lt 4096 (length (names_with names text)) ≡ true = grind (arith, nat_tests) in
-    ap (λ t. cond {A = Result (List (List ℕ)) LineFault} t (Err faults.Names) (Ok (names_with names text))) over
-
-extends_by : (names : List (List ℕ)) (text : List ℕ) (o : Option ℕ) → Extends names (cond (is_some o) names (names ++ text ∷ []))
-extends_by names text None = record { more = text ∷ []; whole = refl }
-extends_by names text (Some n) = record { more = []; whole = sym (append-nil names) }
-
--- the names before stay
-pub Extends-named : (names after : List (List ℕ)) (text : List ℕ) (n : ℕ) → AtomText names text n after → Extends names after
-Extends-named names after text n t = subst (Extends names) (sym t.named) (extends_by names text (number_of names text))
-
-pub Extends-same : (names : List (List ℕ)) → Extends names names
-Extends-same names = record { more = []; whole = sym (append-nil names) }
-
-pub Extends-equal : (names after : List (List ℕ)) → after ≡ names → Extends names after
-Extends-equal names after same = subst (Extends names) (sym same) (Extends-same names)

@@ -5,20 +5,17 @@ use Rattle.std.proofs.lemmas.Bool.{and_parts}
 use Rattle.std.proofs.lemmas.List.Elements.{All-nil, All-cons, All-head, All-tail, All-weaker}
 use Rattle.std.proofs.lemmas.List.Sums.{sum_by-cons}
 use Rattle.term_core.specs.Names.{is_atom_text}
-use Rattle.term_core.specs.PlainTerm.{PlainTerm}
 use Rattle.mod_core.proofs.ImageWords.{image_len}
 use Rattle.mod_core.specs.ModuleImage.{code_len, instr_len, function_len, operand_constants, instr_constants, code_constants, constants_of, constants_len, module_image}
-use Rattle.mod_text.specs.ModuleLine.{OperandForm, InstrForm, move, add, sub, eq, less, jump, call, call_ext, ret, pget, pget_or, elem, print, yield, LineForm, title, header, label, instr, end, is_number_text, is_operand_form, is_instr_form}
+use Rattle.term_core.specs.Text.Numbers.{is_number_text}
+use Rattle.mod_text.specs.ModuleLine.{OperandForm, InstrForm, move, add, sub, eq, less, ret, pget_or, elem, print, LineForm, title, header, label, instr, end, is_operand_form, is_instr_form}
 use Rattle.mod_text.specs.ModuleValue.{FunctionForm, HeaderForm, body_of, functions_in, headers_in, instrs_in, operand_in, instr_in, function_in, module_of}
 use Rattle.mod_text.specs.LineFaults.{is_in_function, ends_too_long}
 use Rattle.mod_text.specs.Keeping.{RowFrom, IsKept, operand_form_words, instr_form_words, line_words, lines_words}
 use Rattle.mod_text.proofs.Constants.{IsSound, operand_constant_words}
+use Rattle.mod_core.proofs.Lengths.{constants_len-append}
 
 -- ---- one instruction
-
-constants_len-append : (xs ys : List PlainTerm) → constants_len (xs ++ ys) ≡ constants_len xs + constants_len ys
-constants_len-append [] ys = omega arith
-constants_len-append (x ∷ xs) ys = omega (arith, constants_len-append xs ys)
 
 one_words : (names : List (List ℕ)) (o : OperandForm) (rest : Bool) (own : ℕ) → (is_operand_form o && rest) ≡ true → own + constants_len (operand_constants (operand_in names o)) ≡ own + operand_form_words o
 one_words names o rest own h = ap (λ n. own + n) (operand_constant_words names o (and_parts (is_operand_form o) rest h).0)
@@ -37,15 +34,11 @@ instr_len_in names headers body (add a b to) h = two_words names a b (is_number_
 instr_len_in names headers body (sub a b to) h = two_words names a b (is_number_text to) h
 instr_len_in names headers body (eq a b target) h = two_words names a b (is_atom_text target) h
 instr_len_in names headers body (less a b target) h = two_words names a b (is_atom_text target) h
-instr_len_in names headers body (jump target) h = refl
-instr_len_in names headers body (call name arity at) h = refl
-instr_len_in names headers body (call_ext name function arity at) h = refl
 instr_len_in names headers body (ret value) h = ap (λ n. 2 + n) (operand_constant_words names value h)
-instr_len_in names headers body (pget key to) h = refl
 instr_len_in names headers body (pget_or key other to) h = one_words names other (is_number_text to) 4 (and_parts (is_atom_text key) (is_operand_form other && is_number_text to) h).1
 instr_len_in names headers body (elem index from to) h = two_words names index from (is_number_text to) h
 instr_len_in names headers body (print value) h = ap (λ n. 2 + n) (operand_constant_words names value h)
-instr_len_in names headers body yield h = refl
+instr_len_in names headers body i h = refl
 
 -- ---- code
 
@@ -55,19 +48,13 @@ IsSoundInstr i = is_instr_form i ≡ true
 
 pub instrs_sound : (lines : List LineForm) → All IsSound lines → All IsSoundInstr (instrs_in lines)
 instrs_sound [] h = All-nil IsSoundInstr
-instrs_sound (title name version ∷ lines) h = instrs_sound lines (All-tail IsSound (title name version) lines h)
-instrs_sound (header exported name arity ∷ lines) h = instrs_sound lines (All-tail IsSound (header exported name arity) lines h)
-instrs_sound (label name ∷ lines) h = instrs_sound lines (All-tail IsSound (label name) lines h)
 instrs_sound (instr i ∷ lines) h = All-cons IsSoundInstr i (instrs_in lines) (All-head IsSound (instr i) lines h) (instrs_sound lines (All-tail IsSound (instr i) lines h))
-instrs_sound (end ∷ lines) h = instrs_sound lines (All-tail IsSound end lines h)
+instrs_sound (line ∷ lines) h = instrs_sound lines (All-tail IsSound line lines h)
 
 body_sound : (lines : List LineForm) → All IsSound lines → All IsSound (body_of lines)
-body_sound [] h = All-nil IsSound
-body_sound (title name version ∷ lines) h = All-nil IsSound
-body_sound (header exported name arity ∷ lines) h = All-nil IsSound
 body_sound (label name ∷ lines) h = All-cons IsSound (label name) (body_of lines) (All-head IsSound (label name) lines h) (body_sound lines (All-tail IsSound (label name) lines h))
 body_sound (instr i ∷ lines) h = All-cons IsSound (instr i) (body_of lines) (All-head IsSound (instr i) lines h) (body_sound lines (All-tail IsSound (instr i) lines h))
-body_sound (end ∷ lines) h = All-nil IsSound
+body_sound lines h = All-nil IsSound
 
 -- a function each of whose lines is of its form
 abbrev pub IsSoundFunction : FunctionForm → Type 0
@@ -75,13 +62,10 @@ IsSoundFunction f = All IsSound f.body
 
 pub functions_sound : (lines : List LineForm) → All IsSound lines → All IsSoundFunction (functions_in lines)
 functions_sound [] h = All-nil IsSoundFunction
-functions_sound (title name version ∷ lines) h = functions_sound lines (All-tail IsSound (title name version) lines h)
 functions_sound (header exported name arity ∷ lines) h =
     let rest = All-tail IsSound (header exported name arity) lines h in
     All-cons IsSoundFunction (record { exported = exported; name = name; arity = arity; body = body_of lines }) (functions_in lines) (body_sound lines rest) (functions_sound lines rest)
-functions_sound (label name ∷ lines) h = functions_sound lines (All-tail IsSound (label name) lines h)
-functions_sound (instr i ∷ lines) h = functions_sound lines (All-tail IsSound (instr i) lines h)
-functions_sound (end ∷ lines) h = functions_sound lines (All-tail IsSound end lines h)
+functions_sound (line ∷ lines) h = functions_sound lines (All-tail IsSound line lines h)
 
 code_len_in : (names : List (List ℕ)) (headers : List HeaderForm) (body : List LineForm) (is : List InstrForm) → All IsSoundInstr is → code_len (map (instr_in names headers body) is) + constants_len (code_constants (map (instr_in names headers body) is)) ≡ sum_by instr_form_words is
 code_len_in names headers body [] h = refl
@@ -155,19 +139,14 @@ image_words names lines row sound =
 
 functions_in-end : (lines : List LineForm) → functions_in (lines ++ end ∷ []) ≡ functions_in lines
 functions_in-end [] = refl
-functions_in-end (title name version ∷ lines) = functions_in-end lines
 functions_in-end (header exported name arity ∷ lines) = λ i. record { exported = exported; name = name; arity = arity; body = body_of-end lines i } ∷ functions_in-end lines i
   where
     body_of-end : (ls : List LineForm) → body_of (ls ++ end ∷ []) ≡ body_of ls
     body_of-end [] = refl
-    body_of-end (title n v ∷ ls) = refl
-    body_of-end (header e n a ∷ ls) = refl
     body_of-end (label n ∷ ls) = ap (λ l. label n ∷ l) (body_of-end ls)
     body_of-end (instr i ∷ ls) = ap (λ l. instr i ∷ l) (body_of-end ls)
-    body_of-end (end ∷ ls) = refl
-functions_in-end (label name ∷ lines) = functions_in-end lines
-functions_in-end (instr i ∷ lines) = functions_in-end lines
-functions_in-end (end ∷ lines) = functions_in-end lines
+    body_of-end (line ∷ ls) = refl
+functions_in-end (line ∷ lines) = functions_in-end lines
 
 -- the end adds no words
 pub image_words-end : (names : List (List ℕ)) (lines : List LineForm) → RowFrom None lines → All IsSound lines → length (module_image (module_of names (lines ++ end ∷ []))) ≡ lines_words lines

@@ -10,9 +10,10 @@ use Rattle.term_core.specs.TermText.{number_in}
 use Rattle.term_core.proofs.NameTables.{slice_get-number_of}
 use Rattle.mod_core.specs.declared.code.Module.{Module}
 use Rattle.mod_text.specs.declared.fault.ModFault.{ModFault}
-use Rattle.mod_text.specs.Canonical.{IsOperandAmong, HasAtomsAmong, IsFunctionHeld, IsModuleHeld}
-use Rattle.mod_text.specs.Ending.{Ends, read, missing, stopped, no_memory}
-use Rattle.mod_text.specs.ModuleLine.{OperandForm, register, integer, atom, complex, InstrForm, move, add, sub, eq, less, jump, call, call_ext, ret, pget, pget_or, elem, print, yield, LineForm, is_number_text, is_operand_form, is_instr_form}
+use Rattle.mod_core.specs.HeldNames.{IsOperandAmong, HasAtomsAmong, IsFunctionHeld, IsModuleHeld}
+use Rattle.mod_text.specs.Ending.{Ends, read}
+use Rattle.term_core.specs.Text.Numbers.{is_number_text}
+use Rattle.mod_text.specs.ModuleLine.{OperandForm, atom, complex, InstrForm, move, add, sub, eq, less, call_ext, ret, pget, pget_or, elem, print, LineForm, is_operand_form, is_instr_form}
 use Rattle.mod_text.specs.ModuleValue.{FunctionForm, HeaderForm, functions_in, headers_in, instrs_in, operand_in, instr_in, function_in, module_of}
 use Rattle.mod_text.specs.LineFaults.{names_after}
 use Rattle.mod_text.specs.ModuleText.{FollowOn}
@@ -34,10 +35,9 @@ module _ (names : List (List ℕ)) (some : 0 < length names) where
   number_held text = number_by text (number_of names text) refl
 
   operand_held : (o : OperandForm) → is_operand_form o ≡ true → IsOperandAmong (length names) (operand_in names o)
-  operand_held (register digits) h = tt
-  operand_held (integer text) h = tt
   operand_held (atom text) h = number_held text
   operand_held (complex text) h = (says names text h).held (length names) number_held
+  operand_held o h = tt
 
   two_held : (a b : OperandForm) (rest : Bool) → (is_operand_form a && (is_operand_form b && rest)) ≡ true → IsOperandAmong (length names) (operand_in names a) × IsOperandAmong (length names) (operand_in names b)
   two_held a b rest h =
@@ -50,15 +50,13 @@ module _ (names : List (List ℕ)) (some : 0 < length names) where
   instr_held headers body (sub a b to) h = two_held a b (is_number_text to) h
   instr_held headers body (eq a b target) h = two_held a b (is_atom_text target) h
   instr_held headers body (less a b target) h = two_held a b (is_atom_text target) h
-  instr_held headers body (jump target) h = tt
-  instr_held headers body (call name arity at) h = tt
   instr_held headers body (call_ext name function arity at) h = (number_held name, number_held function)
   instr_held headers body (ret value) h = operand_held value h
   instr_held headers body (pget key to) h = number_held key
   instr_held headers body (pget_or key other to) h = (number_held key, operand_held other (and_parts (is_operand_form other) (is_number_text to) (and_parts (is_atom_text key) (is_operand_form other && is_number_text to) h).1).0)
   instr_held headers body (elem index from to) h = two_held index from (is_number_text to) h
   instr_held headers body (print value) h = operand_held value h
-  instr_held headers body yield h = tt
+  instr_held headers body i h = tt
 
   code_held : (headers : List HeaderForm) (body : List LineForm) (is : List InstrForm) → All IsSoundInstr is → All (HasAtomsAmong (length names)) (map (instr_in names headers body) is)
   code_held headers body [] h = All-nil (HasAtomsAmong (length names))
@@ -86,6 +84,4 @@ sound_lines names before (line ∷ lines) follow = All-cons IsSound line lines f
 pub held_is : (before : List (List ℕ)) (bytes : List ℕ) (first : ℕ) (after : List (List ℕ)) (r : Result Module ModFault) → IsNames after → Ends before bytes first after r → IfOk r (λ m. IsModuleHeld after m)
 held_is before bytes first after _ sound (read forms m e value settled) =
     subst (IsModuleHeld after) (sym value) (module_held after (some_names after sound) forms (sound_lines before [] forms (bytes_are_read before bytes after forms e).faultless))
-held_is before bytes first after _ sound (missing forms number fault e lacking is) = tt
-held_is before bytes first after _ sound (stopped stop fault so is) = tt
-held_is before bytes first after _ sound (no_memory fault is) = tt
+held_is before bytes first after _ sound _ = tt

@@ -2,7 +2,7 @@
 use Rattle.std.proofs.Common.{◌≡◌, ℕ, zero, suc, ◌+◌, ◌<◌, ◌≤◌, Bool, true, false, cond, not, ◌&&◌, ◌||◌, ◌^◌, nat_lt, nat_le, List, [], ◌∷◌, ◌++◌, length, map, Option, Some, None, option_map, is_some, position, unwrap_or, bytes_eq, decimal, ℤ, pos, negsuc, ◌⊎◌, inl, inr, add-one, refl, sym, ap, ◌∙◌, subst, arith, length-append, append_assoc}
 use Rattle.std.specs.Prelude.{All, slice_get, IsSomeAnd}
 use Rattle.std.specs.List.{list_any}
-use Rattle.std.proofs.lemmas.Bool.{and_parts, and_from, or_parts, or_cases}
+use Rattle.std.proofs.lemmas.Bool.{and_parts, and_from, or_parts, or_cases, or_right}
 use Rattle.std.proofs.lemmas.Int.{ints}
 use Rattle.std.proofs.lemmas.Fmt.{decimal_digit, decimal-digits_value}
 use Rattle.std.proofs.lemmas.Option.{slice_get_within, slice_get-map}
@@ -16,14 +16,15 @@ use Rattle.term_core.specs.TermText.{number_in, names_with_all}
 use Rattle.term_core.specs.Written.{IsTermInteger, integer_of, is_term_integer, is_positive_text}
 use Rattle.term_core.proofs.IntegerTexts.{own, Positive-from}
 use Rattle.term_core.proofs.NameTables.{slice_get-number_of}
-use Rattle.term_core.proofs.Places.{position-cons, is_some-position}
+use Rattle.term_core.proofs.Places.{position-cons, is_some-position, all_at}
 use Rattle.term_core.proofs.Truths.{not_both}
 use Rattle.mod_core.specs.declared.code.Function.{Function}
 use Rattle.mod_core.specs.declared.code.Module.{Module}
 use Rattle.mod_text.specs.declared.fault.LineFault.TheVariants as faults
 use Rattle.mod_core.specs.Module.{IsOperand, IsCallPlace, IsInstr, IsFunction, SameFunction, IsModule}
 use Rattle.mod_core.specs.ModuleImage.{module_image}
-use Rattle.mod_text.specs.ModuleLine.{OperandForm, register, integer, atom, complex, InstrForm, move, add, sub, eq, less, jump, call, call_ext, ret, pget, pget_or, elem, print, yield, LineForm, title, header, label, instr, end, is_number_text, is_version_text, is_arity_text, is_operand_form, is_function_form, number_value}
+use Rattle.term_core.specs.Text.Numbers.{is_number_text, number_value}
+use Rattle.mod_text.specs.ModuleLine.{OperandForm, register, integer, atom, complex, InstrForm, move, add, sub, eq, less, jump, call, call_ext, ret, pget, pget_or, elem, print, yield, LineForm, title, header, label, instr, end, is_version_text, is_arity_text, is_operand_form, is_function_form}
 use Rattle.mod_text.specs.ModuleValue.{FunctionForm, HeaderForm, body_of, functions_in, headers_in, instrs_in, is_header, label_number, function_number, atom_in, operand_in, target_in, instr_in, function_in, title_of, module_of, IsTitled, is_settled, unsettled_at, unsettled_in, earlier, first_unsettled}
 use Rattle.mod_text.specs.LineFaults.{last_line, is_high, has_high_operand, is_high_call, has_high_register, is_wide_operand, has_wide_integer, is_long_operand, has_long_term, names_after, overfills_names, is_seventeenth, ends_too_long, is_repeated, fault_of_line, line_atoms}
 use Rattle.mod_text.specs.ModuleText.{FollowOn, names_behind, AreLines, ModuleText}
@@ -31,7 +32,7 @@ use Rattle.mod_text.specs.Keeping.{RowFrom, IsKept, IsKeptInstr}
 use Rattle.mod_text.proofs.Constants.{IsSound, constant_is}
 use Rattle.mod_text.proofs.LineWords.{image_words, kept_sound}
 use Rattle.mod_text.proofs.Keepings.{headers_in-append, last_line-push}
-use Rattle.mod_text.proofs.Options.{some_is, same_bytes, bytes_are}
+use Rattle.term_core.proofs.Text.Options.{some_is, same_bytes, bytes_are}
 use Rattle.mod_text.proofs.Settles.{kept_body}
 use Rattle.mod_text.proofs.TextLaws.{titled_is}
 
@@ -48,14 +49,8 @@ pub record PassesAll (names : List (List ℕ)) (before : List LineForm) (line : 
   pub new : is_repeated before line ≡ false
 
 passes_by : (names : List (List ℕ)) (before : List LineForm) (line : LineForm) (a b l c d e f : Bool) → has_high_register line ≡ a → has_wide_integer line ≡ b → has_long_term line ≡ l → overfills_names names line ≡ c → is_seventeenth before line ≡ d → ends_too_long names before line ≡ e → is_repeated before line ≡ f → cond a (Some faults.Register) (cond b (Some faults.Int) (cond l (Some faults.Term) (cond c (Some faults.Names) (cond d (Some faults.TooManyFunctions) (cond e (Some faults.TooLong) (cond f (Some faults.Duplicate) None)))))) ≡ None → PassesAll names before line
-passes_by names before line true b l c d e f ha hb hl hc hd he hf none = absurd cc
-passes_by names before line false true l c d e f ha hb hl hc hd he hf none = absurd cc
-passes_by names before line false false true c d e f ha hb hl hc hd he hf none = absurd cc
-passes_by names before line false false false true d e f ha hb hl hc hd he hf none = absurd cc
-passes_by names before line false false false false true e f ha hb hl hc hd he hf none = absurd cc
-passes_by names before line false false false false false true f ha hb hl hc hd he hf none = absurd cc
-passes_by names before line false false false false false false true ha hb hl hc hd he hf none = absurd cc
 passes_by names before line false false false false false false false ha hb hl hc hd he hf none = record { low = ha; narrow = hb; long = hl; room = hc; few = hd; short = he; new = hf }
+passes_by names before line a b l c d e f ha hb hl hc hd he hf none = absurd cc
 
 pub passes : (names : List (List ℕ)) (before : List LineForm) (line : LineForm) → fault_of_line names before line ≡ None → PassesAll names before line
 passes names before line none = passes_by names before line (has_high_register line) (has_wide_integer line) (has_long_term line) (overfills_names names line) (is_seventeenth before line) (ends_too_long names before line) (is_repeated before line) refl refl refl refl refl refl refl none
@@ -135,11 +130,9 @@ suc_by None n bound more e = absurd cc
 -- a label's instruction is one of its function's, or the place behind them
 pub label_within : (wanted : List ℕ) (body : List LineForm) (n : ℕ) → label_number wanted body ≡ Some n → n ≤ length (instrs_in body)
 label_within wanted [] n e = absurd cc
-label_within wanted (title name version ∷ lines) n e = label_within wanted lines n e
-label_within wanted (header exported name arity ∷ lines) n e = label_within wanted lines n e
 label_within wanted (label name ∷ lines) n e = label_by (bytes_eq name wanted) (label_number wanted lines) n (length (instrs_in lines)) (label_within wanted lines n) e
 label_within wanted (instr i ∷ lines) n e = suc_by (label_number wanted lines) n (length (instrs_in lines)) (label_within wanted lines) e
-label_within wanted (end ∷ lines) n e = label_within wanted lines n e
+label_within wanted (line ∷ lines) n e = label_within wanted lines n e
 
 target_by : (wanted : List ℕ) (body : List LineForm) (o : Option ℕ) → label_number wanted body ≡ o → unwrap_or o 0 ≤ length (instrs_in body)
 target_by wanted body None is = omega arith
@@ -156,11 +149,8 @@ head_of f = (f.name, f.arity)
 
 pub heads_are : (lines : List LineForm) → headers_in lines ≡ map head_of (functions_in lines)
 heads_are [] = refl
-heads_are (title name version ∷ lines) = heads_are lines
 heads_are (header exported name arity ∷ lines) = ap (λ hs. (name, arity) ∷ hs) (heads_are lines)
-heads_are (label name ∷ lines) = heads_are lines
-heads_are (instr i ∷ lines) = heads_are lines
-heads_are (end ∷ lines) = heads_are lines
+heads_are (line ∷ lines) = heads_are lines
 
 -- what each function of a text has
 pub record IsForm (headers : List HeaderForm) (f : FunctionForm) : Type 0 where
@@ -170,21 +160,17 @@ pub record IsForm (headers : List HeaderForm) (f : FunctionForm) : Type 0 where
 
 both_none : (a b : Option ℕ) → option_map suc (earlier a b) ≡ None → (a ≡ None) × (b ≡ None)
 both_none None None h = (refl, refl)
-both_none None (Some n) h = absurd cc
-both_none (Some n) b h = absurd cc
+both_none a b h = absurd cc
 
 pub forms_are : (headers : List HeaderForm) (lines : List LineForm) → All IsKept lines → first_unsettled headers lines ≡ None → All (IsForm headers) (functions_in lines)
 forms_are headers [] kept none = All-nil (IsForm headers)
-forms_are headers (title name version ∷ lines) kept none = forms_are headers lines (All-tail IsKept (title name version) lines kept) (both_none None (first_unsettled headers lines) none).1
 forms_are headers (header exported name arity ∷ lines) kept none =
     let settled = both_none (unsettled_in headers (body_of lines)) (first_unsettled headers lines) none in
     let rest = All-tail IsKept (header exported name arity) lines kept in
     All-cons (IsForm headers) (record { exported = exported; name = name; arity = arity; body = body_of lines }) (functions_in lines)
     (record { sound = (All-head IsKept (header exported name arity) lines kept).sound; kept = kept_body lines rest; settled = settled.0 })
     (forms_are headers lines rest settled.1)
-forms_are headers (label name ∷ lines) kept none = forms_are headers lines (All-tail IsKept (label name) lines kept) (both_none None (first_unsettled headers lines) none).1
-forms_are headers (instr i ∷ lines) kept none = forms_are headers lines (All-tail IsKept (instr i) lines kept) (both_none None (first_unsettled headers lines) none).1
-forms_are headers (end ∷ lines) kept none = forms_are headers lines (All-tail IsKept end lines kept) (both_none None (first_unsettled headers lines) none).1
+forms_are headers (line ∷ lines) kept none = forms_are headers lines (All-tail IsKept line lines kept) (both_none None (first_unsettled headers lines) none).1
 
 -- each line was within its own limits
 pub kept_lines : (names : List (List ℕ)) (before lines : List LineForm) → FollowOn names before lines → All IsKept lines
@@ -271,21 +257,17 @@ module _ (names : List (List ℕ)) (forms : List FunctionForm) (room : length na
 
   settled_by : (t : Bool) (o : Option ℕ) → cond t (option_map suc o) (Some 0) ≡ None → (t ≡ true) × (o ≡ None)
   settled_by true None h = (refl, refl)
-  settled_by true (Some n) h = absurd cc
-  settled_by false o h = absurd cc
+  settled_by t o h = absurd cc
 
   code_is : (body rest : List LineForm) → All IsKept rest → unsettled_at (map head_of forms) body rest ≡ None → All (IsInstr (map (function_in names (map head_of forms)) forms) (length (instrs_in body))) (map (instr_in names (map head_of forms) body) (instrs_in rest))
   code_is body [] kept none = All-nil (IsInstr (map (function_in names (map head_of forms)) forms) (length (instrs_in body)))
-  code_is body (title name version ∷ rest) kept none = code_is body rest (All-tail IsKept (title name version) rest kept) (settled_by true (unsettled_at (map head_of forms) body rest) none).1
-  code_is body (header exported name arity ∷ rest) kept none = code_is body rest (All-tail IsKept (header exported name arity) rest kept) (settled_by true (unsettled_at (map head_of forms) body rest) none).1
-  code_is body (label name ∷ rest) kept none = code_is body rest (All-tail IsKept (label name) rest kept) (settled_by true (unsettled_at (map head_of forms) body rest) none).1
   code_is body (instr i ∷ rest) kept none =
       let both = settled_by (is_settled (map head_of forms) body i) (unsettled_at (map head_of forms) body rest) none in
       let is = All-head IsKept (instr i) rest kept in
       All-cons (IsInstr (map (function_in names (map head_of forms)) forms) (length (instrs_in body))) (instr_in names (map head_of forms) body i) (map (instr_in names (map head_of forms) body) (instrs_in rest))
       (instr_is body i (record { sound = is.sound; low = is.low; narrow = is.narrow; short = is.short }) both.0)
       (code_is body rest (All-tail IsKept (instr i) rest kept) both.1)
-  code_is body (end ∷ rest) kept none = code_is body rest (All-tail IsKept end rest kept) (settled_by true (unsettled_at (map head_of forms) body rest) none).1
+  code_is body (line ∷ rest) kept none = code_is body rest (All-tail IsKept line rest kept) (settled_by true (unsettled_at (map head_of forms) body rest) none).1
 
   function_is : (f : FunctionForm) → IsForm (map head_of forms) f → IsFunction (map (function_in names (map head_of forms)) forms) (function_in names (map head_of forms) f)
   function_is f is =
@@ -307,14 +289,11 @@ module _ (names : List (List ℕ)) (forms : List FunctionForm) (room : length na
 
 -- after a line there are at most sixteen headers, where it was no seventeenth
 few_after : (before : List LineForm) (line : LineForm) → is_seventeenth before line ≡ false → length (headers_in before) ≤ 16 → length (headers_in before ++ headers_in (line ∷ [])) ≤ 16
-few_after before (title name version) h few = omega (arith, few, length-append (headers_in before) [])
 few_after before (header exported name arity) h few =
     let below : nat_le 16 (length (headers_in before)) ≡ false = h in
     let one_more : length (headers_in before) + 1 ≤ 16 = grind (arith, nat_tests) in
     omega (arith, one_more, length-append (headers_in before) ((name, arity) ∷ []))
-few_after before (label name) h few = omega (arith, few, length-append (headers_in before) [])
-few_after before (instr i) h few = omega (arith, few, length-append (headers_in before) [])
-few_after before end h few = omega (arith, few, length-append (headers_in before) [])
+few_after before line h few = omega (arith, few, length-append (headers_in before) [])
 
 pub heads_few : (names : List (List ℕ)) (before lines : List LineForm) → FollowOn names before lines → length (headers_in before) ≤ 16 → length (headers_in (before ++ lines)) ≤ 16
 heads_few names before [] follow few = subst (λ ls. length (headers_in ls) ≤ 16) (sym (append-nil before)) few
@@ -369,11 +348,8 @@ apart_more hs h apart new = λ i j a b below at_i at_j same.
     ]
 
 apart_after : (before : List LineForm) (line : LineForm) → is_repeated before line ≡ false → HeadsApart (headers_in before) → HeadsApart (headers_in before ++ headers_in (line ∷ []))
-apart_after before (title name version) new apart = subst HeadsApart (sym (append-nil (headers_in before))) apart
 apart_after before (header exported name arity) new apart = apart_more (headers_in before) (name, arity) apart new
-apart_after before (label name) new apart = subst HeadsApart (sym (append-nil (headers_in before))) apart
-apart_after before (instr i) new apart = subst HeadsApart (sym (append-nil (headers_in before))) apart
-apart_after before end new apart = subst HeadsApart (sym (append-nil (headers_in before))) apart
+apart_after before line new apart = subst HeadsApart (sym (append-nil (headers_in before))) apart
 
 pub heads_apart : (names : List (List ℕ)) (before lines : List LineForm) → FollowOn names before lines → HeadsApart (headers_in before) → HeadsApart (headers_in (before ++ lines))
 heads_apart names before [] follow apart = subst (λ ls. HeadsApart (headers_in ls)) (sym (append-nil before)) apart
@@ -401,11 +377,7 @@ named_new : (names : List (List ℕ)) (text : List ℕ) (t : Bool) → is_some (
 named_new names text true is = is
 named_new names text false is =
     is_some-position (bytes_eq text) (names ++ text ∷ []) ∙ list_any-append (bytes_eq text) names (text ∷ [])
-    ∙ ap (λ t. list_any (bytes_eq text) names || (t || false)) (same_bytes text) ∙ or_true (list_any (bytes_eq text) names)
-  where
-    or_true : (t : Bool) → (t || true) ≡ true
-    or_true true = refl
-    or_true false = refl
+    ∙ ap (λ t. list_any (bytes_eq text) names || (t || false)) (same_bytes text) ∙ or_right (list_any (bytes_eq text) names) true refl
 
 named_all : (names texts : List (List ℕ)) (text : List ℕ) → IsNamed names text → IsNamed (names_with_all names texts) text
 named_all names [] text named = named
@@ -427,10 +399,9 @@ heads_named names (instr i ∷ lines) = heads_named (names_after names (instr i)
 heads_named names (end ∷ lines) = heads_named names lines
 
 one_name : (names : List (List ℕ)) (a b : List ℕ) (o p : Option ℕ) → number_of names a ≡ o → number_of names b ≡ p → is_some o ≡ true → is_some p ≡ true → unwrap_or o 0 ≡ unwrap_or p 0 → a ≡ b
-one_name names a b None p is_a is_b some_a some_b same = absurd cc
-one_name names a b (Some n) None is_a is_b some_a some_b same = absurd cc
 one_name names a b (Some n) (Some k) is_a is_b some_a some_b same =
     some_is a b (sym (slice_get-number_of names a n is_a) ∙ ap (slice_get names) same ∙ slice_get-number_of names b k is_b)
+one_name names a b o p is_a is_b some_a some_b same = absurd cc
 
 -- texts with one number are one
 pub names_one : (names : List (List ℕ)) (a b : List ℕ) → IsNamed names a → IsNamed names b → number_in names a ≡ number_in names b → a ≡ b
@@ -489,7 +460,6 @@ image_short names after lines row sound short =
 
 -- what the title of a module has
 version_is : (lines : List LineForm) → IsTitled lines → All IsKept lines → (1 ≤ number_value (title_of lines).1) × (number_value (title_of lines).1 ≤ 999999)
-version_is [] titled kept = absurd titled
 version_is (title name version ∷ lines) titled kept =
     let sound = (All-head IsKept (title name version) lines kept).sound in
     let bounds = (and_parts (is_number_text version) (nat_le 1 (number_value version) && nat_le (number_value version) 999999) (and_parts (is_atom_text name) (is_version_text version) sound).1).1 in
@@ -497,16 +467,7 @@ version_is (title name version ∷ lines) titled kept =
     let low : nat_le 1 (number_value version) ≡ true = both.0 in
     let high : nat_le (number_value version) 999999 ≡ true = both.1 in
     (grind (arith, nat_tests), grind (arith, nat_tests))
-version_is (header exported name arity ∷ lines) titled kept = absurd titled
-version_is (label name ∷ lines) titled kept = absurd titled
-version_is (instr i ∷ lines) titled kept = absurd titled
-version_is (end ∷ lines) titled kept = absurd titled
-
--- what all are, one of them is
-All-at : {X : Type 0} (P : X → Type 0) (xs : List X) (i : ℕ) (x : X) → All P xs → slice_get xs i ≡ Some x → P x
-All-at P [] i x all e = absurd cc
-All-at P (y ∷ ys) zero x all e = subst P (some_is y x e) (All-head P y ys all)
-All-at P (y ∷ ys) (suc i) x all e = All-at P ys i x (All-tail P y ys all) e
+version_is lines titled kept = absurd titled
 
 functions_apart : (names : List (List ℕ)) (headers : List HeaderForm) (forms : List FunctionForm) → All (IsForm headers) forms → All (λ h. IsNamed names h.0) (map head_of forms) → HeadsApart (map head_of forms) → (i j : ℕ) → i < j → SameFunction (map (function_in names headers) forms) i j → ⊥
 unfolding HeadsApart
@@ -521,11 +482,11 @@ functions_apart names headers forms are named apart i j below same =
         let second : function_in names headers g ≡ same.second = some_is (function_in names headers g) same.second (sym (slice_get-map (function_in names headers) forms j ∙ ap (option_map (function_in names headers)) at_j) ∙ same.second_at) in
         let name_is : number_in names f.name ≡ number_in names g.name = ap (λ (x : Function). x.name.0) first ∙ ap (λ (a : AtomId). a.0) same.name ∙ sym (ap (λ (x : Function). x.name.0) second) in
         let arity_is : number_value f.arity ≡ number_value g.arity = ap (λ (x : Function). x.arity) first ∙ same.arity ∙ sym (ap (λ (x : Function). x.arity) second) in
-        let form_f = All-at (IsForm headers) forms i f are at_i in
-        let form_g = All-at (IsForm headers) forms j g are at_j in
+        let form_f = all_at (IsForm headers) forms i f are at_i in
+        let form_g = all_at (IsForm headers) forms j g are at_j in
         let head_i = slice_get-map head_of forms i ∙ ap (option_map head_of) at_i in
         let head_j = slice_get-map head_of forms j ∙ ap (option_map head_of) at_j in
-        let names_are = names_one names f.name g.name (All-at (λ h. IsNamed names h.0) (map head_of forms) i (head_of f) named head_i) (All-at (λ h. IsNamed names h.0) (map head_of forms) j (head_of g) named head_j) name_is in
+        let names_are = names_one names f.name g.name (all_at (λ h. IsNamed names h.0) (map head_of forms) i (head_of f) named head_i) (all_at (λ h. IsNamed names h.0) (map head_of forms) j (head_of g) named head_j) name_is in
         let arities_are = arities_one f.arity g.arity (and_parts (is_atom_text f.name) (is_arity_text f.arity) form_f.sound).1 (and_parts (is_atom_text g.name) (is_arity_text g.arity) form_g.sound).1 arity_is in
         apart i j (head_of f) (head_of g) below head_i head_j (λ k. (names_are k, arities_are k))
 

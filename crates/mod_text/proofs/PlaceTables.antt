@@ -3,13 +3,12 @@ use Rattle.std.proofs.Common.{◌≡◌, ℕ, suc, ◌+◌, ◌<◌, Bool, true,
 use Rattle.std.specs.Borrow.{Bor}
 use Rattle.std.specs.HashMap.{UpdatesBy}
 use Rattle.std.proofs.lemmas.Map.Text.{hash_map_updates_str}
-use Rattle.std.proofs.lemmas.List.{take_more}
+use Rattle.std.proofs.lemmas.List.{take_more, map-append}
 use Rattle.std.proofs.lemmas.Slice.Eq.{bytes_eq-Decides}
 use Rattle.mod_text.specs.LineViews.{form_of, forms_of}
-use Rattle.mod_text.specs.ModuleLine.{LineForm, title, header, label, instr, end}
+use Rattle.mod_text.specs.ModuleLine.{LineForm, title, label, instr}
 use Rattle.mod_text.specs.ModuleValue.{instrs_in, label_number, earlier}
 use Rattle.mod_text.specs.Settling.{Places, place_in, ArePlaces, HasPlace, label_at, TakesLine, number_after}
-use Rattle.mod_text.proofs.Keepings.{map-append}
 
 no_place : (o : Option ℕ) → is_some o ≡ false → o ≡ None
 no_place None h = refl
@@ -51,24 +50,16 @@ suc_if true n = refl
 suc_if false n = refl
 
 label_at-suc : (number : ℕ) (wanted : List ℕ) (line : LineForm) → option_map suc (label_at number wanted line) ≡ label_at (suc number) wanted line
-label_at-suc number wanted (title name version) = refl
-label_at-suc number wanted (header exported name arity) = refl
 label_at-suc number wanted (label name) = suc_if (bytes_eq name wanted) number
-label_at-suc number wanted (instr i) = refl
-label_at-suc number wanted end = refl
+label_at-suc number wanted line = refl
 
 first_label : (wanted : List ℕ) (line : LineForm) → label_number wanted (line ∷ []) ≡ label_at 0 wanted line
 first_label wanted (title name version) = refl
-first_label wanted (header exported name arity) = refl
-first_label wanted (label name) = refl
-first_label wanted (instr i) = refl
-first_label wanted end = refl
+first_label wanted line = refl
 
 -- a line more gives its label a number, unless it had one
 pub label_number-push : (wanted : List ℕ) (lines : List LineForm) (line : LineForm) → label_number wanted (lines ++ line ∷ []) ≡ earlier (label_number wanted lines) (label_at (length (instrs_in lines)) wanted line)
 label_number-push wanted [] line = first_label wanted line
-label_number-push wanted (title name version ∷ lines) line = label_number-push wanted lines line
-label_number-push wanted (header exported name arity ∷ lines) line = label_number-push wanted lines line
 label_number-push wanted (label name ∷ lines) line =
     elim (bytes_eq name wanted) as (λ t. cond t (Some 0) (label_number wanted (lines ++ line ∷ [])) ≡ earlier (cond t (Some 0) (label_number wanted lines)) (label_at (length (instrs_in lines)) wanted line)) [
       | true ↦ refl
@@ -77,29 +68,20 @@ label_number-push wanted (label name ∷ lines) line =
 label_number-push wanted (instr i ∷ lines) line =
     ap (option_map suc) (label_number-push wanted lines line) ∙ earlier-suc (label_number wanted lines) (label_at (length (instrs_in lines)) wanted line)
     ∙ ap (earlier (option_map suc (label_number wanted lines))) (label_at-suc (length (instrs_in lines)) wanted line)
-label_number-push wanted (end ∷ lines) line = label_number-push wanted lines line
+label_number-push wanted (first ∷ lines) line = label_number-push wanted lines line
 
 last_count : (line : LineForm) → length (instrs_in (line ∷ [])) ≡ number_after 0 line
 last_count (title name version) = refl
-last_count (header exported name arity) = refl
-last_count (label name) = refl
-last_count (instr i) = refl
-last_count end = refl
+last_count line = refl
 
 number_after-suc : (number : ℕ) (line : LineForm) → suc (number_after number line) ≡ number_after (suc number) line
-number_after-suc number (title name version) = refl
-number_after-suc number (header exported name arity) = refl
-number_after-suc number (label name) = refl
 number_after-suc number (instr i) = omega arith
-number_after-suc number end = refl
+number_after-suc number line = refl
 
 pub count-push : (lines : List LineForm) (line : LineForm) → length (instrs_in (lines ++ line ∷ [])) ≡ number_after (length (instrs_in lines)) line
 count-push [] line = last_count line
-count-push (title name version ∷ lines) line = count-push lines line
-count-push (header exported name arity ∷ lines) line = count-push lines line
-count-push (label name ∷ lines) line = count-push lines line
 count-push (instr i ∷ lines) line = ap suc (count-push lines line) ∙ number_after-suc (length (instrs_in lines)) line
-count-push (end ∷ lines) line = count-push lines line
+count-push (first ∷ lines) line = count-push lines line
 
 -- what the loop keeps
 pub record PlacesSoFar (places : Places) (number : ℕ) (lines : List LineForm) : Type 0 where

@@ -2,7 +2,7 @@
 use Rattle.std.proofs.Common.{◌≡◌, ℕ, suc, ◌+◌, ◌-◌, ◌<◌, ◌≤◌, Bool, true, false, cond, ◌&&◌, ◌^◌, nat_le, List, [], ◌∷◌, ◌++◌, length, take, drop, get_or, map, Option, Some, None, option_map, refl, sym, ap, ◌∙◌, subst, arith, add-one, add-zero, append_assoc, drop-cons, length-drop}
 use Rattle.std.specs.Borrow.{Bor}
 use Rattle.std.specs.Prelude.{All}
-use Rattle.std.proofs.lemmas.List.{append-nil, length-map, get_or-map, drop-map, take_more, take_all, drop_all}
+use Rattle.std.proofs.lemmas.List.{append-nil, length-map, get_or-map, drop-map, take_more, take_all, drop_all, map-append}
 use Rattle.std.proofs.lemmas.List.Elements.{All-get_or, All-drop, All-nil, All-cons, All-head, All-tail}
 use Rattle.std.proofs.lemmas.Bool.{and_parts}
 use Rattle.std.proofs.lemmas.Bool.Decides.{nat_tests}
@@ -14,21 +14,17 @@ use Rattle.mod_core.specs.declared.code.Function.{Function}
 use Rattle.mod_text.specs.declared.fault.FinishFault.{FinishFault}
 use Rattle.mod_text.specs.declared.fault.FinishFault.TheVariants.{Missing, NoMemory}
 use Rattle.mod_text.specs.LineViews.{form_of, forms_of}
-use Rattle.mod_text.specs.ModuleLine.{InstrForm, LineForm, title, header, label, instr, end, is_line_form, is_version_text, is_number_text, number_value}
+use Rattle.term_core.specs.Text.Numbers.{is_number_text, number_value}
+use Rattle.mod_text.specs.ModuleLine.{InstrForm, LineForm, title, header, label, instr, is_line_form, is_version_text}
 use Rattle.mod_text.specs.ModuleValue.{HeaderForm, body_of, functions_in, instrs_in, instr_in, function_in, is_settled, is_settled_line, unsettled_at, unsettled_in, unsettled_below, earlier, first_unsettled, atom_in, title_of, IsTitled}
 use Rattle.mod_text.specs.Keeping.{IsKept}
 use Rattle.mod_text.specs.Settling.{settled_instr, later_by, function_at, is_body_line, IsUnsettled, IsUnsettledBelow, IsLater}
-use Rattle.mod_text.proofs.Keepings.{map-append}
 
 -- ---- lines
 
 -- the lines from a place on
 pub forms_at : (lines : List (Bor (List ℕ))) (i : ℕ) (d : Bor (List ℕ)) → i < length lines → forms_of (drop i lines) ≡ form_of (get_or lines i d) ∷ forms_of (drop (i + 1) lines)
 forms_at lines i d within = ap forms_of (drop-cons lines i d within) ∙ ap (λ n. form_of (get_or lines i d) ∷ forms_of (drop n lines)) (sym (add-one i))
-
-pub no_forms : (lines : List (Bor (List ℕ))) → forms_of (drop (length lines) lines) ≡ []
-no_forms [] = refl
-no_forms (line ∷ lines) = no_forms lines
 
 -- each line that was kept is within its limits
 pub kept_at : (lines : List (Bor (List ℕ))) (i : ℕ) (d : Bor (List ℕ)) → i < length lines → All IsKept (forms_of lines) → IsKept (form_of (get_or lines i d))
@@ -40,18 +36,14 @@ kept_behind lines i kept = subst (All IsKept) (drop-map form_of i lines) (All-dr
 
 -- a line of the body goes to its front
 pub body_goes_on : (line : LineForm) (lines : List LineForm) → is_body_line line ≡ true → body_of (line ∷ lines) ≡ line ∷ body_of lines
-body_goes_on (title name version) lines h = absurd cc
-body_goes_on (header exported name arity) lines h = absurd cc
 body_goes_on (label name) lines h = refl
 body_goes_on (instr i) lines h = refl
-body_goes_on end lines h = absurd cc
+body_goes_on line lines h = absurd cc
 
 pub body_ends : (line : LineForm) (lines : List LineForm) → is_body_line line ≡ false → body_of (line ∷ lines) ≡ []
-body_ends (title name version) lines h = refl
-body_ends (header exported name arity) lines h = refl
 body_ends (label name) lines h = absurd cc
 body_ends (instr i) lines h = absurd cc
-body_ends end lines h = refl
+body_ends line lines h = refl
 
 -- the body so far, where the next line is none of it
 pub body_stops : (lines : List (Bor (List ℕ))) (i : ℕ) (d : Bor (List ℕ)) → i < length lines → body_of (forms_of lines) ≡ forms_of (take i lines) ++ body_of (forms_of (drop i lines)) → false ≡ is_body_line (form_of (get_or lines i d)) → forms_of (take i lines) ≡ body_of (forms_of lines)
@@ -72,9 +64,6 @@ body_is_whole lines i past so_far =
 
 -- ---- numbers of lines
 
-later-none : (n : ℕ) → later_by n None ≡ None
-later-none n = refl
-
 later-zero : (o : Option ℕ) → o ≡ later_by 0 o
 later-zero None = refl
 later-zero (Some n) = ap (λ k. Some k) (omega arith)
@@ -91,11 +80,9 @@ on_true false P h e = absurd cc
 -- the lines of a body were kept where all were
 pub kept_body : (lines : List LineForm) → All IsKept lines → All IsKept (body_of lines)
 kept_body [] kept = kept
-kept_body (title name version ∷ lines) kept = All-nil IsKept
-kept_body (header exported name arity ∷ lines) kept = All-nil IsKept
 kept_body (label name ∷ lines) kept = All-cons IsKept (label name) (body_of lines) (All-head IsKept (label name) lines kept) (kept_body lines (All-tail IsKept (label name) lines kept))
 kept_body (instr i ∷ lines) kept = All-cons IsKept (instr i) (body_of lines) (All-head IsKept (instr i) lines kept) (kept_body lines (All-tail IsKept (instr i) lines kept))
-kept_body (end ∷ lines) kept = All-nil IsKept
+kept_body lines kept = All-nil IsKept
 
 -- a version is small
 pub version_small : (name version : List ℕ) → is_line_form (title name version) ≡ true → number_value version < 2 ^ 32
@@ -111,14 +98,10 @@ pub record HasVersion (text : List ℕ) : Type 0 where
   pub small : number_value text < 2 ^ 32
 
 pub title_version : (lines : List LineForm) → IsTitled lines → All IsKept lines → HasVersion (title_of lines).1
-title_version [] titled kept = absurd titled
 title_version (title name version ∷ lines) titled kept =
     let sound = (All-head IsKept (title name version) lines kept).sound in
     record { number = (and_parts (is_number_text version) (nat_le 1 (number_value version) && nat_le (number_value version) 999999) (and_parts (is_atom_text name) (is_version_text version) sound).1).0; small = version_small name version sound }
-title_version (header exported name arity ∷ lines) titled kept = absurd titled
-title_version (label name ∷ lines) titled kept = absurd titled
-title_version (instr i ∷ lines) titled kept = absurd titled
-title_version (end ∷ lines) titled kept = absurd titled
+title_version lines titled kept = absurd titled
 
 -- the function of a header
 pub header_function : (names : List (List ℕ)) (headers : List HeaderForm) (behind : List LineForm) (body : List LineForm) (exported : Bool) (name arity : List ℕ) (atom : AtomId) (number : ℕ) (code : List Instr) → atom ≡ atom_in names name → number ≡ number_value arity → code ≡ map (instr_in names headers body) (instrs_in body) → body ≡ body_of behind → ◌≡◌ {A = List Function} (record { name = atom; arity = number; exported = exported; code = code } ∷ []) (map (function_in names headers) (function_at (header exported name arity) behind))
@@ -129,11 +112,8 @@ header_function names headers behind body exported name arity atom number code a
 
 instrs_in-append : (xs ys : List LineForm) → instrs_in (xs ++ ys) ≡ instrs_in xs ++ instrs_in ys
 instrs_in-append [] ys = refl
-instrs_in-append (title name version ∷ xs) ys = instrs_in-append xs ys
-instrs_in-append (header exported name arity ∷ xs) ys = instrs_in-append xs ys
-instrs_in-append (label name ∷ xs) ys = instrs_in-append xs ys
 instrs_in-append (instr i ∷ xs) ys = ap (λ l. i ∷ l) (instrs_in-append xs ys)
-instrs_in-append (end ∷ xs) ys = instrs_in-append xs ys
+instrs_in-append (line ∷ xs) ys = instrs_in-append xs ys
 
 -- what the loop over a body keeps
 pub record CodeSoFar (names : List (List ℕ)) (headers : List HeaderForm) (body : List (Bor (List ℕ))) (i : ℕ) (code : List Instr) : Type 0 where
@@ -175,25 +155,15 @@ some_if : {X : Type 0} (t : Bool) (x y : X) → Some x ≡ cond t (Some y) None 
 some_if true x y e = (refl, cc)
 some_if false x y e = absurd cc
 
-none_if : {X : Type 0} (t : Bool) (y : X) → ◌≡◌ {A = Option X} None (cond t (Some y) None) → t ≡ false
-none_if true y e = absurd cc
-none_if false y e = refl
-
 -- an instruction that is settled
 pub settled_is : (names : List (List ℕ)) (headers : List HeaderForm) (body : List LineForm) (i : InstrForm) (x : Instr) → Some x ≡ settled_instr names headers body i → (is_settled headers body i ≡ true) × (x ≡ instr_in names headers body i)
 settled_is names headers body i x is = some_if (is_settled headers body i) x (instr_in names headers body i) is
-
-pub unsettled_is : (names : List (List ℕ)) (headers : List HeaderForm) (body : List LineForm) (i : InstrForm) (found : Option Instr) → found ≡ settled_instr names headers body i → found ≡ None → is_settled headers body i ≡ false
-unsettled_is names headers body i found is none = none_if (is_settled headers body i) (instr_in names headers body i) (sym none ∙ is)
 
 -- ---- the functions of a module
 
 functions_at : (line : LineForm) (lines : List LineForm) → functions_in (line ∷ lines) ≡ function_at line lines ++ functions_in lines
 functions_at (title name version) lines = refl
-functions_at (header exported name arity) lines = refl
-functions_at (label name) lines = refl
-functions_at (instr i) lines = refl
-functions_at end lines = refl
+functions_at line lines = refl
 
 -- what the loop over the lines keeps
 pub record FunctionsSoFar (names : List (List ℕ)) (headers : List HeaderForm) (lines : List (Bor (List ℕ))) (i : ℕ) (list : List Function) : Type 0 where

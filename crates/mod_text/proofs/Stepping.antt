@@ -5,10 +5,10 @@ use Rattle.mod_text.specs.declared.fault.LineFault.{LineFault}
 use Rattle.mod_text.specs.declared.fault.LineFault.TheVariants as faults
 use Rattle.mod_text.specs.declared.fault.LineStop.{LineStop}
 use Rattle.mod_text.specs.ModuleLine.{LineForm}
-use Rattle.mod_text.specs.LineReading.{cut_at}
-use Rattle.mod_text.specs.Reading.{line_step, Fails, Lines, lines, before_lines, lines_of, Read, stop_at, is_end, go_on, text_on, bytes_on, read_behind, StopsSo}
-use Rattle.mod_text.proofs.Options.{passed, failed}
-use Rattle.mod_text.proofs.Cuts.{cut_is, uncut_is, lines_of_cut, lines_of_tail}
+use Rattle.term_core.specs.Text.Cuts.{cut_at, Lines, lines, before_lines, lines_of}
+use Rattle.mod_text.specs.Reading.{line_step, Fails, Read, stop_at, is_end, go_on, text_on, bytes_on, read_behind, StopsSo}
+use Rattle.term_core.proofs.Text.Options.{passed, failed}
+use Rattle.term_core.proofs.Text.Cuts.{cut_is, uncut_is, lines_of_cut, lines_of_tail}
 
 end_of_before : (b : ℕ) (ended : List (List ℕ)) (tail : List ℕ) → is_end (before_lines b ended tail).ended (before_lines b ended tail).tail ≡ false
 end_of_before b [] tail = refl
@@ -62,15 +62,8 @@ stop_by names before bytes text behind fault cut further step =
 
 -- a line that was refused stops the reading
 pub line_stops : (names : List (List ℕ)) (before : List LineForm) (bytes text behind : List ℕ) (number : ℕ) (fault : LineFault) → cut_at 10 bytes ≡ Some (text, behind) → ((length behind == 0) && not (bytes_eq text (codes "end"))) ≡ false → number ≡ length before → Fails (line_step names before text) fault → StopsSo (bytes_on names before bytes) (record { number = number; fault = fault })
-line_stops names before bytes text behind number faults.Syntax cut further counted step = stop_by names before bytes text behind faults.Syntax cut further step ∙ ap (λ n. stop_at n faults.Syntax) (sym counted)
-line_stops names before bytes text behind number faults.Register cut further counted step = stop_by names before bytes text behind faults.Register cut further step ∙ ap (λ n. stop_at n faults.Register) (sym counted)
-line_stops names before bytes text behind number faults.Int cut further counted step = stop_by names before bytes text behind faults.Int cut further step ∙ ap (λ n. stop_at n faults.Int) (sym counted)
-line_stops names before bytes text behind number faults.Term cut further counted step = stop_by names before bytes text behind faults.Term cut further step ∙ ap (λ n. stop_at n faults.Term) (sym counted)
-line_stops names before bytes text behind number faults.Names cut further counted step = stop_by names before bytes text behind faults.Names cut further step ∙ ap (λ n. stop_at n faults.Names) (sym counted)
-line_stops names before bytes text behind number faults.TooManyFunctions cut further counted step = stop_by names before bytes text behind faults.TooManyFunctions cut further step ∙ ap (λ n. stop_at n faults.TooManyFunctions) (sym counted)
-line_stops names before bytes text behind number faults.TooLong cut further counted step = stop_by names before bytes text behind faults.TooLong cut further step ∙ ap (λ n. stop_at n faults.TooLong) (sym counted)
-line_stops names before bytes text behind number faults.Duplicate cut further counted step = stop_by names before bytes text behind faults.Duplicate cut further step ∙ ap (λ n. stop_at n faults.Duplicate) (sym counted)
 line_stops names before bytes text behind number faults.NoMemory cut further counted step = tt
+line_stops names before bytes text behind number fault cut further counted step = stop_by names before bytes text behind fault cut further step ∙ ap (λ n. stop_at n fault) (sym counted)
 
 syntax_stops : (read : Read) (number at : ℕ) (stop : LineStop) → number ≡ at → stop ≡ record { number = number; fault = faults.Syntax } → read ≡ stop_at at faults.Syntax → StopsSo read stop
 syntax_stops read number at stop counted is stops =

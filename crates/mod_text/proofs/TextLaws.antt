@@ -8,13 +8,14 @@ use Rattle.mod_text.specs.declared.fault.LineFault.{LineFault}
 use Rattle.mod_text.specs.declared.fault.LineFault.TheVariants as faults
 use Rattle.mod_text.specs.declared.fault.LineStop.{LineStop}
 use Rattle.mod_text.specs.ModuleValue.{IsTitled}
-use Rattle.mod_text.specs.ModuleLine.{LineForm, title, header, label, instr, end, line_written, lines_written, LineText}
-use Rattle.mod_text.specs.LineReading.{cut_at, line_reading}
+use Rattle.mod_text.specs.ModuleLine.{LineForm, title, end, line_written, lines_written, LineText}
+use Rattle.term_core.specs.Text.Cuts.{cut_at, Lines, lines, before_lines, lines_of}
+use Rattle.mod_text.specs.LineReading.{line_reading}
 use Rattle.mod_text.specs.LineFaults.{may_follow, last_line, names_after, fault_of_line, StandsBehind, HasLineFault, of_no_form, over_limit, IsNext}
 use Rattle.mod_text.specs.ModuleText.{FollowOn, names_behind, AreLines, FaultAtFront, unended, stops, faulty, FirstFault}
-use Rattle.mod_text.specs.Reading.{Step, kept, judged, line_step, Lines, lines, before_lines, lines_of, Read, stop_at, is_end, go_on, text_on, bytes_on, read_behind}
-use Rattle.mod_text.proofs.Options.{some_is, passed, bytes_are}
-use Rattle.mod_text.proofs.Cuts.{lacks, lacks-cons, cut_here, lines_behind, lines_of_tail}
+use Rattle.mod_text.specs.Reading.{Step, kept, judged, line_step, Read, stop_at, is_end, go_on, text_on, bytes_on, read_behind}
+use Rattle.term_core.proofs.Text.Options.{some_is, passed, bytes_are}
+use Rattle.term_core.proofs.Text.Cuts.{lacks, lacks-cons, cut_here, lines_behind, lines_of_tail}
 use Rattle.mod_text.proofs.Stepping.{front_read, bytes_on-cut}
 use Rattle.mod_text.proofs.Keepings.{last_line-push}
 use Rattle.mod_text.proofs.LineLaws.{line_is}
@@ -166,22 +167,19 @@ end_line text line is ends = some_is line end (sym (text_again text line is) ∙
 
 nothing_left : (ended : List (List ℕ)) (tail : List ℕ) → is_end ended tail ≡ true → (ended ≡ []) × (tail ≡ [])
 nothing_left [] [] h = (refl, refl)
-nothing_left [] (b ∷ tail) h = absurd cc
-nothing_left (text ∷ others) tail h = absurd cc
+nothing_left ended tail h = absurd cc
 
 both_false : (a b : Bool) → a ≡ true → (a && not b) ≡ false → b ≡ true
 both_false true true e h = refl
-both_false true false e h = absurd cc
-both_false false b e h = absurd cc
+both_false a b e h = absurd cc
 
 both_true_first : (a b : Bool) → (a && not b) ≡ true → a ≡ true
 both_true_first true b h = refl
 both_true_first false b h = absurd cc
 
 both_true_second : (a b : Bool) → (a && not b) ≡ true → b ≡ false
-both_true_second true true h = absurd cc
 both_true_second true false h = refl
-both_true_second false b h = absurd cc
+both_true_second a b h = absurd cc
 
 next_of_text : (names : List (List ℕ)) (before : List LineForm) (text : List ℕ) (line : LineForm) → IsNext names before text line → IsNext names before (line_written line) line
 next_of_text names before text line next = subst (λ t. IsNext names before t line) next.stands.is_text.text_is next
@@ -380,11 +378,6 @@ nothing_joined [] tail none = ended_none tail none
 nothing_joined ([] ∷ others) tail none = absurd cc
 nothing_joined ((b ∷ text) ∷ others) tail none = absurd cc
 
-end_where_none : (a b : Bool) → (a && not b) ≡ false → a ≡ true → b ≡ true
-end_where_none true true h e = refl
-end_where_none true false h e = absurd cc
-end_where_none false b h e = absurd cc
-
 differs : (text : List ℕ) → bytes_eq text (codes "end") ≡ false → text ≡ codes "end" → ⊥
 differs text other same = let equal : bytes_eq text (codes "end") ≡ true = ap (λ t. bytes_eq t (codes "end")) same in absurd cc
 
@@ -395,7 +388,7 @@ front_fault names before tail _ _ tail_lacks all (no_end text others last other)
     let left = nothing_left others tail last in
     stops text all.0 (λ i. text ++ 10 ∷ joined (left.0 i) (left.1 i)) (differs text other)
 front_fault names before tail _ _ tail_lacks all (refused text others fault goes step) =
-    faulty text (joined others tail) fault all.0 refl (λ none. bytes_are text (codes "end") (end_where_none (is_end others tail) (bytes_eq text (codes "end")) goes (nothing_joined others tail none))) (step_fault names before text fault step)
+    faulty text (joined others tail) fault all.0 refl (λ none. bytes_are text (codes "end") (both_false (is_end others tail) (bytes_eq text (codes "end")) (nothing_joined others tail none) goes)) (step_fault names before text fault step)
 
 -- what stops a reading is the first fault
 pub first_fault : (names : List (List ℕ)) (bytes : List ℕ) (stop : LineStop) → bytes_on names [] bytes ≡ Err stop → FirstFault names bytes stop.number stop.fault
@@ -412,10 +405,6 @@ first_fault names bytes stop e =
       counted = is.counted;
       here = front_fault (names_behind names is.more) is.more tail is.left stop.fault lack.tail (left_lack (map line_written is.more) is.left (subst AllLack is.texts lack.ended)) is.here;
     }
-
-not_end : (others : List (List ℕ)) (tail : List ℕ) (more : List LineForm) (line : LineForm) → (is_end others tail ≡ true → line ∷ more ≡ []) → (t : Bool) → is_end others tail ≡ t → t ≡ false
-not_end others tail more line opens true e = absurd (let none = opens e in cc)
-not_end others tail more line opens false e = refl
 
 further_end : (more : List LineForm) (left : List (List ℕ)) (tail : List ℕ) → is_end left tail ≡ false → is_end (map line_written more ++ left) tail ≡ false
 further_end [] left tail h = h
@@ -482,7 +471,4 @@ fault_again names bytes number fault is = fault_at_front names is.lines bytes is
 pub titled_is : (names : List (List ℕ)) (forms : List LineForm) → AreLines names forms → last_line forms ≡ Some end → IsTitled forms
 titled_is names [] follow closed = absurd cc
 titled_is names (title name version ∷ lines) follow closed = tt
-titled_is names (header exported name arity ∷ lines) follow closed = absurd (let place = follow.0.stands.place in cc)
-titled_is names (label name ∷ lines) follow closed = absurd (let place = follow.0.stands.place in cc)
-titled_is names (instr i ∷ lines) follow closed = absurd (let place = follow.0.stands.place in cc)
-titled_is names (end ∷ lines) follow closed = absurd (let place = follow.0.stands.place in cc)
+titled_is names forms follow closed = absurd (let place = follow.0.stands.place in cc)

@@ -1,13 +1,11 @@
 -- The canonical text of a module, as lines: an instruction N of a function has a label before it, `lN`, exactly where some
 -- instruction of that function has the target N; the same place behind the last one too.
 -- Source: this project's module text. Each atom has the text of its number in a table of names.
-use Rattle.std.specs.Prelude.{ℕ, ℤ, ◌+◌, ◌==◌, ◌<◌, Bool, false, List, [], ◌∷◌, ◌++◌, length, codes, Option, Some, None, slice_get, decimal, All, if◌then◌else◌}
+use Rattle.std.specs.Prelude.{ℕ, ◌+◌, ◌==◌, Bool, false, List, [], ◌∷◌, ◌++◌, codes, Option, Some, None, slice_get, decimal, if◌then◌else◌}
 use Rattle.std.specs.List.{flat_map, list_any}
 use Rattle.std.specs.Fmt.{signed_decimal}
 use Rattle.term_core.specs.declared.term.Term.{Term}
 use Rattle.term_core.specs.declared.term.Term.TheVariants.{Int, Atom, Tuple, List as ListOf}
-use Rattle.term_core.specs.Plain.{plain}
-use Rattle.term_core.specs.PlainTerm.{EachLeaf}
 use Rattle.term_core.specs.TermText.{atom_text, term_text}
 use Rattle.mod_core.specs.declared.code.Operand.{Operand}
 use Rattle.mod_core.specs.declared.code.Operand.TheVariants.{Reg, Const}
@@ -65,17 +63,7 @@ abbrev pub goes_to : ℕ → Instr → Bool
 goes_to number (Eq a b target) = target == number
 goes_to number (Less a b target) = target == number
 goes_to number (Jump target) = target == number
-goes_to number (Move from to) = false
-goes_to number (Add a b to) = false
-goes_to number (Sub a b to) = false
-goes_to number (Call function at) = false
-goes_to number (CallExt to at) = false
-goes_to number (Ret value) = false
-goes_to number (Pget key to) = false
-goes_to number (PgetOr key other to) = false
-goes_to number (Elem index from to) = false
-goes_to number (Print value) = false
-goes_to number Yield = false
+goes_to number _ = false
 
 -- the label of a number, if it is a target
 abbrev pub labels_where : Bool → ℕ → List LineForm
@@ -98,41 +86,3 @@ function_lines names fs f = header f.exported (atom_text names f.name.0) (decima
 abbrev pub canonical : List (List ℕ) → Module → List LineForm
 canonical names m =
     title (atom_text names m.name.0) (decimal m.version) ∷ (flat_map (function_lines names m.functions) m.functions ++ end ∷ [])
-
--- ---- the atoms of a module are those of a table of names
-
--- a constant's atoms are of so many
-abbrev pub IsConstantAmong : ℕ → Term → Type 0
-IsConstantAmong count term = EachLeaf {Z = ℤ} (λ _. Unit {0}) (λ a. a < count) (plain term)
-
--- so is that of an operand
-abbrev pub IsOperandAmong : ℕ → Operand → Type 0
-IsOperandAmong count (Reg number) = Unit {0}
-IsOperandAmong count (Const term) = IsConstantAmong count term
-
--- and those of an instruction
-abbrev pub HasAtomsAmong : ℕ → Instr → Type 0
-HasAtomsAmong count (Move from to) = IsOperandAmong count from
-HasAtomsAmong count (Add a b to) = IsOperandAmong count a × IsOperandAmong count b
-HasAtomsAmong count (Sub a b to) = IsOperandAmong count a × IsOperandAmong count b
-HasAtomsAmong count (Eq a b target) = IsOperandAmong count a × IsOperandAmong count b
-HasAtomsAmong count (Less a b target) = IsOperandAmong count a × IsOperandAmong count b
-HasAtomsAmong count (Jump target) = Unit {0}
-HasAtomsAmong count (Call function at) = Unit {0}
-HasAtomsAmong count (CallExt to at) = (to.«module».0 < count) × (to.name.0 < count)
-HasAtomsAmong count (Ret value) = IsOperandAmong count value
-HasAtomsAmong count (Pget key to) = key.0 < count
-HasAtomsAmong count (PgetOr key other to) = (key.0 < count) × IsOperandAmong count other
-HasAtomsAmong count (Elem index from to) = IsOperandAmong count index × IsOperandAmong count from
-HasAtomsAmong count (Print value) = IsOperandAmong count value
-HasAtomsAmong count Yield = Unit {0}
-
--- the atoms of a function are held by a table of so many names
-pub record IsFunctionHeld (count : ℕ) (f : Function) : Type 0 where
-  pub name : f.name.0 < count
-  pub code : All (HasAtomsAmong count) f.code
-
--- the atoms of a module are held by these names
-pub record IsModuleHeld (names : List (List ℕ)) (m : Module) : Type 0 where
-  pub name : m.name.0 < length names
-  pub functions : All (IsFunctionHeld (length names)) m.functions

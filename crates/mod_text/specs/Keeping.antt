@@ -7,7 +7,7 @@ use Rattle.term_core.specs.TermText.{names_with_all}
 use Rattle.mod_core.specs.declared.code.TheConstants.{MOST_FUNCTIONS}
 use Rattle.mod_text.specs.declared.fault.LineFault.{LineFault}
 use Rattle.mod_text.specs.declared.fault.LineFault.TheVariants as faults
-use Rattle.mod_text.specs.ModuleLine.{OperandForm, register, integer, atom, complex, InstrForm, move, add, sub, eq, less, jump, call, call_ext, ret, pget, pget_or, elem, print, yield, LineForm, title, header, label, instr, end, is_operand_form, is_instr_form, is_line_form}
+use Rattle.mod_text.specs.ModuleLine.{OperandForm, complex, InstrForm, move, add, sub, eq, less, jump, call, call_ext, ret, pget, pget_or, elem, print, yield, LineForm, header, instr, end, is_operand_form, is_instr_form, is_line_form}
 use Rattle.mod_text.specs.LineFaults.{may_follow, last_line, has_high_operand, has_high_instr, has_high_register, is_wide_operand, has_wide_instr, has_wide_integer, has_long_instr, has_long_term, open_labels, place_fault}
 use Rattle.mod_text.specs.ModuleValue.{HeaderForm, headers_in}
 
@@ -74,10 +74,8 @@ keeping names lines line = keeping_by lines line (place_fault names lines line)
 
 -- an operand that is a tuple or a list has an image of its own behind the code
 abbrev pub operand_form_words : OperandForm → ℕ
-operand_form_words (register digits) = 0
-operand_form_words (integer text) = 0
-operand_form_words (atom text) = 0
 operand_form_words (complex text) = text_words text
+operand_form_words _ = 0
 
 -- an instruction: its number, a word for each operand, target, callee and register, and the images of its tuples and lists
 abbrev pub instr_form_words : InstrForm → ℕ
@@ -98,11 +96,9 @@ instr_form_words yield = 1
 
 -- a function has four words of its own, and two of the return at its end
 abbrev pub line_words : LineForm → ℕ
-line_words (title name version) = 0
 line_words (header exported name arity) = 6
-line_words (label name) = 0
 line_words (instr i) = instr_form_words i
-line_words end = 0
+line_words _ = 0
 
 -- how many words the image of the module has that lines say
 abbrev pub lines_words : List LineForm → ℕ
@@ -110,9 +106,5 @@ lines_words lines = 4 + sum_by line_words lines
 
 -- whether a line is the end
 abbrev pub is_end_line : Option LineForm → Bool
-is_end_line None = false
-is_end_line (Some (title name version)) = false
-is_end_line (Some (header exported name arity)) = false
-is_end_line (Some (label name)) = false
-is_end_line (Some (instr i)) = false
 is_end_line (Some end) = true
+is_end_line _ = false

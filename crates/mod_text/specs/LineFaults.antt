@@ -11,7 +11,8 @@ use Rattle.term_core.specs.Written.{integer_of, is_term_integer}
 use Rattle.mod_core.specs.declared.code.TheConstants.{REGISTERS, MOST_FUNCTIONS, LONGEST_IMAGE}
 use Rattle.mod_text.specs.declared.fault.LineFault.{LineFault}
 use Rattle.mod_text.specs.declared.fault.LineFault.TheVariants as faults
-use Rattle.mod_text.specs.ModuleLine.{OperandForm, register, integer, atom, complex, InstrForm, move, add, sub, eq, less, jump, call, call_ext, ret, pget, pget_or, elem, print, yield, LineForm, title, header, label, instr, end, number_value, LineText}
+use Rattle.term_core.specs.Text.Numbers.{number_value}
+use Rattle.mod_text.specs.ModuleLine.{OperandForm, register, integer, atom, complex, InstrForm, move, add, sub, eq, less, jump, call, call_ext, ret, pget, pget_or, elem, print, yield, LineForm, title, header, label, instr, end, LineText, operands_of, some_operand}
 use Rattle.mod_text.specs.LineReading.{line_reading}
 use Rattle.mod_core.specs.ModuleImage.{module_image}
 use Rattle.mod_text.specs.ModuleValue.{headers_in, is_header, title_of, module_of, mfa_in}
@@ -21,20 +22,15 @@ use Rattle.mod_text.specs.ModuleValue.{headers_in, is_header, title_of, module_o
 -- whether the module is open behind this line: there is one, and it is not the end
 abbrev pub is_open : Option LineForm → Bool
 is_open None = false
-is_open (Some (title name version)) = true
-is_open (Some (header exported name arity)) = true
-is_open (Some (label name)) = true
-is_open (Some (instr i)) = true
 is_open (Some end) = false
+is_open _ = true
 
 -- whether a function is open behind this line: its header, or a line of it
 abbrev pub is_in_function : Option LineForm → Bool
-is_in_function None = false
-is_in_function (Some (title name version)) = false
 is_in_function (Some (header exported name arity)) = true
 is_in_function (Some (label name)) = true
 is_in_function (Some (instr i)) = true
-is_in_function (Some end) = false
+is_in_function _ = false
 
 -- whether a line may stand behind this one, or in front of a text where there is none: the title first, then functions, each
 -- with its header before its labels and instructions, then the end, and nothing more
@@ -60,9 +56,7 @@ is_high digits = not (nat_lt (number_value digits) REGISTERS)
 -- whether an operand is a register over 15
 abbrev pub has_high_operand : OperandForm → Bool
 has_high_operand (register digits) = is_high digits
-has_high_operand (integer text) = false
-has_high_operand (atom text) = false
-has_high_operand (complex text) = false
+has_high_operand _ = false
 
 -- whether a call has no register for its value, or its arguments pass the last register
 abbrev pub is_high_call : List ℕ → List ℕ → Bool
@@ -87,11 +81,8 @@ has_high_instr yield = false
 
 -- the same of a line
 abbrev pub has_high_register : LineForm → Bool
-has_high_register (title name version) = false
-has_high_register (header exported name arity) = false
-has_high_register (label name) = false
 has_high_register (instr i) = has_high_instr i
-has_high_register end = false
+has_high_register _ = false
 
 -- ---- integers
 
@@ -104,62 +95,28 @@ is_wide_operand (complex text) = is_wide_text text
 
 -- whether an operand of an instruction is
 abbrev pub has_wide_instr : InstrForm → Bool
-has_wide_instr (move from to) = is_wide_operand from
-has_wide_instr (add a b to) = is_wide_operand a || is_wide_operand b
-has_wide_instr (sub a b to) = is_wide_operand a || is_wide_operand b
-has_wide_instr (eq a b target) = is_wide_operand a || is_wide_operand b
-has_wide_instr (less a b target) = is_wide_operand a || is_wide_operand b
-has_wide_instr (jump target) = false
-has_wide_instr (call name arity at) = false
-has_wide_instr (call_ext name function arity at) = false
-has_wide_instr (ret value) = is_wide_operand value
-has_wide_instr (pget key to) = false
-has_wide_instr (pget_or key other to) = is_wide_operand other
-has_wide_instr (elem index from to) = is_wide_operand index || is_wide_operand from
-has_wide_instr (print value) = is_wide_operand value
-has_wide_instr yield = false
+has_wide_instr i = some_operand is_wide_operand (operands_of i)
 
 -- whether a line has an integer of more than 60 bits
 abbrev pub has_wide_integer : LineForm → Bool
-has_wide_integer (title name version) = false
-has_wide_integer (header exported name arity) = false
-has_wide_integer (label name) = false
 has_wide_integer (instr i) = has_wide_instr i
-has_wide_integer end = false
+has_wide_integer _ = false
 
 -- ---- sizes of terms
 
 -- whether an operand is a term of more than 64 words
 abbrev pub is_long_operand : OperandForm → Bool
-is_long_operand (register digits) = false
-is_long_operand (integer text) = false
-is_long_operand (atom text) = false
 is_long_operand (complex text) = nat_lt MOST_WORDS (text_words text)
+is_long_operand _ = false
 
 -- whether an operand of an instruction is
 abbrev pub has_long_instr : InstrForm → Bool
-has_long_instr (move from to) = is_long_operand from
-has_long_instr (add a b to) = is_long_operand a || is_long_operand b
-has_long_instr (sub a b to) = is_long_operand a || is_long_operand b
-has_long_instr (eq a b target) = is_long_operand a || is_long_operand b
-has_long_instr (less a b target) = is_long_operand a || is_long_operand b
-has_long_instr (jump target) = false
-has_long_instr (call name arity at) = false
-has_long_instr (call_ext name function arity at) = false
-has_long_instr (ret value) = is_long_operand value
-has_long_instr (pget key to) = false
-has_long_instr (pget_or key other to) = is_long_operand other
-has_long_instr (elem index from to) = is_long_operand index || is_long_operand from
-has_long_instr (print value) = is_long_operand value
-has_long_instr yield = false
+has_long_instr i = some_operand is_long_operand (operands_of i)
 
 -- whether a line has a term of more than 64 words
 abbrev pub has_long_term : LineForm → Bool
-has_long_term (title name version) = false
-has_long_term (header exported name arity) = false
-has_long_term (label name) = false
 has_long_term (instr i) = has_long_instr i
-has_long_term end = false
+has_long_term _ = false
 
 -- ---- names
 
@@ -207,11 +164,9 @@ overfills_names names line = nat_lt MOST_NAMES (length (names_after names line))
 
 -- the labels of the function at hand, after those so far and a line
 abbrev pub labels_after : List (List ℕ) → LineForm → List (List ℕ)
-labels_after labels (title name version) = labels
 labels_after labels (header exported name arity) = []
 labels_after labels (label name) = labels ++ name ∷ []
-labels_after labels (instr i) = labels
-labels_after labels end = labels
+labels_after labels _ = labels
 
 -- the labels of the function at hand, after those so far and lines
 abbrev pub labels_on : List (List ℕ) → List LineForm → List (List ℕ)
@@ -224,27 +179,19 @@ open_labels lines = labels_on [] lines
 
 -- whether a line is a header behind sixteen others
 abbrev pub is_seventeenth : List LineForm → LineForm → Bool
-is_seventeenth lines (title name version) = false
 is_seventeenth lines (header exported name arity) = nat_le MOST_FUNCTIONS (length (headers_in lines))
-is_seventeenth lines (label name) = false
-is_seventeenth lines (instr i) = false
-is_seventeenth lines end = false
+is_seventeenth lines _ = false
 
 -- whether a line is the end of a module whose image is too long
 abbrev pub ends_too_long : List (List ℕ) → List LineForm → LineForm → Bool
-ends_too_long names lines (title name version) = false
-ends_too_long names lines (header exported name arity) = false
-ends_too_long names lines (label name) = false
-ends_too_long names lines (instr i) = false
 ends_too_long names lines end = nat_lt LONGEST_IMAGE (length (module_image (module_of names (lines ++ end ∷ []))))
+ends_too_long names lines _ = false
 
 -- whether a line is a header of a function, or a label of the function at hand, that was given before
 abbrev pub is_repeated : List LineForm → LineForm → Bool
-is_repeated lines (title name version) = false
 is_repeated lines (header exported name arity) = list_any (is_header name arity) (headers_in lines)
 is_repeated lines (label name) = list_any (bytes_eq name) (open_labels lines)
-is_repeated lines (instr i) = false
-is_repeated lines end = false
+is_repeated lines _ = false
 
 -- ---- the fault of a line
 
@@ -285,27 +232,13 @@ pub record IsNext (names : List (List ℕ)) (lines : List LineForm) (text : List
 -- the function name that an instruction has as an external call
 abbrev pub called_name : List (List ℕ) → InstrForm → Option Mfa
 called_name names (call_ext name function arity at) = Some (mfa_in names name function arity)
-called_name names (move from to) = None
-called_name names (add a b to) = None
-called_name names (sub a b to) = None
-called_name names (eq a b target) = None
-called_name names (less a b target) = None
-called_name names (jump target) = None
-called_name names (call name arity at) = None
-called_name names (ret value) = None
-called_name names (pget key to) = None
-called_name names (pget_or key other to) = None
-called_name names (elem index from to) = None
-called_name names (print value) = None
-called_name names yield = None
+called_name names _ = None
 
 -- the function name that a line has behind these lines, as the header of an exported function or as an external call
 abbrev pub counted_name : List (List ℕ) → List LineForm → LineForm → Option Mfa
 counted_name names lines (header exported name arity) = if exported then Some (mfa_in names (title_of lines).0 name arity) else None
 counted_name names lines (instr i) = called_name names i
-counted_name names lines (title name version) = None
-counted_name names lines (label name) = None
-counted_name names lines end = None
+counted_name names lines _ = None
 
 -- the same of the line with this text, if there is one
 abbrev pub counted_by : List (List ℕ) → List LineForm → Option LineForm → Option Mfa

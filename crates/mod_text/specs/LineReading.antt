@@ -1,29 +1,13 @@
 -- How a line is read: it is cut at its spaces, and its words are judged from left to right. The forms and their texts, in
 -- ModuleLine, relate whole lines; the laws that both agree stand in proofs/LineLaws.
-use Rattle.std.specs.Prelude.{ℕ, ◌==◌, ◌&&◌, Bool, true, false, List, [], ◌∷◌, Option, Some, None, option_map, bytes_eq, codes, if◌then◌else◌}
+use Rattle.std.specs.Prelude.{ℕ, ◌==◌, Bool, true, false, List, [], ◌∷◌, Option, Some, None, option_map, bytes_eq, codes, if◌then◌else◌}
 use Rattle.term_core.specs.Names.{is_atom_text}
 use Rattle.term_core.specs.TermForms.{is_bracketed, is_term_text}
 use Rattle.term_core.specs.Written.{is_integer_text}
-use Rattle.mod_text.specs.ModuleLine.{OperandForm, register, integer, atom, complex, InstrForm, move, add, sub, eq, less, jump, call, call_ext, ret, pget, pget_or, elem, print, yield, LineForm, title, header, label, instr, end, is_number_text, is_version_text, is_arity_text}
-
-infixl 10 ◌>>=◌
--- the second part is read where the first one was
-abbrev pub ◌>>=◌ : {A B : Type 0} → Option A → (A → Option B) → Option B
-None >>= f = None
-(Some x) >>= f = f x
-
--- with this byte at the front
-abbrev pub with_first : ℕ → List ℕ × List ℕ → List ℕ × List ℕ
-with_first b p = (b ∷ p.0, p.1)
-
--- what stands before and behind the first such byte, if there is one
-abbrev pub cut_at : ℕ → List ℕ → Option (List ℕ × List ℕ)
-cut_at c [] = None
-cut_at c (b ∷ bs) = if b == c then Some ([], bs) else option_map (with_first b) (cut_at c bs)
-
--- the text, where it passes the test
-abbrev pub tested : (List ℕ → Bool) → List ℕ → Option (List ℕ)
-tested test text = if test text then Some text else None
+use Rattle.term_core.specs.Text.Numbers.{is_number_text}
+use Rattle.term_core.specs.Text.Cuts.{cut_at}
+use Rattle.term_core.specs.Text.Steps.{◌>>=◌, tested, numbered_reading}
+use Rattle.mod_text.specs.ModuleLine.{OperandForm, register, integer, atom, complex, InstrForm, move, add, sub, eq, less, jump, call, call_ext, ret, pget, pget_or, elem, print, yield, LineForm, title, header, label, instr, end, is_version_text, is_arity_text, operands_of, each_operand}
 
 -- the digits of a register
 abbrev pub register_reading : List ℕ → Option (List ℕ)
@@ -40,14 +24,6 @@ constant_reading text =
 abbrev pub operand_reading : List ℕ → Option OperandForm
 operand_reading [] = None
 operand_reading (c ∷ rest) = if c == 36 then option_map (λ digits. register digits) (tested is_number_text rest) else constant_reading (c ∷ rest)
-
--- a name and a number with a byte between them
-abbrev pub numbered_reading : ℕ → (List ℕ → Bool) → List ℕ → Option (List ℕ × List ℕ)
-numbered_reading byte test text = do
-  parts ← cut_at byte text
-  name ← tested is_atom_text parts.0
-  number ← tested test parts.1
-  Some (name, number)
 
 -- two operands, and the word behind them
 abbrev pub operands_reading : List ℕ → Option (OperandForm × OperandForm × List ℕ)
@@ -206,35 +182,17 @@ line_split text = parts_reading text (cut_at 32 text)
 
 -- whether an operand that begins with a bracket is a term's text
 abbrev pub is_sound_operand : OperandForm → Bool
-is_sound_operand (register digits) = true
-is_sound_operand (integer text) = true
-is_sound_operand (atom text) = true
 is_sound_operand (complex text) = is_term_text text
+is_sound_operand _ = true
 
 -- whether each operand of an instruction is that begins with a bracket
 abbrev pub has_sound_operands : InstrForm → Bool
-has_sound_operands (move from to) = is_sound_operand from
-has_sound_operands (add a b to) = is_sound_operand a && is_sound_operand b
-has_sound_operands (sub a b to) = is_sound_operand a && is_sound_operand b
-has_sound_operands (eq a b target) = is_sound_operand a && is_sound_operand b
-has_sound_operands (less a b target) = is_sound_operand a && is_sound_operand b
-has_sound_operands (jump target) = true
-has_sound_operands (call name arity at) = true
-has_sound_operands (call_ext name function arity at) = true
-has_sound_operands (ret value) = is_sound_operand value
-has_sound_operands (pget key to) = true
-has_sound_operands (pget_or key other to) = is_sound_operand other
-has_sound_operands (elem index from to) = is_sound_operand index && is_sound_operand from
-has_sound_operands (print value) = is_sound_operand value
-has_sound_operands yield = true
+has_sound_operands i = each_operand is_sound_operand (operands_of i)
 
 -- the same of a line
 abbrev pub has_sound_terms : LineForm → Bool
-has_sound_terms (title name version) = true
-has_sound_terms (header exported name arity) = true
-has_sound_terms (label name) = true
 has_sound_terms (instr i) = has_sound_operands i
-has_sound_terms end = true
+has_sound_terms _ = true
 
 -- the line, where each of its tuples and lists is a term's text
 abbrev pub sound_reading : Option LineForm → Option LineForm

@@ -1,11 +1,11 @@
 -- The lines of a module's text, as they are written: atoms, labels and numbers by their texts, functions by their names.
 -- Source: this project's module text. Each line has one text, so a line is of a form where it is that form's text; the code reads bytes.
-use Rattle.std.specs.Prelude.{◌≡◌, ℕ, ◌&&◌, ◌||◌, ◌^◌, nat_lt, nat_le, Bool, true, false, List, [], ◌∷◌, ◌++◌, IsTrue, codes, bytes_eq, Option, Some, None, if◌then◌else◌}
+use Rattle.std.specs.Prelude.{◌≡◌, ℕ, ◌&&◌, ◌||◌, nat_le, Bool, true, false, List, [], ◌∷◌, ◌++◌, IsTrue, codes}
 use Rattle.std.specs.List.{flat_map}
-use Rattle.std.specs.Str.Parse.{digits_value}
 use Rattle.term_core.specs.Names.{is_atom_text}
 use Rattle.term_core.specs.TermForms.{is_complex_text}
-use Rattle.term_core.specs.Written.{is_positive_text, is_integer_text}
+use Rattle.term_core.specs.Written.{is_integer_text}
+use Rattle.term_core.specs.Text.Numbers.{is_number_text, number_value}
 use Rattle.mod_core.specs.declared.code.TheConstants.{MOST_ARGUMENTS, GREATEST_VERSION}
 
 -- an operand: a register, by the digits of its number, or a term by its text: an integer, an atom, or a tuple or list
@@ -39,6 +39,31 @@ pub data LineForm : Type 0 where
   label : List ℕ → LineForm
   instr : InstrForm → LineForm
   end : LineForm
+
+-- the operands of an instruction, in order
+abbrev pub operands_of : InstrForm → List OperandForm
+operands_of (move from to) = from ∷ []
+operands_of (add a b to) = a ∷ b ∷ []
+operands_of (sub a b to) = a ∷ b ∷ []
+operands_of (eq a b target) = a ∷ b ∷ []
+operands_of (less a b target) = a ∷ b ∷ []
+operands_of (ret value) = value ∷ []
+operands_of (pget_or key other to) = other ∷ []
+operands_of (elem index from to) = index ∷ from ∷ []
+operands_of (print value) = value ∷ []
+operands_of _ = []
+
+-- whether one of these operands passes a test
+abbrev pub some_operand : (OperandForm → Bool) → List OperandForm → Bool
+some_operand test [] = false
+some_operand test (o ∷ []) = test o
+some_operand test (o ∷ more) = test o || some_operand test more
+
+-- whether each of these operands passes a test
+abbrev pub each_operand : (OperandForm → Bool) → List OperandForm → Bool
+each_operand test [] = true
+each_operand test (o ∷ []) = test o
+each_operand test (o ∷ more) = test o && each_operand test more
 
 -- ---- texts
 
@@ -104,18 +129,6 @@ abbrev pub lines_written : List LineForm → List ℕ
 lines_written lines = flat_map (λ line. line_bytes line) lines
 
 -- ---- what may stand in a line
-
--- a number's digits: `0`, or digits with no zero in front
-abbrev pub is_number_text : List ℕ → Bool
-is_number_text text = bytes_eq text (codes "0") || is_positive_text text
-
--- the number that digits write
-abbrev pub number_value : List ℕ → ℕ
-number_value digits = digits_value 10 digits
-
--- the number that digits write, unless it is 2 ^ 32 or more
-abbrev pub small_number : List ℕ → Option ℕ
-small_number digits = if nat_lt (number_value digits) (2 ^ 32) then Some (number_value digits) else None
 
 -- a version, from 1 to 999999
 abbrev pub is_version_text : List ℕ → Bool

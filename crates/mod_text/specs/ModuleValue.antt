@@ -17,7 +17,8 @@ use Rattle.mod_core.specs.declared.code.Function.{Function}
 use Rattle.mod_core.specs.declared.code.Module.{Module}
 use Rattle.mod_text.specs.declared.fault.FinishFault.{FinishFault}
 use Rattle.mod_text.specs.declared.fault.FinishFault.TheVariants.{Missing, NoMemory}
-use Rattle.mod_text.specs.ModuleLine.{OperandForm, register, integer, atom, complex, InstrForm, move, add, sub, eq, less, jump, call, call_ext, ret, pget, pget_or, elem, print, yield, LineForm, title, header, label, instr, end, number_value}
+use Rattle.term_core.specs.Text.Numbers.{number_value}
+use Rattle.mod_text.specs.ModuleLine.{OperandForm, register, integer, atom, complex, InstrForm, move, add, sub, eq, less, jump, call, call_ext, ret, pget, pget_or, elem, print, yield, LineForm, title, header, label, instr}
 
 -- a function as it is written: its header and the lines below it
 pub record FunctionForm : Type 0 where
@@ -28,21 +29,15 @@ pub record FunctionForm : Type 0 where
 
 -- the labels and instructions up to the next header or the end
 abbrev pub body_of : List LineForm → List LineForm
-body_of [] = []
-body_of (title name version ∷ lines) = []
-body_of (header exported name arity ∷ lines) = []
 body_of (label name ∷ lines) = label name ∷ body_of lines
 body_of (instr i ∷ lines) = instr i ∷ body_of lines
-body_of (end ∷ lines) = []
+body_of _ = []
 
 -- the functions of a text, in order
 abbrev pub functions_in : List LineForm → List FunctionForm
 functions_in [] = []
-functions_in (title name version ∷ lines) = functions_in lines
 functions_in (header exported name arity ∷ lines) = record { exported = exported; name = name; arity = arity; body = body_of lines } ∷ functions_in lines
-functions_in (label name ∷ lines) = functions_in lines
-functions_in (instr i ∷ lines) = functions_in lines
-functions_in (end ∷ lines) = functions_in lines
+functions_in (line ∷ lines) = functions_in lines
 
 -- a function's name and arity
 abbrev pub HeaderForm : Type 0
@@ -51,29 +46,21 @@ HeaderForm = List ℕ × List ℕ
 -- the headers of lines, in order
 abbrev pub headers_in : List LineForm → List HeaderForm
 headers_in [] = []
-headers_in (title name version ∷ lines) = headers_in lines
 headers_in (header exported name arity ∷ lines) = (name, arity) ∷ headers_in lines
-headers_in (label name ∷ lines) = headers_in lines
-headers_in (instr i ∷ lines) = headers_in lines
-headers_in (end ∷ lines) = headers_in lines
+headers_in (line ∷ lines) = headers_in lines
 
 -- the instructions below a header, in order
 abbrev pub instrs_in : List LineForm → List InstrForm
 instrs_in [] = []
-instrs_in (title name version ∷ lines) = instrs_in lines
-instrs_in (header exported name arity ∷ lines) = instrs_in lines
-instrs_in (label name ∷ lines) = instrs_in lines
 instrs_in (instr i ∷ lines) = i ∷ instrs_in lines
-instrs_in (end ∷ lines) = instrs_in lines
+instrs_in (line ∷ lines) = instrs_in lines
 
 -- the number of the instruction that a label names: how many instructions stand before the label
 abbrev pub label_number : List ℕ → List LineForm → Option ℕ
 label_number wanted [] = None
-label_number wanted (title name version ∷ lines) = label_number wanted lines
-label_number wanted (header exported name arity ∷ lines) = label_number wanted lines
 label_number wanted (label name ∷ lines) = if bytes_eq name wanted then Some 0 else label_number wanted lines
 label_number wanted (instr i ∷ lines) = option_map suc (label_number wanted lines)
-label_number wanted (end ∷ lines) = label_number wanted lines
+label_number wanted (line ∷ lines) = label_number wanted lines
 
 -- whether a header has this name and arity; each number has one text
 abbrev pub is_header : List ℕ → List ℕ → HeaderForm → Bool
@@ -129,21 +116,13 @@ function_in names headers f = record { name = atom_in names f.name; arity = numb
 
 -- the name and version of the module whose text begins so
 abbrev pub title_of : List LineForm → HeaderForm
-title_of [] = ([], [])
 title_of (title name version ∷ lines) = (name, version)
-title_of (header exported name arity ∷ lines) = ([], [])
-title_of (label name ∷ lines) = ([], [])
-title_of (instr i ∷ lines) = ([], [])
-title_of (end ∷ lines) = ([], [])
+title_of _ = ([], [])
 
 -- the first line is that of the title
 abbrev pub IsTitled : List LineForm → Type 0
-IsTitled [] = ⊥
 IsTitled (title name version ∷ lines) = Unit {0}
-IsTitled (header exported name arity ∷ lines) = ⊥
-IsTitled (label name ∷ lines) = ⊥
-IsTitled (instr i ∷ lines) = ⊥
-IsTitled (end ∷ lines) = ⊥
+IsTitled _ = ⊥
 
 -- the module that the lines of a text say
 abbrev pub module_of : List (List ℕ) → List LineForm → Module
@@ -165,24 +144,12 @@ is_settled headers body (eq a b target) = has_label body target
 is_settled headers body (less a b target) = has_label body target
 is_settled headers body (jump target) = has_label body target
 is_settled headers body (call name arity at) = is_some (function_number name arity headers)
-is_settled headers body (move from to) = true
-is_settled headers body (add a b to) = true
-is_settled headers body (sub a b to) = true
-is_settled headers body (call_ext name function arity at) = true
-is_settled headers body (ret value) = true
-is_settled headers body (pget key to) = true
-is_settled headers body (pget_or key other to) = true
-is_settled headers body (elem index from to) = true
-is_settled headers body (print value) = true
-is_settled headers body yield = true
+is_settled headers body _ = true
 
 -- the same of a line
 abbrev pub is_settled_line : List HeaderForm → List LineForm → LineForm → Bool
-is_settled_line headers body (title name version) = true
-is_settled_line headers body (header exported name arity) = true
-is_settled_line headers body (label name) = true
 is_settled_line headers body (instr i) = is_settled headers body i
-is_settled_line headers body end = true
+is_settled_line headers body _ = true
 
 -- how many of these lines stand before the first whose label or local function is lacking, in a function with this body
 abbrev pub unsettled_at : List HeaderForm → List LineForm → List LineForm → Option ℕ
@@ -196,10 +163,7 @@ unsettled_in headers body = unsettled_at headers body body
 -- the same in the body of the function that a line begins, before these
 abbrev pub unsettled_below : List HeaderForm → LineForm → List LineForm → Option ℕ
 unsettled_below headers (header exported name arity) lines = unsettled_in headers (body_of lines)
-unsettled_below headers (title name version) lines = None
-unsettled_below headers (label name) lines = None
-unsettled_below headers (instr i) lines = None
-unsettled_below headers end lines = None
+unsettled_below headers _ lines = None
 
 -- the first number that there is
 abbrev pub earlier : Option ℕ → Option ℕ → Option ℕ

@@ -1,6 +1,7 @@
 -- The order in which the lines of a module's text are read and judged. The relation of whole texts and modules, in ModuleText, is
 -- shown to agree with it.
 use Rattle.std.specs.Prelude.{◌≡◌, ℕ, ◌==◌, ◌&&◌, not, Bool, true, false, List, [], ◌∷◌, ◌++◌, length, Option, Some, None, Result, Ok, Err, bytes_eq, codes, if◌then◌else◌}
+use Rattle.term_core.specs.Text.Cuts.{lines, lines_of}
 use Rattle.mod_text.specs.declared.fault.LineFault.{LineFault}
 use Rattle.mod_text.specs.declared.fault.LineFault.TheVariants as faults
 use Rattle.mod_text.specs.declared.fault.LineStop.{LineStop}
@@ -28,15 +29,8 @@ line_step names lines text = judged names lines (line_reading text)
 
 -- a refusal is that of the reading; want of memory is free
 abbrev pub Fails : {A : Type 0} → Result A LineFault → LineFault → Type 0
-Fails step faults.Syntax = step ≡ Err faults.Syntax
-Fails step faults.Register = step ≡ Err faults.Register
-Fails step faults.Int = step ≡ Err faults.Int
-Fails step faults.Term = step ≡ Err faults.Term
-Fails step faults.Names = step ≡ Err faults.Names
-Fails step faults.TooManyFunctions = step ≡ Err faults.TooManyFunctions
-Fails step faults.TooLong = step ≡ Err faults.TooLong
-Fails step faults.Duplicate = step ≡ Err faults.Duplicate
 Fails step faults.NoMemory = Unit {0}
+Fails step fault = step ≡ Err fault
 
 -- what was answered, seen by view, is what is read, or its fault, unless memory was refused
 abbrev pub Gives : {X A : Type 0} → (X → A) → Result X LineFault → Result A LineFault → Type 0
@@ -44,27 +38,6 @@ Gives view (Ok x) step = step ≡ Ok (view x)
 Gives view (Err fault) step = Fails step fault
 
 -- ---- lines of a text
-
--- the lines that end with a line feed, and the bytes behind the last of them
-pub record Lines : Type 0 where
-  pub ended : List (List ℕ)
-  pub tail : List ℕ
-
--- these lines, and these bytes behind them
-abbrev pub lines : List (List ℕ) → List ℕ → Lines
-lines ended tail = record { ended = ended; tail = tail }
-
--- with this byte at the front
-abbrev pub before_lines : ℕ → List (List ℕ) → List ℕ → Lines
-before_lines b [] tail = lines [] (b ∷ tail)
-before_lines b (line ∷ others) tail = lines ((b ∷ line) ∷ others) tail
-
--- the lines of a text
-abbrev pub lines_of : List ℕ → Lines
-lines_of [] = lines [] []
-lines_of (b ∷ bs) =
-    if b == 10 then lines ([] ∷ (lines_of bs).ended) (lines_of bs).tail
-    else before_lines b (lines_of bs).ended (lines_of bs).tail
 
 -- ---- whole texts
 
@@ -104,15 +77,8 @@ read_behind named read behind = if length behind == 0 then Ok (named, read) else
 
 -- a fact of each fault but want of memory, which is free
 abbrev pub UnlessNoMemory : LineFault → Type 0 → Type 0
-UnlessNoMemory faults.Syntax P = P
-UnlessNoMemory faults.Register P = P
-UnlessNoMemory faults.Int P = P
-UnlessNoMemory faults.Term P = P
-UnlessNoMemory faults.Names P = P
-UnlessNoMemory faults.TooManyFunctions P = P
-UnlessNoMemory faults.TooLong P = P
-UnlessNoMemory faults.Duplicate P = P
 UnlessNoMemory faults.NoMemory P = Unit {0}
+UnlessNoMemory _ P = P
 
 -- the reading stops so
 abbrev pub StopsSo : Read → LineStop → Type 0

@@ -7,7 +7,7 @@ use Rattle.std.specs.HashMap.{HashMap, get_by}
 use Rattle.mod_core.specs.declared.code.Instr.{Instr}
 use Rattle.mod_text.specs.declared.fault.FinishFault.{FinishFault}
 use Rattle.mod_text.specs.declared.fault.FinishFault.TheVariants.{Missing, NoMemory}
-use Rattle.mod_text.specs.ModuleLine.{InstrForm, LineForm, title, header, label, instr, end}
+use Rattle.mod_text.specs.ModuleLine.{InstrForm, LineForm, header, label, instr}
 use Rattle.mod_text.specs.ModuleValue.{FunctionForm, HeaderForm, body_of, label_number, is_settled, instr_in, earlier}
 
 -- labels with the numbers of their instructions
@@ -28,11 +28,8 @@ HasPlace old new name number = (wanted : List ℕ) → place_in new wanted ≡ e
 
 -- the number that a line gives to a label, behind so many instructions
 abbrev pub label_at : ℕ → List ℕ → LineForm → Option ℕ
-label_at number wanted (title name version) = None
-label_at number wanted (header exported name arity) = None
 label_at number wanted (label name) = if bytes_eq name wanted then Some number else None
-label_at number wanted (instr i) = None
-label_at number wanted end = None
+label_at number wanted _ = None
 
 -- the labels after a line, behind so many instructions
 abbrev pub TakesLine : Places → Places → ℕ → LineForm → Type 0
@@ -40,11 +37,8 @@ TakesLine old new number line = (wanted : List ℕ) → place_in new wanted ≡ 
 
 -- how many instructions are before the next line
 abbrev pub number_after : ℕ → LineForm → ℕ
-number_after number (title name version) = number
-number_after number (header exported name arity) = number
-number_after number (label name) = number
 number_after number (instr i) = number + 1
-number_after number end = number
+number_after number _ = number
 
 -- the instruction that is written so, where its label or its local function is there
 abbrev pub settled_instr : List (List ℕ) → List HeaderForm → List LineForm → InstrForm → Option Instr
@@ -53,10 +47,7 @@ settled_instr names headers body i = if is_settled headers body i then Some (ins
 -- the function that a line begins, before these
 abbrev pub function_at : LineForm → List LineForm → List FunctionForm
 function_at (header exported name arity) lines = record { exported = exported; name = name; arity = arity; body = body_of lines } ∷ []
-function_at (title name version) lines = []
-function_at (label name) lines = []
-function_at (instr i) lines = []
-function_at end lines = []
+function_at _ lines = []
 
 -- so many lines later
 abbrev pub later_by : ℕ → Option ℕ → Option ℕ
@@ -74,11 +65,9 @@ IsUnsettledBelow bound NoMemory = Unit {0}
 
 -- labels and instructions are the lines of a function's body
 abbrev pub is_body_line : LineForm → Bool
-is_body_line (title name version) = false
-is_body_line (header exported name arity) = false
 is_body_line (label name) = true
 is_body_line (instr i) = true
-is_body_line end = false
+is_body_line _ = false
 
 -- a fault of a line that stands so many lines later
 abbrev pub IsLater : ℕ → FinishFault → FinishFault → Type 0

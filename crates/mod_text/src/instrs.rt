@@ -3,7 +3,8 @@
 ghost use Rattle.std.specs.Prelude.{◌≡◌, IfOk};
 ghost use Rattle.mod_core.specs.declared.code.Instr.TheVariants.{Move, Add, Sub, Ret, Pget, PgetOr, Elem, Print};
 ghost use Rattle.mod_text.specs.LineViews.{operand_form};
-ghost use Rattle.mod_text.specs.ModuleLine.{move, add, sub, ret, pget, pget_or, elem, print, number_value};
+ghost use Rattle.term_core.specs.Text.Numbers.{number_value};
+ghost use Rattle.mod_text.specs.ModuleLine.{move, add, sub, ret, pget, pget_or, elem, print};
 ghost use Rattle.mod_text.specs.ModuleValue.{atom_in, operand_in};
 ghost use Rattle.mod_text.specs.Keeping.{IsKeptInstr, IsKeptOperand};
 

@@ -2,15 +2,18 @@
 
 ghost use Rattle.std.specs.Prelude.{◌≡◌, ◌≤◌, false, All, IsTrue, option_map, nat_le};
 ghost use Rattle.mod_text.specs.LineViews.{operand_form, instr_form, line_form, text_form, forms_of};
-ghost use Rattle.mod_text.specs.ModuleLine.{is_number_text, is_operand_form, is_instr_form, is_line_form};
+ghost use Rattle.term_core.specs.Text.Numbers.{is_number_text};
+ghost use Rattle.mod_text.specs.ModuleLine.{is_operand_form, is_instr_form, is_line_form};
 ghost use Rattle.mod_text.specs.LineFaults.{is_open as is_open_behind, is_in_function as is_in_function_behind, may_follow as may_stand_behind, is_high as is_high_register, has_high_operand, is_high_call as is_call_too_high, has_high_instr, has_high_register as has_register_too_high, is_wide_operand as is_operand_too_wide, has_wide_instr as has_instr_too_wide, has_wide_integer as has_integer_too_wide, is_long_operand as is_operand_too_long, has_long_instr as has_instr_too_long, has_long_term as has_term_too_long};
 ghost use Rattle.mod_text.specs.Keeping.{IsKept, operand_form_words, instr_form_words, line_words as words_of_line, lines_words};
 
 use crate::line::line_of;
-use crate::words::{integer_of, number_of};
 use crate::written::{WrittenInstr, WrittenLine, WrittenOperand};
 use mod_core::{LONGEST_IMAGE, REGISTERS};
-use term_core::{GREATEST_INTEGER, LEAST_INTEGER, MOST_WORDS, is_wide_text, text_words};
+use term_core::{
+    GREATEST_INTEGER, LEAST_INTEGER, MOST_WORDS, is_wide_text, parsed_integer, small_number,
+    text_words,
+};
 
 /// How many words of an image stand before the functions.
 const HEAD_WORDS: usize = 4;
@@ -48,7 +51,7 @@ fn is_high(digits: &[u8]) -> bool
     requires { IsTrue (is_number_text digits.now) }
     ensures { result ≡ is_high_register digits.now }
 {
-    match number_of(digits) {
+    match small_number(digits) {
         Some(register) => register >= REGISTERS,
         None => true,
     }
@@ -69,7 +72,7 @@ fn is_high_call(arity: &[u8], at: &[u8]) -> bool
     requires at { IsTrue (is_number_text at.now) }
     ensures { result ≡ is_call_too_high arity.now at.now }
 {
-    match (number_of(arity), number_of(at)) {
+    match (small_number(arity), small_number(at)) {
         (Some(arity), Some(at)) => at >= REGISTERS || arity > REGISTERS - at,
         _ => true,
     }
@@ -120,7 +123,7 @@ fn is_wide_operand(operand: &WrittenOperand<'_>) -> bool
     ensures { result ≡ is_operand_too_wide (operand_form operand.now) }
 {
     match operand {
-        WrittenOperand::Integer(text) => match integer_of(text) {
+        WrittenOperand::Integer(text) => match parsed_integer(text) {
             Some(number) => number < LEAST_INTEGER || number > GREATEST_INTEGER,
             None => true,
         },

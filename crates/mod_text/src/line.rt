@@ -2,15 +2,17 @@
 
 ghost use Rattle.std.specs.Prelude.{◌≡◌, ◌&&◌, true, option_map, IfOk, IfSome, IsTrue};
 ghost use Rattle.mod_text.specs.LineViews.{operand_form, instr_form, line_form, text_form};
-ghost use Rattle.mod_text.specs.ModuleLine.{is_version_text as is_version, is_arity_text as is_arity, is_number_text as is_number, is_line_form};
-ghost use Rattle.mod_text.specs.LineReading.{tested, register_reading, constant_reading, operand_reading, numbered_reading, operands_reading, sum_reading, branch_reading, move_reading, call_reading, call_ext_reading, add_reading, sub_reading, eq_reading, less_reading, jump_reading, ret_reading, pget_reading, pget_or_reading, elem_reading, print_reading, instr_reading, label_reading, title_reading, header_reading, instr_line_reading, lone_reading, keyed_reading, line_split, line_reading, is_sound_operand as is_sound, has_sound_operands as are_sound, has_sound_terms as are_terms_sound};
+ghost use Rattle.term_core.specs.Text.Numbers.{is_number_text as is_number};
+ghost use Rattle.mod_text.specs.ModuleLine.{is_version_text as is_version, is_arity_text as is_arity, is_line_form};
+ghost use Rattle.term_core.specs.Text.Steps.{tested, numbered_reading};
+ghost use Rattle.mod_text.specs.LineReading.{register_reading, constant_reading, operand_reading, operands_reading, sum_reading, branch_reading, move_reading, call_reading, call_ext_reading, add_reading, sub_reading, eq_reading, less_reading, jump_reading, ret_reading, pget_reading, pget_or_reading, elem_reading, print_reading, instr_reading, label_reading, title_reading, header_reading, instr_line_reading, lone_reading, keyed_reading, line_split, line_reading, is_sound_operand as is_sound, has_sound_operands as are_sound, has_sound_terms as are_terms_sound};
 ghost use Rattle.term_core.specs.Names.{is_atom_text as is_atom};
 ghost use Rattle.term_core.specs.TermForms.{is_bracketed as begins_with_bracket};
 
-use crate::words::{cut_at, is_arity_text, is_integer_text, is_number_text, is_version_text};
+use crate::words::{is_arity_text, is_version_text};
 use crate::written::{WrittenInstr, WrittenLine, WrittenOperand};
 use std::alloc::Global;
-use term_core::{NoMemory, is_atom_text, is_term_text};
+use term_core::{NoMemory, cut_at, is_atom_text, is_integer_text, is_number_text, is_term_text};
 
 fn read_number(text: &[u8]) -> Option<&[u8]>
     ensures { option_map (λ digits. digits.now) result ≡ tested is_number text.now }

@@ -1,6 +1,6 @@
 //! The atoms of a line, which get numbers in the order of the line.
 
-ghost use Rattle.std.specs.Prelude.{◌≡◌, [], ◌∷◌, ◌++◌, IsTrue};
+ghost use Rattle.std.specs.Prelude.{[], ◌∷◌, ◌++◌, IsTrue};
 ghost use Rattle.term_core.specs.Names.{IsNames, Extends, is_atom_text};
 ghost use Rattle.term_core.specs.TermForms.{term_atoms};
 ghost use Rattle.mod_text.specs.LineViews.{operand_form, instr_form, line_form};

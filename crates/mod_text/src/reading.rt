@@ -6,7 +6,7 @@ ghost use Rattle.term_core.specs.Names.{IsNames, Extends};
 ghost use Rattle.term_core.specs.declared.names.TheConstants.{MOST_NAMES};
 ghost use Rattle.mod_core.specs.declared.code.Module.{Module as ModuleValue};
 ghost use Rattle.mod_text.specs.declared.fault.LineFault.{LineFault as LineFaultValue};
-ghost use Rattle.mod_text.specs.Canonical.{IsModuleHeld};
+ghost use Rattle.mod_core.specs.HeldNames.{IsModuleHeld};
 ghost use Rattle.mod_text.specs.Ending.{Ends, IsFaultOr, IsLabelFault};
 ghost use Rattle.mod_core.specs.Module.{IsModule};
 ghost use Rattle.mod_text.specs.Reading.{bytes_on, read_behind, StopsSo};
@@ -14,10 +14,9 @@ ghost use Rattle.mod_text.specs.ModuleText.{ModuleText, FirstFault, MissingAt, H
 
 use crate::fault::{FinishFault, LineFault, LineStop, ModFault};
 use crate::reader::ModuleReader;
-use crate::words::cut_at;
 use mod_core::Module;
 use std::alloc::Global;
-use term_core::{AtomId, Names};
+use term_core::{AtomId, Names, cut_at};
 
 fn syntax_at(number: usize) -> LineStop
     ensures { result ≡ record { number = number; fault = LineFault.Syntax } }

@@ -5,14 +5,14 @@ ghost use Rattle.term_core.specs.TermForms.{is_complex_text, is_wide_text};
 ghost use Rattle.term_core.specs.Written.{IsTermInteger, is_integer_text, integer_of as integer_in};
 ghost use Rattle.mod_text.specs.LineFaults.{is_high, has_high_operand, is_wide_operand};
 ghost use Rattle.mod_text.specs.LineViews.{operand_form};
-ghost use Rattle.mod_text.specs.ModuleLine.{complex, is_number_text, is_arity_text, is_operand_form, number_value};
+ghost use Rattle.term_core.specs.Text.Numbers.{is_number_text, number_value};
+ghost use Rattle.mod_text.specs.ModuleLine.{complex, is_arity_text, is_operand_form};
 ghost use Rattle.mod_text.specs.ModuleValue.{atom_in, mfa_in, operand_in};
 
-use crate::words::{integer_of, number_of};
 use crate::written::WrittenOperand;
 use mod_core::Operand;
 use std::alloc::Global;
-use term_core::{AtomId, Mfa, Names, NoMemory, Term, term_in};
+use term_core::{AtomId, Mfa, Names, NoMemory, Term, parsed_integer, small_number, term_in};
 
 /// The atom with this text, which the names hold.
 pub fn atom_of(names: &Names, text: &[u8]) -> AtomId
@@ -30,7 +30,7 @@ pub fn value_of(digits: &[u8]) -> u32
     requires small { number_value digits.now < 2 ^ 32 }
     ensures { result ≡ number_value digits.now }
 {
-    number_of(digits).unwrap()
+    small_number(digits).unwrap()
 }
 
 /// The register that digits write.
@@ -47,7 +47,7 @@ fn integer_value(text: &[u8]) -> i64
     requires narrow { IsTermInteger (integer_in text.now) }
     ensures { result ≡ integer_in text.now }
 {
-    integer_of(text).unwrap()
+    parsed_integer(text).unwrap()
 }
 
 /// The constant that a tuple's or a list's text says.

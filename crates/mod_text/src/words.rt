@@ -1,83 +1,10 @@
-//! The words of a line, and the numbers that digits write.
+//! The numbers of a line: versions and arities.
 
-ghost use Rattle.std.specs.Prelude.{◌≡◌, IsTrue, IsAscii, option_map, MatchOption};
-ghost use Rattle.std.specs.Char.{is_ascii_digit};
-ghost use Rattle.std.specs.List.{list_all};
-ghost use Rattle.term_core.specs.Written.{IsTermInteger, is_positive_text, is_integer_text, integer_of};
-ghost use Rattle.mod_text.specs.LineReading.{cut_at};
-ghost use Rattle.mod_text.specs.ModuleLine.{is_number_text, is_version_text, is_arity_text, small_number};
+ghost use Rattle.std.specs.Prelude.{◌≡◌};
+ghost use Rattle.mod_text.specs.ModuleLine.{is_version_text, is_arity_text};
 
 use mod_core::{GREATEST_VERSION, MOST_ARGUMENTS};
-use std::str;
-
-/// What stands before and behind the first such byte, if there is one.
-pub fn cut_at(text: &[u8], byte: u8) -> Option<(&[u8], &[u8])>
-    ensures { option_map (λ p. (p.0.now, p.1.now)) result ≡ cut_at byte text.now }
-{
-    for (place, found) in text.iter().enumerate() {
-        if *found == byte {
-            return Some((&text[..place], &text[place + 1..]));
-        }
-    }
-    None
-}
-
-fn are_digits(bytes: &[u8]) -> bool
-    ensures { result ≡ list_all is_ascii_digit bytes.now }
-{
-    bytes.iter().all(|byte| byte.is_ascii_digit())
-}
-
-fn is_positive_text(text: &[u8]) -> bool
-    ensures { result ≡ is_positive_text text.now }
-{
-    match text.split_first() {
-        None => false,
-        Some((first, rest)) => matches!(*first, b'1'..=b'9') && are_digits(rest),
-    }
-}
-
-/// Whether these are a number's digits.
-pub fn is_number_text(text: &[u8]) -> bool
-    ensures { result ≡ is_number_text text.now }
-{
-    text == b"0".as_slice() || is_positive_text(text)
-}
-
-/// Whether this is an integer's text, of any length.
-pub fn is_integer_text(text: &[u8]) -> bool
-    ensures { result ≡ is_integer_text text.now }
-{
-    match text.split_first() {
-        None => false,
-        Some((b'0', rest)) => rest.is_empty(),
-        Some((b'-', digits)) => is_positive_text(digits),
-        Some(_) => is_positive_text(text),
-    }
-}
-
-fn ascii_text(bytes: &[u8]) -> &str
-    requires { IsAscii bytes.now }
-    ensures { result.now ≡ bytes.now }
-{
-    str::from_utf8(bytes).unwrap()
-}
-
-/// The number that digits write, unless it is 2 ^ 32 or more.
-pub fn number_of(digits: &[u8]) -> Option<u32>
-    requires { IsTrue (is_number_text digits.now) }
-    ensures { result ≡ small_number digits.now }
-{
-    ascii_text(digits).parse::<u32>().ok()
-}
-
-/// The integer that a text says, unless it has more than 64 bits.
-pub fn integer_of(text: &[u8]) -> Option<i64>
-    requires { IsTrue (is_integer_text text.now) }
-    ensures { MatchOption result (IsTermInteger (integer_of text.now) → ⊥) (λ z. z ≡ integer_of text.now) }
-{
-    ascii_text(text).parse::<i64>().ok()
-}
+use term_core::{is_number_text, small_number};
 
 /// Whether this is a version, from 1 to 999999.
 pub fn is_version_text(text: &[u8]) -> bool
@@ -86,7 +13,7 @@ pub fn is_version_text(text: &[u8]) -> bool
     if !is_number_text(text) {
         return false;
     }
-    match number_of(text) {
+    match small_number(text) {
         None => false,
         Some(version) => 1 <= version && version <= GREATEST_VERSION,
     }
@@ -99,7 +26,7 @@ pub fn is_arity_text(text: &[u8]) -> bool
     if !is_number_text(text) {
         return false;
     }
-    match number_of(text) {
+    match small_number(text) {
         None => false,
         Some(arity) => arity <= MOST_ARGUMENTS,
     }

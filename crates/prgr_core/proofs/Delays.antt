@@ -13,16 +13,14 @@ use Rattle.prgr_core.specs.Invariant.{CountsHolders}
 -- ---- the two
 
 pub same_delay : (d e : Delay) → is_same_delay d e ≡ true → d ≡ e
-same_delay Even Even is = refl
 same_delay Even Odd is = absurd (cc)
 same_delay Odd Even is = absurd (cc)
-same_delay Odd Odd is = refl
+same_delay d e is = refl
 
 pub different_delay : (d e : Delay) → not (is_same_delay d e) ≡ true → d ≡ other_delay e
-different_delay Even Even is = absurd (cc)
 different_delay Even Odd is = refl
 different_delay Odd Even is = refl
-different_delay Odd Odd is = absurd (cc)
+different_delay d e is = absurd (cc)
 
 -- two values further the delay counter is the same
 pub delay_of-two : (c : ℕ) → delay_of (c + 1 + 1) ≡ delay_of c
@@ -83,10 +81,9 @@ is_held d ws k a at held =
 
 -- of two counts one has changed, as its holders have
 pub counted_after : (d : Delay) (even odd count : ℕ) (old new : List Watcher) → ((e : Delay) → CountsHolders old e (of_delay e even odd)) → count ≡ holders d new → holders (other_delay d) new ≡ holders (other_delay d) old → (e : Delay) → CountsHolders new e (of_delay e (of_delay d count even) (of_delay d odd count))
-counted_after Even even odd count old new before changed kept Even = changed
 counted_after Even even odd count old new before changed kept Odd = before Odd ∙ sym kept
 counted_after Odd even odd count old new before changed kept Even = before Even ∙ sym kept
-counted_after Odd even odd count old new before changed kept Odd = changed
+counted_after d even odd count old new before changed kept e = changed
 
 -- of two counts none has changed
 pub counted_still : (even odd : ℕ) (old new : List Watcher) → ((e : Delay) → CountsHolders old e (of_delay e even odd)) → ((e : Delay) → holders e new ≡ holders e old) → (e : Delay) → CountsHolders new e (of_delay e even odd)

@@ -4,16 +4,17 @@ use Rattle.std.specs.Prelude.{if◌then◌else◌, nat_lt, ◌==◌, option_map}
 use Rattle.std.specs.List.{list_all}
 use Rattle.std.specs.Option.{option_and_then}
 use Rattle.std.specs.Str.{bytes_eq}
-use Rattle.std.proofs.lemmas.Bool.{ltb-true, lt-ltb, eqb-false, ne_eqb}
+use Rattle.std.proofs.lemmas.Bool.{ltb-true, lt-ltb, eqb-false, ne_eqb, and_parts}
 use Rattle.std.proofs.lemmas.Slice.Eq.{bytes_eq-Decides}
 use Rattle.prgr_core.specs.declared.watcher.TheConstants.{DELAY_COUNTS}
 use Rattle.prgr_core.specs.declared.event.PrgrEvent.{PrgrEvent}
 use Rattle.prgr_core.specs.declared.event.PrgrEvent.TheVariants.{LoadCounter, LoadRoot, Report, Lead, Scan, ScanDelay, Advance, GiveUp, Wait, Enter, Publish, Retire, Release, WatchLoad, WatchAdd, WatchRoot, WatchSub}
 use Rattle.prgr_core.specs.EventText.{space, line_feed, worded, worded_twice, event_text, IsAllowed}
 use Rattle.prgr_core.specs.Reading.{with_first, cut_at, number_of, number_below, numbers_by, numbers_below, member_words, by_word, worded_event, event_by, event_of}
-use Rattle.prgr_core.proofs.Parts.{and_then_some, if_some, some_same, both_true}
+use Rattle.prgr_core.proofs.Parts.{and_then_some, some_same}
 use Rattle.prgr_core.proofs.Numerals.{number_of_sound, number_of_decimal, Lacks, decimal_lacks}
 use Rattle.prgr_core.proofs.Texts.{cut_parts}
+use Rattle.std.proofs.lemmas.Option.{cond_some}
 
 -- a number is equal to itself
 eqb-not_same : (c : ℕ) → eqb c c ≡ false → ⊥
@@ -39,7 +40,7 @@ not_true true e = absurd (cc)
 pub lacks_plain : (c : ℕ) (xs : List ℕ) → list_all (λ b. not (eqb b c)) xs ≡ true → Lacks c xs
 lacks_plain c [] e = tt
 lacks_plain c (x ∷ xs) e =
-    let both = both_true (not (eqb x c)) (list_all (λ b. not (eqb b c)) xs) e in
+    let both = and_parts (not (eqb x c)) (list_all (λ b. not (eqb b c)) xs) e in
     (eqb-false x c (not_true (eqb x c) both.0), lacks_plain c xs both.1)
 
 -- a word and a number have no line feed
@@ -124,22 +125,7 @@ event_lacks members watchers (WatchSub w k) few few_too below = worded_twice_lac
 -- no event has the line `go`
 pub not_go : (event : PrgrEvent) → bytes_eq (event_text event) (codes "go") ≡ false
 not_go (LoadCounter m) = refl
-not_go (LoadRoot m) = refl
-not_go (Report m) = refl
-not_go (Lead m) = refl
-not_go (Scan m k) = refl
-not_go (ScanDelay m) = refl
-not_go (Advance m) = refl
-not_go (GiveUp m) = refl
-not_go (Wait m) = refl
-not_go (Enter m) = refl
-not_go Publish = refl
-not_go Retire = refl
-not_go (Release g) = refl
-not_go (WatchLoad w) = refl
-not_go (WatchAdd w k) = refl
-not_go (WatchRoot w) = refl
-not_go (WatchSub w k) = refl
+not_go event = refl
 
 -- ---- from a line to its event and back
 
@@ -162,7 +148,7 @@ map_some f (Some x) u e = (x, refl, some_same (f x) u e)
 number_some : (count : ℕ) (text : List ℕ) (n : ℕ) → number_below count text ≡ Some n → (text ≡ decimal n) × (n < count)
 number_some count text n e =
     let found = and_then_some (λ m. if nat_lt m count then Some m else None) (number_of text) n e in
-    let made = if_some (nat_lt found.0 count) found.0 n found.2 in
+    let made = cond_some (nat_lt found.0 count) found.0 n found.2 in
     let text_is = (number_of_sound text found.0 found.1).0 in
     (text_is ∙ ap decimal made.1, subst (λ m. m < count) made.1 (ltb-true found.0 count made.0))
 
@@ -180,7 +166,7 @@ plain_says : (members watchers : ℕ) (line : List ℕ) (event : PrgrEvent) → 
 plain_says members watchers line event e =
     by_choice (bytes_eq line (codes "publish")) (Some Publish) (if bytes_eq line (codes "retire") then Some Retire else None) event
     (λ named is. subst (Says members watchers line) (some_same Publish event is) (same_bytes line (codes "publish") named, tt))
-    (λ other. let retire = if_some (bytes_eq line (codes "retire")) Retire event other in subst (Says members watchers line) retire.1 (same_bytes line (codes "retire") retire.0, tt))
+    (λ other. let retire = cond_some (bytes_eq line (codes "retire")) Retire event other in subst (Says members watchers line) retire.1 (same_bytes line (codes "retire") retire.0, tt))
     e
 
 -- a line of a word and more

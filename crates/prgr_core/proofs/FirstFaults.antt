@@ -1,5 +1,5 @@
 -- The line of a fault is the first of another form.
-use Rattle.std.proofs.Common.{◌≡◌, ℕ, zero, suc, ◌+◌, ◌-◌, ◌<◌, ◌≤◌, max, Bool, true, false, List, [], ◌∷◌, ◌++◌, length, take, drop, Option, Some, None, Result, Ok, Err, refl, sym, ◌∙◌, ap, subst, arith, codes, ◌⊎◌, inl, inr}
+use Rattle.std.proofs.Common.{◌≡◌, ℕ, suc, ◌+◌, ◌-◌, ◌<◌, ◌≤◌, max, Bool, true, false, List, [], ◌∷◌, ◌++◌, length, take, drop, Option, Some, None, Result, Ok, Err, refl, sym, ◌∙◌, ap, subst, arith, codes, ◌⊎◌, inl, inr}
 use Rattle.std.specs.Prelude.{if◌then◌else◌, ◌==◌, IfErr}
 use Rattle.std.specs.Str.{bytes_eq}
 use Rattle.std.proofs.lemmas.Bool.{eqb-false}
@@ -193,9 +193,8 @@ lines_lack (b ∷ bs) =
     ] refl
 
 take_lack : (n : ℕ) (ls : List (List ℕ)) → AllLack ls → AllLack (take n ls)
-take_lack zero ls all = tt
-take_lack (suc n) [] all = tt
 take_lack (suc n) (line ∷ others) all = (all.0, take_lack n others all.1)
+take_lack n ls all = tt
 
 lines_of_joined : (ls : List (List ℕ)) (rest : List ℕ) → AllLack ls → lines_of (joined ls rest) ≡ lines (ls ++ (lines_of rest).ended) (lines_of rest).tail
 lines_of_joined [] rest all = refl
@@ -214,9 +213,8 @@ no_form text n refused opens =
     ok_err opens.0 n (sym read ∙ by_lines (joined front opens.1) ∙ ap (λ (w : Lines). head_on w.ended w.tail) at ∙ always)
 
 take_drop : {A : Type 0} (n : ℕ) (xs : List A) → take n xs ++ drop n xs ≡ xs
-take_drop zero xs = refl
-take_drop (suc n) [] = refl
 take_drop (suc n) (x ∷ xs) = ap (λ l. x ∷ l) (take_drop n xs)
+take_drop n xs = refl
 
 one_less : (n k : ℕ) → n ≡ suc k → n - 1 ≡ k
 one_less n k e = omega (arith, e)
@@ -243,6 +241,5 @@ first_fault text n e =
     ]
 
 pub first_by : (text : List ℕ) (result : Result Events EventFault) → Gives (λ read. read) result (reading text) → IfErr result (IsFaultOf text)
-first_by text (Ok events) is = tt
 first_by text (Err (faults.Syntax line)) is = first_fault text line is
-first_by text (Err faults.NoMemory) is = tt
+first_by text result is = tt

@@ -3,7 +3,7 @@ use Rattle.std.proofs.Common.{◌≡◌, ℕ, ◌≤◌, Some, inl, inr, sym, su
 use Rattle.prgr_core.specs.declared.member.Member.{Member}
 use Rattle.prgr_core.specs.Members.{HasLoaded, HasLoadedRoot}
 use Rattle.prgr_core.specs.declared.member.Loaded.{Loaded}
-use Rattle.prgr_core.specs.declared.member.Loaded.TheVariants.{Nothing, Counter, CounterAndRoot}
+use Rattle.prgr_core.specs.declared.member.Loaded.TheVariants.{Counter}
 use Rattle.prgr_core.specs.declared.watcher.Watcher.{Watcher}
 use Rattle.prgr_core.specs.Watchers.{IsClaimed}
 use Rattle.prgr_core.specs.Machine.{Machine, IsWatcher, Readable, MayRead}
@@ -11,9 +11,8 @@ use Rattle.prgr_core.specs.Invariant.{ProgressInvariant, Grace}
 
 -- who has loaded the root has loaded the counter
 pub loaded_before_root : (loaded : Loaded) (c : ℕ) → HasLoadedRoot loaded c → HasLoaded loaded c
-loaded_before_root Nothing c is = is
 loaded_before_root (Counter d) c is = absurd is
-loaded_before_root (CounterAndRoot d) c is = is
+loaded_before_root loaded c is = is
 
 module _ (m : Machine) (h : ProgressInvariant m) (n v : ℕ) (was : m.WasRetired n v) (reached : v ≤ m.counter) where
   member_reads_later : (member : Member) → m.IsMember member → MayRead member → n ≤ member.generation

@@ -5,7 +5,7 @@ use Rattle.prgr_core.specs.declared.fault.EventFault.{EventFault}
 use Rattle.std.specs.List.{AllByRecursion}
 use Rattle.std.specs.Option.{option_and_then}
 use Rattle.std.specs.Str.{bytes_eq}
-use Rattle.std.proofs.lemmas.Bool.{eqb-true, leb-true, le-leb}
+use Rattle.std.proofs.lemmas.Bool.{eqb-true, leb-true, le-leb, and_parts}
 use Rattle.std.proofs.lemmas.List.{append-nil}
 use Rattle.std.proofs.lemmas.Slice.Eq.{bytes_eq-Decides}
 use Rattle.prgr_core.specs.declared.member.TheConstants.{MOST_MEMBERS}
@@ -15,10 +15,11 @@ use Rattle.prgr_core.specs.declared.event.PrgrEvent.{PrgrEvent}
 use Rattle.prgr_core.specs.EventText.{space, line_feed, worded, event_text, line_then, list_text, IsAllowed, EventText}
 use Rattle.prgr_core.specs.Reading.{◌>>=◌, Gives, cut_at, Lines, lines, before_lines, lines_of, number_of, event_of, count_by, line_by, line_at, expected, or_fault, count_at, at_end, list_on, list_at, reading}
 use Rattle.prgr_core.specs.Faults.{joined}
-use Rattle.prgr_core.proofs.Parts.{and_then_some, if_some, both_true}
+use Rattle.prgr_core.proofs.Parts.{and_then_some}
 use Rattle.prgr_core.proofs.Numerals.{number_of_sound, number_of_decimal, Lacks}
 use Rattle.prgr_core.proofs.Texts.{cut_parts, lines_of_cut}
 use Rattle.prgr_core.proofs.EventLines.{cut_here, lacks_plain, worded_lacks, IsFew, event_read, event_lacks, not_go, event_of_sound, same_bytes}
+use Rattle.std.proofs.lemmas.Option.{cond_some}
 
 -- ---- what is read is a text of the grammar
 
@@ -64,8 +65,8 @@ count_by_ok word least most line None n cut e = absurd (cc)
 count_by_ok word least most line (Some p) n cut e =
     let made = count_ok (bytes_eq p.0 word) _ n e in
     let found = and_then_some (λ m. if nat_le least m && nat_le m most then Some m else None) (number_of p.1) n made.1 in
-    let range = if_some (nat_le least found.0 && nat_le found.0 most) found.0 n found.2 in
-    let both = both_true (nat_le least found.0) (nat_le found.0 most) range.0 in
+    let range = cond_some (nat_le least found.0 && nat_le found.0 most) found.0 n found.2 in
+    let both = and_parts (nat_le least found.0) (nat_le found.0 most) range.0 in
     let number = (number_of_sound p.1 found.0 found.1).0 ∙ ap decimal range.1 in (
       cut_parts space line p cut ∙ ap (λ (x : List ℕ). x ++ space ∷ p.1) (same_bytes p.0 word made.0) ∙ ap (λ (x : List ℕ). word ++ space ∷ x) number,
       subst (IsCount least most) range.1 (leb-true least found.0 both.0, leb-true found.0 most both.1),
@@ -102,8 +103,7 @@ pub record ReadsOn (members watchers : ℕ) (events all : List PrgrEvent) (text 
 
 at_end_ok : (members watchers number : ℕ) (events : List PrgrEvent) (others : List (List ℕ)) (tail : List ℕ) (all : List PrgrEvent) (line : List ℕ) → line ≡ codes "go" → at_end number events others tail ≡ Ok all → ReadsOn members watchers events all (line_then line (joined others tail))
 at_end_ok members watchers number events [] [] all line is e = record { more = []; whole = sym (ok_same events all e) ∙ sym (append-nil events); allowed = tt; spelled = ap (λ (x : List ℕ). line_then x []) is }
-at_end_ok members watchers number events [] (b ∷ tail) all line is e = absurd (cc)
-at_end_ok members watchers number events (other ∷ others) tail all line is e = absurd (cc)
+at_end_ok members watchers number events others tail all line is e = absurd (cc)
 
 choice_either : {A : Type 0} (b : Bool) (x y : Result A ℕ) (z : A) → (if b then x else y) ≡ Ok z → ((b ≡ true) × (x ≡ Ok z)) ⊎ (y ≡ Ok z)
 choice_either true x y z e = inl (refl, e)

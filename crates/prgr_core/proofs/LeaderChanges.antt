@@ -1,6 +1,6 @@
 -- The scans of a leader, and events that change the leader or the counter, keep the progress invariant.
 use Rattle.std.proofs.lemmas.Bool.{cases_lt}
-use Rattle.std.proofs.Common.{◌≡◌, ℕ, zero, suc, true, false, replicate, ◌+◌, ◌<◌, ◌≤◌, ◌⊎◌, inl, inr, sym, subst, arith, Some, None, refl, ◌∙◌, ap}
+use Rattle.std.proofs.Common.{◌≡◌, ℕ, suc, true, false, replicate, ◌+◌, ◌<◌, ◌≤◌, ◌⊎◌, inl, inr, sym, subst, arith, Some, None, refl, ◌∙◌, ap}
 use Rattle.std.specs.Prelude.{slice_get}
 use Rattle.prgr_core.specs.declared.member.TheConstants.{WAITING, LAST_VALUE, MOST_MEMBERS}
 use Rattle.prgr_core.specs.declared.member.Member.{Member}
@@ -106,9 +106,8 @@ rescanned_fits m h a is old new role known adds delays =
 
 -- of no members one is scanned
 none_scanned : (n k : ℕ) → slice_get (replicate n false) k ≡ Some true → ⊥
-none_scanned zero k e = (cc)
-none_scanned (suc n) zero e = (cc)
 none_scanned (suc n) (suc k) e = none_scanned n k e
+none_scanned n k e = (cc)
 
 -- two that lead have one number
 one_leads : (m : Machine) → ProgressInvariant m → (a x : Member) → m.IsMember a → m.IsMember x → IsLeading a.role → IsLeading x.role → x.number ≡ a.number

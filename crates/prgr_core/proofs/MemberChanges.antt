@@ -5,7 +5,7 @@ use Rattle.std.proofs.Common.{◌≡◌, ℕ, ◌+◌, ◌<◌, ◌≤◌, inl, 
 use Rattle.prgr_core.specs.declared.member.TheConstants.{WAITING, ENTERING}
 use Rattle.prgr_core.specs.declared.member.Member.{Member}
 use Rattle.prgr_core.specs.declared.member.Loaded.{Loaded}
-use Rattle.prgr_core.specs.declared.member.Loaded.TheVariants.{Nothing, Counter, CounterAndRoot}
+use Rattle.prgr_core.specs.declared.member.Loaded.TheVariants.{Nothing}
 use Rattle.prgr_core.specs.declared.member.Role.{Role}
 use Rattle.prgr_core.specs.declared.member.Role.TheVariants.{Follows, Leads}
 use Rattle.prgr_core.specs.declared.watcher.Watcher.{Watcher}
@@ -110,8 +110,7 @@ counter_loaded_fits m h a is awake =
 -- a root that is loaded changes no counter
 loaded_before : (loaded : Loaded) (c : ℕ) → HasLoaded (with_root loaded) c → HasLoaded loaded c
 loaded_before Nothing c is = is
-loaded_before (Counter d) c is = is
-loaded_before (CounterAndRoot d) c is = is
+loaded_before loaded c is = is
 
 -- load_root
 pub root_loaded_fits : (m : Machine) → ProgressInvariant m → (a : Member) → m.IsMember a → FitsIn m (root_loaded m.generation a)

@@ -4,24 +4,22 @@ use Rattle.std.specs.Prelude.{if◌then◌else◌, nat_lt, nat_le}
 use Rattle.std.specs.Option.{option_and_then}
 use Rattle.std.specs.Char.{is_ascii_digit}
 use Rattle.std.specs.Str.Parse.{AllDigits}
-use Rattle.std.proofs.lemmas.Bool.{ltb-true, lt-ltb, eqb-false, ne_eqb, le-leb, leb-true}
+use Rattle.std.proofs.lemmas.Bool.{ltb-true, lt-ltb, eqb-false, ne_eqb, le-leb, leb-true, and_parts}
 use Rattle.std.proofs.lemmas.List.{append-nil}
 use Rattle.std.proofs.lemmas.Str.Parse.{digit_from_value}
 use Rattle.std.proofs.lemmas.Fmt.{decimal_digit, decimal_step, decimal_by_steps, decimal_is_IsNumeral}
 use Rattle.prgr_core.specs.Reading.{with_digit, number_on, number_of}
-use Rattle.prgr_core.proofs.Parts.{and_then_some, unless_made, some_same, both_true}
+use Rattle.prgr_core.proofs.Parts.{and_then_some, unless_made, some_same}
 
 digit_true : (c : ℕ) → is_ascii_digit c ≡ true → (48 ≤ c) × (c ≤ 57)
-digit_true c e = let both = both_true (nat_le 48 c) (nat_le c 57) e in (leb-true 48 c both.0, leb-true c 57 both.1)
+digit_true c e = let both = and_parts (nat_le 48 c) (nat_le c 57) e in (leb-true 48 c both.0, leb-true c 57 both.1)
 
 true_digit : (c : ℕ) → 48 ≤ c → c ≤ 57 → is_ascii_digit c ≡ true
 true_digit c low high = rw (le-leb 48 c low, le-leb c 57 high) refl
 
 neither : (a b d : Bool) → (a || not b || not d) ≡ false → (a ≡ false) × (b ≡ true) × (d ≡ true)
 neither false true true e = (refl, refl, refl)
-neither false true false e = absurd (cc)
-neither false false d e = absurd (cc)
-neither true b d e = absurd (cc)
+neither a b d e = absurd (cc)
 
 -- a digit more makes a number ten times as large, and the digit
 with_digit_some : (n c w : ℕ) → with_digit n c ≡ Some w → (n ≡ 0 → ⊥) × (48 ≤ c) × (c ≤ 57) × (w ≡ n * 10 + (c - 48)) × (w < 2 ^ 64)

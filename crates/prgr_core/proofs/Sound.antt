@@ -7,13 +7,14 @@ use Rattle.prgr_core.specs.declared.event.PrgrEvent.{PrgrEvent}
 use Rattle.prgr_core.specs.declared.event.PrgrEvent.TheVariants.{LoadCounter, LoadRoot, Report, Lead, Scan, ScanDelay, Advance, GiveUp, Wait, Enter, Publish, Retire, Release, WatchLoad, WatchAdd, WatchRoot, WatchSub}
 use Rattle.prgr_core.specs.Needs.{need_of}
 use Rattle.prgr_core.specs.Machine.{machine_of}
-use Rattle.prgr_core.specs.Step.{after, IsSound, released, with_retirement}
+use Rattle.prgr_core.specs.Step.{after, IsSound, released, with_retirement, with_pair}
 use Rattle.prgr_core.proofs.WriterChanges.{publish_keeps, retire_keeps}
 use Rattle.prgr_core.proofs.SoundParts.{sound_with, is_numbered}
 use Rattle.prgr_core.proofs.SoundMembers.{counter_loaded_sound, root_loaded_sound, reported_sound, waiting_sound, entering_sound}
 use Rattle.prgr_core.proofs.SoundLeader.{led_sound, scanned_sound, delay_scanned_sound, advanced_sound, given_up_sound}
 use Rattle.prgr_core.proofs.SoundWatchers.{watch_loaded_sound, watch_added_sound, watch_rooted_sound, watch_left_sound}
-use Rattle.prgr_core.proofs.Parts.{if_some, slice_get-push}
+use Rattle.prgr_core.proofs.Parts.{slice_get-push}
+use Rattle.std.proofs.lemmas.Option.{cond_some}
 
 -- ---- the writer's events
 
@@ -21,7 +22,7 @@ released_some : (s : Progress) (g : ℕ) (need : Option ℕ) (t : Progress) → 
 released_some s g None t sound e = absurd (cc)
 released_some s g (Some need) t sound e =
     let kept : IsSound (record s { needs = _ }) = sound_with (record s { needs = _ }) sound.invariant (is_numbered s sound) in
-    subst IsSound (if_some _ _ t e).1 kept
+    subst IsSound (cond_some _ _ t e).1 kept
 
 -- what was retired after a retirement was retired before, or is the newest
 retired_before : (s : Progress) (n v k : ℕ) → slice_get (s.retired ++ record { generation = s.generation; need = s.counter + 2 } ∷ []) k ≡ Some (record { generation = n; need = v }) → (machine_of s).WasRetired n v ⊎ ((n ≡ s.generation) × (v ≡ s.counter + 2))
@@ -36,9 +37,18 @@ published_sound s sound t e =
     let made : record s { generation = s.generation + 1 } ≡ t = cc in
     subst IsSound made (sound_with (record s { generation = s.generation + 1 }) (publish_keeps (machine_of s) sound.invariant) (is_numbered s sound))
 
+-- a need that is kept besides
+pub pair_sound : (s : Progress) → IsSound s → IsSound (with_pair s)
+pair_sound s sound = sound_with (with_pair s) (retire_keeps (machine_of s) sound.invariant (machine_of (with_pair s)).WasRetired (λ n v was. retired_before s n v was.0 was.1)) (is_numbered s sound)
+
+-- the need is kept, or nothing has changed
+pub kept_sound : {T E : Type 0} (result : Result T E) (s t : Progress) → IsSound s → OnOk result (t ≡ with_pair s) → OnErr result (t ≡ s) → IsSound t
+kept_sound (Ok x) s t sound ok err = subst IsSound (sym ok) (pair_sound s sound)
+kept_sound (Err x) s t sound ok err = subst IsSound (sym err) sound
+
 retired_sound : (s : Progress) → IsSound s → (t : Progress) → after s Retire ≡ Some t → IsSound t
 retired_sound s sound t e =
-    let made = if_some _ _ t e in
+    let made = cond_some _ _ t e in
     let kept = retire_keeps (machine_of s) sound.invariant (machine_of (with_retirement s)).WasRetired (λ n v was. retired_before s n v was.0 was.1) in
     subst IsSound made.1 (sound_with (with_retirement s) kept (is_numbered s sound))
 

@@ -1,5 +1,5 @@
 -- The events of a leader keep a state of lists sound.
-use Rattle.std.proofs.lemmas.Bool.{eqb-true, ltb-true}
+use Rattle.std.proofs.lemmas.Bool.{eqb-true, ltb-true, and_parts, or_cases}
 use Rattle.std.proofs.Common.{◌≡◌, ℕ, ◌+◌, Bool, true, false, List, [], ◌∷◌, length, Option, Some, None, refl, sym, ◌∙◌, ap, subst, ◌⊎◌, inl, inr, eqb, arith, ◌||◌, is_none, nat_lt}
 use Rattle.std.specs.Prelude.{slice_get, slice_set, if◌then◌else◌}
 use Rattle.prgr_core.specs.declared.member.TheConstants.{WAITING, LAST_VALUE}
@@ -18,7 +18,8 @@ use Rattle.prgr_core.specs.Step.{with_member, by_role, after, IsSound, scan_of, 
 use Rattle.prgr_core.proofs.LeaderChanges.{rescanned_fits, free_delay, AddDone, AddDelay, IsDoneWord, lead_keeps, give_up_keeps, advance_keeps}
 use Rattle.prgr_core.proofs.SoundParts.{is_member, becomes, still_numbered, sound_with, member_sound}
 use Rattle.prgr_core.proofs.SoundMembers.{is_value_true}
-use Rattle.prgr_core.proofs.Parts.{and_then_some, if_some, unless_some, some_same, both_true, either_true, slice_get-slice_set, list_all-at, some_true}
+use Rattle.prgr_core.proofs.Parts.{and_then_some, unless_some, some_same, slice_get-slice_set, list_all-at, some_true}
+use Rattle.std.proofs.lemmas.Option.{cond_some}
 
 -- ---- what the tests tell
 
@@ -32,7 +33,7 @@ by_role_some (Leads scans) next t e = (scans, refl, e)
 
 done_word : (counter word : ℕ) → is_done counter word ≡ true → IsDoneWord counter word
 done_word counter word e =
-    elim (either_true (is_waiting word) (eqb word (counter + 1)) e) as (λ _. IsDoneWord counter word) [
+    elim (or_cases (is_waiting word) (eqb word (counter + 1)) e) as (λ _. IsDoneWord counter word) [
       | inl waits ↦ inl (eqb-true word WAITING waits)
       | inr confirmed ↦ inr (eqb-true word (counter + 1) confirmed)
     ]
@@ -90,8 +91,8 @@ pub led_sound : (s : Progress) → IsSound s → (k : ℕ) (t : Progress) → af
 led_sound s sound k t e =
     let found = and_then_some _ _ t e in
     let a = found.0 in
-    let made = if_some _ _ t found.2 in
-    let tests = both_true (is_none s.leader) (is_value a.word) made.0 in
+    let made = cond_some _ _ t found.2 in
+    let tests = and_parts (is_none s.leader) (is_value a.word) made.0 in
     let kept = lead_keeps (machine_of s) sound.invariant (λ x. slice_get (slice_set s.members k (leading a)) x.number ≡ Some x) a (becomes s sound k a (leading a) found.1 refl) (none_true s.leader tests.0) (is_value_true a.word tests.1) in
     let kept_k = subst (λ n. ProgressInvariant (machine_of (record (with_member s k (leading a)) { leader = Some n }))) (sound.numbered k a found.1) kept in
     subst IsSound made.1 (sound_with (led s k a) kept_k (still_numbered s sound k a (leading a) found.1 refl))
@@ -123,9 +124,9 @@ advanced_sound s sound k t e =
     let found = and_then_some _ _ t e in
     let a = found.0 in
     let leads = by_role_some a.role _ t found.2 in
-    let made = if_some _ _ t leads.2 in
-    let both = both_true _ (nat_lt s.counter LAST_VALUE) made.0 in
-    let scanned = both_true (have_scanned_all leads.0 s.members) (leads.0.delay || eqb (length s.watchers) 0) both.0 in
+    let made = cond_some _ _ t leads.2 in
+    let both = and_parts _ (nat_lt s.counter LAST_VALUE) made.0 in
+    let scanned = and_parts (have_scanned_all leads.0 s.members) (leads.0.delay || eqb (length s.watchers) 0) both.0 in
     let b = leading_with (no_scans (Some (s.counter + 1))) a in
     let all : (y : Member) → slice_get s.members y.number ≡ Some y → HasScanned a.role y.number =
     λ y is. subst (λ role. HasScanned role y.number) (sym leads.1) (some_true _ (list_all-at (λ member. has_scanned leads.0 member.number) s.members y.number y scanned.0 is)) in

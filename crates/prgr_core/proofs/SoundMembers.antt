@@ -1,5 +1,5 @@
 -- The events of one member that change neither the leader nor the counter keep a state of lists sound.
-use Rattle.std.proofs.lemmas.Bool.{eqb-false, eqb-true, ltb-true}
+use Rattle.std.proofs.lemmas.Bool.{eqb-false, eqb-true, ltb-true, and_parts}
 use Rattle.std.proofs.Common.{◌≡◌, ℕ, ◌≤◌, true, Some, refl, sym, subst, arith, nat_lt}
 use Rattle.std.specs.Prelude.{slice_get}
 use Rattle.prgr_core.specs.declared.member.TheConstants.{WAITING, LAST_VALUE}
@@ -7,7 +7,7 @@ use Rattle.prgr_core.specs.declared.member.Member.{Member}
 use Rattle.prgr_core.specs.declared.member.Role.{Role}
 use Rattle.prgr_core.specs.declared.member.Role.TheVariants.{Follows, Leads}
 use Rattle.prgr_core.specs.declared.member.Loaded.{Loaded}
-use Rattle.prgr_core.specs.declared.member.Loaded.TheVariants.{Nothing, Counter, CounterAndRoot}
+use Rattle.prgr_core.specs.declared.member.Loaded.TheVariants.{CounterAndRoot}
 use Rattle.prgr_core.specs.declared.progress.Progress.{Progress}
 use Rattle.prgr_core.specs.declared.event.PrgrEvent.TheVariants.{LoadCounter, LoadRoot, Report, Wait, Enter}
 use Rattle.prgr_core.specs.Members.{IsValue, HasLoaded, HasLoadedRoot, IsLeading, is_waiting, is_value, counter_loaded, root_loaded, confirmed, waiting, entering}
@@ -15,21 +15,21 @@ use Rattle.prgr_core.specs.Machine.{machine_of}
 use Rattle.prgr_core.specs.Step.{with_member, after, IsSound, reported, follows}
 use Rattle.prgr_core.proofs.MemberChanges.{counter_loaded_fits, root_loaded_fits, confirmed_fits, waiting_fits, entering_fits}
 use Rattle.prgr_core.proofs.SoundParts.{is_member, member_sound}
-use Rattle.prgr_core.proofs.Parts.{and_then_some, if_some, unless_made, both_true}
+use Rattle.prgr_core.proofs.Parts.{and_then_some, unless_made}
+use Rattle.std.proofs.lemmas.Option.{cond_some}
 
 -- ---- what the tests tell
 
 pub is_value_true : (word : ℕ) → is_value word ≡ true → IsValue word
-is_value_true word e = let both = both_true (nat_lt 0 word) (nat_lt word WAITING) e in (ltb-true 0 word both.0, ltb-true word WAITING both.1)
+is_value_true word e = let both = and_parts (nat_lt 0 word) (nat_lt word WAITING) e in (ltb-true 0 word both.0, ltb-true word WAITING both.1)
 
 follows_true : (role : Role) → follows role ≡ true → IsLeading role → ⊥
 follows_true Follows e leads = leads
 follows_true (Leads scans) e leads = absurd (cc)
 
 reported_some : (s : Progress) (k : ℕ) (a : Member) (loaded : Loaded) (t : Progress) → reported s k a loaded ≡ Some t → (c : ℕ) × HasLoadedRoot loaded c × (with_member s k (confirmed c a) ≡ t)
-reported_some s k a Nothing t e = absurd (cc)
-reported_some s k a (Counter c) t e = absurd (cc)
 reported_some s k a (CounterAndRoot c) t e = (c, refl, cc)
+reported_some s k a loaded t e = absurd (cc)
 
 -- ---- each event
 
@@ -45,7 +45,7 @@ pub root_loaded_sound : (s : Progress) → IsSound s → (k : ℕ) (t : Progress
 root_loaded_sound s sound k t e =
     let found = and_then_some _ _ t e in
     let a = found.0 in
-    let made = if_some _ _ t found.2 in
+    let made = cond_some _ _ t found.2 in
     subst IsSound made.1 (member_sound s sound k a (root_loaded s.generation a) found.1 refl (root_loaded_fits (machine_of s) sound.invariant a (is_member s sound k a found.1)))
 
 pub reported_sound : (s : Progress) → IsSound s → (k : ℕ) (t : Progress) → after s (Report k) ≡ Some t → IsSound t
@@ -59,15 +59,15 @@ pub waiting_sound : (s : Progress) → IsSound s → (k : ℕ) (t : Progress) �
 waiting_sound s sound k t e =
     let found = and_then_some _ _ t e in
     let a = found.0 in
-    let made = if_some _ _ t found.2 in
-    let tests = both_true (is_value a.word) (follows a.role) made.0 in
+    let made = cond_some _ _ t found.2 in
+    let tests = and_parts (is_value a.word) (follows a.role) made.0 in
     subst IsSound made.1 (member_sound s sound k a (waiting a) found.1 refl (waiting_fits (machine_of s) sound.invariant a (is_member s sound k a found.1) (follows_true a.role tests.1)))
 
 pub entering_sound : (s : Progress) → IsSound s → (k : ℕ) (t : Progress) → after s (Enter k) ≡ Some t → IsSound t
 entering_sound s sound k t e =
     let found = and_then_some _ _ t e in
     let a = found.0 in
-    let made = if_some _ _ t found.2 in
+    let made = cond_some _ _ t found.2 in
     subst IsSound made.1 (member_sound s sound k a (entering a) found.1 refl (entering_fits (machine_of s) sound.invariant a (is_member s sound k a found.1) (eqb-true a.word WAITING made.0)))
 
 -- a counter that a member of a sound state has loaded is in range

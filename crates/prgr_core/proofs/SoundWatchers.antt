@@ -12,7 +12,9 @@ use Rattle.prgr_core.proofs.Delays.{hold_set, hold_kept, holders_gain, holders_l
 use Rattle.prgr_core.proofs.WatcherSteps.{adds_new}
 use Rattle.prgr_core.proofs.WatcherChanges.{WatcherFits, counter_watched_fits, delay_added_fits, root_watched_fits, delay_dropped_fits}
 use Rattle.prgr_core.proofs.SoundParts.{watcher_sound}
-use Rattle.prgr_core.proofs.Parts.{and_then_some, if_some, both_true}
+use Rattle.prgr_core.proofs.Parts.{and_then_some}
+use Rattle.std.proofs.lemmas.Bool.{and_parts}
+use Rattle.std.proofs.lemmas.Option.{cond_some}
 
 -- a watcher that holds what the one before held may stand in its place
 held_still_sound : (s : Progress) → IsSound s → (k : ℕ) (a b : Watcher) → slice_get s.watchers k ≡ Some a → b.number ≡ a.number → ((d : Delay) → holds d b ≡ holds d a) → WatcherFits (machine_of s) b → IsSound (with_watcher s k b)
@@ -25,7 +27,7 @@ pub watch_loaded_sound : (s : Progress) → IsSound s → (k : ℕ) (t : Progres
 watch_loaded_sound s sound k t e =
     let found = and_then_some _ _ t e in
     let a = found.0 in
-    let made = if_some (may_look a.phase) (with_watcher s k (counter_watched s.counter a)) t found.2 in
+    let made = cond_some (may_look a.phase) (with_watcher s k (counter_watched s.counter a)) t found.2 in
     let fits = counter_watched_fits (machine_of s) sound.invariant a (k, found.1) in
     subst IsSound made.1 (held_still_sound s sound k a (counter_watched s.counter a) found.1 refl (λ d. refl) fits)
 
@@ -33,7 +35,7 @@ pub watch_rooted_sound : (s : Progress) → IsSound s → (k : ℕ) (t : Progres
 watch_rooted_sound s sound k t e =
     let found = and_then_some _ _ t e in
     let a = found.0 in
-    let made = if_some (is_claimed a.phase) (with_watcher s k (root_watched s.generation a)) t found.2 in
+    let made = cond_some (is_claimed a.phase) (with_watcher s k (root_watched s.generation a)) t found.2 in
     let fits = root_watched_fits (machine_of s) sound.invariant a (k, found.1) made.0 in
     subst IsSound made.1 (held_still_sound s sound k a (root_watched s.generation a) found.1 refl (λ d. refl) fits)
 
@@ -43,7 +45,7 @@ watch_added_sound s sound k which t e =
     let a = found.0 in
     let named = and_then_some (λ delay. if may_add a.phase delay then Some (raised s k a delay) else None) (delay_numbered which) t found.2 in
     let d = named.0 in
-    let made = if_some (may_add a.phase d) (raised s k a d) t named.2 in
+    let made = cond_some (may_add a.phase d) (raised s k a d) t named.2 in
     let b = delay_added d a in
     let each = sound.invariant.each_watcher a (k, found.1) in
     let more = holders_gain d s.watchers k a b found.1 (adds_new a.phase d a.holds_even a.holds_odd made.0 each.holds_as_phase) (hold_set d true a) in
@@ -59,8 +61,8 @@ watch_left_sound s sound k which t e =
     let a = found.0 in
     let named = and_then_some (λ delay. if may_leave a.phase && holds delay a then Some (lowered s k a delay) else None) (delay_numbered which) t found.2 in
     let d = named.0 in
-    let made = if_some (may_leave a.phase && holds d a) (lowered s k a d) t named.2 in
-    let tests = both_true (may_leave a.phase) (holds d a) made.0 in
+    let made = cond_some (may_leave a.phase && holds d a) (lowered s k a d) t named.2 in
+    let tests = and_parts (may_leave a.phase) (holds d a) made.0 in
     let b = delay_dropped d a in
     let less = holders_lose d s.watchers k a b found.1 tests.1 (hold_set d false a) in
     let others = holders_keep (other_delay d) s.watchers k a b found.1 (hold_kept d false a) in

@@ -15,37 +15,24 @@ use Rattle.prgr_core.proofs.Delays.{same_delay, different_delay}
 
 -- a claim goes with the count of its counter
 pub claim_holds : (phase : Phase) (even odd : Bool) (c : ℕ) → HasClaim phase c → HoldsIn phase even odd → of_delay (delay_of c) even odd ≡ true
-claim_holds Idle even odd c claim held = absurd claim
-claim_holds (Loaded x) even odd c claim held = absurd claim
-claim_holds (Added x) even odd c claim held = absurd claim
-claim_holds (Moved d) even odd c claim held = absurd claim
-claim_holds Both even odd c claim held = absurd claim
 claim_holds (Claimed x) even odd c claim held = subst (λ (n : ℕ). of_delay (delay_of n) even odd ≡ true) claim held
-claim_holds Leaving even odd c claim held = absurd claim
+claim_holds phase even odd c claim held = absurd claim
 
 -- ---- a load of the counter
 
 -- a claim after a load of the counter is of that counter, or was one before
 pub seen_claim : (counter : ℕ) (phase : Phase) (c : ℕ) → HasClaim (phase_seeing counter phase) c → (counter ≡ c) ⊎ HasClaim phase c
-seen_claim counter Idle c claim = absurd claim
-seen_claim counter (Loaded x) c claim = absurd claim
 seen_claim counter (Added x) c claim =
     if_each (λ (p : Phase). HasClaim p c → (counter ≡ c) ⊎ HasClaim (Added x) c) (eqb counter x) (Claimed counter) (Moved (delay_of x))
     (λ _ is. inl is) (λ _ is. absurd is) claim
-seen_claim counter (Moved d) c claim = absurd claim
 seen_claim counter Both c claim = inl claim
 seen_claim counter (Claimed x) c claim = inr claim
-seen_claim counter Leaving c claim = absurd claim
+seen_claim counter phase c claim = absurd claim
 
 -- who has a claim keeps it
 seen_still : (counter : ℕ) (phase : Phase) → IsClaimed phase → phase_seeing counter phase ≡ phase
-seen_still counter Idle claim = absurd claim.1
-seen_still counter (Loaded x) claim = absurd claim.1
-seen_still counter (Added x) claim = absurd claim.1
-seen_still counter (Moved d) claim = absurd claim.1
-seen_still counter Both claim = absurd claim.1
 seen_still counter (Claimed x) claim = refl
-seen_still counter Leaving claim = absurd claim.1
+seen_still counter phase claim = absurd claim.1
 
 seen_watched : (counter : ℕ) (phase : Phase) (c : ℕ) → HasWatched (phase_seeing counter phase) c → counter ≡ c
 seen_watched counter Idle c watched = watched
@@ -53,55 +40,33 @@ seen_watched counter (Loaded x) c watched = watched
 seen_watched counter (Added x) c watched =
     if_each (λ (p : Phase). HasWatched p c → counter ≡ c) (eqb counter x) (Claimed counter) (Moved (delay_of x))
     (λ _ none. absurd none) (λ _ none. absurd none) watched
-seen_watched counter (Moved d) c watched = absurd watched
-seen_watched counter Both c watched = absurd watched
-seen_watched counter (Claimed x) c watched = absurd watched
-seen_watched counter Leaving c watched = absurd watched
+seen_watched counter phase c watched = absurd watched
 
 holds_either : (d : Delay) (even odd : Bool) → HoldsBoth even odd → of_delay d even odd ≡ true
 holds_either Even even odd both = both.0
 holds_either Odd even odd both = both.1
 
 seen_holds : (counter : ℕ) (phase : Phase) (even odd : Bool) → HoldsIn phase even odd → HoldsIn (phase_seeing counter phase) even odd
-seen_holds counter Idle even odd held = held
-seen_holds counter (Loaded x) even odd held = held
 seen_holds counter (Added x) even odd held =
     if_each (λ (p : Phase). HoldsIn p even odd) (eqb counter x) (Claimed counter) (Moved (delay_of x))
     (λ same. subst (λ (n : ℕ). of_delay (delay_of n) even odd ≡ true) (sym (eqb-true counter x same)) held.0) (λ _. held)
-seen_holds counter (Moved d) even odd held = held
 seen_holds counter Both even odd held = holds_either (delay_of counter) even odd held
-seen_holds counter (Claimed x) even odd held = held
-seen_holds counter Leaving even odd held = held
+seen_holds counter phase even odd held = held
 
 -- ---- a count raised
 
 -- the claims are those before
 pub added_claim : (phase : Phase) (c : ℕ) → HasClaim (phase_holding phase) c → HasClaim phase c
 added_claim Idle c claim = claim
-added_claim (Loaded x) c claim = claim
-added_claim (Added x) c claim = claim
-added_claim (Moved d) c claim = claim
-added_claim Both c claim = claim
-added_claim (Claimed x) c claim = claim
-added_claim Leaving c claim = claim
+added_claim phase c claim = claim
 
 claim_added : (phase : Phase) (c : ℕ) → HasClaim phase c → HasClaim (phase_holding phase) c
 claim_added Idle c claim = claim
-claim_added (Loaded x) c claim = claim
-claim_added (Added x) c claim = claim
-claim_added (Moved d) c claim = claim
-claim_added Both c claim = claim
-claim_added (Claimed x) c claim = claim
-claim_added Leaving c claim = claim
+claim_added phase c claim = claim
 
 added_watched : (phase : Phase) (c : ℕ) → HasWatched (phase_holding phase) c → HasWatched phase c
-added_watched Idle c watched = watched
-added_watched (Loaded x) c watched = watched
-added_watched (Added x) c watched = watched
 added_watched (Moved d) c watched = absurd watched
-added_watched Both c watched = watched
-added_watched (Claimed x) c watched = watched
-added_watched Leaving c watched = watched
+added_watched phase c watched = watched
 
 holds_neither : (d : Delay) (even odd : Bool) → HoldsNone even odd → of_delay d even odd ≡ false
 holds_neither Even even odd none = none.0
@@ -109,13 +74,9 @@ holds_neither Odd even odd none = none.1
 
 -- a count that may be raised is not held
 pub adds_new : (phase : Phase) (d : Delay) (even odd : Bool) → may_add phase d ≡ true → HoldsIn phase even odd → of_delay d even odd ≡ false
-adds_new Idle d even odd may held = absurd (cc)
 adds_new (Loaded x) d even odd may held = holds_neither d even odd held
-adds_new (Added x) d even odd may held = absurd (cc)
 adds_new (Moved e) d even odd may held = subst (λ (f : Delay). of_delay f even odd ≡ false) (sym (different_delay d e may)) held.1
-adds_new Both d even odd may held = absurd (cc)
-adds_new (Claimed x) d even odd may held = absurd (cc)
-adds_new Leaving d even odd may held = absurd (cc)
+adds_new phase d even odd may held = absurd (cc)
 
 -- the first count that is raised is held alone
 holds_first : (d : Delay) (even odd : Bool) → HoldsNone even odd → HoldsAlone d (of_delay d true even) (of_delay d odd true)
@@ -128,24 +89,15 @@ holds_second Even even odd alone = (alone.0, refl)
 holds_second Odd even odd alone = (refl, alone.0)
 
 added_holds : (phase : Phase) (d : Delay) (even odd : Bool) → may_add phase d ≡ true → HoldsIn phase even odd → HoldsIn (phase_holding phase) (of_delay d true even) (of_delay d odd true)
-added_holds Idle d even odd may held = absurd (cc)
 added_holds (Loaded x) d even odd may held = subst (λ (e : Delay). HoldsAlone e (of_delay d true even) (of_delay d odd true)) (same_delay d (delay_of x) may) (holds_first d even odd held)
-added_holds (Added x) d even odd may held = absurd (cc)
 added_holds (Moved e) d even odd may held = subst (λ (f : Delay). HoldsBoth (of_delay f true even) (of_delay f odd true)) (sym (different_delay d e may)) (holds_second e even odd held)
-added_holds Both d even odd may held = absurd (cc)
-added_holds (Claimed x) d even odd may held = absurd (cc)
-added_holds Leaving d even odd may held = absurd (cc)
+added_holds phase d even odd may held = absurd (cc)
 
 -- ---- the root, and a count lowered
 
 is_claimed_true : (phase : Phase) → is_claimed phase ≡ true → IsClaimed phase
-is_claimed_true Idle e = absurd (cc)
-is_claimed_true (Loaded x) e = absurd (cc)
-is_claimed_true (Added x) e = absurd (cc)
-is_claimed_true (Moved d) e = absurd (cc)
-is_claimed_true Both e = absurd (cc)
 is_claimed_true (Claimed x) e = (x, refl)
-is_claimed_true Leaving e = absurd (cc)
+is_claimed_true phase e = absurd (cc)
 
 -- the last count that is lowered leaves none held
 holds_no_more : (d : Delay) (even odd : Bool) → of_delay (other_delay d) even odd ≡ false → HoldsNone (of_delay d false even) (of_delay d odd false)

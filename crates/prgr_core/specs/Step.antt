@@ -124,6 +124,10 @@ with_retirement s = record s {
   retired = s.retired ++ (record { generation = s.generation; need = s.counter + 2 }) ∷ [];
 }
 
+-- the present generation has this need from now on, whatever is awaited
+abbrev pub with_pair : Progress → Progress
+with_pair s = record s { retired = s.retired ++ (record { generation = s.generation; need = s.counter + 2 }) ∷ [] }
+
 -- a retirement leaves once the counter has reached its need
 abbrev pub released : Progress → ℕ → Option ℕ → Option Progress
 released s generation None = None
@@ -164,21 +168,7 @@ after s (WatchSub w which) = by_delay s w which (λ watcher delay. if may_leave 
 abbrev pub LacksMemory : Progress → PrgrEvent → Type 0
 LacksMemory s Retire = Unit {0}
 LacksMemory s Publish = 2 ^ 64 ≤ s.generation + 1
-LacksMemory s (LoadCounter k) = ⊥
-LacksMemory s (LoadRoot k) = ⊥
-LacksMemory s (Report k) = ⊥
-LacksMemory s (Lead k) = ⊥
-LacksMemory s (Scan k j) = ⊥
-LacksMemory s (ScanDelay k) = ⊥
-LacksMemory s (Advance k) = ⊥
-LacksMemory s (GiveUp k) = ⊥
-LacksMemory s (Wait k) = ⊥
-LacksMemory s (Enter k) = ⊥
-LacksMemory s (Release g) = ⊥
-LacksMemory s (WatchLoad w) = ⊥
-LacksMemory s (WatchAdd w which) = ⊥
-LacksMemory s (WatchRoot w) = ⊥
-LacksMemory s (WatchSub w which) = ⊥
+LacksMemory s _ = ⊥
 
 -- the state after events in turn, or none where one of them is not enabled
 abbrev pub after_all : Progress → List PrgrEvent → Option Progress

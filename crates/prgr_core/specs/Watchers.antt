@@ -51,23 +51,14 @@ holders delay watchers = count_by (holds delay) watchers
 
 -- it has loaded this counter, and not looked at it since
 abbrev pub HasWatched : Phase → ℕ → Type 0
-HasWatched Idle c = ⊥
 HasWatched (Loaded x) c = x ≡ c
 HasWatched (Added x) c = x ≡ c
-HasWatched (Moved delay) c = ⊥
-HasWatched Both c = ⊥
-HasWatched (Claimed x) c = ⊥
-HasWatched Leaving c = ⊥
+HasWatched _ c = ⊥
 
 -- it may read, and claimed that at this counter
 abbrev pub HasClaim : Phase → ℕ → Type 0
-HasClaim Idle c = ⊥
-HasClaim (Loaded x) c = ⊥
-HasClaim (Added x) c = ⊥
-HasClaim (Moved delay) c = ⊥
-HasClaim Both c = ⊥
 HasClaim (Claimed x) c = x ≡ c
-HasClaim Leaving c = ⊥
+HasClaim _ c = ⊥
 
 -- it may read
 abbrev pub IsClaimed : Phase → Type 0
@@ -99,43 +90,27 @@ HoldsIn Leaving even odd = Unit {0}
 
 -- in this phase a watcher may load the counter
 abbrev pub may_look : Phase → Bool
-may_look Idle = true
-may_look (Loaded c) = true
-may_look (Added c) = true
 may_look (Moved delay) = false
-may_look Both = true
 may_look (Claimed c) = false
 may_look Leaving = false
+may_look _ = true
 
 -- in this phase a watcher may raise this count: that of the counter it loaded, or the one that it does not hold
 abbrev pub may_add : Phase → Delay → Bool
-may_add Idle delay = false
 may_add (Loaded c) delay = is_same_delay delay (delay_of c)
-may_add (Added c) delay = false
 may_add (Moved held) delay = not (is_same_delay delay held)
-may_add Both delay = false
-may_add (Claimed c) delay = false
-may_add Leaving delay = false
+may_add _ delay = false
 
 -- in this phase a watcher may load the root, and read
 abbrev pub is_claimed : Phase → Bool
-is_claimed Idle = false
-is_claimed (Loaded c) = false
-is_claimed (Added c) = false
-is_claimed (Moved delay) = false
-is_claimed Both = false
 is_claimed (Claimed c) = true
-is_claimed Leaving = false
+is_claimed _ = false
 
 -- in this phase a watcher may lower a count that it holds
 abbrev pub may_leave : Phase → Bool
-may_leave Idle = false
-may_leave (Loaded c) = false
-may_leave (Added c) = false
-may_leave (Moved delay) = false
-may_leave Both = false
 may_leave (Claimed c) = true
 may_leave Leaving = true
+may_leave _ = false
 
 -- ---- what events do
 
@@ -162,13 +137,11 @@ with_hold delay held watcher = record watcher {
 
 -- the phase after a count was raised
 abbrev pub phase_holding : Phase → Phase
-phase_holding Idle = Idle
 phase_holding (Loaded c) = Added c
 phase_holding (Added c) = Added c
 phase_holding (Moved delay) = Both
-phase_holding Both = Both
 phase_holding (Claimed c) = Claimed c
-phase_holding Leaving = Leaving
+phase_holding phase = phase
 
 -- it has raised this count
 abbrev pub delay_added : Delay → Watcher → Watcher

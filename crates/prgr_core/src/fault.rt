@@ -1,7 +1,6 @@
 //! Why a call was refused.
 
 ghost use Rattle.std.specs.Prelude.{◌≡◌};
-ghost use Rattle.prgr_core.specs.declared.fault.NoMemory.{NoMemory};
 ghost use Rattle.prgr_core.specs.declared.fault.StepFault.TheVariants as steps;
 ghost use Rattle.prgr_core.specs.declared.fault.EventFault.TheVariants as texts;
 

@@ -63,6 +63,12 @@ impl MemberList {
         self.members[place as usize] = member;
     }
 
+    pub fn as_slice(&self) -> &[Member]
+        ensures { result.now ≡ self.now }
+    {
+        self.members.as_slice()
+    }
+
     /// Whether each of the members is scanned.
     pub fn are_all_scanned(&self, scans: &Scans) -> bool
         ensures { result ≡ have_scanned_all scans.now self.now }
@@ -107,6 +113,12 @@ impl WatcherList {
     {
         self.watchers.push(watcher)?;
         Ok(())
+    }
+
+    pub fn as_slice(&self) -> &[Watcher]
+        ensures { result.now ≡ self.now }
+    {
+        self.watchers.as_slice()
     }
 
     /// The watcher at a place, if there is one.

@@ -17,6 +17,7 @@ use crate::watcher::Delay;
 use leader::{advance, give_up, lead, scan, scan_delay};
 use members::{enter, load_counter, load_root, report, wait};
 use watchers::{watch_add, watch_load, watch_root, watch_sub};
+pub use writer::keep_need;
 use writer::{publish, release, retire};
 
 /// What a state of the machine is made of.

@@ -1,6 +1,6 @@
 //! The text of a list of events.
 
-ghost use Rattle.std.specs.Prelude.{◌≡◌, ◌≤◌, ◌<◌, ℕ, ◌+◌, IfOk, IfErr, Ok, option_map, codes};
+ghost use Rattle.std.specs.Prelude.{◌≡◌, IfOk, IfErr, Ok, option_map};
 ghost use Rattle.prgr_core.specs.declared.event.Events.{Events as EventsValue};
 ghost use Rattle.prgr_core.specs.EventText.{EventText};
 ghost use Rattle.prgr_core.specs.Faults.{IsFaultOf};

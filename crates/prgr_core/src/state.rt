@@ -3,13 +3,13 @@
 ghost use Rattle.std.specs.Prelude.{◌≡◌, ◌≤◌, ◌↔◌, IsErrOf, IfOk, IfErr, OnOk, OnErr, Some, None};
 ghost use Rattle.prgr_core.specs.declared.fault.StepFault.TheVariants.{NotEnabled};
 ghost use Rattle.prgr_core.specs.declared.fault.StepFault.TheVariants as steps;
-ghost use Rattle.prgr_core.specs.Step.{LacksMemory, after, after_all, opening, opening_members, opening_watchers, StopsBy, IsSound};
+ghost use Rattle.prgr_core.specs.Step.{LacksMemory, after, after_all, opening, opening_members, opening_watchers, StopsBy, IsSound, with_pair};
 
 use crate::event::{EventList, PrgrEvent};
 use crate::fault::{NoMemory, ReplayFault, StepFault};
 use crate::lists::{MemberList, NeedMap, RetirementList, WatcherList};
 use crate::member::{Member, OPENING_COUNTER};
-use crate::progress::{Progress, apply};
+use crate::progress::{Progress, apply, keep_need};
 use crate::watcher::Watcher;
 use std::alloc::Global;
 use std::marker::Model;
@@ -70,6 +70,29 @@ impl PrgrState {
         ensures { result ≡ self.now.generation }
     {
         self.progress.generation
+    }
+
+    /// The members, in the order of their numbers.
+    pub fn members(&self) -> &[Member]
+        ensures { result.now ≡ self.now.members }
+    {
+        self.progress.members.as_slice()
+    }
+
+    /// The watchers, in the order of their numbers.
+    pub fn watchers(&self) -> &[Watcher]
+        ensures { result.now ≡ self.now.watchers }
+    {
+        self.progress.watchers.as_slice()
+    }
+
+    /// Keeps that the present generation needs two more values of the counter, as a retirement does,
+    /// also where one of this generation is awaited already. What is awaited stays.
+    pub fn keep_need(&mut self) -> Result<(), NoMemory>
+        ensures ok { OnOk result (self.new ≡ with_pair self.old) }
+        ensures err { OnErr result (self.new ≡ self.old) }
+    {
+        keep_need(&mut self.progress)
     }
 }
 

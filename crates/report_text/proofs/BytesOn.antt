@@ -1,9 +1,8 @@
 -- The bytes of a text, from a line on: the next line is taken, or no line has ended.
 use Rattle.std.proofs.Common.{◌≡◌, ℕ, ◌+◌, false, List, Option, Some, None, Result, Ok, bytes_eq, codes, sym, ap, ◌∙◌, subst}
-use Rattle.mod_text.specs.LineReading.{cut_at}
-use Rattle.mod_text.specs.Reading.{Lines}
-use Rattle.mod_text.proofs.Cuts.{lines_of_cut, lines_of_tail, uncut_is}
-use Rattle.mod_text.proofs.Options.{failed}
+use Rattle.term_core.specs.Text.Cuts.{cut_at, Lines}
+use Rattle.term_core.proofs.Text.Cuts.{lines_of_cut, lines_of_tail, uncut_is}
+use Rattle.term_core.proofs.Text.Options.{failed}
 use Rattle.run_log.specs.declared.logs.RunLog.{RunLog}
 use Rattle.report_text.specs.declared.fault.ReportFault.{ReportFault}
 use Rattle.report_text.specs.declared.fault.ReportFault.TheVariants as faults

@@ -13,11 +13,12 @@ use Rattle.term_core.proofs.PlainTerms.{plain-term_of, term_of-plain}
 use Rattle.server_core.specs.declared.command.ModRef.{ModRef}
 use Rattle.server_core.specs.declared.command.Cmd.{Cmd}
 use Rattle.server_core.specs.declared.command.Cmd.TheVariants.{Load, Delete, SoftPurge, Doom, Purge, CheckOld, Put, Erase, Trace, Spawn, Release}
-use Rattle.mod_text.specs.LineReading.{◌>>=◌, cut_at}
-use Rattle.mod_text.proofs.Options.{some, some_is, bind_some, bind_at}
-use Rattle.mod_text.proofs.Cuts.{lacks, lacks-append, lacks-cons, cut_here, cut_is}
+use Rattle.term_core.specs.Text.Steps.{◌>>=◌}
+use Rattle.term_core.specs.Text.Cuts.{cut_at}
+use Rattle.term_core.proofs.Text.Options.{some, some_is, bind_some, bind_at}
+use Rattle.term_core.proofs.Text.Cuts.{lacks, lacks-append, lacks-cons, cut_here, cut_is}
 use Rattle.script_text.specs.LineReading.{parts_of, each_reading, switch_reading}
-use Rattle.script_text.specs.Sound.{IsTermOf}
+use Rattle.script_core.specs.Sound.{IsTermOf}
 use Rattle.script_text.proofs.CommandLaws.{join-flat}
 use Rattle.run_log.specs.Report.{mfa_text, plain_text, call_text, reference_text, switch_text, cmd_text}
 use Rattle.run_log.specs.WellFormed.{IsNamed, IsReferenceOf, IsCommandOf}

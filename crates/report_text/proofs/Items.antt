@@ -2,9 +2,9 @@
 use Rattle.std.proofs.Common.{◌≡◌, ℕ, ◌<◌, true, false, ◌==◌, List, [], ◌∷◌, length, Option, Some, refl, sym, ap, ◌∙◌, subst, arith}
 use Rattle.std.specs.Prelude.{map}
 use Rattle.std.specs.List.{AllByRecursion, join_with_byte}
-use Rattle.mod_text.specs.LineReading.{◌>>=◌}
-use Rattle.mod_text.proofs.Options.{some, some_is, bind_some, bind_at}
-use Rattle.mod_text.proofs.Cuts.{lacks, lacks-append, lacks-cons}
+use Rattle.term_core.specs.Text.Steps.{◌>>=◌}
+use Rattle.term_core.proofs.Text.Options.{some, some_is, bind_some, bind_at}
+use Rattle.term_core.proofs.Text.Cuts.{lacks, lacks-append, lacks-cons}
 use Rattle.script_text.specs.LineReading.{parts_of, each_reading}
 use Rattle.script_text.proofs.Parts.{parts_at, parts_whole, parts_are_some, join-parts}
 

@@ -1,7 +1,7 @@
 -- A text that is gone through from behind: what was passed lacks the byte.
 use Rattle.std.proofs.Common.{◌≡◌, ℕ, ◌+◌, ◌-◌, ◌<◌, true, false, ◌==◌, List, ◌∷◌, ◌++◌, length, get_or, take, drop, Some, None, sym, ap, ◌∙◌, arith, add-one, drop-cons, length-drop}
 use Rattle.std.proofs.lemmas.List.{take-append-drop, take_all}
-use Rattle.mod_text.proofs.Cuts.{lacks, lacks-cons}
+use Rattle.term_core.proofs.Text.Cuts.{lacks, lacks-cons}
 use Rattle.report_text.specs.WordReading.{cut_last}
 use Rattle.report_text.proofs.Pairs.{cut_last_here, uncut_last}
 
@@ -14,11 +14,6 @@ pub cut_there : (byte : ℕ) (text : List ℕ) (place end : ℕ) → place + 1 �
 cut_there byte text place end e h is l =
     let behind : drop place text ≡ byte ∷ drop end text = parts_at text place h ∙ ap (λ b. b ∷ drop (place + 1) text) is ∙ ap (λ n. byte ∷ drop n text) e in
     ap (cut_last byte) (sym (take-append-drop place text) ∙ ap (λ (t : List ℕ). take place text ++ t) behind) ∙ cut_last_here byte (take place text) (drop end text) l
-
--- another byte stands there
-pub lacks_there : (byte : ℕ) (text : List ℕ) (place end : ℕ) → place + 1 ≡ end → place < length text → (get_or text place 0 == byte) ≡ false → lacks byte (drop end text) ≡ true → lacks byte (drop place text) ≡ true
-lacks_there byte text place end e h is l =
-    ap (lacks byte) (parts_at text place h) ∙ lacks-cons byte (get_or text place 0) (drop (place + 1) text) is (ap (λ n. lacks byte (drop n text)) e ∙ l)
 
 -- the rest of a text, as a slice gives it
 pub rest_is : (text : List ℕ) (end : ℕ) → take (length text - end) (drop end text) ≡ drop end text

@@ -23,8 +23,8 @@ use Rattle.machine_core.specs.declared.process.End.{End}
 use Rattle.machine_core.specs.declared.process.End.TheVariants as ends
 use Rattle.run_log.specs.declared.logs.Who.{Who}
 use Rattle.run_log.specs.declared.logs.Who.TheVariants.{Loader, Runtime}
-use Rattle.mod_text.proofs.LineAgain.{name_bytes}
-use Rattle.script_text.specs.Sound.{IsTermOf}
+use Rattle.term_core.proofs.TermBytes.{name_bytes-atom as name_bytes}
+use Rattle.script_core.specs.Sound.{IsTermOf}
 use Rattle.run_log.specs.Report.{mfa_text, plain_text, call_text, who_text, reference_text, switch_text, cmd_text, reply_text, end_text}
 use Rattle.run_log.specs.WellFormed.{IsWide, IsNamed, IsFunctionOf, IsCallOf, IsReferenceOf, IsCommandOf, IsReplyOf, IsWhoOf, IsLineOf, IsEndOf}
 use Rattle.report_text.specs.ReportLine.{shown_line_text}
@@ -119,15 +119,11 @@ atoms_plain names sound (a ∷ b ∷ more) h = both (atom_text names a.0) _ (ato
 
 -- a reply
 pub reply_plain : (names : List (List ℕ)) → IsNames names → (r : Reply) → IsReplyOf names r → IsPlainText (reply_text names r)
-reply_plain names sound replies.Ok h = (record { all = refl })
-reply_plain names sound replies.True h = (record { all = refl })
-reply_plain names sound replies.False h = (record { all = refl })
 reply_plain names sound (replies.FalseBy l) h = both (codes "false " ++ decimal l.process) _ (both (codes "false ") _ (record { all = refl }) (number_plain l.process (narrow_wide l.process h.process))) (one_more 32 _ refl (number_plain l.turn (narrow_wide l.turn h.turn)))
 reply_plain names sound (replies.NotPurged atoms) h = both (codes "not_purged [" ++ join_with_byte 44 (map (λ m. atom_text names m.0) atoms)) (93 ∷ []) (both (codes "not_purged [") _ (record { all = refl }) (atoms_plain names sound atoms h)) (record { all = refl })
 reply_plain names sound (replies.Duplicated a) h = both (codes "duplicated ") _ (record { all = refl }) (atom_plain names a sound h)
 reply_plain names sound (replies.SystemLimit Instances) h = (record { all = refl })
-reply_plain names sound (replies.SystemLimit Keys) h = (record { all = refl })
-reply_plain names sound (replies.SystemLimit Areas) h = (record { all = refl })
+reply_plain names sound r h = (record { all = refl })
 
 -- who made an entry
 pub who_plain : (who : Who) → IsWhoOf who → IsPlainText (who_text who)
@@ -141,9 +137,6 @@ shown_plain names sound (shown.Trace to args) h = both (codes "trace ") _ (recor
 
 -- an end
 pub end_plain : (names : List (List ℕ)) → IsNames names → (fin : End) → IsEndOf names fin → IsPlainText (end_text names fin)
-end_plain names sound ends.Normal h = (record { all = refl })
 end_plain names sound (ends.Undef to) h = both (codes "undef ") _ (record { all = refl }) (function_plain names to sound h)
-end_plain names sound ends.Badarg h = (record { all = refl })
-end_plain names sound ends.Badarith h = (record { all = refl })
-end_plain names sound ends.SystemLimit h = (record { all = refl })
 end_plain names sound (ends.Killed serial) h = both (codes "killed ") _ (record { all = refl }) (number_plain serial h)
+end_plain names sound fin h = (record { all = refl })

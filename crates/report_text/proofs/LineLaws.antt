@@ -9,10 +9,11 @@ use Rattle.machine_core.specs.declared.process.Line.{Line}
 use Rattle.machine_core.specs.declared.process.Line.TheVariants as shown
 use Rattle.machine_core.specs.declared.process.End.{End}
 use Rattle.machine_core.specs.declared.process.End.TheVariants as ends
-use Rattle.mod_text.specs.LineReading.{◌>>=◌, cut_at}
-use Rattle.mod_text.proofs.Options.{some, some_is, bind_some, bind_at}
-use Rattle.mod_text.proofs.Cuts.{lacks, lacks-all, lacks-append, lacks-cons, cut_here, cut_is}
-use Rattle.script_text.specs.Sound.{IsTermOf}
+use Rattle.term_core.specs.Text.Steps.{◌>>=◌}
+use Rattle.term_core.specs.Text.Cuts.{cut_at}
+use Rattle.term_core.proofs.Text.Options.{some, some_is, bind_some, bind_at}
+use Rattle.term_core.proofs.Text.Cuts.{lacks, lacks-all, lacks-append, lacks-cons, cut_here, cut_is}
+use Rattle.script_core.specs.Sound.{IsTermOf}
 use Rattle.run_log.specs.declared.logs.Entry.{Entry}
 use Rattle.run_log.specs.Report.{mfa_text, plain_text, call_text, who_text, cmd_text, reply_text, published_text, end_text}
 use Rattle.run_log.specs.WellFormed.{IsWide, IsLineOf, IsEndOf, IsEntryOf}
@@ -78,12 +79,9 @@ end_is names sound text e h =
     (λ h4. longer_end_is names sound text e h4))))
 
 end_again : (names : List (List ℕ)) → IsNames names → (e : End) → IsEndOf names e → end_reading names (end_text names e) ≡ Some e
-end_again names sound ends.Normal h = refl
 end_again names sound (ends.Undef to) h = bind_at (function_reading names (mfa_text names to)) (λ f. Some (ends.Undef f)) to (some (ends.Undef to)) (function_again names to sound h) refl
-end_again names sound ends.Badarg h = refl
-end_again names sound ends.Badarith h = refl
-end_again names sound ends.SystemLimit h = refl
 end_again names sound (ends.Killed serial) h = bind_at (number_reading (decimal serial)) (λ n. Some (ends.Killed n)) serial (some (ends.Killed serial)) (number_again serial h) refl
+end_again names sound e h = refl
 
 -- ---- what is read has its text
 
@@ -213,11 +211,7 @@ line_is names sound text l h =
 -- an end's line is not the last one
 not_last : (names : List (List ℕ)) (e : End) → line_reading names (codes "end " ++ end_text names e) ≡ (end_reading names (end_text names e) >>= λ fin. Some (lines.End fin))
 not_last names ends.Normal = refl
-not_last names (ends.Undef to) = refl
-not_last names ends.Badarg = refl
-not_last names ends.Badarith = refl
-not_last names ends.SystemLimit = refl
-not_last names (ends.Killed serial) = refl
+not_last names e = refl
 
 number_line_again : (n : ℕ) (made : ℕ → ReportLine) → IsWide n → (number_reading (decimal n) >>= λ k. Some (made k)) ≡ Some (made n)
 number_line_again n made h = bind_at (number_reading (decimal n)) (λ k. Some (made k)) n (some (made n)) (number_again n h) refl

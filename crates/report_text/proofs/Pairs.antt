@@ -2,9 +2,10 @@
 use Rattle.std.proofs.Common.{◌≡◌, ℕ, Bool, true, false, cond, ◌==◌, not, List, [], ◌∷◌, ◌++◌, length, Option, Some, None, bytes_eq, refl, sym, ap, ◌∙◌, subst, arith}
 use Rattle.std.proofs.lemmas.Bool.{and_parts, not-true}
 use Rattle.std.proofs.lemmas.Bool.Decides.{Decides-eqb}
-use Rattle.mod_text.specs.LineReading.{◌>>=◌, with_first}
-use Rattle.mod_text.proofs.Options.{some, some_is, bind_some, bind_at, passed, failed, bytes_are}
-use Rattle.mod_text.proofs.Cuts.{lacks}
+use Rattle.term_core.specs.Text.Steps.{◌>>=◌}
+use Rattle.term_core.specs.Text.Cuts.{with_first}
+use Rattle.term_core.proofs.Text.Options.{some, some_is, bind_some, bind_at, passed, failed, bytes_are}
+use Rattle.term_core.proofs.Text.Cuts.{lacks}
 use Rattle.report_text.specs.WordReading.{cut_or, cut_last}
 use Rattle.report_text.specs.TermReading.{ended_reading}
 

@@ -5,8 +5,8 @@ use Rattle.std.specs.Str.Parse.{ParsesUnsigned}
 use Rattle.std.proofs.lemmas.Bool.Decides.{nat_tests}
 use Rattle.std.proofs.lemmas.Str.Parse.{parse_digits}
 use Rattle.term_core.proofs.IntegerTexts.{own}
-use Rattle.mod_text.specs.ModuleLine.{is_number_text, number_value}
-use Rattle.mod_text.proofs.Numbers.{number_digits}
+use Rattle.term_core.specs.Text.Numbers.{is_number_text, number_value}
+use Rattle.term_core.proofs.Text.Numbers.{number_digits}
 use Rattle.report_text.specs.WordReading.{wide_number}
 
 -- from the answer of `parse`

@@ -4,8 +4,9 @@ use Rattle.std.proofs.lemmas.Bool.Decides.{nat_tests}
 use Rattle.term_core.specs.PlainTerm.{PlainTerm}
 use Rattle.term_core.specs.TermParts.{parts_of_terms}
 use Rattle.term_core.proofs.PartedTerms.{parts_by_cut}
-use Rattle.mod_text.specs.LineReading.{◌>>=◌, cut_at}
-use Rattle.mod_text.proofs.Options.{some}
+use Rattle.term_core.specs.Text.Steps.{◌>>=◌}
+use Rattle.term_core.specs.Text.Cuts.{cut_at}
+use Rattle.term_core.proofs.Text.Options.{some}
 use Rattle.script_text.specs.LineReading.{parts_of, each_reading}
 use Rattle.script_text.proofs.Parts.{parts-cut_some, parts-cut_none, shorter_rest}
 use Rattle.script_text.proofs.ReadingLoops.{with_read}
@@ -31,10 +32,6 @@ reads_on read front all parts part x whole e is so_far = ap (λ o. o >>= λ y. w
 pub reads_stop : {X T : Type 0} (view : T → X) (read : List ℕ → Option X) (front : List X) (all parts : List (List ℕ)) (part : List ℕ) (whole : Option (List X)) (fault : LineFault) → all ≡ part ∷ parts → Reads view (Err fault) (read part) → with_read front (each_reading read all) ≡ whole → Reads {X = List X} (λ y. y) (Err fault) whole
 reads_stop view read front all parts part whole faults.Form e none so_far = sym (split read front all parts part whole e so_far) ∙ ap (λ o. o >>= λ y. with_read (front ++ y ∷ []) (each_reading read parts)) none
 reads_stop view read front all parts part whole faults.NoMemory e none so_far = tt
-
--- all parts are read
-pub reads_end : {X : Type 0} (read : List ℕ → Option X) (front : List X) (whole : Option (List X)) → with_read front (each_reading read []) ≡ whole → whole ≡ Some front
-reads_end read front whole so_far = sym so_far ∙ ap (λ l. some l) (append-nil front)
 
 -- ---- parts between bytes
 

@@ -13,9 +13,10 @@ use Rattle.server_core.specs.declared.command.Limit.{Limit}
 use Rattle.server_core.specs.declared.command.Limit.TheVariants.{Instances, Keys, Areas}
 use Rattle.server_core.specs.declared.command.Reply.{Reply}
 use Rattle.server_core.specs.declared.command.Reply.TheVariants as replies
-use Rattle.mod_text.specs.LineReading.{◌>>=◌, cut_at}
-use Rattle.mod_text.proofs.Options.{some, some_is, bind_some, bind_at, map_some}
-use Rattle.mod_text.proofs.Cuts.{lacks, cut_here, cut_is}
+use Rattle.term_core.specs.Text.Steps.{◌>>=◌}
+use Rattle.term_core.specs.Text.Cuts.{cut_at}
+use Rattle.term_core.proofs.Text.Options.{some, some_is, bind_some, bind_at, map_some}
+use Rattle.term_core.proofs.Text.Cuts.{lacks, cut_here, cut_is}
 use Rattle.script_text.specs.LineReading.{parts_of, each_reading}
 use Rattle.run_log.specs.Report.{cmd_text, limit_text, reply_text, published_text}
 use Rattle.run_log.specs.WellFormed.{IsNamed, IsWide, IsLingerOf, IsReplyOf, IsCommandOf, Agrees}
@@ -234,54 +235,20 @@ published_again (Some n) h = ap (option_map (λ (generation : ℕ). some generat
 -- what the reply says leaves the text
 pub agreed_text : (names : List (List ℕ)) (c : Cmd) (r : Reply) → cmd_text names (agreed c r) ≡ cmd_text names c
 agreed_text names (Load refs) r = refl
-agreed_text names (Delete name) r = refl
-agreed_text names (SoftPurge name lingers) r = refl
-agreed_text names (Doom name) r = refl
-agreed_text names (Purge name killed) r = refl
-agreed_text names (CheckOld name) r = refl
-agreed_text names (Put key term) r = refl
-agreed_text names (Erase key) r = refl
-agreed_text names (Trace to on) r = refl
-agreed_text names (Spawn to args) r = refl
-agreed_text names (Release serial) r = refl
+agreed_text names c r = refl
 
 pub agreed_fits : (names : List (List ℕ)) (c : Cmd) (r : Reply) → IsCommandOf names c → IsCommandOf names (agreed c r)
 agreed_fits names (Load refs) r h = h
-agreed_fits names (Delete name) r h = h
-agreed_fits names (SoftPurge name lingers) r h = h
-agreed_fits names (Doom name) r h = h
-agreed_fits names (Purge name killed) r h = h
-agreed_fits names (CheckOld name) r h = h
-agreed_fits names (Put key term) r h = h
-agreed_fits names (Erase key) r h = h
-agreed_fits names (Trace to on) r h = h
-agreed_fits names (Spawn to args) r h = h
-agreed_fits names (Release serial) r h = h
+agreed_fits names c r h = h
 
 -- and the two agree
 pub agreed_agrees : (c : Cmd) (r : Reply) → Agrees (agreed c r) r
-agreed_agrees (Load refs) r = tt
-agreed_agrees (Delete name) r = tt
 agreed_agrees (SoftPurge name lingers) r = refl
-agreed_agrees (Doom name) r = tt
 agreed_agrees (Purge name killed) r = refl
-agreed_agrees (CheckOld name) r = tt
-agreed_agrees (Put key term) r = tt
-agreed_agrees (Erase key) r = tt
-agreed_agrees (Trace to on) r = tt
-agreed_agrees (Spawn to args) r = tt
-agreed_agrees (Release serial) r = tt
+agreed_agrees c r = tt
 
 -- where they agree, the reply gives the command back
 pub agreed_again : (c : Cmd) (r : Reply) → Agrees c r → agreed (bare c) r ≡ c
-agreed_again (Load refs) r h = refl
-agreed_again (Delete name) r h = refl
 agreed_again (SoftPurge name lingers) r h = ap (λ l. SoftPurge name l) (sym h)
-agreed_again (Doom name) r h = refl
 agreed_again (Purge name killed) r h = ap (λ k. Purge name k) (sym h)
-agreed_again (CheckOld name) r h = refl
-agreed_again (Put key term) r h = refl
-agreed_again (Erase key) r h = refl
-agreed_again (Trace to on) r h = refl
-agreed_again (Spawn to args) r h = refl
-agreed_again (Release serial) r h = refl
+agreed_again c r h = refl

@@ -14,8 +14,8 @@ use Rattle.server_core.specs.declared.command.Reply.TheVariants as replies
 use Rattle.machine_core.specs.declared.process.Line.{Line}
 use Rattle.machine_core.specs.declared.process.End.{End}
 use Rattle.machine_core.specs.declared.process.End.TheVariants.{Normal}
-use Rattle.mod_text.specs.LineReading.{◌>>=◌}
-use Rattle.mod_text.proofs.Options.{some, some_is, bind_some, guarded, guard_some}
+use Rattle.term_core.specs.Text.Steps.{◌>>=◌}
+use Rattle.term_core.proofs.Text.Options.{some, some_is, bind_some, guarded, guard_some}
 use Rattle.script_text.proofs.SoundnessGroups.{each_append}
 use Rattle.run_log.specs.declared.logs.Who.TheVariants.{Runtime}
 use Rattle.run_log.specs.declared.logs.Entry.{Entry}
@@ -199,12 +199,7 @@ count_more es e =
 
 head_is : (names : List (List ℕ)) (log : RunLog) (stage : Stage) (next : ReportState) → StageStands names log stage → head_taken log stage ≡ Some next → IsTaken names (at log stage) lines.Head next
 head_is names log Head next h e = subst (IsTaken names (at log Head) lines.Head) (some_is (at log Count) next e) (record { stands = h; lines_are = refl })
-head_is names log Count next h e = no_state next e
-head_is names log (Entries left) next h e = no_state next e
-head_is names log Processes next h e = no_state next e
-head_is names log (Process p g) next h e = no_state next e
-head_is names log (Observer s g) next h e = no_state next e
-head_is names log Done next h e = no_state next e
+head_is names log stage next h e = no_state next e
 
 empty_good : (names : List (List ℕ)) → IsWellFormed names empty_log
 empty_good names = record { journal = tt; processes = tt; observers = tt }
@@ -219,15 +214,10 @@ count_empty names count wide = record {
 }
 
 count_is : (names : List (List ℕ)) (log : RunLog) (stage : Stage) (count : ℕ) (next : ReportState) → StageStands names log stage → IsWide count → count_taken log stage count ≡ Some next → IsTaken names (at log stage) (lines.Generations count) next
-count_is names log Head count next h wide e = no_state next e
 count_is names log Count count next h wide e =
     subst (IsTaken names (at log Count) (lines.Generations count)) (some_is (at log (Entries count)) next e)
     (subst (λ l. IsTaken names (at l Count) (lines.Generations count) (at l (Entries count))) (sym h) (count_empty names count wide))
-count_is names log (Entries left) count next h wide e = no_state next e
-count_is names log Processes count next h wide e = no_state next e
-count_is names log (Process p g) count next h wide e = no_state next e
-count_is names log (Observer s g) count next h wide e = no_state next e
-count_is names log Done count next h wide e = no_state next e
+count_is names log stage count next h wide e = no_state next e
 
 -- ---- entries
 
@@ -256,15 +246,10 @@ entry_more names log left more e h fits count =
     }
 
 entry_is : (names : List (List ℕ)) (log : RunLog) (stage : Stage) (e : Entry) (next : ReportState) → StageStands names log stage → IsEntryOf names e → entry_taken log stage e ≡ Some next → IsTaken names (at log stage) (lines.Entry e) next
-entry_is names log Head e next h fits k = no_state next k
-entry_is names log Count e next h fits k = no_state next k
 entry_is names log (Entries left) e next h fits k =
     let m = bind_some (count_after left e.published) (λ more. Some (at (with_entry log e) (Entries more))) next k in
     subst (IsTaken names (at log (Entries left)) (lines.Entry e)) (some_is (at (with_entry log e) (Entries m.0)) next m.2) (entry_more names log left m.0 e h fits (after_is left e e.published m.0 refl m.1))
-entry_is names log Processes e next h fits k = no_state next k
-entry_is names log (Process p g) e next h fits k = no_state next k
-entry_is names log (Observer s g) e next h fits k = no_state next k
-entry_is names log Done e next h fits k = no_state next k
+entry_is names log stage e next h fits k = no_state next k
 
 -- ---- processes
 
@@ -290,13 +275,9 @@ entries_done names log left h e =
     }
 
 begins_is : (names : List (List ℕ)) (log : RunLog) (stage : Stage) → StageStands names log stage → may_begin stage ≡ true → MayBegin names log stage
-begins_is names log Head h e = absurd cc
-begins_is names log Count h e = absurd cc
 begins_is names log (Entries left) h e = entries_done names log left h e
 begins_is names log Processes h e = record { stands = h; lines_are = refl }
-begins_is names log (Process p g) h e = absurd cc
-begins_is names log (Observer s g) h e = absurd cc
-begins_is names log Done h e = absurd cc
+begins_is names log stage h e = absurd cc
 
 process_begins : (names : List (List ℕ)) (log : RunLog) (stage : Stage) (number : ℕ) (to : Mfa) (args : List PlainTerm) → MayBegin names log stage → IsWide number → IsCallOf names to args → number ≡ length log.processes → IsTaken names (at log stage) (lines.Process number to args) (at log (Process (begun to args) None))
 process_begins names log stage number to args h wide call e = record {
@@ -361,16 +342,11 @@ span_begins names log process going span bare h g t f =
     }
 
 span_is : (names : List (List ℕ)) (log : RunLog) (stage : Stage) (generation turns : ℕ) (next : ReportState) → StageStands names log stage → IsWide generation → IsWide turns → span_taken log stage generation turns ≡ Some next → IsTaken names (at log stage) (lines.Span generation turns) next
-span_is names log Head generation turns next h g t e = no_state next e
-span_is names log Count generation turns next h g t e = no_state next e
-span_is names log (Entries left) generation turns next h g t e = no_state next e
-span_is names log Processes generation turns next h g t e = no_state next e
 span_is names log (Process process going) generation turns next h g t e =
     let span : Span = record { generation = generation; turns = turns; lines = [] } in
     let k = guard_some (may_follow going generation turns) (at log (Process (spans_closed process going) (Some span))) next e in
     subst (IsTaken names (at log (Process process going)) (lines.Span generation turns)) k.1 (span_begins names log process going span refl h g t (follows_is going generation turns k.0))
-span_is names log (Observer s k) generation turns next h g t e = no_state next e
-span_is names log Done generation turns next h g t e = no_state next e
+span_is names log stage generation turns next h g t e = no_state next e
 
 -- what a span shows
 span_lines-more : (span : Span) (line : Line) → span_lines (with_line span line) ≡ span_lines span ++ lines.Shown line ∷ []
@@ -406,13 +382,8 @@ shown_in_is names log process (Some span) line next h fits e =
     subst (IsTaken names (at log (Process process (Some span))) (lines.Shown line)) (some_is (at log (Process process (Some (with_line span line)))) next e) (shown_more names log process span line h fits)
 
 shown_is : (names : List (List ℕ)) (log : RunLog) (stage : Stage) (line : Line) (next : ReportState) → StageStands names log stage → IsLineOf names line → shown_taken log stage line ≡ Some next → IsTaken names (at log stage) (lines.Shown line) next
-shown_is names log Head line next h fits e = no_state next e
-shown_is names log Count line next h fits e = no_state next e
-shown_is names log (Entries left) line next h fits e = no_state next e
-shown_is names log Processes line next h fits e = no_state next e
 shown_is names log (Process process going) line next h fits e = shown_in_is names log process going line next h fits e
-shown_is names log (Observer s g) line next h fits e = no_state next e
-shown_is names log Done line next h fits e = no_state next e
+shown_is names log stage line next h fits e = no_state next e
 
 -- the end of a process
 process_ends : (names : List (List ℕ)) (log : RunLog) (process : ProcessLog) (going : Option Span) (fin : End) → InProcess names log process going → IsEndOf names fin → IsTaken names (at log (Process process going)) (lines.End fin) (at (with_process log (ended (spans_closed process going) fin)) Processes)
@@ -437,14 +408,9 @@ process_ends names log process going fin h fits =
     }
 
 end_is : (names : List (List ℕ)) (log : RunLog) (stage : Stage) (fin : End) (next : ReportState) → StageStands names log stage → IsEndOf names fin → end_taken log stage fin ≡ Some next → IsTaken names (at log stage) (lines.End fin) next
-end_is names log Head fin next h fits e = no_state next e
-end_is names log Count fin next h fits e = no_state next e
-end_is names log (Entries left) fin next h fits e = no_state next e
-end_is names log Processes fin next h fits e = no_state next e
 end_is names log (Process process going) fin next h fits e =
     subst (IsTaken names (at log (Process process going)) (lines.End fin)) (some_is (at (with_process log (ended (spans_closed process going) fin)) Processes) next e) (process_ends names log process going fin h fits)
-end_is names log (Observer s g) fin next h fits e = no_state next e
-end_is names log Done fin next h fits e = no_state next e
+end_is names log stage fin next h fits e = no_state next e
 
 -- ---- observers
 
@@ -477,15 +443,12 @@ observer_done names log shots going h =
     }
 
 closed_is : (names : List (List ℕ)) (log : RunLog) (stage : Stage) (closed : RunLog) → StageStands names log stage → observers_closed log stage ≡ Some closed → IsClosed names log stage closed
-closed_is names log Head closed h e = absurd cc
-closed_is names log Count closed h e = absurd cc
 closed_is names log (Entries left) closed h e =
     let g = guard_some (left == 0) log closed e in
     subst (IsClosed names log (Entries left)) g.1 (processes_done names log (Entries left) (entries_done names log left h g.0))
 closed_is names log Processes closed h e = subst (IsClosed names log Processes) (some_is log closed e) (processes_done names log Processes (record { stands = h; lines_are = refl }))
-closed_is names log (Process p g) closed h e = absurd cc
 closed_is names log (Observer shots going) closed h e = subst (IsClosed names log (Observer shots going)) (some_is (shots_closed log shots going) closed e) (observer_done names log shots going h)
-closed_is names log Done closed h e = absurd cc
+closed_is names log stage closed h e = absurd cc
 
 observer_begins : (names : List (List ℕ)) (log : RunLog) (stage : Stage) (closed : RunLog) (number : ℕ) → IsClosed names log stage closed → IsWide number → number ≡ length closed.observers → IsTaken names (at log stage) (lines.Observer number) (at closed (Observer [] None))
 observer_begins names log stage closed number h wide e = record {
@@ -509,15 +472,10 @@ snapshot_begins names log shots going shot bare h g =
     }
 
 snapshot_is : (names : List (List ℕ)) (log : RunLog) (stage : Stage) (generation : ℕ) (next : ReportState) → StageStands names log stage → IsWide generation → snapshot_taken log stage generation ≡ Some next → IsTaken names (at log stage) (lines.Snapshot generation) next
-snapshot_is names log Head generation next h g e = no_state next e
-snapshot_is names log Count generation next h g e = no_state next e
-snapshot_is names log (Entries left) generation next h g e = no_state next e
-snapshot_is names log Processes generation next h g e = no_state next e
-snapshot_is names log (Process p k) generation next h g e = no_state next e
 snapshot_is names log (Observer shots going) generation next h g e =
     let shot : Snapshot = record { generation = generation; exports = [] } in
     subst (IsTaken names (at log (Observer shots going)) (lines.Snapshot generation)) (some_is (at log (Observer (shots_with shots going) (Some shot))) next e) (snapshot_begins names log shots going shot refl h g)
-snapshot_is names log Done generation next h g e = no_state next e
+snapshot_is names log stage generation next h g e = no_state next e
 
 snapshot_lines-more : (shot : Snapshot) (function : Mfa) (serial : ℕ) → snapshot_lines (with_export shot function serial) ≡ snapshot_lines shot ++ lines.Export function serial ∷ []
 snapshot_lines-more shot function serial = ap (λ ls. lines.Snapshot shot.generation ∷ ls) (map-append export_line shot.exports ((function, serial) ∷ []))
@@ -541,13 +499,8 @@ export_in_is names log shots (Some shot) function serial next h f wide e =
     subst (IsTaken names (at log (Observer shots (Some shot))) (lines.Export function serial)) (some_is (at log (Observer shots (Some (with_export shot function serial)))) next e) (export_more names log shots shot function serial h f wide)
 
 export_is : (names : List (List ℕ)) (log : RunLog) (stage : Stage) (function : Mfa) (serial : ℕ) (next : ReportState) → StageStands names log stage → IsFunctionOf names function → IsWide serial → export_taken log stage function serial ≡ Some next → IsTaken names (at log stage) (lines.Export function serial) next
-export_is names log Head function serial next h f wide e = no_state next e
-export_is names log Count function serial next h f wide e = no_state next e
-export_is names log (Entries left) function serial next h f wide e = no_state next e
-export_is names log Processes function serial next h f wide e = no_state next e
-export_is names log (Process p g) function serial next h f wide e = no_state next e
 export_is names log (Observer shots going) function serial next h f wide e = export_in_is names log shots going function serial next h f wide e
-export_is names log Done function serial next h f wide e = no_state next e
+export_is names log stage function serial next h f wide e = no_state next e
 
 close_is : (names : List (List ℕ)) (log : RunLog) (stage : Stage) (next : ReportState) → StageStands names log stage → close_taken log stage ≡ Some next → IsTaken names (at log stage) lines.Close next
 close_is names log stage next h e =

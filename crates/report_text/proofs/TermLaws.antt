@@ -25,11 +25,11 @@ use Rattle.term_core.proofs.TermForms.{printed_is, tree_is, nonempty-is_term_tex
 use Rattle.term_core.proofs.TokenLaws.{terms_of-row_of}
 use Rattle.term_core.proofs.Truths.{is_some_at}
 use Rattle.term_core.proofs.WrittenTokens.{RowHasLeafTexts}
-use Rattle.mod_text.specs.LineReading.{cut_at}
-use Rattle.mod_text.proofs.Options.{some, some_is, bind_some, bind_at, guard_some, guarded, passed, same_bytes, bytes_are}
-use Rattle.mod_text.proofs.Cuts.{lacks, lacks-all, lacks-append, lacks-cons, cut_here, cut_is}
+use Rattle.term_core.specs.Text.Cuts.{cut_at}
+use Rattle.term_core.proofs.Text.Options.{some, some_is, bind_some, bind_at, guard_some, guarded, passed, same_bytes, bytes_are}
+use Rattle.term_core.proofs.Text.Cuts.{lacks, lacks-all, lacks-append, lacks-cons, cut_here, cut_is}
 use Rattle.script_text.specs.LineReading.{each_reading}
-use Rattle.script_text.specs.Sound.{IsTermOf}
+use Rattle.script_core.specs.Sound.{IsTermOf}
 use Rattle.run_log.specs.Report.{mfa_text, plain_text, call_text}
 use Rattle.run_log.specs.WellFormed.{IsFunctionOf, IsCallOf}
 use Rattle.report_text.specs.declared.terms.Call.{Call}
@@ -308,13 +308,6 @@ call_again names to args sound h =
     (atom_again names to.name sound h.function.name_named)
     (closed_again names sound args few h.each))
     ∙ ap some (made_is_call to args h.arity_is)
-
-pub call_lacks : (byte : ℕ) (names : List (List ℕ)) (to : Mfa) (args : List PlainTerm) → IsNames names → is_term_byte byte ≡ false → is_name_byte byte ≡ false → (58 == byte) ≡ false → (40 == byte) ≡ false → (41 == byte) ≡ false → (44 == byte) ≡ false → IsCallOf names to args → lacks byte (call_text names to args) ≡ true
-call_lacks byte names to args sound apart name colon going close comma h =
-    ap (lacks byte) (call_grouped names to args)
-    ∙ lacks-append byte (atom_text names to.«module».0) _ (named_lacks byte names to.«module» sound name h.function.module_named)
-    (lacks-cons byte 58 _ colon (lacks-append byte (atom_text names to.name.0) _ (named_lacks byte names to.name sound name h.function.name_named)
-    (lacks-cons byte 40 _ going (lacks-append byte (terms_text names args) (41 ∷ []) (terms_lack byte names args sound apart comma h.each) (lacks-cons byte 41 [] close refl)))))
 
 -- the text is that of this call
 pub record IsCallText (names : List (List ℕ)) (text : List ℕ) (c : Call) : Type 0 where

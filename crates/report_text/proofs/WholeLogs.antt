@@ -8,8 +8,8 @@ use Rattle.std.proofs.lemmas.List.Sums.{sum-map, sum_by-cons}
 use Rattle.term_core.specs.declared.atom.Mfa.{Mfa}
 use Rattle.machine_core.specs.declared.process.Line.{Line}
 use Rattle.machine_core.specs.declared.process.End.{End}
-use Rattle.mod_text.specs.LineReading.{◌>>=◌}
-use Rattle.mod_text.proofs.Options.{some, bind_at, passed, failed}
+use Rattle.term_core.specs.Text.Steps.{◌>>=◌}
+use Rattle.term_core.proofs.Text.Options.{some, bind_at, passed, failed}
 use Rattle.run_log.specs.declared.logs.Entry.{Entry}
 use Rattle.run_log.specs.declared.logs.Span.{Span}
 use Rattle.run_log.specs.declared.logs.ProcessLog.{ProcessLog}
@@ -24,14 +24,6 @@ use Rattle.report_text.specs.declared.state.Stage.TheVariants.{Head, Count, Entr
 use Rattle.report_text.specs.declared.state.ReportState.{ReportState}
 use Rattle.report_text.specs.ReportLine.{span_lines, process_lines, processes_lines, export_line, snapshot_lines, observers_lines, log_lines}
 use Rattle.report_text.specs.Taking.{at, empty_log, opening, count_after, with_entry, may_begin, begun, spans_with, spans_closed, may_follow, with_line, with_process, shots_with, with_observer, observers_closed, with_export, taken, all_taken}
-
-first_step : (o : Option ReportState) (xs ys : List ReportLine) → ((next : ReportState) → all_taken next (xs ++ ys) ≡ (all_taken next xs >>= λ t. all_taken t ys)) → (o >>= λ next. all_taken next (xs ++ ys)) ≡ ((o >>= λ next. all_taken next xs) >>= λ t. all_taken t ys)
-first_step None xs ys more = refl
-first_step (Some next) xs ys more = more next
-
-pub all_taken-append : (s : ReportState) (xs ys : List ReportLine) → all_taken s (xs ++ ys) ≡ (all_taken s xs >>= λ t. all_taken t ys)
-all_taken-append s [] ys = refl
-all_taken-append s (x ∷ xs) ys = first_step (taken s x) xs ys (λ next. all_taken-append next xs ys)
 
 -- ---- entries
 
@@ -183,13 +175,9 @@ observers_are log stage closed number (shots ∷ obs) h e =
 -- ---- a whole log
 
 begun_closed : (log : RunLog) (stage : Stage) → may_begin stage ≡ true → observers_closed log stage ≡ Some log
-begun_closed log Head h = absurd cc
-begun_closed log Count h = absurd cc
 begun_closed log (Entries left) h = passed (left == 0) (some log) None h
 begun_closed log Processes h = refl
-begun_closed log (Process p g) h = absurd cc
-begun_closed log (Observer s g) h = absurd cc
-begun_closed log Done h = absurd cc
+begun_closed log stage h = absurd cc
 
 -- the lines of a log leave it
 pub log_taken : (log : RunLog) → AllByRecursion (λ p. AreWhole p.spans) log.processes → all_taken opening (log_lines log) ≡ Some (at log Done)

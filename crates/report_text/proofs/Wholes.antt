@@ -6,10 +6,10 @@ use Rattle.std.proofs.lemmas.Bool.Decides.{nat_tests, Decides-eqb}
 use Rattle.std.proofs.lemmas.List.{take-append-drop, length-map, take_all}
 use Rattle.term_core.specs.Gives.{GivesUnless, RefusesUnless}
 use Rattle.term_core.specs.Names.{IsNames}
-use Rattle.mod_text.specs.LineReading.{◌>>=◌}
-use Rattle.mod_text.specs.Reading.{Lines, lines, before_lines}
-use Rattle.mod_text.proofs.Cuts.{lacks, lines_behind}
-use Rattle.mod_text.proofs.Options.{some, some_is, bind_some, bind_at}
+use Rattle.term_core.specs.Text.Steps.{◌>>=◌}
+use Rattle.term_core.specs.Text.Cuts.{Lines, lines, before_lines}
+use Rattle.term_core.proofs.Text.Cuts.{lacks, lines_behind}
+use Rattle.term_core.proofs.Text.Options.{some, some_is, bind_some, bind_at}
 use Rattle.script_text.specs.TextLines.{lines_of, last_line, all_lines, lines_joined}
 use Rattle.script_text.proofs.LinesJoined.{ended_lack}
 use Rattle.script_text.proofs.SoundnessGroups.{each_append}
@@ -288,13 +288,8 @@ record IsRead (names : List (List ℕ)) (text : List ℕ) (log : RunLog) : Type 
   whole : rendering_of names log ≡ text
 
 ended_done : (number : ℕ) (s : RunLog) (stage : Stage) (log : RunLog) → ended_log number s stage ≡ Ok log → (stage ≡ Done) × (s ≡ log)
-ended_done number s Head log e = absurd cc
-ended_done number s Count log e = absurd cc
-ended_done number s (Entries left) log e = absurd cc
-ended_done number s Processes log e = absurd cc
-ended_done number s (Process p g) log e = absurd cc
-ended_done number s (Observer o g) log e = absurd cc
 ended_done number s Done log e = (refl, cc)
+ended_done number s stage log e = absurd cc
 
 done_is : (s : ReportState) (log : RunLog) → s.stage ≡ Done → s.log ≡ log → s ≡ at log Done
 done_is s log e f = λ i. at (f i) (e i)
@@ -428,13 +423,8 @@ ended_fault names sound text short h n e last =
 
 -- the number of the last line
 ended_number : (count n : ℕ) (log : RunLog) (stage : Stage) → ended_log (last_number (1 + count)) log stage ≡ Err (faults.Syntax n) → n ≡ last_number (1 + count)
-ended_number count n log Head e = cc
-ended_number count n log Count e = cc
-ended_number count n log (Entries left) e = cc
-ended_number count n log Processes e = cc
-ended_number count n log (Process p g) e = cc
-ended_number count n log (Observer o g) e = cc
 ended_number count n log Done e = absurd cc
+ended_number count n log stage e = cc
 
 last_is : (count : ℕ) → last_number (1 + count) ≡ max 1 (count + 0)
 last_is count = last_step count (nat_lt 1 (1 + count)) refl

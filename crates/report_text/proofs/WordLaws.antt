@@ -13,11 +13,10 @@ use Rattle.term_core.specs.Written.{is_positive_text}
 use Rattle.term_core.proofs.IntegerTexts.{own, Positive-from}
 use Rattle.term_core.proofs.NameTables.{slice_get-number_of, texts_are_atoms}
 use Rattle.term_core.proofs.GrownNames.{number_of-at}
-use Rattle.mod_text.specs.ModuleLine.{is_number_text, number_value}
-use Rattle.mod_text.proofs.Numbers.{decimal-writes}
-use Rattle.mod_text.proofs.Options.{some, some_is, map_some, guard_some, guarded, passed}
-use Rattle.mod_text.proofs.Cuts.{lacks}
-use Rattle.mod_text.proofs.LineAgain.{atom_lacks, number_lacks}
+use Rattle.term_core.specs.Text.Numbers.{is_number_text, number_value}
+use Rattle.term_core.proofs.Text.Numbers.{decimal-writes}
+use Rattle.term_core.proofs.Text.Options.{some, some_is, map_some, guard_some, guarded, passed}
+use Rattle.term_core.proofs.Text.Cuts.{lacks, atom_lacks, number_lacks}
 use Rattle.run_log.specs.WellFormed.{IsWide, IsNarrow, IsNamed}
 use Rattle.report_text.specs.WordReading.{wide_number, number_reading, number_passing, narrow_reading, version_reading, arity_reading, atom_numbered, atom_reading}
 

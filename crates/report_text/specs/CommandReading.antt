@@ -6,7 +6,8 @@ use Rattle.term_core.specs.Plain.{term_of}
 use Rattle.server_core.specs.declared.command.ModRef.{ModRef}
 use Rattle.server_core.specs.declared.command.Cmd.{Cmd}
 use Rattle.server_core.specs.declared.command.Cmd.TheVariants.{Load, Delete, SoftPurge, Doom, Purge, CheckOld, Put, Erase, Trace, Spawn, Release}
-use Rattle.mod_text.specs.LineReading.{◌>>=◌, cut_at}
+use Rattle.term_core.specs.Text.Steps.{◌>>=◌}
+use Rattle.term_core.specs.Text.Cuts.{cut_at}
 use Rattle.script_text.specs.LineReading.{parts_of, each_reading, switch_reading}
 use Rattle.report_text.specs.WordReading.{atom_reading, version_reading, number_reading}
 use Rattle.report_text.specs.TermReading.{plain_reading, function_reading, call_reading}

@@ -2,7 +2,8 @@
 -- Source: this project's report text. The texts stand in run_log; laws say that both agree.
 use Rattle.std.specs.Prelude.{ℕ, ◌==◌, List, [], ◌∷◌, Option, Some, None, bytes_eq, codes, if◌then◌else◌}
 use Rattle.server_core.specs.declared.command.Cmd.{Cmd}
-use Rattle.mod_text.specs.LineReading.{◌>>=◌, cut_at}
+use Rattle.term_core.specs.Text.Steps.{◌>>=◌}
+use Rattle.term_core.specs.Text.Cuts.{cut_at}
 use Rattle.run_log.specs.declared.logs.Who.{Who}
 use Rattle.run_log.specs.declared.logs.Who.TheVariants.{Loader, Runtime}
 use Rattle.run_log.specs.declared.logs.Entry.{Entry}

@@ -5,7 +5,8 @@ use Rattle.term_core.specs.Plain.{term_of}
 use Rattle.machine_core.specs.declared.process.Line.TheVariants as shown
 use Rattle.machine_core.specs.declared.process.End.{End}
 use Rattle.machine_core.specs.declared.process.End.TheVariants as ends
-use Rattle.mod_text.specs.LineReading.{◌>>=◌, cut_at}
+use Rattle.term_core.specs.Text.Steps.{◌>>=◌}
+use Rattle.term_core.specs.Text.Cuts.{cut_at}
 use Rattle.report_text.specs.declared.line.ReportLine.{ReportLine}
 use Rattle.report_text.specs.declared.line.ReportLine.TheVariants as lines
 use Rattle.report_text.specs.WordReading.{number_reading}

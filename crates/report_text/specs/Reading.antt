@@ -1,7 +1,7 @@
 -- A text read line by line, up to its end or to the first line that may not stand there. Lines are counted from 1.
 -- Source: this project's report text. What a report's text is stands in run_log; laws say that both agree.
 use Rattle.std.specs.Prelude.{◌≡◌, ℕ, ◌+◌, ◌-◌, nat_lt, List, [], ◌∷◌, Option, Some, None, Result, Ok, Err, if◌then◌else◌}
-use Rattle.mod_text.specs.LineReading.{◌>>=◌}
+use Rattle.term_core.specs.Text.Steps.{◌>>=◌}
 use Rattle.script_text.specs.TextLines.{lines_of}
 use Rattle.run_log.specs.declared.logs.RunLog.{RunLog}
 use Rattle.report_text.specs.declared.fault.ReportFault.{ReportFault}
@@ -33,13 +33,8 @@ numbered number (Some x) = Ok x
 
 -- the log, where the report has ended
 abbrev pub ended_log : ℕ → RunLog → Stage → Result RunLog ReportFault
-ended_log number log Head = Err (Syntax number)
-ended_log number log Count = Err (Syntax number)
-ended_log number log (Entries left) = Err (Syntax number)
-ended_log number log Processes = Err (Syntax number)
-ended_log number log (Process process going) = Err (Syntax number)
-ended_log number log (Observer shots going) = Err (Syntax number)
 ended_log number log Done = Ok log
+ended_log number log stage = Err (Syntax number)
 
 -- the number of the last line where the next one would have this number, or 1 where there is none
 abbrev pub last_number : ℕ → ℕ

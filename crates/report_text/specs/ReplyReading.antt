@@ -9,7 +9,8 @@ use Rattle.server_core.specs.declared.command.Limit.{Limit}
 use Rattle.server_core.specs.declared.command.Limit.TheVariants.{Instances, Keys, Areas}
 use Rattle.server_core.specs.declared.command.Reply.{Reply}
 use Rattle.server_core.specs.declared.command.Reply.TheVariants as replies
-use Rattle.mod_text.specs.LineReading.{◌>>=◌, cut_at}
+use Rattle.term_core.specs.Text.Steps.{◌>>=◌}
+use Rattle.term_core.specs.Text.Cuts.{cut_at}
 use Rattle.script_text.specs.LineReading.{parts_of, each_reading}
 use Rattle.run_log.specs.WellFormed.{lingering_in, is_true_reply}
 use Rattle.report_text.specs.WordReading.{atom_reading, narrow_reading, number_reading}

@@ -6,7 +6,7 @@ use Rattle.term_core.specs.PlainTerm.{PlainTerm}
 use Rattle.machine_core.specs.declared.process.Line.{Line}
 use Rattle.machine_core.specs.declared.process.End.{End}
 use Rattle.machine_core.specs.declared.process.End.TheVariants.{Normal}
-use Rattle.mod_text.specs.LineReading.{◌>>=◌}
+use Rattle.term_core.specs.Text.Steps.{◌>>=◌}
 use Rattle.run_log.specs.declared.logs.Entry.{Entry}
 use Rattle.run_log.specs.declared.logs.Span.{Span}
 use Rattle.run_log.specs.declared.logs.ProcessLog.{ProcessLog}
@@ -33,22 +33,12 @@ opening = at empty_log Head
 -- the head stands first
 abbrev pub head_taken : RunLog → Stage → Option ReportState
 head_taken log Head = Some (at log Count)
-head_taken log Count = None
-head_taken log (Entries left) = None
-head_taken log Processes = None
-head_taken log (Process process going) = None
-head_taken log (Observer shots going) = None
-head_taken log Done = None
+head_taken log stage = None
 
 -- the count of generations stands behind it
 abbrev pub count_taken : RunLog → Stage → ℕ → Option ReportState
-count_taken log Head count = None
 count_taken log Count count = Some (at log (Entries count))
-count_taken log (Entries left) count = None
-count_taken log Processes count = None
-count_taken log (Process process going) count = None
-count_taken log (Observer shots going) count = None
-count_taken log Done count = None
+count_taken log stage count = None
 
 -- ---- entries
 
@@ -67,25 +57,16 @@ entry_behind log left e = count_after left e.published >>= λ more. Some (at (wi
 
 -- an entry stands behind the count and other entries
 abbrev pub entry_taken : RunLog → Stage → Entry → Option ReportState
-entry_taken log Head e = None
-entry_taken log Count e = None
 entry_taken log (Entries left) e = entry_behind log left e
-entry_taken log Processes e = None
-entry_taken log (Process process going) e = None
-entry_taken log (Observer shots going) e = None
-entry_taken log Done e = None
+entry_taken log stage e = None
 
 -- ---- processes
 
 -- whether a process may begin: all entries that publish are there, and no process goes on
 abbrev pub may_begin : Stage → Bool
-may_begin Head = false
-may_begin Count = false
 may_begin (Entries left) = left == 0
 may_begin Processes = true
-may_begin (Process process going) = false
-may_begin (Observer shots going) = false
-may_begin Done = false
+may_begin stage = false
 
 -- a process without a span, as if it ended here
 abbrev pub begun : Mfa → List PlainTerm → ProcessLog
@@ -120,13 +101,8 @@ span_behind log process going generation turns =
 
 -- a span stands in a process
 abbrev pub span_taken : RunLog → Stage → ℕ → ℕ → Option ReportState
-span_taken log Head generation turns = None
-span_taken log Count generation turns = None
-span_taken log (Entries left) generation turns = None
-span_taken log Processes generation turns = None
 span_taken log (Process process going) generation turns = span_behind log process going generation turns
-span_taken log (Observer shots going) generation turns = None
-span_taken log Done generation turns = None
+span_taken log stage generation turns = None
 
 -- a span with one more line
 abbrev pub with_line : Span → Line → Span
@@ -143,13 +119,8 @@ shown_in log process (Some span) line = shown_behind log process span line
 
 -- what is shown stands in a process
 abbrev pub shown_taken : RunLog → Stage → Line → Option ReportState
-shown_taken log Head line = None
-shown_taken log Count line = None
-shown_taken log (Entries left) line = None
-shown_taken log Processes line = None
 shown_taken log (Process process going) line = shown_in log process going line
-shown_taken log (Observer shots going) line = None
-shown_taken log Done line = None
+shown_taken log stage line = None
 
 -- a process that ended so
 abbrev pub ended : ProcessLog → End → ProcessLog
@@ -165,13 +136,8 @@ end_behind log process going fin = Some (at (with_process log (ended (spans_clos
 
 -- an end stands in a process
 abbrev pub end_taken : RunLog → Stage → End → Option ReportState
-end_taken log Head fin = None
-end_taken log Count fin = None
-end_taken log (Entries left) fin = None
-end_taken log Processes fin = None
 end_taken log (Process process going) fin = end_behind log process going fin
-end_taken log (Observer shots going) fin = None
-end_taken log Done fin = None
+end_taken log stage fin = None
 
 -- ---- observers
 
@@ -190,13 +156,10 @@ shots_closed log shots going = with_observer log (shots_with shots going)
 
 -- the log where an observer may begin, or the report end: with the observer that went on, if there is one
 abbrev pub observers_closed : RunLog → Stage → Option RunLog
-observers_closed log Head = None
-observers_closed log Count = None
 observers_closed log (Entries left) = if left == 0 then Some log else None
 observers_closed log Processes = Some log
-observers_closed log (Process process going) = None
 observers_closed log (Observer shots going) = Some (shots_closed log shots going)
-observers_closed log Done = None
+observers_closed log stage = None
 
 -- an observer begins with the next number
 abbrev pub observer_behind : RunLog → ℕ → Option ReportState
@@ -212,13 +175,8 @@ snapshot_behind log shots going generation = Some (at log (Observer (shots_with 
 
 -- a snapshot stands in an observer
 abbrev pub snapshot_taken : RunLog → Stage → ℕ → Option ReportState
-snapshot_taken log Head generation = None
-snapshot_taken log Count generation = None
-snapshot_taken log (Entries left) generation = None
-snapshot_taken log Processes generation = None
-snapshot_taken log (Process process going) generation = None
 snapshot_taken log (Observer shots going) generation = snapshot_behind log shots going generation
-snapshot_taken log Done generation = None
+snapshot_taken log stage generation = None
 
 -- a snapshot with one more export
 abbrev pub with_export : Snapshot → Mfa → ℕ → Snapshot
@@ -235,13 +193,8 @@ export_in log shots (Some shot) function serial = export_behind log shots shot f
 
 -- an export stands in an observer
 abbrev pub export_taken : RunLog → Stage → Mfa → ℕ → Option ReportState
-export_taken log Head function serial = None
-export_taken log Count function serial = None
-export_taken log (Entries left) function serial = None
-export_taken log Processes function serial = None
-export_taken log (Process process going) function serial = None
 export_taken log (Observer shots going) function serial = export_in log shots going function serial
-export_taken log Done function serial = None
+export_taken log stage function serial = None
 
 -- the last line stands where no process goes on
 abbrev pub close_taken : RunLog → Stage → Option ReportState

@@ -8,7 +8,8 @@ use Rattle.term_core.specs.PlainTerm.{PlainTerm}
 use Rattle.term_core.specs.TermForms.{is_term_text, is_wide_text, term_in, text_words}
 use Rattle.term_core.specs.TermParts.{parts_of_terms}
 use Rattle.mod_core.specs.declared.code.TheConstants.{MOST_ARGUMENTS}
-use Rattle.mod_text.specs.LineReading.{◌>>=◌, cut_at}
+use Rattle.term_core.specs.Text.Steps.{◌>>=◌}
+use Rattle.term_core.specs.Text.Cuts.{cut_at}
 use Rattle.script_text.specs.LineReading.{each_reading}
 use Rattle.run_log.specs.Report.{plain_text}
 use Rattle.report_text.specs.declared.terms.Call.{Call}

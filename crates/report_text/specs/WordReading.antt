@@ -5,8 +5,8 @@ use Rattle.term_core.specs.declared.atom.AtomId.{AtomId}
 use Rattle.term_core.specs.Names.{number_of}
 use Rattle.term_core.specs.TermParts.{CutText}
 use Rattle.mod_core.specs.declared.code.TheConstants.{MOST_ARGUMENTS, GREATEST_VERSION}
-use Rattle.mod_text.specs.LineReading.{with_first, cut_at}
-use Rattle.mod_text.specs.ModuleLine.{is_number_text, number_value}
+use Rattle.term_core.specs.Text.Cuts.{with_first, cut_at}
+use Rattle.term_core.specs.Text.Numbers.{is_number_text, number_value}
 use Rattle.report_text.specs.declared.line_fault.LineFault.{LineFault}
 use Rattle.report_text.specs.declared.line_fault.LineFault.TheVariants.{Form, NoMemory}
 

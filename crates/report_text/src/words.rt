@@ -4,8 +4,8 @@ ghost use Rattle.std.specs.Prelude.{◌≡◌, IsTrue, IsAscii, option_map};
 ghost use Rattle.std.specs.Char.{is_ascii_digit};
 ghost use Rattle.std.specs.List.{list_all};
 ghost use Rattle.term_core.specs.Written.{is_positive_text};
-ghost use Rattle.mod_text.specs.LineReading.{cut_at};
-ghost use Rattle.mod_text.specs.ModuleLine.{is_number_text};
+ghost use Rattle.term_core.specs.Text.Cuts.{cut_at};
+ghost use Rattle.term_core.specs.Text.Numbers.{is_number_text};
 ghost use Rattle.report_text.specs.WordReading.{cut_last, first_part, number_reading, wide_number, narrow_reading, version_reading, arity_reading, atom_reading};
 
 use mod_core::{GREATEST_VERSION, MOST_ARGUMENTS};

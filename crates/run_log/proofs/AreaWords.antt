@@ -1,5 +1,5 @@
 -- Areas and their words stay over each command: serials are never used again.
-use Rattle.std.proofs.Common.{◌≡◌, ℕ, ◌<◌, ◌≤◌, ◌⊎◌, inl, inr, List, [], ◌∷◌, Option, Some, None, IfSome, option_map, refl, sym, ap, ◌∙◌, arith}
+use Rattle.std.proofs.Common.{◌≡◌, ℕ, ◌<◌, ◌≤◌, ◌⊎◌, inl, inr, List, Option, Some, None, IfSome, option_map, refl, sym, ap, ◌∙◌, arith}
 use Rattle.std.proofs.lemmas.Bool.{cases_lt}
 use Rattle.std.proofs.lemmas.Option.{none-some}
 use Rattle.term_core.specs.Image.{image_of}
@@ -7,10 +7,9 @@ use Rattle.term_core.specs.PlainTerm.{PlainTerm}
 use Rattle.mod_core.specs.declared.code.Module.{Module}
 use Rattle.mod_core.specs.Module.{IsModule}
 use Rattle.server_core.specs.declared.command.Cmd.{Cmd}
-use Rattle.server_core.specs.ServerState.{ServerState, IsSound, IsTermArea, code_of, empty_state, first_words, instance_image, term_of_area, words_of_area}
+use Rattle.server_core.specs.ServerState.{ServerState, IsSound, IsTermArea, code_of, first_words, instance_image, term_of_area, words_of_area}
 use Rattle.machine_core.proofs.LaterWords.{HasAreas, HasTerms, HasWords}
-use Rattle.run_log.specs.declared.logs.Entry.{Entry}
-use Rattle.run_log.specs.Journal.{next_state, newest_state}
+use Rattle.run_log.specs.Journal.{next_state}
 use Rattle.run_log.proofs.Steps.{Grows, next_grows, next_is, next_stays}
 
 -- no area has a serial that is still to be given
@@ -37,10 +36,6 @@ sound_below s sound = record {
   terms = λ serial k. above_none s.next_serial serial (term_of_area s serial) (term_known s serial (term_of_area s serial) (sound.terms serial)) k;
 }
 
--- and in the first one
-pub empty_below : AreasBelow empty_state
-empty_below = record { codes = λ serial k. refl; terms = λ serial k. refl }
-
 no_words : {A : Type 0} (s : ServerState) (serial : ℕ) (words : List ℕ) → code_of s serial ≡ None → term_of_area s serial ≡ None → words_of_area s serial ≡ Some words → A
 no_words s serial words c t h = absurd (none-some words (sym (ap (λ o. first_words (option_map (instance_image serial) o) (option_map image_of (term_of_area s serial))) c ∙ ap (λ o. first_words None (option_map image_of o)) t) ∙ h))
 
@@ -64,37 +59,9 @@ grown_words s t g below serial words h = by (cases_lt serial s.next_serial)
         ∙ h
     by (inr new) = no_words s serial words (below.codes serial new) (below.terms serial new) h
 
-grown_below : (s t : ServerState) → Grows s t → AreasBelow s → AreasBelow t
-grown_below s t g below = record {
-  codes = λ serial k. g.codes serial (inr k) ∙ below.codes serial (omega (arith, g.serials, k));
-  terms = λ serial k. g.terms serial (inr k) ∙ below.terms serial (omega (arith, g.serials, k));
-}
-
 -- a command keeps each area and its words
 pub areas_stay : (texts : List Module) (s : ServerState) (cmd : Cmd) → AreasBelow s → HasAreas s (next_state texts s cmd)
 areas_stay texts s cmd below =
     let t = next_state texts s cmd in
     let grown = next_grows s t cmd (next_is texts s cmd) in
     record { instances = next_stays s t cmd (next_is texts s cmd); terms = grown_terms s t grown below; words = grown_words s t grown below }
-
--- and leaves the serials that are still to be given free
-pub below_after : (texts : List Module) (s : ServerState) (cmd : Cmd) → AreasBelow s → AreasBelow (next_state texts s cmd)
-below_after texts s cmd below = grown_below s (next_state texts s cmd) (next_grows s (next_state texts s cmd) cmd (next_is texts s cmd)) below
-
-has_more : (s t u : ServerState) → HasAreas s t → HasAreas t u → HasAreas s u
-has_more s t u a b = record {
-  instances = λ serial m h. b.instances serial m (a.instances serial m h);
-  terms = λ serial term h. b.terms serial term (a.terms serial term h);
-  words = λ serial words h. b.words serial words (a.words serial words h);
-}
-
--- so does a journal
-pub areas_stay_over : (texts : List Module) (s : ServerState) (journal : List Entry) → AreasBelow s → HasAreas s (newest_state texts s journal)
-areas_stay_over texts s [] below = record { instances = λ serial m h. h; terms = λ serial term h. h; words = λ serial words h. h }
-areas_stay_over texts s (e ∷ journal) below =
-    let t = next_state texts s e.cmd in
-    has_more s t (newest_state texts t journal) (areas_stay texts s e.cmd below) (areas_stay_over texts t journal (below_after texts s e.cmd below))
-
-pub below_after_all : (texts : List Module) (s : ServerState) (journal : List Entry) → AreasBelow s → AreasBelow (newest_state texts s journal)
-below_after_all texts s [] below = below
-below_after_all texts s (e ∷ journal) below = below_after_all texts (next_state texts s e.cmd) journal (below_after texts s e.cmd below)

@@ -11,20 +11,16 @@ use Rattle.server_core.specs.declared.command.Cmd.{Cmd}
 use Rattle.server_core.specs.declared.command.Cmd.TheVariants.{Load, Delete, SoftPurge, Doom, Purge, CheckOld, Put, Erase, Trace, Spawn, Release}
 use Rattle.server_core.specs.ServerState.{ServerState}
 use Rattle.server_core.specs.CommandTable.{Outcome, apply_of}
-use Rattle.machine_core.proofs.TurnLaws.{HasInstances}
 use Rattle.run_log.specs.declared.logs.Entry.{Entry}
 use Rattle.run_log.specs.Journal.{state_after, next_state, newest_state, state_at, publishes, published_count, is_of, ends_one, ends_command, entries_of, published_before}
-use Rattle.run_log.specs.Legal.{EntryFollows, HalfPurge, MayStand, PurgesGo, Replays, commands_in, ended_by, half_after, is_release, is_runtime}
+use Rattle.run_log.specs.Legal.{EntryFollows, MayStand, PurgesGo, Replays, commands_in, ended_by, half_after, is_release, is_runtime}
+use Rattle.run_log.specs.declared.underway.HalfPurge.{HalfPurge}
 use Rattle.run_log.proofs.StatesForTurns.{for_turns}
-use Rattle.run_log.proofs.Steps.{IsNext, IsStep, StepIn, left_alone, next_bounds, next_generation, next_is, next_stays, publishes_next, releases, stays, step_in, without_area}
+use Rattle.run_log.proofs.Steps.{IsNext, IsStep, StepIn, left_alone, next_bounds, next_generation, next_is, publishes_next, releases, stays, step_in, without_area}
 
 -- a command leaves the generation or makes the next one
 pub never_falls : (texts : List Module) (s : ServerState) (cmd : Cmd) → s.generation ≤ (next_state texts s cmd).generation
 never_falls texts s cmd = (next_bounds s (next_state texts s cmd) cmd (next_is texts s cmd)).0
-
--- a command keeps the instances
-pub instances_stay : (texts : List Module) (s : ServerState) (cmd : Cmd) → HasInstances s (next_state texts s cmd)
-instances_stay texts s cmd = next_stays s (next_state texts s cmd) cmd (next_is texts s cmd)
 
 -- generations never fall
 pub later : (texts : List Module) (s : ServerState) (journal : List Entry) → s.generation ≤ (newest_state texts s journal).generation
@@ -179,28 +175,6 @@ before_kept loader (suc place) (x ∷ journal) e h =
     let left = length (commands_in loader journal) in
     ap (λ n. publishes x + n)
     (before_kept loader (if ends_command loader x then place else suc place) journal e (within_rest (ends_command loader x) place left (length (commands_in loader (x ∷ journal))) (commands_count loader x journal) h))
-
-new_first : (b : Bool) (n p q left all : ℕ) → (0 ≡ left → p ≡ q) → all ≡ (if b then 1 else 0) + left → 0 ≡ all → (if b then 0 else n + p) ≡ n + q
-new_first true n p q left all f e h = absurd (omega (arith, e, h))
-new_first false n p q left all f e h = ap (λ m. n + m) (f (omega (arith, e, h)))
-
-new_rest : (b : Bool) (place left all : ℕ) → all ≡ (if b then 1 else 0) + left → suc place ≡ all → (if b then place else suc place) ≡ left
-new_rest true place left all e h = omega (arith, e, h)
-new_rest false place left all e h = omega (arith, e, h)
-
--- before a new entry that ends a loader's command stand all generations
-pub before_new : (loader place : ℕ) (journal : List Entry) (e : Entry) → ends_command loader e ≡ true → place ≡ length (commands_in loader journal) → published_before loader place (journal ++ e ∷ []) ≡ published_count journal
-before_new loader zero [] e own h = cond-true (ends_command loader e) 0 (publishes e + 0) own
-before_new loader (suc place) [] e own h = absurd (omega (arith, h))
-before_new loader zero (x ∷ journal) e own h =
-    new_first (ends_command loader x) (publishes x) (published_before loader zero (journal ++ e ∷ [])) (published_count journal) (length (commands_in loader journal)) (length (commands_in loader (x ∷ journal)))
-    (before_new loader zero journal e own) (commands_count loader x journal) h
-    ∙ sym (count-cons x journal)
-before_new loader (suc place) (x ∷ journal) e own h =
-    let left = length (commands_in loader journal) in
-    ap (λ n. publishes x + n)
-    (before_new loader (if ends_command loader x then place else suc place) journal e own (new_rest (ends_command loader x) place left (length (commands_in loader (x ∷ journal))) (commands_count loader x journal) h))
-    ∙ sym (count-cons x journal)
 
 -- purges go on with an entry that may stand
 pub purges_more : (texts : List Module) (s : ServerState) (half last : Option HalfPurge) (journal : List Entry) (e : Entry) → PurgesGo texts s half journal last → MayStand (newest_state texts s journal) last e

@@ -1,10 +1,9 @@
 -- The turns that spans tell, one by one, and the process after them: how they grow by a turn, and what an entry that joins the journal leaves of them.
-use Rattle.std.proofs.Common.{◌≡◌, ℕ, zero, suc, ◌+◌, ◌<◌, ◌≤◌, ◌==◌, Bool, true, false, List, [], ◌∷◌, ◌++◌, length, length-append, Option, Some, None, is_some, IfSome, if◌then◌else◌, refl, sym, ap, subst, ◌∙◌, arith, add-one, append_assoc, nat_le}
+use Rattle.std.proofs.Common.{◌≡◌, ℕ, zero, suc, ◌+◌, ◌<◌, ◌≤◌, ◌==◌, Bool, true, false, List, [], ◌∷◌, ◌++◌, length, length-append, Option, Some, None, is_some, if◌then◌else◌, refl, sym, ap, subst, ◌∙◌, arith, add-one, append_assoc, nat_le}
 use Rattle.std.proofs.lemmas.Bool.{cond-true, cond-false, eqb-true, le-leb, lt-leb}
 use Rattle.std.proofs.lemmas.List.{append-nil}
 use Rattle.std.specs.List.{AllByRecursion}
-use Rattle.mod_core.specs.declared.code.Module.{Module}
-use Rattle.server_core.specs.ServerState.{ServerState, empty_state}
+use Rattle.server_core.specs.ServerState.{ServerState}
 use Rattle.machine_core.specs.declared.process.Line.{Line}
 use Rattle.machine_core.specs.declared.process.End.{End}
 use Rattle.machine_core.specs.declared.process.End.TheVariants.{SystemLimit}
@@ -13,11 +12,8 @@ use Rattle.machine_core.specs.declared.process.TurnEnd.TheVariants.{Again, Ended
 use Rattle.machine_core.specs.Process.{PlainProcess}
 use Rattle.machine_core.specs.Turn.{Turn, turn_of}
 use Rattle.machine_core.proofs.TurnLaws.{limit_ends, turn_counts, turn_ended}
-use Rattle.run_log.specs.declared.logs.Entry.{Entry}
 use Rattle.run_log.specs.declared.logs.Span.{Span}
-use Rattle.run_log.specs.Journal.{newest_state, state_at}
 use Rattle.run_log.specs.Legal.{Mark, SpansFollow, SpansGo, after_turn, after_turns, last_up_to, marks_in, marks_of, process_after, turns_of}
-use Rattle.run_log.proofs.Journals.{state_kept}
 use Rattle.run_log.proofs.TurnRuns.{ended_again, some_turn}
 use Rattle.run_log.proofs.SpanRuns.{some_and}
 
@@ -56,12 +52,6 @@ module _ (s : ServerState) where
   after_is zero p made t h = ap (process_in p) h
   after_is (suc n) p made t h =
       after_more n made (turn_of s p).process (turn_of s p).made (turn_of s p).end t (λ m k. after_is n (turn_of s p).process m t k) h
-
-  -- one turn more, at the end
-  pub after_one_more : (n : ℕ) (p : PlainProcess) → after_turns s (suc n) p ≡ (turn_of s (after_turns s n p)).process
-  unfolding after_turns
-  after_one_more zero p = refl
-  after_one_more (suc n) p = after_one_more n (turn_of s p).process
 
   -- no turn has no mark
   pub marks_none : (g : ℕ) (p : PlainProcess) → marks_in s g 0 p ≡ []
@@ -106,16 +96,6 @@ module _ (states : ℕ → ServerState) where
       ∙ ap (λ ms. ms ++ one) (sym (marks_front p others before))
       ∙ ap (λ (x : PlainProcess). marks_of states p (others ++ before ∷ []) ++ record { generation = g; process = (turn_of (states g) x).process } ∷ []) (sym (process_front p others before))
 
-  -- and leaves the process that this turn leaves
-  pub process_more : (p : PlainProcess) (others : List Span) (g n : ℕ) (made now : List Line)
-      → process_after states p (others ++ record { generation = g; turns = n + 1; lines = now } ∷ []) ≡ (turn_of (states g) (process_after states p (others ++ record { generation = g; turns = n; lines = made } ∷ []))).process
-  process_more p others g n made now =
-      let q = process_after states p others in
-      process_front p others (record { generation = g; turns = n + 1; lines = now })
-      ∙ ap (λ k. after_turns (states g) k q) (add-one n)
-      ∙ after_one_more (states g) n q
-      ∙ ap (λ (x : PlainProcess). (turn_of (states g) x).process) (sym (process_front p others (record { generation = g; turns = n; lines = made })))
-
   -- a last span without turns has no marks
   pub marks_empty : (p : PlainProcess) (others : List Span) (g : ℕ) (made : List Line) → marks_of states p (others ++ record { generation = g; turns = 0; lines = made } ∷ []) ≡ marks_of states p others
   marks_empty p others g made =
@@ -127,39 +107,12 @@ module _ (states : ℕ → ServerState) where
   pub process_empty : (p : PlainProcess) (others : List Span) (g : ℕ) (made : List Line) → process_after states p (others ++ record { generation = g; turns = 0; lines = made } ∷ []) ≡ process_after states p others
   process_empty p others g made = process_front p others (record { generation = g; turns = 0; lines = made }) ∙ after_none (states g) (process_after states p others)
 
-  -- the first turn of a new span: one mark more
-  pub marks_new : (p : PlainProcess) (others : List Span) (g : ℕ) (now : List Line)
-      → marks_of states p (others ++ record { generation = g; turns = 1; lines = now } ∷ []) ≡ marks_of states p others ++ record { generation = g; process = (turn_of (states g) (process_after states p others)).process } ∷ []
-  marks_new p others g now =
-      marks_more p others g 0 [] now
-      ∙ ap (λ ms. ms ++ record { generation = g; process = (turn_of (states g) (process_after states p (others ++ record { generation = g; turns = 0; lines = [] } ∷ []))).process } ∷ []) (marks_empty p others g [])
-      ∙ ap (λ (x : PlainProcess). marks_of states p others ++ record { generation = g; process = (turn_of (states g) x).process } ∷ []) (process_empty p others g [])
-
 -- the states of the generations up to the newest decide the marks
 pub marks_under : (states others : ℕ → ServerState) (top : ℕ) → ((g : ℕ) → g ≤ top → others g ≡ states g) → (p : PlainProcess) (spans : List Span) → AllByRecursion (λ span. span.generation ≤ top) spans → marks_of others p spans ≡ marks_of states p spans
 marks_under states others top same p [] known = refl
 marks_under states others top same p (span ∷ spans) known =
     ap (λ s. marks_in s span.generation span.turns p ++ marks_of others (after_turns s span.turns p) spans) (same span.generation known.0)
     ∙ ap (λ ms. marks_in (states span.generation) span.generation span.turns p ++ ms) (marks_under states others top same (after_turns (states span.generation) span.turns p) spans known.1)
-
--- and the process after them
-pub process_under : (states others : ℕ → ServerState) (top : ℕ) → ((g : ℕ) → g ≤ top → others g ≡ states g) → (p : PlainProcess) (spans : List Span) → AllByRecursion (λ span. span.generation ≤ top) spans → process_after others p spans ≡ process_after states p spans
-process_under states others top same p [] known = refl
-process_under states others top same p (span ∷ spans) known =
-    ap (λ s. process_after others (after_turns s span.turns p) spans) (same span.generation known.0)
-    ∙ process_under states others top same (after_turns (states span.generation) span.turns p) spans known.1
-
-module _ (texts : List Module) (journal : List Entry) (e : Entry) (p : PlainProcess) (spans : List Span) (known : AllByRecursion (λ span. span.generation ≤ (newest_state texts empty_state journal).generation) spans) where
-  same_states : (g : ℕ) → g ≤ (newest_state texts empty_state journal).generation → state_at texts empty_state (journal ++ e ∷ []) g ≡ state_at texts empty_state journal g
-  same_states g high = state_kept texts empty_state journal e g (omega arith) high
-
-  -- an entry that joins the journal leaves the marks of the turns so far
-  pub marks_kept : marks_of (state_at texts empty_state (journal ++ e ∷ [])) p spans ≡ marks_of (state_at texts empty_state journal) p spans
-  marks_kept = marks_under (state_at texts empty_state journal) (state_at texts empty_state (journal ++ e ∷ [])) (newest_state texts empty_state journal).generation same_states p spans known
-
-  -- and the process after them
-  pub process_kept : process_after (state_at texts empty_state (journal ++ e ∷ [])) p spans ≡ process_after (state_at texts empty_state journal) p spans
-  process_kept = process_under (state_at texts empty_state journal) (state_at texts empty_state (journal ++ e ∷ [])) (newest_state texts empty_state journal).generation same_states p spans known
 
 go_on : (states : ℕ → ServerState) (span : Span) (spans : List Span) (p now : PlainProcess) → ((q : PlainProcess) → SpansGo states q spans now → process_after states q spans ≡ now)
     → (t : Turn) × ((turns_of (states span.generation) span.turns p [] ≡ Some t) × ((t.made ≡ span.lines) × (t.end ≡ Again) × SpansGo states t.process spans now)) → process_after states p (span ∷ spans) ≡ now
@@ -276,25 +229,6 @@ marks_within states top p (span ∷ spans) known =
     let q = after_turns (states span.generation) span.turns p in
     all_behind top (marks_in (states span.generation) span.generation span.turns p) (marks_of states q spans) (all_in (states span.generation) top span.generation span.turns p known.0)
     (marks_within states top q spans known.1)
-
-process_of_some : (p now : PlainProcess) (o : Option Mark) → process_of_last p o ≡ now → IfSome o (λ m. m.process ≡ now)
-process_of_some p now None h = tt
-process_of_some p now (Some m) h = h
-
-some_holds : (P : PlainProcess → Type 0) (now : PlainProcess) (o : Option Mark) → IfSome o (λ m. m.process ≡ now) → P now → IfSome o (λ m. P m.process)
-some_holds P now None e h = tt
-some_holds P now (Some m) e h = subst P (sym e) h
-
--- where no span is under a later generation than this one, the last turn up to it leaves the process after the spans
-pub last_leaves : (states : ℕ → ServerState) (g : ℕ) (p : PlainProcess) (spans : List Span) → AllByRecursion (λ span. span.generation ≤ g) spans → IfSome (last_up_to g (marks_of states p spans)) (λ m. m.process ≡ process_after states p spans)
-last_leaves states g p spans known =
-    let marks = marks_of states p spans in
-    process_of_some p (process_after states p spans) (last_up_to g marks) (ap (process_of_last p) (last_of_all g marks (marks_within states g p spans known)) ∙ last_process states p spans)
-
--- so what holds of the present process holds after that turn
-pub last_holds : (P : PlainProcess → Type 0) (states : ℕ → ServerState) (g : ℕ) (p : PlainProcess) (spans : List Span) → AllByRecursion (λ span. span.generation ≤ g) spans → P (process_after states p spans)
-    → IfSome (last_up_to g (marks_of states p spans)) (λ m. P m.process)
-last_holds P states g p spans known h = some_holds P (process_after states p spans) (last_up_to g (marks_of states p spans)) (last_leaves states g p spans known) h
 
 module _ (s : ServerState) where
   counts_after : (n : ℕ) (made : List Line) (q : PlainProcess) (more : List Line) (e : TurnEnd) (t : Turn) → e ≡ Again → after_turn n (turns_of s n) made q more e ≡ Some t → turns_of s n q (made ++ more) ≡ Some t

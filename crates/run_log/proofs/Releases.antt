@@ -7,13 +7,9 @@ use Rattle.server_core.specs.declared.command.Cmd.{Cmd}
 use Rattle.server_core.specs.declared.command.Cmd.TheVariants.{Release}
 use Rattle.server_core.specs.ServerState.{ServerState, is_retired}
 use Rattle.server_core.specs.CommandTable.{with_released}
-use Rattle.machine_core.specs.Holds.{is_among}
-use Rattle.machine_core.specs.Process.{PlainProcess, names_of}
-use Rattle.machine_core.specs.Turn.{turn_of}
 use Rattle.run_log.specs.declared.logs.Entry.{Entry}
 use Rattle.run_log.specs.Journal.{next_state, newest_state, state_at}
-use Rattle.run_log.proofs.StatesForTurns.{turn_alike}
-use Rattle.run_log.proofs.Journals.{later, newest_at}
+use Rattle.run_log.proofs.Journals.{later}
 use Rattle.run_log.proofs.Steps.{IsNext, left_alone, next_generation, next_is, without_area}
 
 -- the journal has an entry that releases this area
@@ -105,9 +101,3 @@ retired_alike texts s journal serial none = by (is_retired (newest_state texts s
     by : (b : Bool) → is_retired (newest_state texts s journal) serial ≡ b → is_retired (state_at texts s journal (newest_state texts s journal).generation) serial ≡ b
     by true h = retired_at texts s journal serial h
     by false h = by_before (is_retired (state_at texts s journal (newest_state texts s journal).generation) serial) refl h
-
--- and a process that names none of what was released has the same turn under both
-pub turn_at_newest : (texts : List Module) (s : ServerState) (journal : List Entry) (p : PlainProcess) → ((serial : ℕ) → IsTrue (is_among (names_of p).literals serial) → HasRelease serial journal → ⊥)
-    → turn_of (state_at texts s journal (newest_state texts s journal).generation) p ≡ turn_of (newest_state texts s journal) p
-turn_at_newest texts s journal p kept =
-    turn_alike (state_at texts s journal (newest_state texts s journal).generation) (newest_state texts s journal) p (newest_at texts s journal) (λ serial named. retired_alike texts s journal serial (kept serial named))

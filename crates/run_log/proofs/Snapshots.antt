@@ -1,22 +1,14 @@
 -- A state has one list of exports, since their order is strict; a log without observers has no false snapshot.
-use Rattle.std.proofs.Common.{◌≡◌, ℕ, zero, suc, List, [], ◌∷◌, map, Contains, slice_get, Option, Some, None, IsSomeAnd, option_map, option_and_then, refl, sym, ap, subst, ◌∙◌, arith, is_lt, Ordering, Less, true≢false}
+use Rattle.std.proofs.Common.{◌≡◌, ℕ, zero, suc, List, [], ◌∷◌, map, Contains, refl, sym, ap, subst, ◌∙◌, arith, is_lt, Ordering, Less, true≢false}
 use Rattle.std.proofs.lemmas.Cmp.{lists_total, nat_cmp_total, on_total, then_total}
-use Rattle.std.proofs.lemmas.Option.{none-some}
 use Rattle.std.specs.Cmp.{IsTotalOrder}
 use Rattle.std.specs.List.{AllByRecursion}
 use Rattle.std.specs.List.Sorted.{IsStrictlySortedBy}
 use Rattle.std.specs.Ordering.{ordering_reverse}
 use Rattle.term_core.specs.declared.atom.Mfa.{Mfa}
 use Rattle.term_core.specs.TermText.{atom_text}
-use Rattle.mod_core.specs.declared.code.Module.{Module}
-use Rattle.server_core.specs.ServerState.{Entry, ServerState, code_of, current_of, export_of}
-use Rattle.script_text.specs.declared.script.Script.{Script}
-use Rattle.run_log.specs.declared.logs.RunLog.{RunLog}
-use Rattle.run_log.specs.Legal.{SnapshotsTrue}
+use Rattle.server_core.specs.ServerState.{ServerState}
 use Rattle.run_log.specs.Snapshots.{AreExports, IsExport, mfa_cmp}
-
-abbrev entry_at : ℕ → ℕ → Entry
-entry_at serial place = record { serial = serial; function = place }
 
 -- an element of a list is its first or one of the rest
 pub first_or_rest : {X G : Type 0} (x e : X) (xs : List X) → Contains (x ∷ xs) e → (x ≡ e → G) → (Contains xs e → G) → G
@@ -91,31 +83,3 @@ pub exports_are_one : (names : List (List ℕ)) (s : ServerState) (xs ys : List 
 exports_are_one names s xs ys h k =
     same_sorted (mfa_cmp names) (λ export. export.0) (mfa_total names) xs ys h.sorted k.sorted
     (λ e at. k.whole e (each_element (IsExport s) xs e h.exported at)) (λ e at. h.whole e (each_element (IsExport s) ys e k.exported at))
-
-parts_at : (place : Option ℕ) (serial n : ℕ) → IsSomeAnd (option_map (λ i. entry_at serial i) place) (λ e. e.serial ≡ n) → IsSomeAnd place (λ i. serial ≡ n)
-parts_at None serial n h = h
-parts_at (Some i) serial n h = h
-
-parts_in : (code : Option Module) (place : Module → Option ℕ) (serial n : ℕ) → IsSomeAnd (option_and_then (λ m. option_map (λ i. entry_at serial i) (place m)) code) (λ e. e.serial ≡ n)
-    → IsSomeAnd code (λ m. IsSomeAnd (place m) (λ i. serial ≡ n))
-parts_in None place serial n h = h
-parts_in (Some m) place serial n h = parts_at (place m) serial n h
-
-parts_of : (current : Option ℕ) (code : ℕ → Option Module) (place : Module → Option ℕ) (n : ℕ)
-    → IsSomeAnd (option_and_then (λ serial. option_and_then (λ m. option_map (λ i. entry_at serial i) (place m)) (code serial)) current) (λ e. e.serial ≡ n)
-    → IsSomeAnd current (λ serial. IsSomeAnd (code serial) (λ m. IsSomeAnd (place m) (λ i. serial ≡ n)))
-parts_of None code place n h = h
-parts_of (Some serial) code place n h = parts_in (code serial) place serial n h
-
--- an export is of the instance that is its module's current code, and that instance's module exports it
-pub export_parts : (s : ServerState) (export : Mfa × ℕ) → IsExport s export
-    → IsSomeAnd (current_of s export.0.«module».0) (λ serial. IsSomeAnd (code_of s serial) (λ m. IsSomeAnd (export_of m export.0) (λ i. serial ≡ export.1)))
-export_parts s export h = parts_of (current_of s export.0.«module».0) (code_of s) (λ m. export_of m export.0) export.1 h
-
--- a log without observers has no false snapshot
-pub unobserved : (s : Script) (log : RunLog) → log.observers ≡ [] → SnapshotsTrue s log
-unobserved s log none = record {
-  counts = λ observer count shots has at. absurd (none-some shots (ap (λ o. slice_get o observer) (sym none) ∙ at));
-  exports = rw none tt;
-  rising = rw none tt;
-}

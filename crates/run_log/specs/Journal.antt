@@ -3,7 +3,7 @@
 use Rattle.std.specs.Prelude.{ℕ, zero, suc, ◌+◌, Bool, true, false, ◌&&◌, ◌==◌, List, [], ◌∷◌, map, filter, sum, Option, Some, None, is_some, if◌then◌else◌}
 use Rattle.mod_core.specs.declared.code.Module.{Module}
 use Rattle.server_core.specs.declared.command.Cmd.{Cmd}
-use Rattle.server_core.specs.declared.command.Cmd.TheVariants.{Load, Delete, SoftPurge, Doom, Purge, CheckOld, Put, Erase, Trace, Spawn, Release}
+use Rattle.server_core.specs.declared.command.Cmd.TheVariants.{Doom, Release}
 use Rattle.server_core.specs.ServerState.{ServerState}
 use Rattle.server_core.specs.CommandTable.{Outcome, apply_of}
 use Rattle.run_log.specs.declared.logs.Who.{Who}
@@ -48,17 +48,9 @@ entries_of loader journal = filter (λ e. is_of loader e.who) journal
 
 -- whether a command of the server ends a command of a script: a doom does not, since its purge is still to come, and a release is in no script
 abbrev pub ends_one : Cmd → Bool
-ends_one (Load refs) = true
-ends_one (Delete name) = true
-ends_one (SoftPurge name lingers) = true
 ends_one (Doom name) = false
-ends_one (Purge name killed) = true
-ends_one (CheckOld name) = true
-ends_one (Put key term) = true
-ends_one (Erase key) = true
-ends_one (Trace target on) = true
-ends_one (Spawn target args) = true
 ends_one (Release serial) = false
+ends_one _ = true
 
 -- whether an entry ends a command of the loader with this number
 abbrev pub ends_command : ℕ → Entry → Bool

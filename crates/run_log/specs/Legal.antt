@@ -1,11 +1,9 @@
 -- Which logs are lawful for a script: those of a history of one code server.
 -- Source: this project's profile, as the sequential reading of erts internal documentation, CodeLoading, and of the manual page `persistent_term`.
 -- The definition replays the journal and the turns; the run keeps one server and its processes.
-use Rattle.std.specs.Prelude.{◌≡◌, ◌≢◌, ℕ, zero, suc, ◌+◌, ◌≤◌, ◌==◌, nat_le, Bool, true, false, List, [], ◌∷◌, ◌++◌, length, take, slice_get, Option, Some, None, is_some, IfSome, IsSomeAnd, unwrap_or, All, if◌then◌else◌}
+use Rattle.std.specs.Prelude.{◌≡◌, ◌≢◌, ℕ, zero, suc, ◌+◌, ◌≤◌, ◌==◌, nat_le, Bool, true, false, List, [], ◌∷◌, ◌++◌, length, take, slice_get, Option, Some, None, is_some, IfSome, IsSomeAnd, All, if◌then◌else◌}
 use Rattle.std.specs.List.{AllByRecursion, flat_map, list_any}
 use Rattle.term_core.specs.declared.atom.AtomId.{AtomId}
-use Rattle.term_core.specs.declared.atom.Mfa.{Mfa}
-use Rattle.term_core.specs.PlainTerm.{PlainTerm}
 use Rattle.mod_core.specs.declared.code.Module.{Module}
 use Rattle.server_core.specs.declared.command.Cmd.{Cmd}
 use Rattle.server_core.specs.declared.command.Cmd.TheVariants as cmds
@@ -20,9 +18,10 @@ use Rattle.machine_core.specs.declared.process.TurnEnd.TheVariants.{Again, Ended
 use Rattle.machine_core.specs.Holds.{is_among}
 use Rattle.machine_core.specs.Process.{PlainProcess, names_of, new_process}
 use Rattle.machine_core.specs.Turn.{Turn, turn_of}
-use Rattle.script_text.specs.declared.script.Script.{Script}
-use Rattle.script_text.specs.declared.script.ScriptCmd.{ScriptCmd}
-use Rattle.script_text.specs.declared.script.ScriptCmd.TheVariants as script
+use Rattle.script_core.specs.declared.script.Script.{Script}
+use Rattle.script_core.specs.declared.script.ScriptCmd.{ScriptCmd}
+use Rattle.script_core.specs.declared.script.ScriptCmd.TheVariants as script
+use Rattle.script_core.specs.Processes.{SpawnLine, commands_at, spawns_of}
 use Rattle.run_log.specs.declared.logs.Who.{Who}
 use Rattle.run_log.specs.declared.logs.Who.TheVariants.{Loader, Runtime}
 use Rattle.run_log.specs.declared.logs.Entry.{Entry}
@@ -30,6 +29,7 @@ use Rattle.run_log.specs.declared.logs.Span.{Span}
 use Rattle.run_log.specs.declared.logs.ProcessLog.{ProcessLog}
 use Rattle.run_log.specs.declared.logs.RunLog.{RunLog}
 use Rattle.run_log.specs.declared.logs.Snapshot.{Snapshot}
+use Rattle.run_log.specs.declared.underway.HalfPurge.{HalfPurge}
 use Rattle.run_log.specs.Snapshots.{AreExports}
 use Rattle.run_log.specs.Journal.{next_state, newest_state, state_at, published_count, entries_of, published_before}
 
@@ -40,17 +40,8 @@ is_runtime Runtime = true
 
 -- whether a command is the runtime's own: it alone gives areas back
 abbrev pub is_release : Cmd → Bool
-is_release (cmds.Load refs) = false
-is_release (cmds.Delete name) = false
-is_release (cmds.SoftPurge name lingers) = false
-is_release (cmds.Doom name) = false
-is_release (cmds.Purge name killed) = false
-is_release (cmds.CheckOld name) = false
-is_release (cmds.Put key term) = false
-is_release (cmds.Erase key) = false
-is_release (cmds.Trace target on) = false
-is_release (cmds.Spawn target args) = false
 is_release (cmds.Release serial) = true
+is_release _ = false
 
 -- an entry is enabled in a state, and has the reply and the generation of the command table; the runtime makes releases alone, and no loader makes one
 pub record EntryFollows (texts : List Module) (s : ServerState) (e : Entry) : Type 0 where
@@ -64,7 +55,7 @@ Replays texts s (e ∷ journal) = EntryFollows texts s e × Replays texts (next_
 
 -- the commands of a loader of the script, or none where there is no such loader
 abbrev pub commands_of : Script → ℕ → List ScriptCmd
-commands_of s loader = unwrap_or (slice_get s.loaders loader) []
+commands_of s loader = commands_at s.loaders loader
 
 -- the command of the script that a command of the server ends: a doom ends none, since its purge is still to come; which process lingered and
 -- whether one was killed is not in the script
@@ -85,52 +76,24 @@ ended_by (cmds.Release serial) = []
 abbrev pub commands_in : ℕ → List Entry → List ScriptCmd
 commands_in loader journal = flat_map (λ e. ended_by e.cmd) (entries_of loader journal)
 
--- a purge that waits between its two halves: who makes it, and the module
-pub record HalfPurge : Type 0 where
-  pub who : Who
-  pub name : AtomId
-
 -- a command that may stand while no purge waits: a purge without a doom before it only where there is no old code
 abbrev pub MayStart : ServerState → Cmd → Type 0
-MayStart s (cmds.Load refs) = Unit {0}
-MayStart s (cmds.Delete name) = Unit {0}
-MayStart s (cmds.SoftPurge name lingers) = Unit {0}
-MayStart s (cmds.Doom name) = Unit {0}
 MayStart s (cmds.Purge name killed) = old_of s name.0 ≡ None
-MayStart s (cmds.CheckOld name) = Unit {0}
-MayStart s (cmds.Put key term) = Unit {0}
-MayStart s (cmds.Erase key) = Unit {0}
-MayStart s (cmds.Trace target on) = Unit {0}
-MayStart s (cmds.Spawn target args) = Unit {0}
-MayStart s (cmds.Release serial) = Unit {0}
+MayStart s _ = Unit {0}
 
 -- a command that may stand while a purge waits: its second half, or of others a release, a spawn, a look for old code
 abbrev pub MayStandBetween : HalfPurge → Who → Cmd → Type 0
-MayStandBetween half who (cmds.Load refs) = ⊥
-MayStandBetween half who (cmds.Delete name) = ⊥
-MayStandBetween half who (cmds.SoftPurge name lingers) = ⊥
-MayStandBetween half who (cmds.Doom name) = ⊥
-MayStandBetween half who (cmds.Purge name killed) = (who ≡ half.who) × (name ≡ half.name)
+MayStandBetween half who (cmds.Purge name killed) = (who ≡ half.who) × (name ≡ half.«module»)
 MayStandBetween half who (cmds.CheckOld name) = who ≢ half.who
-MayStandBetween half who (cmds.Put key term) = ⊥
-MayStandBetween half who (cmds.Erase key) = ⊥
-MayStandBetween half who (cmds.Trace target on) = ⊥
 MayStandBetween half who (cmds.Spawn target args) = who ≢ half.who
 MayStandBetween half who (cmds.Release serial) = who ≢ half.who
+MayStandBetween half who _ = ⊥
 
 -- the purge that waits after a command, if one does
 abbrev pub half_after : Option HalfPurge → Who → Cmd → Option HalfPurge
-half_after half who (cmds.Load refs) = half
-half_after half who (cmds.Delete name) = half
-half_after half who (cmds.SoftPurge name lingers) = half
-half_after half who (cmds.Doom name) = Some (record { who = who; name = name })
+half_after half who (cmds.Doom name) = Some (record { who = who; «module» = name })
 half_after half who (cmds.Purge name killed) = None
-half_after half who (cmds.CheckOld name) = half
-half_after half who (cmds.Put key term) = half
-half_after half who (cmds.Erase key) = half
-half_after half who (cmds.Trace target on) = half
-half_after half who (cmds.Spawn target args) = half
-half_after half who (cmds.Release serial) = half
+half_after half who _ = half
 
 -- an entry may stand where no purge waits, or where this one does
 abbrev pub MayStand : ServerState → Option HalfPurge → Entry → Type 0
@@ -148,31 +111,6 @@ PurgesGo texts s half (e ∷ journal) last = MayStand s half e × PurgesGo texts
 pub record LoadersInOrder (s : Script) (journal : List Entry) : Type 0 where
   pub commands : (loader : ℕ) → commands_in loader journal ≡ commands_of s loader
   pub purges : PurgesGo s.modules empty_state None journal None
-
--- a spawn line of the script: its loader, its place among the loader's commands, and its call
-pub record SpawnLine : Type 0 where
-  pub loader : ℕ
-  pub place : ℕ
-  pub target : Mfa
-  pub args : List PlainTerm
-
--- the spawn lines among the commands of a loader, from a place on
-abbrev pub spawns_from : ℕ → ℕ → List ScriptCmd → List SpawnLine
-spawns_from loader place [] = []
-spawns_from loader place (script.Load refs ∷ cmds) = spawns_from loader (suc place) cmds
-spawns_from loader place (script.Delete name ∷ cmds) = spawns_from loader (suc place) cmds
-spawns_from loader place (script.SoftPurge name ∷ cmds) = spawns_from loader (suc place) cmds
-spawns_from loader place (script.Purge name ∷ cmds) = spawns_from loader (suc place) cmds
-spawns_from loader place (script.CheckOld name ∷ cmds) = spawns_from loader (suc place) cmds
-spawns_from loader place (script.Put key term ∷ cmds) = spawns_from loader (suc place) cmds
-spawns_from loader place (script.Erase key ∷ cmds) = spawns_from loader (suc place) cmds
-spawns_from loader place (script.Trace target on ∷ cmds) = spawns_from loader (suc place) cmds
-spawns_from loader place (script.Spawn target args ∷ cmds) = record { loader = loader; place = place; target = target; args = args } ∷ spawns_from loader (suc place) cmds
-
--- the spawn lines of loaders that are numbered from here on, in the order of the text
-abbrev pub spawns_of : ℕ → List (List ScriptCmd) → List SpawnLine
-spawns_of loader [] = []
-spawns_of loader (commands ∷ loaders) = spawns_from loader 0 commands ++ spawns_of (suc loader) loaders
 
 -- the generation of the first turn, if there is one
 abbrev pub first_generation : List Span → Option ℕ
@@ -294,27 +232,14 @@ LingersTold s log =
 
 -- the instance that a command drops in a state, if it drops one
 abbrev pub dropped_by : ServerState → Cmd → Option ℕ
-dropped_by s (cmds.Load refs) = None
-dropped_by s (cmds.Delete name) = None
 dropped_by s (cmds.SoftPurge name None) = old_of s name.0
-dropped_by s (cmds.SoftPurge name (Some linger)) = None
-dropped_by s (cmds.Doom name) = None
 dropped_by s (cmds.Purge name killed) = old_of s name.0
-dropped_by s (cmds.CheckOld name) = None
-dropped_by s (cmds.Put key term) = None
-dropped_by s (cmds.Erase key) = None
-dropped_by s (cmds.Trace target on) = None
-dropped_by s (cmds.Spawn target args) = None
-dropped_by s (cmds.Release serial) = None
+dropped_by s _ = None
 
 -- whether a process was killed since it stood in this instance
 abbrev pub is_killed_by : ℕ → End → Bool
-is_killed_by serial ends.Normal = false
-is_killed_by serial (ends.Undef to) = false
-is_killed_by serial ends.Badarg = false
-is_killed_by serial ends.Badarith = false
-is_killed_by serial ends.SystemLimit = false
 is_killed_by serial (ends.Killed by) = by == serial
+is_killed_by serial _ = false
 
 -- an instance is dropped where no process stands in it, and a purge tells whether it killed one
 pub record PurgedUnnamed (s : Script) (log : RunLog) : Type 0 where

@@ -1,8 +1,10 @@
 pub mod Journal
 pub mod Snapshots
+pub mod InstanceTexts
+pub mod ExportedFunctions
+pub mod SeenExports
 pub mod Legal
 pub mod Report
 pub mod WholeSpans
 pub mod WellFormed
-pub mod FirstRun
-pub mod Examples
+pub mod History

@@ -17,7 +17,7 @@ use Rattle.machine_core.specs.declared.process.Line.{Line}
 use Rattle.machine_core.specs.declared.process.Line.TheVariants as lines
 use Rattle.machine_core.specs.declared.process.End.{End}
 use Rattle.machine_core.specs.declared.process.End.TheVariants as ends
-use Rattle.script_text.specs.Sound.{IsTermOf, IsPutOf}
+use Rattle.script_core.specs.Sound.{IsTermOf, IsPutOf}
 use Rattle.run_log.specs.declared.logs.Who.{Who}
 use Rattle.run_log.specs.declared.logs.Who.TheVariants.{Loader, Runtime}
 use Rattle.run_log.specs.declared.logs.Entry.{Entry}
@@ -78,47 +78,26 @@ pub record IsLingerOf (linger : Linger) : Type 0 where
 
 -- a reply that can be written
 abbrev pub IsReplyOf : List (List ℕ) → Reply → Type 0
-IsReplyOf names replies.Ok = Unit {0}
-IsReplyOf names replies.True = Unit {0}
-IsReplyOf names replies.False = Unit {0}
 IsReplyOf names (replies.FalseBy linger) = IsLingerOf linger
 IsReplyOf names (replies.NotPurged modules) = AllByRecursion (IsNamed names) modules
 IsReplyOf names (replies.Duplicated name) = IsNamed names name
-IsReplyOf names (replies.SystemLimit limit) = Unit {0}
+IsReplyOf names _ = Unit {0}
 
 -- the process that a reply says lingers
 abbrev pub lingering_in : Reply → Option Linger
-lingering_in replies.Ok = None
-lingering_in replies.True = None
-lingering_in replies.False = None
 lingering_in (replies.FalseBy linger) = Some linger
-lingering_in (replies.NotPurged modules) = None
-lingering_in (replies.Duplicated name) = None
-lingering_in (replies.SystemLimit limit) = None
+lingering_in _ = None
 
 -- whether a reply is `true`
 abbrev pub is_true_reply : Reply → Bool
-is_true_reply replies.Ok = false
 is_true_reply replies.True = true
-is_true_reply replies.False = false
-is_true_reply (replies.FalseBy linger) = false
-is_true_reply (replies.NotPurged modules) = false
-is_true_reply (replies.Duplicated name) = false
-is_true_reply (replies.SystemLimit limit) = false
+is_true_reply _ = false
 
 -- a command has of what processes did just what the reply tells: a soft purge which one lingers, a purge whether one was killed
 abbrev pub Agrees : Cmd → Reply → Type 0
-Agrees (cmds.Load refs) reply = Unit {0}
-Agrees (cmds.Delete name) reply = Unit {0}
 Agrees (cmds.SoftPurge name lingers) reply = lingers ≡ lingering_in reply
-Agrees (cmds.Doom name) reply = Unit {0}
 Agrees (cmds.Purge name killed) reply = killed ≡ is_true_reply reply
-Agrees (cmds.CheckOld name) reply = Unit {0}
-Agrees (cmds.Put key term) reply = Unit {0}
-Agrees (cmds.Erase key) reply = Unit {0}
-Agrees (cmds.Trace target on) reply = Unit {0}
-Agrees (cmds.Spawn target args) reply = Unit {0}
-Agrees (cmds.Release serial) reply = Unit {0}
+Agrees _ reply = Unit {0}
 
 -- a loader that can be written
 abbrev pub IsWhoOf : Who → Type 0
@@ -146,12 +125,9 @@ pub record IsSpanOf (names : List (List ℕ)) (span : Span) : Type 0 where
 
 -- an end that can be written
 abbrev pub IsEndOf : List (List ℕ) → End → Type 0
-IsEndOf names ends.Normal = Unit {0}
 IsEndOf names (ends.Undef to) = IsFunctionOf names to
-IsEndOf names ends.Badarg = Unit {0}
-IsEndOf names ends.Badarith = Unit {0}
-IsEndOf names ends.SystemLimit = Unit {0}
 IsEndOf names (ends.Killed serial) = IsWide serial
+IsEndOf names _ = Unit {0}
 
 -- a process log that can be written: each span has a turn, and neighbours are under different generations
 pub record IsProcessOf (names : List (List ℕ)) (process : ProcessLog) : Type 0 where

@@ -15,9 +15,10 @@ use Rattle.term_core.proofs.TermForms.{is_immediate-term_in}
 use Rattle.mod_core.specs.declared.code.Function.{Function}
 use Rattle.mod_text.specs.Canonical.{written_constant, written_operand, written_call, written_instr}
 use Rattle.mod_text.specs.LineFaults.{operand_atoms, instr_atoms, is_wide_operand, has_wide_instr}
-use Rattle.mod_text.specs.ModuleLine.{OperandForm, register, integer, atom, complex, InstrForm, move, add, sub, eq, less, jump, call, call_ext, ret, pget, pget_or, elem, print, yield, LineForm, title, header, label, instr, end, number_value, is_number_text, is_arity_text, is_operand_form, is_function_form, is_instr_form}
+use Rattle.term_core.specs.Text.Numbers.{number_value, is_number_text}
+use Rattle.mod_text.specs.ModuleLine.{OperandForm, register, integer, atom, complex, InstrForm, move, add, sub, eq, less, jump, call, call_ext, ret, pget, pget_or, elem, print, yield, LineForm, header, is_arity_text, is_operand_form, is_function_form, is_instr_form}
 use Rattle.mod_text.specs.ModuleValue.{FunctionForm, HeaderForm, functions_in, headers_in, is_header, function_number, callee_in, operand_in, instr_in, function_in, is_settled}
-use Rattle.mod_text.proofs.Options.{map_some, some_is, bytes_are}
+use Rattle.term_core.proofs.Text.Options.{map_some, some_is, bytes_are}
 use Rattle.script_text.specs.Counts.{instr_functions}
 use Rattle.script_text.proofs.HeldNames.{IsHeldText}
 use Rattle.script_text.proofs.ModuleNames.{AreHeld, held_first, held_second}
@@ -32,11 +33,8 @@ header_of f = (f.name, f.arity)
 
 pub headers_are : (lines : List LineForm) → headers_in lines ≡ map header_of (functions_in lines)
 headers_are [] = refl
-headers_are (title name version ∷ lines) = headers_are lines
 headers_are (header exported name arity ∷ lines) = ap (λ (hs : List HeaderForm). (name, arity) ∷ hs) (headers_are lines)
-headers_are (label name ∷ lines) = headers_are lines
-headers_are (instr i ∷ lines) = headers_are lines
-headers_are (end ∷ lines) = headers_are lines
+headers_are (line ∷ lines) = headers_are lines
 
 -- the function at a place has this name
 record HasName (forms : List FunctionForm) (k : ℕ) (name : List ℕ) : Type 0 where

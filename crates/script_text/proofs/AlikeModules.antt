@@ -2,18 +2,20 @@
 use Rattle.std.proofs.Common.{◌≡◌, ℕ, suc, ◌+◌, Bool, true, false, cond, List, [], ◌∷◌, ◌++◌, map, decimal, Option, Some, None, is_none, option_map, refl, sym, ap, ◌∙◌, subst, append_assoc, append-nil}
 use Rattle.std.specs.List.{AllByRecursion, flat_map, list_any}
 use Rattle.std.proofs.lemmas.Bool.{and_parts}
-use Rattle.term_core.specs.Names.{Extends, is_atom_text}
+use Rattle.term_core.specs.Names.{is_atom_text}
 use Rattle.term_core.specs.TermText.{atom_text, number_in}
 use Rattle.mod_core.specs.declared.code.Instr.{Instr}
 use Rattle.mod_text.specs.declared.fault.LineFault.{LineFault}
 use Rattle.mod_text.specs.declared.fault.LineFault.TheVariants as faults
 use Rattle.mod_text.specs.Canonical.{label_text, written_instr, goes_to, labels_at, lines_from, function_lines, canonical}
-use Rattle.mod_text.specs.LineFaults.{is_open, may_follow, last_line, has_high_register, has_wide_integer, names_after, line_atoms}
-use Rattle.mod_text.specs.ModuleLine.{InstrForm, LineForm, title, header, label, instr, end, number_value, is_version_text, is_arity_text, is_line_form}
+use Rattle.mod_text.specs.LineFaults.{is_open, may_follow, last_line, has_high_register, has_wide_integer, names_after}
+use Rattle.term_core.specs.Text.Numbers.{number_value}
+use Rattle.mod_text.specs.ModuleLine.{InstrForm, LineForm, title, header, label, instr, end, is_version_text, is_arity_text, is_line_form}
 use Rattle.mod_text.specs.ModuleText.{FollowOn, names_behind}
 use Rattle.mod_text.specs.ModuleValue.{FunctionForm, HeaderForm, body_of, functions_in, headers_in, instrs_in, instr_in, function_in, module_of, IsTitled, is_settled_line, unsettled_at, unsettled_below, earlier, first_unsettled, unsettled_line}
 use Rattle.mod_text.proofs.Keepings.{last_line-push}
-use Rattle.script_text.proofs.HeldNames.{IsHeldText, all_held_in}
+use Rattle.script_text.proofs.CodeSteps.{have_held_in}
+use Rattle.script_text.proofs.HeldNames.{IsHeldText}
 use Rattle.script_text.proofs.ModuleNames.{HaveHeld, held_body}
 use Rattle.script_text.proofs.TextsBack.{atom_again, version_again, arity_again}
 use Rattle.script_text.proofs.Alike.{Alike, alike_same, alike_back, alike_then, alike_append, alike_label, alike_labels, alike_line}
@@ -34,10 +36,8 @@ AreSound lines = AllByRecursion IsSoundLine lines
 abbrev IsRest : List LineForm → Type 0
 IsRest [] = ⊥
 IsRest (title name version ∷ lines) = ⊥
-IsRest (header exported name arity ∷ lines) = IsRest lines
-IsRest (label name ∷ lines) = IsRest lines
-IsRest (instr i ∷ lines) = IsRest lines
 IsRest (end ∷ lines) = lines ≡ []
+IsRest (line ∷ lines) = IsRest lines
 
 nothing_behind : (names : List (List ℕ)) (before lines : List LineForm) → last_line before ≡ Some end → FollowOn names before lines → lines ≡ []
 nothing_behind names before [] last follow = refl
@@ -45,17 +45,11 @@ nothing_behind names before (line ∷ lines) last follow = absurd (never line (s
   where
     never : (l : LineForm) → may_follow (Some end) l ≡ true → ⊥
     never (title name version) h = cc
-    never (header exported name arity) h = cc
-    never (label name) h = cc
-    never (instr i) h = cc
-    never end h = cc
+    never l h = cc
 
 closed_open : (last : LineForm) → ◌≡◌ {A = Option LineForm} (Some last) (Some end) → is_open (Some last) ≡ true → ⊥
 closed_open (title name version) same opened = cc
-closed_open (header exported name arity) same opened = cc
-closed_open (label name) same opened = cc
-closed_open (instr i) same opened = cc
-closed_open end same opened = cc
+closed_open last same opened = cc
 
 closed_behind : (before lines : List LineForm) (line : LineForm) → last_line (before ++ line ∷ lines) ≡ Some end → last_line ((before ++ line ∷ []) ++ lines) ≡ Some end
 closed_behind before lines line closed = ap last_line (append_assoc before (line ∷ []) lines) ∙ closed
@@ -65,25 +59,14 @@ rest_of names before [] last is opened follow closed = closed_open last (sym is 
 rest_of names before (title name version ∷ lines) last is opened follow closed =
     let no : is_none (Some last) ≡ true = sym (ap is_none is) ∙ follow.0.stands.place in
     absurd cc
-rest_of names before (header exported name arity ∷ lines) last is opened follow closed =
-    let line = header exported name arity in
-    rest_of (names_after names line) (before ++ line ∷ []) lines line (last_line-push before line) refl follow.1 (closed_behind before lines line closed)
-rest_of names before (label name ∷ lines) last is opened follow closed =
-    let line = label name in
-    rest_of (names_after names line) (before ++ line ∷ []) lines line (last_line-push before line) refl follow.1 (closed_behind before lines line closed)
-rest_of names before (instr i ∷ lines) last is opened follow closed =
-    let line = instr i in
-    rest_of (names_after names line) (before ++ line ∷ []) lines line (last_line-push before line) refl follow.1 (closed_behind before lines line closed)
 rest_of names before (end ∷ lines) last is opened follow closed = nothing_behind (names_after names end) (before ++ end ∷ []) lines (last_line-push before end) follow.1
+rest_of names before (line ∷ lines) last is opened follow closed = rest_of (names_after names line) (before ++ line ∷ []) lines line (last_line-push before line) refl follow.1 (closed_behind before lines line closed)
 
 -- what a function's lines begin with stands behind its header only
 no_instrs : (lines : List LineForm) (names : List (List ℕ)) (name version : List ℕ) → FollowOn names (title name version ∷ []) lines → instrs_in (body_of lines) ≡ []
-no_instrs [] names name version follow = refl
-no_instrs (title n v ∷ lines) names name version follow = refl
-no_instrs (header e n a ∷ lines) names name version follow = refl
 no_instrs (label n ∷ lines) names name version follow = let place = follow.0.stands.place in absurd cc
 no_instrs (instr i ∷ lines) names name version follow = let place = follow.0.stands.place in absurd cc
-no_instrs (end ∷ lines) names name version follow = refl
+no_instrs lines names name version follow = refl
 
 narrow_by : (high wide : Bool) (rest : Option LineFault) → cond high (Some faults.Register) (cond wide (Some faults.Int) rest) ≡ None → wide ≡ false
 narrow_by true wide rest none = absurd cc
@@ -95,16 +78,9 @@ sound_of names before [] follow = tt
 sound_of names before (line ∷ lines) follow = (record { form = follow.0.stands.is_text.sound; narrow = narrow_by (has_high_register line) (has_wide_integer line) _ follow.0.within }, sound_of (names_after names line) (before ++ line ∷ []) lines follow.1)
 
 sound_body : (lines : List LineForm) → AreSound lines → AreSound (body_of lines)
-sound_body [] h = tt
-sound_body (title name version ∷ lines) h = tt
-sound_body (header exported name arity ∷ lines) h = tt
 sound_body (label name ∷ lines) h = (h.0, sound_body lines h.1)
 sound_body (instr i ∷ lines) h = (h.0, sound_body lines h.1)
-sound_body (end ∷ lines) h = tt
-
-held_among : (names after : List (List ℕ)) (lines : List LineForm) → Extends names after → HaveHeld names lines → HaveHeld after lines
-held_among names after [] e h = tt
-held_among names after (line ∷ lines) e h = (all_held_in names after (line_atoms line) e h.0, held_among names after lines e h.1)
+sound_body lines h = tt
 
 -- ---- instructions
 
@@ -118,13 +94,10 @@ settled_first false o none = absurd cc
 
 good_instrs : (names : List (List ℕ)) (hs : List HeaderForm) (body lines : List LineForm) → AreSound lines → HaveHeld names lines → unsettled_at hs body lines ≡ None → AllByRecursion (IsGoodInstr names hs body) (instrs_in lines)
 good_instrs names hs body [] sound held none = tt
-good_instrs names hs body (title name version ∷ lines) sound held none = good_instrs names hs body lines sound.1 held.1 (settled_first true (unsettled_at hs body lines) none).1
-good_instrs names hs body (header exported name arity ∷ lines) sound held none = good_instrs names hs body lines sound.1 held.1 (settled_first true (unsettled_at hs body lines) none).1
-good_instrs names hs body (label name ∷ lines) sound held none = good_instrs names hs body lines sound.1 held.1 (settled_first true (unsettled_at hs body lines) none).1
 good_instrs names hs body (instr i ∷ lines) sound held none =
     let p = settled_first (is_settled_line hs body (instr i)) (unsettled_at hs body lines) none in
     (record { sound = sound.0.form; narrow = sound.0.narrow; held = held.0; settled = p.0 }, good_instrs names hs body lines sound.1 held.1 p.1)
-good_instrs names hs body (end ∷ lines) sound held none = good_instrs names hs body lines sound.1 held.1 (settled_first true (unsettled_at hs body lines) none).1
+good_instrs names hs body (line ∷ lines) sound held none = good_instrs names hs body lines sound.1 held.1 (settled_first true (unsettled_at hs body lines) none).1
 
 -- instructions as lines
 abbrev instr_lines : List InstrForm → List LineForm
@@ -193,7 +166,6 @@ title_alike names name version sound held =
     subst (λ (line : LineForm). Alike (line ∷ []) (title name version ∷ [])) (λ k. title (sym n k) (sym v k)) (alike_same (title name version ∷ []))
 
 text_alike : (names before : List (List ℕ)) (text : List LineForm) → IsTitled text → FollowOn before [] text → last_line text ≡ Some end → HaveHeld names text → unsettled_line text ≡ None → Alike (canonical names (module_of names text)) text
-text_alike names before [] t follow closed held none = absurd t
 text_alike names before (title name version ∷ lines) t follow closed held none =
     let first = title name version in
     let hs = headers_in lines in
@@ -203,14 +175,11 @@ text_alike names before (title name version ∷ lines) t follow closed held none
     let ends = to_end names hs (functions_in lines) (headers_are lines) (functions_in lines) in
     let behind : Alike ends lines = subst (λ (is : List InstrForm). Alike (instr_lines is ++ ends) lines) (no_instrs lines after name version follow.1) more in
     alike_append (title (atom_text names (number_in names name)) (decimal (number_value version)) ∷ []) (first ∷ []) ends lines (title_alike names name version follow.0.stands.is_text.sound held.0.0) behind
-text_alike names before (header exported name arity ∷ lines) t follow closed held none = absurd t
-text_alike names before (label name ∷ lines) t follow closed held none = absurd t
-text_alike names before (instr i ∷ lines) t follow closed held none = absurd t
-text_alike names before (end ∷ lines) t follow closed held none = absurd t
+text_alike names before text t follow closed held none = absurd t
 
 -- the atoms of a closed text are held
 pub text_held : (names : List (List ℕ)) (text : List LineForm) → IsClosed names text → HaveHeld names text
-text_held names text c = held_among (names_behind c.before text) names text c.among (held_behind c.before text)
+text_held names text c = have_held_in (names_behind c.before text) names text c.among (held_behind c.before text)
 
 -- the canonical lines of the module that a text says name what the text names
 pub module_alike : (names : List (List ℕ)) (text : List LineForm) → IsClosed names text → unsettled_line text ≡ None → Alike (canonical names (module_of names text)) text

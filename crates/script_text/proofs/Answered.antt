@@ -2,26 +2,21 @@
 use Rattle.std.proofs.Common.{◌≡◌, ℕ, List, Result, Ok, Err, sym, ◌∙◌, subst, inl, inr, ◌⊎◌, refl}
 use Rattle.std.specs.Prelude.{IfOk, IfErr}
 use Rattle.term_core.specs.Gives.{GivesUnless, RefusesUnless}
-use Rattle.script_text.specs.declared.script.Script.{Script}
+use Rattle.script_core.specs.declared.script.Script.{Script}
 use Rattle.script_text.specs.declared.fault.ScriptFault.{ScriptFault}
-use Rattle.script_text.specs.declared.fault.ScriptFault.TheVariants.{FileTooLong, LineTooLong, Syntax, UnknownName, Duplicate, Limit, NoMemory}
+use Rattle.script_text.specs.declared.fault.ScriptFault.TheVariants.{NoMemory}
 use Rattle.script_text.specs.Causes.{FailsWith, GivesText}
 use Rattle.script_text.specs.Reading.{script_reading}
 use Rattle.script_text.specs.ScriptText.{ScriptText, FaultOf}
-use Rattle.script_text.specs.Sound.{IsScript}
+use Rattle.script_core.specs.Sound.{IsScript}
 use Rattle.script_text.proofs.Findings.{script_found, fault_found}
 use Rattle.script_text.proofs.Outcomes.{Comes, comes}
 use Rattle.script_text.proofs.Soundness.{sound_of}
 
 -- a fault with which a step fails is want of memory, or that of the step
 fails_so : {A : Type 0} (step : Result A ScriptFault) (fault : ScriptFault) → FailsWith step fault → (step ≡ Err fault) ⊎ (fault ≡ NoMemory)
-fails_so step FileTooLong h = inl h
-fails_so step (LineTooLong line) h = inl h
-fails_so step (Syntax line) h = inl h
-fails_so step (UnknownName line) h = inl h
-fails_so step (Duplicate line) h = inl h
-fails_so step (Limit line which) h = inl h
 fails_so step NoMemory h = inr refl
+fails_so step fault h = inl h
 
 pub found_so : (text : List ℕ) (result : Result Script ScriptFault) → GivesText (λ s. s) result (script_reading text) → IfOk result (λ s. ScriptText text s)
 found_so text (Ok s) g = subst (λ (r : Result Script ScriptFault). Comes text r) g (comes text)

@@ -6,7 +6,7 @@ use Rattle.std.proofs.lemmas.Grind.{flat_map-append}
 use Rattle.std.proofs.lemmas.List.Sums.{sum_by-cons}
 use Rattle.mod_text.specs.ModuleLine.{LineForm}
 use Rattle.mod_text.specs.LineFaults.{line_atoms}
-use Rattle.script_text.specs.ScriptLine.{ScriptLine, head, code, observer, loader, load, on_atom, put, trace, spawn, go}
+use Rattle.script_text.specs.ScriptLine.{ScriptLine, head, code, observer, go}
 use Rattle.script_text.specs.Counts.{script_line_atoms, FunctionForm, script_line_functions, home_after, functions_named, code_lines, line_observers, observers_of, block_lines}
 use Rattle.script_text.specs.Canonical.{code_form}
 use Rattle.script_text.specs.LineFaults.{last_of}
@@ -20,25 +20,15 @@ abbrev pub IsBlockLine : ScriptLine → Type 0
 IsBlockLine head = ⊥
 IsBlockLine (code line) = ⊥
 IsBlockLine (observer count) = ⊥
-IsBlockLine loader = Unit {0}
-IsBlockLine (load refs) = Unit {0}
-IsBlockLine (on_atom command name) = Unit {0}
-IsBlockLine (put key term) = Unit {0}
-IsBlockLine (trace f g arity on) = Unit {0}
-IsBlockLine (spawn m f args) = Unit {0}
 IsBlockLine go = ⊥
+IsBlockLine line = Unit {0}
 
 its_block : (line : ScriptLine) → AllByRecursion IsBlockLine (block_lines line)
 its_block head = tt
 its_block (code line) = tt
 its_block (observer count) = tt
-its_block loader = (tt, tt)
-its_block (load refs) = (tt, tt)
-its_block (on_atom command name) = (tt, tt)
-its_block (put key term) = (tt, tt)
-its_block (trace f g arity on) = (tt, tt)
-its_block (spawn m f args) = (tt, tt)
 its_block go = tt
+its_block line = (tt, tt)
 
 each_block : (lines : List ScriptLine) → AllByRecursion (λ line. AllByRecursion IsBlockLine (block_lines line)) lines
 each_block [] = tt
@@ -51,25 +41,15 @@ no_code : (line : ScriptLine) → IsBlockLine line → code_lines line ≡ []
 no_code head h = absurd h
 no_code (code line) h = absurd h
 no_code (observer count) h = absurd h
-no_code loader h = refl
-no_code (load refs) h = refl
-no_code (on_atom command name) h = refl
-no_code (put key term) h = refl
-no_code (trace f g arity on) h = refl
-no_code (spawn m f args) h = refl
 no_code go h = absurd h
+no_code line h = refl
 
 own_block : (line : ScriptLine) → IsBlockLine line → block_lines line ≡ line ∷ []
 own_block head h = absurd h
 own_block (code line) h = absurd h
 own_block (observer count) h = absurd h
-own_block loader h = refl
-own_block (load refs) h = refl
-own_block (on_atom command name) h = refl
-own_block (put key term) h = refl
-own_block (trace f g arity on) h = refl
-own_block (spawn m f args) h = refl
 own_block go h = absurd h
+own_block line h = refl
 
 -- ---- lines of module texts
 
@@ -119,13 +99,8 @@ no_observer : (line : ScriptLine) → IsBlockLine line → line_observers line �
 no_observer head h = absurd h
 no_observer (code line) h = absurd h
 no_observer (observer count) h = absurd h
-no_observer loader h = refl
-no_observer (load refs) h = refl
-no_observer (on_atom command name) h = refl
-no_observer (put key term) h = refl
-no_observer (trace f g arity on) h = refl
-no_observer (spawn m f args) h = refl
 no_observer go h = absurd h
+no_observer line h = refl
 
 observers_behind : (blocks : List ScriptLine) → AllByRecursion IsBlockLine blocks → flat_map line_observers (blocks ++ go ∷ []) ≡ []
 observers_behind [] h = refl
@@ -208,11 +183,6 @@ each_of_others P codes others h = each_front P others (go ∷ []) (each_back P c
 pub each_of_blocks : (P : ScriptLine → Type 0) (observers : List (List ℕ)) (blocks : List ScriptLine) → AllByRecursion P (observer_lines observers ++ blocks) → AllByRecursion P blocks
 each_of_blocks P [] blocks h = h
 each_of_blocks P (count ∷ observers) blocks h = each_of_blocks P observers blocks h.1
-
-last_of-more : (x : ScriptLine) (xs ys : List ScriptLine) → last_of (xs ++ x ∷ ys) ≡ last_of (x ∷ ys)
-last_of-more x [] ys = refl
-last_of-more x (y ∷ []) ys = refl
-last_of-more x (y ∷ z ∷ xs) ys = last_of-more x (z ∷ xs) ys
 
 -- `go` is the last
 pub last_of-assemble : (codes : List LineForm) (blocks : List ScriptLine) → last_of (assemble codes blocks) ≡ Some go

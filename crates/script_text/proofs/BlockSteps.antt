@@ -5,14 +5,14 @@ use Rattle.std.proofs.lemmas.List.{length-map}
 use Rattle.term_core.specs.Names.{IsNames}
 use Rattle.term_core.specs.Written.{WrittenTerm}
 use Rattle.mod_text.specs.ModuleLine.{LineForm}
-use Rattle.mod_text.proofs.Options.{same_bytes}
+use Rattle.term_core.proofs.Text.Options.{same_bytes}
 use Rattle.script_text.specs.declared.fault.Which.TheVariants as which
 use Rattle.script_text.specs.declared.fault.ScriptFault.TheVariants as faults
 use Rattle.script_text.specs.declared.reading.cause.LineCause.TheVariants as causes
 use Rattle.script_text.specs.declared.reading.reader.Place.TheVariants.{Loading}
 use Rattle.script_text.specs.declared.reading.reader.ScriptReader.{ScriptReader}
-use Rattle.script_text.specs.declared.script.ScriptCmd.{ScriptCmd}
-use Rattle.script_text.specs.ScriptLine.{RefForm, AtomCommand, ScriptLine, head, code, observer, loader, load, on_atom, put, trace, spawn, go, IsLine}
+use Rattle.script_core.specs.declared.script.ScriptCmd.{ScriptCmd}
+use Rattle.script_text.specs.ScriptLine.{RefForm, AtomCommand, ScriptLine, loader, load, on_atom, put, trace, spawn, go, IsLine}
 use Rattle.script_text.specs.ScriptValue.{commands_of}
 use Rattle.script_text.specs.LineFaults.{may_stand_loading, may_stand}
 use Rattle.script_text.specs.Reading.{block_step, end_step}
@@ -87,9 +87,6 @@ judges_end m r closed text k stands none is =
 
 -- where loader blocks are open, a text that is none of their lines
 pub no_command : (m : Summary) (text : List ℕ) → ((line : ScriptLine) → may_stand m.last line ≡ may_stand_loading line) → bytes_eq text (codes "loader") ≡ false → bytes_eq text (codes "go") ≡ false → ((refs : List RefForm) → IsLine text (load refs) → ⊥) → ((n f : List ℕ) (args : List WrittenTerm) → IsLine text (spawn n f args) → ⊥) → ((command : AtomCommand) (name : List ℕ) → IsLine text (on_atom command name) → ⊥) → ((n f arity : List ℕ) (on : Bool) → IsLine text (trace n f arity on) → ⊥) → ((key : List ℕ) (t : WrittenTerm) → IsLine text (put key t) → ⊥) → Judges m text (Err causes.Syntax)
-no_command m text follows no_loader no_go no_load no_spawn no_module no_trace no_put head l = misplaced m head (follows head)
-no_command m text follows no_loader no_go no_load no_spawn no_module no_trace no_put (code line) l = misplaced m (code line) (follows (code line))
-no_command m text follows no_loader no_go no_load no_spawn no_module no_trace no_put (observer count) l = misplaced m (observer count) (follows (observer count))
 no_command m text follows no_loader no_go no_load no_spawn no_module no_trace no_put loader l = absurd (is_other (codes "loader") l.text_is no_loader)
   where
     is_other : (bytes : List ℕ) → text ≡ bytes → bytes_eq text bytes ≡ false → ⊥
@@ -103,3 +100,4 @@ no_command m text follows no_loader no_go no_load no_spawn no_module no_trace no
   where
     is_other : (bytes : List ℕ) → text ≡ bytes → bytes_eq text bytes ≡ false → ⊥
     is_other bytes e f = let same : bytes_eq text bytes ≡ true = ap (λ (t : List ℕ). bytes_eq t bytes) e ∙ same_bytes bytes in absurd cc
+no_command m text follows no_loader no_go no_load no_spawn no_module no_trace no_put line l = misplaced m line (follows line)

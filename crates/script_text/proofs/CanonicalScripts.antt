@@ -1,24 +1,22 @@
 -- The canonical text of a script that is the value of some text is a text of that script, unless it is too long.
-use Rattle.std.proofs.Common.{◌≡◌, ℕ, ◌+◌, ◌≤◌, ◌<◌, inl, inr, Bool, true, false, cond, nat_lt, List, [], ◌∷◌, ◌++◌, length, map, Some, None, refl, sym, ap, ◌∙◌, subst, arith, append_assoc}
+use Rattle.std.proofs.Common.{◌≡◌, ℕ, ◌+◌, ◌≤◌, ◌<◌, inl, inr, Bool, true, false, cond, List, [], ◌∷◌, ◌++◌, length, map, Some, None, refl, sym, ap, ◌∙◌, subst, append_assoc}
 use Rattle.std.specs.Prelude.{All, IsTrue, count_by}
 use Rattle.std.specs.List.{AllByRecursion, flat_map, list_any}
 use Rattle.std.proofs.lemmas.Bool.{or_parts, false_from_ne_true, cases_lt}
-use Rattle.std.proofs.lemmas.Bool.Decides.{nat_tests}
 use Rattle.std.proofs.lemmas.Grind.{flat_map-append}
-use Rattle.std.proofs.lemmas.List.Elements.{All-nil, All-cons}
-use Rattle.term_core.specs.Names.{IsNames}
 use Rattle.mod_core.specs.declared.code.Module.{Module}
-use Rattle.mod_text.specs.Canonical.{canonical as module_lines, IsModuleHeld}
+use Rattle.mod_text.specs.Canonical.{canonical as module_lines}
+use Rattle.mod_core.specs.HeldNames.{IsModuleHeld}
 use Rattle.mod_core.specs.Module.{IsModule}
-use Rattle.mod_text.specs.ModuleLine.{LineForm, number_value, lines_written, line_bytes, is_line_form, line_written}
+use Rattle.term_core.specs.Text.Numbers.{number_value}
+use Rattle.mod_text.specs.ModuleLine.{LineForm, lines_written, line_bytes, is_line_form, line_written}
 use Rattle.mod_text.specs.ModuleText.{FollowOn}
 use Rattle.mod_text.specs.LineFaults.{names_after}
 use Rattle.mod_text.specs.ModuleValue.{module_of}
-use Rattle.mod_text.specs.Reading.{Lines, lines as parts_of, lines_of}
-use Rattle.mod_text.proofs.Cuts.{lacks}
+use Rattle.term_core.specs.Text.Cuts.{Lines, lines as parts_of, lines_of}
+use Rattle.term_core.proofs.Text.Cuts.{lacks}
 use Rattle.mod_text.proofs.LineAgain.{line_lacks}
-use Rattle.mod_text.proofs.ModuleHeld.{module_held, some_names, sound_lines}
-use Rattle.script_text.specs.declared.script.Script.{Script}
+use Rattle.script_core.specs.declared.script.Script.{Script}
 use Rattle.script_text.specs.ScriptLine.{RefForm, ScriptLine, head, code, observer, go, script_line_written, is_snapshots_text, is_script_line}
 use Rattle.script_text.specs.Groups.{groups_of}
 use Rattle.script_text.specs.Counts.{names_of, functions_of, code_lines, is_title, module_texts, line_titles, titles_of, observers_of, is_loader, is_spawn, block_lines, loader_blocks}
@@ -36,9 +34,9 @@ use Rattle.script_text.proofs.Rooms.{AreWithin, all_within, StandWell, well_appe
 use Rattle.script_text.proofs.StandingTexts.{texts_stand, texts_are, others_stand}
 use Rattle.script_text.proofs.HeldModules.{held_modules}
 use Rattle.script_text.proofs.Soundness.{sound_of}
-use Rattle.script_text.proofs.SoundnessGroups.{gathered, each_weaker}
+use Rattle.script_text.proofs.SoundnessGroups.{gathered, each_weaker, each_append}
 use Rattle.script_text.proofs.SoundnessRows.{all_narrow, IsNarrow}
-use Rattle.script_text.proofs.SoundnessNames.{names_sound, lines_held}
+use Rattle.script_text.proofs.SoundnessNames.{names_sound, lines_held, not_over}
 use Rattle.script_text.proofs.SoundnessTexts.{AreClosed, texts_closed, none_first}
 use Rattle.script_text.proofs.SoundnessTitles.{title_ref, each_title, AreApart, titles_apart}
 use Rattle.script_text.proofs.SoundnessCommands.{IsLineOf, none_lacking, lines_are}
@@ -72,17 +70,10 @@ follow_sound : (names : List (List ℕ)) (before text : List LineForm) → Follo
 follow_sound names before [] follow = tt
 follow_sound names before (line ∷ text) follow = (follow.0.stands.is_text.sound, follow_sound (names_after names line) (before ++ line ∷ []) text follow.1)
 
-each_join : {X : Type 0} (P : X → Type 0) (xs ys : List X) → AllByRecursion P xs → AllByRecursion P ys → AllByRecursion P (xs ++ ys)
-each_join P [] ys h k = k
-each_join P (x ∷ xs) ys h k = (h.0, each_join P xs ys h.1 k)
-
 texts_sound : (names : List (List ℕ)) (texts : List (List LineForm)) → AreClosed names texts → AllByRecursion (λ line. is_line_form line ≡ true) (flat_map (λ text. text) texts)
 texts_sound names [] closed = tt
 texts_sound names (text ∷ texts) closed =
-    each_join (λ line. is_line_form line ≡ true) text (flat_map (λ (t : List LineForm). t) texts) (follow_sound closed.0.before [] text closed.0.follow) (texts_sound names texts closed.1)
-
-short_by : (n : ℕ) → nat_lt 4096 n ≡ false → n ≤ 4096
-short_by n h = grind (arith, nat_tests)
+    each_append (λ line. is_line_form line ≡ true) text (flat_map (λ (t : List LineForm). t) texts) (follow_sound closed.0.before [] text closed.0.follow) (texts_sound names texts closed.1)
 
 not_longer : (n : ℕ) → (1048576 < n → ⊥) → n ≤ 1048576
 not_longer n h = elim (cases_lt 1048576 n) [
@@ -94,7 +85,7 @@ all_short : (forms : List ScriptLine) → list_any is_long_line (map script_line
 all_short [] none = tt
 all_short (line ∷ forms) none =
     let p = or_parts (is_long_line (script_line_written line)) (list_any is_long_line (map script_line_written forms)) none in
-    (short_by (length (script_line_written line)) p.0, all_short forms p.1)
+    (not_over (length (script_line_written line)) p.0, all_short forms p.1)
 
 given_all : (titles : List RefForm) (number : ℕ) (forms : List ScriptLine) → AllByRecursion (λ line. is_lacking titles line ≡ false) forms → lack_in_loads titles number forms ≡ None
 given_all titles number [] h = refl

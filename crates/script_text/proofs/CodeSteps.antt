@@ -1,49 +1,29 @@
 -- A line of a module's text: what it leaves, or why it is refused.
-use Rattle.std.proofs.Common.{◌≡◌, ℕ, ◌+◌, ◌<◌, ◌≤◌, Bool, true, false, cond, not, ◌||◌, ◌==◌, nat_lt, List, [], ◌∷◌, ◌++◌, length, Option, Some, None, Result, Ok, Err, bytes_eq, IsTrue, refl, sym, ap, ◌∙◌, subst, arith, append-nil, length-append}
-use Rattle.std.specs.Prelude.{map, fold}
-use Rattle.std.specs.List.{AllByRecursion, list_any, list_all}
+use Rattle.std.proofs.Common.{◌≡◌, ℕ, ◌+◌, ◌≤◌, Bool, true, false, not, ◌||◌, nat_lt, List, [], ◌∷◌, ◌++◌, length, Some, None, Result, Ok, Err, refl, sym, ◌∙◌, subst, arith}
+use Rattle.std.specs.List.{AllByRecursion, list_all}
 use Rattle.std.proofs.lemmas.Bool.{and_parts}
 use Rattle.std.proofs.lemmas.Bool.Decides.{nat_tests}
 use Rattle.term_core.specs.declared.atom.Mfa.{Mfa}
 use Rattle.term_core.specs.Names.{IsNames, Extends, is_atom_text, names_with}
 use Rattle.term_core.specs.TermText.{names_with_all}
 use Rattle.term_core.proofs.NameTables.{names_with-IsNames}
-use Rattle.mod_text.specs.declared.fault.LineFault.{LineFault}
-use Rattle.mod_text.specs.declared.fault.LineFault.TheVariants as line_faults
-use Rattle.mod_text.specs.ModuleLine.{LineForm, title, header, label, instr, end, number_value, is_line_form, LineText}
-use Rattle.mod_text.specs.LineReading.{line_reading}
-use Rattle.mod_text.specs.LineFaults.{last_line, may_follow, has_high_register, has_wide_integer, has_long_term, line_atoms, names_after, overfills_names, is_seventeenth, ends_too_long, is_repeated, fault_of_line, counted_name, counted_by, counted_of}
-use Rattle.mod_text.specs.ModuleValue.{HeaderForm, headers_in, is_header, IsTitled, title_of, module_of}
-use Rattle.mod_text.specs.Reading.{Step, kept, judged, line_step}
-use Rattle.mod_text.proofs.Options.{some_is, passed, failed, bytes_are}
-use Rattle.mod_text.proofs.LineLaws.{line_is}
-use Rattle.mod_text.proofs.LineAgain.{text_again}
-use Rattle.mod_text.proofs.LineNames.{are_atoms, line_atoms_are, more_names_all}
-use Rattle.mod_text.proofs.Keepings.{last_line-push}
-use Rattle.server_core.specs.declared.command.ModRef.{ModRef}
-use Rattle.script_text.specs.declared.fault.Which.TheVariants as which
+use Rattle.mod_text.specs.ModuleLine.{LineForm, title}
+use Rattle.mod_text.specs.LineFaults.{has_high_register, has_wide_integer, has_long_term, line_atoms, names_after, overfills_names, is_seventeenth, ends_too_long, is_repeated, fault_of_line}
+use Rattle.mod_text.specs.ModuleValue.{IsTitled, title_of}
+use Rattle.mod_text.proofs.LineNames.{are_atoms, more_names_all}
 use Rattle.script_text.specs.declared.fault.ScriptFault.{ScriptFault}
 use Rattle.script_text.specs.declared.fault.ScriptFault.TheVariants as faults
 use Rattle.script_text.specs.declared.reading.cause.LineCause.{LineCause}
 use Rattle.script_text.specs.declared.reading.cause.LineCause.TheVariants as causes
-use Rattle.script_text.specs.declared.reading.reader.Place.TheVariants.{Within}
 use Rattle.script_text.specs.declared.reading.reader.ScriptReader.{ScriptReader}
-use Rattle.script_text.specs.ScriptLine.{RefForm, ScriptLine, head, code, loader, load, spawn, go, IsLine}
-use Rattle.script_text.specs.Groups.{onto_last, last_group}
-use Rattle.script_text.specs.Counts.{FunctionForm, line_functions, functions_with}
-use Rattle.script_text.specs.ScriptValue.{ref_in, commands_of}
-use Rattle.script_text.specs.LineFaults.{may_stand_within, may_stand_behind, may_stand, is_given_again, or_else, lack_in_texts, lack_in_loads}
-use Rattle.script_text.specs.Causes.{◌>>=◌, fault_at, cause_of_code}
-use Rattle.script_text.specs.Adding.{counted_added, passes_counted}
-use Rattle.script_text.specs.Reading.{is_text_end, text_closed, counted_step, repeat_cause, line_added, within_step}
-use Rattle.script_text.proofs.GroupLaws.{onto_last-snoc}
-use Rattle.script_text.proofs.HeldNames.{IsHeldText, held_in, held_all, all_held_in, Extends-all, number_in-more}
+use Rattle.script_text.specs.ScriptLine.{RefForm, ScriptLine, code, IsLine}
+use Rattle.script_text.specs.Groups.{last_group}
+use Rattle.script_text.specs.LineFaults.{may_stand, is_given_again}
+use Rattle.script_text.proofs.HeldNames.{IsHeldText, held_in, all_held_in}
 use Rattle.script_text.proofs.ModuleNames.{AreHeld, HaveHeld}
 use Rattle.script_text.proofs.Summaries.{Summary, summary_with, table, fault_by}
-use Rattle.script_text.proofs.FaultTables.{own_fault, with_counts, code_table, misplaced_table}
-use Rattle.script_text.proofs.Holding.{as_text, total, function_in, IsFunctionHeld, IsOpen, IsWithin, Stands, Knows, Holds, grown, no_load_more, same_lack}
-use Rattle.script_text.proofs.Steps.{more_lines, holds_text_closed}
-use Rattle.script_text.proofs.Functions.{AreFunctionsHeld, first, or_exports, IsOne, passes_line, added_line, functions_more, functions_held_in, held_line, line_one, line_counted, line_held}
+use Rattle.script_text.proofs.FaultTables.{with_counts, code_table, misplaced_table}
+use Rattle.script_text.proofs.Holding.{as_text, Knows, Holds}
 
 -- ---- what a line comes to
 
@@ -133,18 +113,11 @@ text_more (l ∷ ls) line = refl
 pub titled_more : (lines : List LineForm) (line : LineForm) → IsTitled lines → IsTitled (lines ++ line ∷ [])
 titled_more [] line h = absurd h
 titled_more (title name version ∷ lines) line h = tt
-titled_more (header exported name arity ∷ lines) line h = h
-titled_more (label name ∷ lines) line h = h
-titled_more (instr i ∷ lines) line h = h
-titled_more (end ∷ lines) line h = h
+titled_more lines line h = h
 
 pub title_of-more : (lines : List LineForm) (line : LineForm) → IsTitled lines → title_of (lines ++ line ∷ []) ≡ title_of lines
-title_of-more [] line h = absurd h
 title_of-more (title name version ∷ lines) line h = refl
-title_of-more (header exported name arity ∷ lines) line h = absurd h
-title_of-more (label name ∷ lines) line h = absurd h
-title_of-more (instr i ∷ lines) line h = absurd h
-title_of-more (end ∷ lines) line h = absurd h
+title_of-more lines line h = absurd h
 
 -- what is known after a line of a text that is open, before it is closed
 abbrev pub after_line : ScriptReader → LineForm → List Mfa → ScriptReader

@@ -1,5 +1,5 @@
 -- The lines of loader blocks: what is read has this text, and what has this text is read.
-use Rattle.std.proofs.Common.{◌≡◌, ℕ, ◌<◌, ◌≤◌, suc, Bool, true, false, cond, not, ◌&&◌, ◌==◌, nat_le, nat_lt, List, [], ◌∷◌, ◌++◌, length, Option, Some, None, option_map, bytes_eq, codes, refl, sym, ap, ◌∙◌, subst, arith, append_assoc, append-nil, length-append}
+use Rattle.std.proofs.Common.{◌≡◌, ℕ, ◌<◌, Bool, true, false, cond, ◌&&◌, ◌==◌, nat_le, List, [], ◌∷◌, ◌++◌, length, Option, Some, None, codes, refl, sym, ap, ◌∙◌, subst, arith, append-nil, length-append}
 use Rattle.std.specs.Prelude.{map}
 use Rattle.std.specs.List.{list_all, flat_map, join_with_byte}
 use Rattle.std.proofs.lemmas.Bool.{and_parts, and_from}
@@ -11,12 +11,14 @@ use Rattle.term_core.specs.Written.{WrittenTerm, written, parted, behind}
 use Rattle.term_core.proofs.PartedTerms.{joined_parts_of_terms, joined_written}
 use Rattle.term_core.proofs.TermBytes.{is_term_byte}
 use Rattle.term_core.proofs.TermForms.{is_term_text-form, nonempty-is_term_text}
-use Rattle.mod_text.specs.ModuleLine.{is_version_text, is_number_text}
-use Rattle.mod_text.specs.LineReading.{◌>>=◌, cut_at, tested}
-use Rattle.mod_text.proofs.Options.{some, some_is, bind_some, bind_at, map_some, guard_some, guarded, passed, failed, same_bytes, bytes_are, tested_is, tested_at}
-use Rattle.mod_text.proofs.Cuts.{lacks, lacks-all, lacks-append, lacks-cons, cut_here, IsCut, cut_is, uncut_is, uncut}
-use Rattle.mod_text.proofs.LineAgain.{IsApart, atom_lacks, number_lacks}
-use Rattle.script_text.specs.ScriptLine.{RefForm, ScriptLine, load, spawn, ref_written, call_written, is_ref_form, is_term_form, is_script_line, IsLine}
+use Rattle.term_core.specs.Text.Numbers.{is_number_text}
+use Rattle.mod_text.specs.ModuleLine.{is_version_text}
+use Rattle.term_core.specs.Text.Steps.{◌>>=◌, tested}
+use Rattle.term_core.specs.Text.Cuts.{cut_at}
+use Rattle.term_core.proofs.Text.Options.{some, some_is, bind_some, bind_at, guard_some, passed, failed, tested_is, tested_at}
+use Rattle.term_core.proofs.Text.Cuts.{lacks, lacks-append, lacks-cons, cut_here, cut_is, atom_lacks, number_lacks}
+use Rattle.mod_text.proofs.LineAgain.{IsApart}
+use Rattle.script_text.specs.ScriptLine.{RefForm, load, spawn, ref_written, call_written, is_ref_form, is_term_form, is_script_line, IsLine}
 use Rattle.script_text.specs.LineReading.{parts_of, ref_reading, each_reading, refs_reading, argument_reading, arguments_reading, CallForm, closed_arguments, call_reading}
 use Rattle.script_text.proofs.TermLines.{text_of_form, term_lacks, argument_again, argument_is}
 use Rattle.script_text.proofs.TermParts.{parts_of_written}
@@ -118,10 +120,6 @@ ref_reader = record {
 pub record IsLoadRest (rest : List ℕ) (refs : List RefForm) : Type 0 where
   pub text_is : 32 ∷ rest ≡ flat_map (λ r. 32 ∷ ref_written r) refs
   pub sound : is_script_line (load refs) ≡ true
-
-some_refs : (refs : List RefForm) → map ref_written refs ≡ [] → refs ≡ []
-some_refs [] e = refl
-some_refs (r ∷ rs) e = absurd cc
 
 parts_some : (byte : ℕ) (text : List ℕ) → 0 < length (parts_of byte text)
 parts_some byte text = parts_are_some byte text

@@ -11,8 +11,8 @@ use Rattle.term_core.proofs.PlainTerms.{plain-term_of}
 use Rattle.mod_text.specs.ModuleLine.{is_version_text, is_arity_text, is_function_form}
 use Rattle.mod_text.specs.ModuleValue.{atom_in}
 use Rattle.term_core.specs.Names.{is_atom_text}
-use Rattle.script_text.specs.declared.script.ScriptCmd.{ScriptCmd}
-use Rattle.script_text.specs.ScriptLine.{RefForm, AtomCommand, delete, soft_purge, purge, check_old, erase, ScriptLine, head, code, observer, loader, load, on_atom, put, trace, spawn, go, is_ref_form, is_term_form, is_script_line}
+use Rattle.script_core.specs.declared.script.ScriptCmd.{ScriptCmd}
+use Rattle.script_text.specs.ScriptLine.{RefForm, AtomCommand, delete, ScriptLine, loader, load, on_atom, put, trace, spawn, is_ref_form, is_term_form, is_script_line}
 use Rattle.script_text.specs.Groups.{onto_last, groups_with, groups_of}
 use Rattle.script_text.specs.Counts.{is_loader}
 use Rattle.script_text.specs.LineFaults.{is_wide_term}
@@ -59,18 +59,12 @@ some_refs (r ∷ refs) h = h
 
 command_again : (names : List (List ℕ)) (command : AtomCommand) (name : List ℕ) → IsHeldText names name → command_line names (command_of command (atom_in names name)) ≡ on_atom command name
 command_again names delete name held = ap (on_atom delete) (atom_again names name held)
-command_again names soft_purge name held = ap (on_atom soft_purge) (atom_again names name held)
-command_again names purge name held = ap (on_atom purge) (atom_again names name held)
-command_again names check_old name held = ap (on_atom check_old) (atom_again names name held)
-command_again names erase name held = ap (on_atom erase) (atom_again names name held)
+command_again names command name held = ap (on_atom command) (atom_again names name held)
 
 trace_arity : (f g arity : List ℕ) (on : Bool) → is_script_line (trace f g arity on) ≡ true → is_arity_text arity ≡ true
 trace_arity f g arity on h = (and_parts (is_atom_text g) (is_arity_text arity) (and_parts (is_atom_text f) (is_function_form g arity) h).1).1
 
 pub line_back : (names : List (List ℕ)) (titles : List RefForm) (line : ScriptLine) → IsBlockLine line → IsLineOf names titles line → IsBack names line
-line_back names titles head is l = absurd is
-line_back names titles (code line) is l = absurd is
-line_back names titles (observer count) is l = absurd is
 line_back names titles loader is l = record { start = λ _. refl; command = λ e. absurd cc }
 line_back names titles (load refs) is l =
     record { start = λ e. absurd cc; command = λ _. ap (λ (rs : List RefForm). load rs ∷ []) (refs_again names refs (some_refs refs l.sound) l.held) }
@@ -92,7 +86,7 @@ line_back names titles (spawn m f args) is l =
     let q = atom_again names f l.held.1.0 in
     let r = arguments_again names args s.args_are l.narrow.narrow (arguments_held names args l.held.1.1) in
     record { start = λ e. absurd cc; command = λ _. λ k. spawn (p k) (q k) (r k) ∷ [] }
-line_back names titles go is l = absurd is
+line_back names titles line is l = absurd is
 
 pub lines_back : (names : List (List ℕ)) (titles : List RefForm) (lines : List ScriptLine) → AllByRecursion IsBlockLine lines → AllByRecursion (IsLineOf names titles) lines → AllByRecursion (IsBack names) lines
 lines_back names titles [] h k = tt
@@ -146,16 +140,8 @@ module _ (names : List (List ℕ)) where
 
   all_back : (lines : List ScriptLine) → AreBlocks lines → AllByRecursion (IsBack names) lines → flat_map written_block (groups_of is_loader lines) ≡ lines
   all_back [] opened back = refl
-  all_back (head ∷ lines) opened back = absurd opened
-  all_back (code line ∷ lines) opened back = absurd opened
-  all_back (observer count ∷ lines) opened back = absurd opened
   all_back (loader ∷ lines) opened back = groups_back ((loader ∷ []) ∷ []) lines tt back.1
-  all_back (load refs ∷ lines) opened back = absurd opened
-  all_back (on_atom command name ∷ lines) opened back = absurd opened
-  all_back (put key term ∷ lines) opened back = absurd opened
-  all_back (trace f g arity on ∷ lines) opened back = absurd opened
-  all_back (spawn m f args ∷ lines) opened back = absurd opened
-  all_back (go ∷ lines) opened back = absurd opened
+  all_back lines opened back = absurd opened
 
 -- the lines of loader blocks are those of the commands that they say
 pub blocks_back : (names : List (List ℕ)) (lines : List ScriptLine) → AreBlocks lines → AllByRecursion (IsBack names) lines → flat_map (block_form names) (map (commands_of names) (groups_of is_loader lines)) ≡ lines

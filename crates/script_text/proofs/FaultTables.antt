@@ -1,5 +1,5 @@
 -- The fault of a line, read off the rows of its table.
-use Rattle.std.proofs.Common.{◌≡◌, ℕ, ◌+◌, Bool, true, false, cond, not, ◌||◌, List, [], Option, Some, None, refl, sym, ap, ◌∙◌}
+use Rattle.std.proofs.Common.{◌≡◌, ℕ, Bool, true, false, cond, not, ◌||◌, Option, Some, None, refl, ap}
 use Rattle.mod_text.specs.declared.fault.LineFault.{LineFault}
 use Rattle.mod_text.specs.declared.fault.LineFault.TheVariants as line_faults
 use Rattle.script_text.specs.declared.fault.Which.TheVariants as which
@@ -17,14 +17,7 @@ own_fault high wide big names functions long again =
 abbrev pub with_counts : Option LineFault → Bool → Bool → ℕ → Option ScriptFault
 with_counts None exports again number = cond exports (Some (faults.Limit number which.Exports)) (cond again (Some (faults.Duplicate number)) None)
 with_counts (Some line_faults.Duplicate) exports again number = cond exports (Some (faults.Limit number which.Exports)) (Some (faults.Duplicate number))
-with_counts (Some line_faults.Syntax) exports again number = Some (fault_at number (cause_of_code line_faults.Syntax))
-with_counts (Some line_faults.Register) exports again number = Some (fault_at number (cause_of_code line_faults.Register))
-with_counts (Some line_faults.Int) exports again number = Some (fault_at number (cause_of_code line_faults.Int))
-with_counts (Some line_faults.Term) exports again number = Some (fault_at number (cause_of_code line_faults.Term))
-with_counts (Some line_faults.Names) exports again number = Some (fault_at number (cause_of_code line_faults.Names))
-with_counts (Some line_faults.TooManyFunctions) exports again number = Some (fault_at number (cause_of_code line_faults.TooManyFunctions))
-with_counts (Some line_faults.TooLong) exports again number = Some (fault_at number (cause_of_code line_faults.TooLong))
-with_counts (Some line_faults.NoMemory) exports again number = Some (fault_at number (cause_of_code line_faults.NoMemory))
+with_counts (Some fault) exports again number = Some (fault_at number (cause_of_code fault))
 
 -- the fault of a line of a module's text that may stand there
 pub code_table : (high wide big names functions long repeated exports again : Bool) (number : ℕ) → table (not true || high) wide big names functions long exports false false false (again || repeated) number ≡ with_counts (own_fault high wide big names functions long repeated) exports again number

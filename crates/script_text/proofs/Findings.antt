@@ -1,33 +1,30 @@
 -- The script of a text is read, and each fault of a text is the one that is found.
-use Rattle.std.proofs.Common.{◌≡◌, ℕ, ◌+◌, ◌<◌, ◌≤◌, ◌==◌, Bool, true, false, cond, not, ◌&&◌, nat_lt, List, [], ◌∷◌, ◌++◌, length, Option, Some, None, take, drop, Result, Ok, Err, ◌⊎◌, inl, inr, slice_get, bytes_eq, codes, IsTrue, refl, sym, ap, ◌∙◌, subst, arith, length-append, append_assoc, append-nil}
-use Rattle.std.specs.Prelude.{map}
+use Rattle.std.proofs.Common.{◌≡◌, ℕ, ◌+◌, ◌<◌, ◌≤◌, ◌==◌, Bool, true, false, cond, not, ◌&&◌, nat_lt, List, [], ◌∷◌, ◌++◌, length, Some, None, drop, Result, Ok, Err, inl, inr, slice_get, bytes_eq, codes, refl, sym, ap, ◌∙◌, subst, arith, length-append, append_assoc, append-nil}
 use Rattle.std.proofs.lemmas.Bool.Decides.{nat_tests}
 use Rattle.std.proofs.lemmas.List.{length-map, take-append-drop}
-use Rattle.mod_text.specs.Reading.{lines_of, is_end}
-use Rattle.mod_text.proofs.Options.{some_is, failed, passed, bytes_are, same_bytes}
-use Rattle.script_text.specs.declared.script.Script.{Script}
-use Rattle.script_text.specs.declared.fault.Which.{Which}
+use Rattle.term_core.specs.Text.Cuts.{lines_of}
+use Rattle.mod_text.specs.Reading.{is_end}
+use Rattle.term_core.proofs.Text.Options.{some_is, failed, passed, bytes_are}
+use Rattle.script_core.specs.declared.script.Script.{Script}
 use Rattle.script_text.specs.declared.fault.ScriptFault.{ScriptFault}
 use Rattle.script_text.specs.declared.fault.ScriptFault.TheVariants as faults
 use Rattle.script_text.specs.declared.reading.cause.LineCause.{LineCause}
 use Rattle.script_text.specs.declared.reading.cause.LineCause.TheVariants as causes
-use Rattle.script_text.specs.declared.reading.reader.Place.{Place}
 use Rattle.script_text.specs.declared.reading.reader.Place.TheVariants.{Finished}
 use Rattle.script_text.specs.declared.reading.reader.ScriptReader.{ScriptReader}
-use Rattle.script_text.specs.ScriptLine.{ScriptLine, go, script_line_written, IsLine}
-use Rattle.script_text.specs.ScriptValue.{script_of}
-use Rattle.script_text.specs.LineFaults.{line_fault, first_lack, last_of}
+use Rattle.script_text.specs.ScriptLine.{ScriptLine, script_line_written, IsLine}
+use Rattle.script_text.specs.LineFaults.{line_fault}
 use Rattle.script_text.specs.TextLines.{last_line, all_lines}
-use Rattle.script_text.specs.ScriptText.{AreLines, AreAllLines, ScriptText, IsMisplaced, Reaches, TooLongAt, MisplacedAt, FaultyAt, UnknownAt, FaultOf}
-use Rattle.script_text.specs.Reading.{line_at, at_line, line_judged, script_known, ended_at, text_ended, go_on, text_on, bytes_on, opening, script_reading}
+use Rattle.script_text.specs.ScriptText.{AreAllLines, ScriptText, IsMisplaced, Reaches, FaultyAt, FaultOf}
+use Rattle.script_text.specs.Reading.{line_at, at_line, line_judged, script_known, ended_at, go_on, text_on, bytes_on, opening, script_reading}
 use Rattle.script_text.proofs.Summaries.{summary_of, fault_by, line_fault-by}
 use Rattle.script_text.proofs.Holding.{Holds}
-use Rattle.script_text.proofs.CodeSteps.{IsRead, IsRefused, Judges}
+use Rattle.script_text.proofs.CodeSteps.{IsRefused, Judges}
 use Rattle.script_text.proofs.LineSteps.{judges_line}
 use Rattle.script_text.proofs.OneLine.{one_line}
 use Rattle.script_text.proofs.Outcomes.{IsLate, finished_place, finished_unknown, finished_script}
 use Rattle.script_text.proofs.Prefixes.{written}
-use Rattle.script_text.proofs.Runs.{IsRun, run}
+use Rattle.script_text.proofs.Runs.{run}
 use Rattle.script_text.proofs.TextSteps.{holds_opening, some_length}
 
 -- ---- how far a text is read

@@ -1,20 +1,21 @@
 -- The different functions that lines name, by their texts and by their numbers.
-use Rattle.std.proofs.Common.{◌≡◌, ℕ, ◌+◌, ◌<◌, ◌≤◌, Bool, true, false, cond, not, ◌&&◌, ◌||◌, ◌==◌, nat_le, nat_lt, List, [], ◌∷◌, ◌++◌, length, Option, Some, None, Result, Ok, Err, bytes_eq, refl, sym, ap, ◌∙◌, subst, arith, length-append}
+use Rattle.std.proofs.Common.{◌≡◌, ℕ, ◌+◌, ◌≤◌, Bool, true, false, cond, not, ◌&&◌, ◌||◌, ◌==◌, nat_le, nat_lt, List, [], ◌∷◌, ◌++◌, length, Option, Some, None, Result, Ok, Err, refl, sym, ap, ◌∙◌, arith, length-append}
 use Rattle.std.specs.Prelude.{map, fold}
 use Rattle.std.specs.List.{AllByRecursion, list_any}
 use Rattle.std.proofs.lemmas.Bool.Decides.{nat_tests}
 use Rattle.std.proofs.lemmas.List.{map-append, length-map}
 use Rattle.term_core.specs.declared.atom.Mfa.{Mfa}
 use Rattle.term_core.specs.Names.{Extends}
-use Rattle.mod_text.specs.ModuleLine.{InstrForm, move, add, sub, eq, less, jump, call, call_ext, ret, pget, pget_or, elem, print, yield, LineForm, title, header, label, instr, end, number_value}
+use Rattle.term_core.specs.Text.Numbers.{number_value}
+use Rattle.mod_text.specs.ModuleLine.{InstrForm, move, call_ext, LineForm, header, instr}
 use Rattle.mod_text.specs.LineFaults.{line_atoms, called_name, counted_name}
 use Rattle.mod_text.specs.ModuleValue.{title_of}
-use Rattle.mod_text.proofs.Options.{passed, failed}
+use Rattle.term_core.proofs.Text.Options.{failed}
 use Rattle.script_text.specs.declared.fault.Which.TheVariants as which
 use Rattle.script_text.specs.declared.reading.cause.LineCause.{LineCause}
 use Rattle.script_text.specs.declared.reading.cause.LineCause.TheVariants as causes
 use Rattle.script_text.specs.Counts.{FunctionForm, is_same_function, instr_functions, line_functions, functions_with}
-use Rattle.script_text.specs.Sets.{is_same_mfa, mfas_with, passes_functions, mfa_added}
+use Rattle.script_text.specs.Sets.{is_same_mfa, mfas_with, passes_functions}
 use Rattle.script_text.specs.Adding.{counted_added, passes_counted}
 use Rattle.script_text.proofs.HeldNames.{IsHeldText, held_in, number_in-more, same_number}
 use Rattle.script_text.proofs.ModuleNames.{AreHeld}
@@ -139,27 +140,13 @@ header_one home name arity true = one (record { «module» = home; name = name; 
 header_one home name arity false = none
 
 instr_one : (i : InstrForm) → IsOne (instr_functions i)
-instr_one (move from to) = none
-instr_one (add a b to) = none
-instr_one (sub a b to) = none
-instr_one (eq a b target) = none
-instr_one (less a b target) = none
-instr_one (jump target) = none
-instr_one (call name arity at) = none
 instr_one (call_ext m name arity at) = one (record { «module» = m; name = name; arity = number_value arity })
-instr_one (ret value) = none
-instr_one (pget key to) = none
-instr_one (pget_or key other to) = none
-instr_one (elem index from to) = none
-instr_one (print value) = none
-instr_one yield = none
+instr_one i = none
 
 pub line_one : (home : List ℕ) (line : LineForm) → IsOne (line_functions home line)
-line_one home (title name version) = none
 line_one home (header exported name arity) = header_one home name (number_value arity) exported
-line_one home (label name) = none
 line_one home (instr i) = instr_one i
-line_one home end = none
+line_one home line = none
 
 header_counted : (names : List (List ℕ)) (home name : List ℕ) (arity : ℕ) (exported : Bool) → cond exported (Some (function_in names (record { «module» = home; name = name; arity = arity }))) None ≡ first (map (function_in names) (cond exported (record { «module» = home; name = name; arity = arity } ∷ []) []))
 header_counted names home name arity true = refl
@@ -167,52 +154,24 @@ header_counted names home name arity false = refl
 
 instr_counted : (names : List (List ℕ)) (i : InstrForm) → called_name names i ≡ first (map (function_in names) (instr_functions i))
 instr_counted names (move from to) = refl
-instr_counted names (add a b to) = refl
-instr_counted names (sub a b to) = refl
-instr_counted names (eq a b target) = refl
-instr_counted names (less a b target) = refl
-instr_counted names (jump target) = refl
-instr_counted names (call name arity at) = refl
-instr_counted names (call_ext m name arity at) = refl
-instr_counted names (ret value) = refl
-instr_counted names (pget key to) = refl
-instr_counted names (pget_or key other to) = refl
-instr_counted names (elem index from to) = refl
-instr_counted names (print value) = refl
-instr_counted names yield = refl
+instr_counted names i = refl
 
 -- the function that a line is counted by is the one that it names
 pub line_counted : (names : List (List ℕ)) (lines : List LineForm) (line : LineForm) → counted_name names lines line ≡ first (map (function_in names) (line_functions (title_of lines).0 line))
-line_counted names lines (title name version) = refl
 line_counted names lines (header exported name arity) = header_counted names (title_of lines).0 name (number_value arity) exported
-line_counted names lines (label name) = refl
 line_counted names lines (instr i) = instr_counted names i
-line_counted names lines end = refl
+line_counted names lines line = refl
 
 header_held : (names : List (List ℕ)) (home name : List ℕ) (arity : ℕ) (exported : Bool) → IsHeldText names home → IsHeldText names name → AreFunctionsHeld names (cond exported (record { «module» = home; name = name; arity = arity } ∷ []) [])
 header_held names home name arity true h k = (record { module_held = h; name_held = k }, tt)
 header_held names home name arity false h k = tt
 
 instr_held : (names : List (List ℕ)) (i : InstrForm) → AreHeld names (line_atoms (instr i)) → AreFunctionsHeld names (instr_functions i)
-instr_held names (move from to) h = tt
-instr_held names (add a b to) h = tt
-instr_held names (sub a b to) h = tt
-instr_held names (eq a b target) h = tt
-instr_held names (less a b target) h = tt
-instr_held names (jump target) h = tt
-instr_held names (call name arity at) h = tt
 instr_held names (call_ext m name arity at) h = (record { module_held = h.0; name_held = h.1.0 }, tt)
-instr_held names (ret value) h = tt
-instr_held names (pget key to) h = tt
-instr_held names (pget_or key other to) h = tt
-instr_held names (elem index from to) h = tt
-instr_held names (print value) h = tt
-instr_held names yield h = tt
+instr_held names i h = tt
 
 -- the names of a line's function are held where its atoms and its module's name are
 pub line_held : (names : List (List ℕ)) (home : List ℕ) (line : LineForm) → IsHeldText names home → AreHeld names (line_atoms line) → AreFunctionsHeld names (line_functions home line)
-line_held names home (title name version) h k = tt
 line_held names home (header exported name arity) h k = header_held names home name (number_value arity) exported h k.0
-line_held names home (label name) h k = tt
 line_held names home (instr i) h k = instr_held names i k
-line_held names home end h k = tt
+line_held names home line h k = tt

@@ -3,7 +3,7 @@ use Rattle.std.proofs.Common.{ℕ, List, [], ◌∷◌, map}
 use Rattle.std.specs.Prelude.{All}
 use Rattle.std.proofs.lemmas.List.Elements.{All-nil, All-cons}
 use Rattle.term_core.specs.Names.{IsNames}
-use Rattle.mod_text.specs.Canonical.{IsModuleHeld}
+use Rattle.mod_core.specs.HeldNames.{IsModuleHeld}
 use Rattle.mod_text.specs.ModuleLine.{LineForm}
 use Rattle.mod_text.specs.ModuleValue.{module_of}
 use Rattle.mod_text.proofs.ModuleHeld.{module_held, some_names, sound_lines}

@@ -8,7 +8,7 @@ use Rattle.term_core.specs.TermText.{number_in, names_with_all}
 use Rattle.term_core.proofs.Places.{position-append_found, position-append_one}
 use Rattle.term_core.proofs.NameTables.{slice_get-number_of}
 use Rattle.term_core.proofs.GrownNames.{Extends-refl, Extends-trans, names_with-Extends}
-use Rattle.mod_text.proofs.Options.{some_is}
+use Rattle.term_core.proofs.Text.Options.{some_is, same_bytes}
 
 -- the table holds the text
 pub record IsHeldText (names : List (List ℕ)) (text : List ℕ) : Type 0 where
@@ -28,12 +28,9 @@ number_in-more names more text h = ap (λ (o : Option ℕ). unwrap_or o 0) (posi
 pub number_in-after : (names after : List (List ℕ)) (text : List ℕ) → Extends names after → IsHeldText names text → number_in after text ≡ number_in names text
 number_in-after names after text e h = ap (λ (ns : List (List ℕ)). number_in ns text) e.whole ∙ number_in-more names e.more text h
 
-same_text : (text : List ℕ) → bytes_eq text text ≡ true
-same_text text = (bytes_eq-Decides text text).1 refl
-
 held_by : (names : List (List ℕ)) (text : List ℕ) (o : Option ℕ) → number_of names text ≡ o → IsHeldText (cond (is_some o) names (names ++ text ∷ [])) text
 held_by names text (Some n) e = record { number = n; is = e }
-held_by names text None e = record { number = length names; is = position-append_one (bytes_eq text) names text e (same_text text) }
+held_by names text None e = record { number = length names; is = position-append_one (bytes_eq text) names text e (same_bytes text) }
 
 -- a text is held once it was named
 pub held_with : (names : List (List ℕ)) (text : List ℕ) → IsHeldText (names_with names text) text

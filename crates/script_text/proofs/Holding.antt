@@ -1,16 +1,17 @@
 -- What is known after lines: the reader's tables are those of the lines.
-use Rattle.std.proofs.Common.{◌≡◌, ℕ, ◌+◌, ◌<◌, ◌≤◌, suc, Bool, true, false, cond, List, [], ◌∷◌, ◌++◌, length, Option, Some, None, option_map, refl, sym, ap, ◌∙◌, subst, arith, append_assoc, append-nil, length-append}
+use Rattle.std.proofs.Common.{◌≡◌, ℕ, ◌+◌, ◌≤◌, Bool, true, false, cond, List, [], ◌∷◌, ◌++◌, length, Option, Some, None, option_map, refl, sym, ap, ◌∙◌, subst, arith, append_assoc}
 use Rattle.std.specs.Prelude.{map}
 use Rattle.std.specs.List.{AllByRecursion}
 use Rattle.term_core.specs.declared.atom.Mfa.{Mfa}
 use Rattle.term_core.specs.Names.{IsNames, Extends}
-use Rattle.mod_text.specs.ModuleLine.{LineForm, title, header, label, instr, end, number_value}
+use Rattle.term_core.specs.Text.Numbers.{number_value}
+use Rattle.mod_text.specs.ModuleLine.{LineForm, title}
 use Rattle.mod_text.specs.LineFaults.{last_line, line_atoms}
 use Rattle.mod_text.specs.ModuleValue.{atom_in, title_of, IsTitled, module_of, unsettled_line}
 use Rattle.script_text.specs.declared.reading.reader.Place.{Place}
 use Rattle.script_text.specs.declared.reading.reader.Place.TheVariants.{Unread, Between, Within, Observing, Loading, Finished}
 use Rattle.script_text.specs.declared.reading.reader.ScriptReader.{ScriptReader}
-use Rattle.script_text.specs.ScriptLine.{RefForm, ScriptLine, head, code, loader, load, spawn, go}
+use Rattle.script_text.specs.ScriptLine.{RefForm, ScriptLine, go}
 use Rattle.script_text.specs.Counts.{FunctionForm}
 use Rattle.script_text.specs.ScriptValue.{ref_in, commands_of}
 use Rattle.script_text.specs.LineFaults.{may_stand_between, may_stand_behind, may_stand_observing, may_stand_loading, may_stand, or_else, lack_in_texts, is_lacking, lack_in_loads}

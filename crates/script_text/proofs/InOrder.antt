@@ -3,8 +3,8 @@ use Rattle.std.proofs.Common.{◌≡◌, ℕ, true, List, [], ◌∷◌, ◌++�
 use Rattle.std.specs.Prelude.{IsTrue}
 use Rattle.std.specs.List.{AllByRecursion, flat_map}
 use Rattle.std.proofs.lemmas.List.{map-append}
-use Rattle.mod_text.specs.ModuleLine.{LineForm, title, header, label, instr, end}
-use Rattle.script_text.specs.ScriptLine.{ScriptLine, head, code, observer, loader, load, on_atom, put, trace, spawn, go, is_script_line}
+use Rattle.mod_text.specs.ModuleLine.{LineForm, end}
+use Rattle.script_text.specs.ScriptLine.{ScriptLine, head, code, observer, loader, go, is_script_line}
 use Rattle.script_text.specs.Counts.{code_lines, line_observers, observers_of, block_lines}
 use Rattle.script_text.specs.Canonical.{code_form}
 use Rattle.script_text.specs.LineFaults.{may_stand_between, may_stand_within, may_stand_behind, may_stand_observing, may_stand_loading, may_stand, last_of}
@@ -22,17 +22,8 @@ observer_lines observers = map (λ count. observer count) observers
 
 -- the first of these lines begins a loader block
 abbrev pub IsOpened : List ScriptLine → Type 0
-IsOpened [] = ⊥
-IsOpened (head ∷ lines) = ⊥
-IsOpened (code line ∷ lines) = ⊥
-IsOpened (observer count ∷ lines) = ⊥
 IsOpened (loader ∷ lines) = Unit {0}
-IsOpened (load refs ∷ lines) = ⊥
-IsOpened (on_atom command name ∷ lines) = ⊥
-IsOpened (put key term ∷ lines) = ⊥
-IsOpened (trace f g arity on ∷ lines) = ⊥
-IsOpened (spawn m f args ∷ lines) = ⊥
-IsOpened (go ∷ lines) = ⊥
+IsOpened lines = ⊥
 
 -- the same, or there are none
 abbrev pub AreBlocks : List ScriptLine → Type 0
@@ -74,28 +65,14 @@ Stand None lines = lines ≡ []
 Stand (Some head) lines = BeforeObservers lines
 Stand (Some (code line)) lines = BeforeObservers lines
 Stand (Some (observer count)) lines = BeforeBlocks lines
-Stand (Some loader) lines = InBlocks lines
-Stand (Some (load refs)) lines = InBlocks lines
-Stand (Some (on_atom command name)) lines = InBlocks lines
-Stand (Some (put key term)) lines = InBlocks lines
-Stand (Some (trace f g arity on)) lines = InBlocks lines
-Stand (Some (spawn m f args)) lines = InBlocks lines
 Stand (Some go) lines = AreInOrder lines
+Stand last lines = InBlocks lines
 
 -- ---- a line more
 
 opened_more : (lines : List ScriptLine) (more : List ScriptLine) → IsOpened lines → IsOpened (lines ++ more)
-opened_more [] more h = absurd h
-opened_more (head ∷ lines) more h = absurd h
-opened_more (code line ∷ lines) more h = absurd h
-opened_more (observer count ∷ lines) more h = absurd h
 opened_more (loader ∷ lines) more h = tt
-opened_more (load refs ∷ lines) more h = absurd h
-opened_more (on_atom command name ∷ lines) more h = absurd h
-opened_more (put key term ∷ lines) more h = absurd h
-opened_more (trace f g arity on ∷ lines) more h = absurd h
-opened_more (spawn m f args ∷ lines) more h = absurd h
-opened_more (go ∷ lines) more h = absurd h
+opened_more lines more h = absurd h
 
 are_blocks : (lines : List ScriptLine) → IsOpened lines → AreBlocks lines
 are_blocks [] h = tt
@@ -190,83 +167,43 @@ go_more lines whole opened =
 first_line : (lines : List ScriptLine) (line : ScriptLine) → lines ≡ [] → may_stand None line ≡ true → Stand (Some line) (lines ++ line ∷ [])
 unfolding before_go
 first_line lines head none place = subst (λ (ls : List ScriptLine). BeforeObservers (ls ++ head ∷ [])) (sym none) (record { whole = refl; no_observer = refl; none = refl })
-first_line lines (code line) none place = absurd cc
-first_line lines (observer count) none place = absurd cc
-first_line lines loader none place = absurd cc
-first_line lines (load refs) none place = absurd cc
-first_line lines (on_atom command name) none place = absurd cc
-first_line lines (put key term) none place = absurd cc
-first_line lines (trace f g arity on) none place = absurd cc
-first_line lines (spawn m f args) none place = absurd cc
-first_line lines go none place = absurd cc
+first_line lines line none place = absurd cc
 
 line_between : (lines : List ScriptLine) (line : ScriptLine) → BeforeObservers lines → may_stand_between line ≡ true → Stand (Some line) (lines ++ line ∷ [])
-line_between lines head b place = absurd cc
 line_between lines (code line) b place = code_more lines line b
 line_between lines (observer count) b place = observer_more lines count b.whole b.none
 line_between lines loader b place = loader_more lines b.whole b.none
-line_between lines (load refs) b place = absurd cc
-line_between lines (on_atom command name) b place = absurd cc
-line_between lines (put key term) b place = absurd cc
-line_between lines (trace f g arity on) b place = absurd cc
-line_between lines (spawn m f args) b place = absurd cc
 line_between lines go b place = go_more lines b.whole (subst AreBlocks (sym b.none) tt)
+line_between lines line b place = absurd cc
 
 line_within : (lines : List ScriptLine) (last : LineForm) (line : ScriptLine) → BeforeObservers lines → may_stand_within last line ≡ true → Stand (Some line) (lines ++ line ∷ [])
-line_within lines last head b place = absurd cc
 line_within lines last (code line) b place = code_more lines line b
-line_within lines last (observer count) b place = absurd cc
-line_within lines last loader b place = absurd cc
-line_within lines last (load refs) b place = absurd cc
-line_within lines last (on_atom command name) b place = absurd cc
-line_within lines last (put key term) b place = absurd cc
-line_within lines last (trace f g arity on) b place = absurd cc
-line_within lines last (spawn m f args) b place = absurd cc
-line_within lines last go b place = absurd cc
+line_within lines last line b place = absurd cc
 
 line_behind : (lines : List ScriptLine) (last : LineForm) (line : ScriptLine) → BeforeObservers lines → may_stand_behind last line ≡ true → Stand (Some line) (lines ++ line ∷ [])
-line_behind lines (title name version) line b place = line_within lines (title name version) line b place
-line_behind lines (header exported name arity) line b place = line_within lines (header exported name arity) line b place
-line_behind lines (label name) line b place = line_within lines (label name) line b place
-line_behind lines (instr i) line b place = line_within lines (instr i) line b place
 line_behind lines end line b place = line_between lines line b place
+line_behind lines last line b place = line_within lines last line b place
 
 line_observing : (lines : List ScriptLine) (line : ScriptLine) → BeforeBlocks lines → may_stand_observing line ≡ true → Stand (Some line) (lines ++ line ∷ [])
-line_observing lines head b place = absurd cc
-line_observing lines (code line) b place = absurd cc
 line_observing lines (observer count) b place = observer_more lines count b.whole b.none
 line_observing lines loader b place = loader_more lines b.whole b.none
-line_observing lines (load refs) b place = absurd cc
-line_observing lines (on_atom command name) b place = absurd cc
-line_observing lines (put key term) b place = absurd cc
-line_observing lines (trace f g arity on) b place = absurd cc
-line_observing lines (spawn m f args) b place = absurd cc
 line_observing lines go b place = go_more lines b.whole (subst AreBlocks (sym b.none) tt)
+line_observing lines line b place = absurd cc
 
 line_loading : (lines : List ScriptLine) (line : ScriptLine) → InBlocks lines → may_stand_loading line ≡ true → Stand (Some line) (lines ++ line ∷ [])
 line_loading lines head b place = absurd cc
 line_loading lines (code line) b place = absurd cc
 line_loading lines (observer count) b place = absurd cc
-line_loading lines loader b place = in_block lines loader b refl refl refl
-line_loading lines (load refs) b place = in_block lines (load refs) b refl refl refl
-line_loading lines (on_atom command name) b place = in_block lines (on_atom command name) b refl refl refl
-line_loading lines (put key term) b place = in_block lines (put key term) b refl refl refl
-line_loading lines (trace f g arity on) b place = in_block lines (trace f g arity on) b refl refl refl
-line_loading lines (spawn m f args) b place = in_block lines (spawn m f args) b refl refl refl
 line_loading lines go b place = go_more lines b.whole (are_blocks (flat_map block_lines lines) b.opened)
+line_loading lines line b place = in_block lines line b refl refl refl
 
 line_more : (lines : List ScriptLine) (last : Option ScriptLine) (line : ScriptLine) → Stand last lines → may_stand last line ≡ true → Stand (Some line) (lines ++ line ∷ [])
 line_more lines None line s place = first_line lines line s place
 line_more lines (Some head) line s place = line_between lines line s place
 line_more lines (Some (code last)) line s place = line_behind lines last line s place
 line_more lines (Some (observer count)) line s place = line_observing lines line s place
-line_more lines (Some loader) line s place = line_loading lines line s place
-line_more lines (Some (load refs)) line s place = line_loading lines line s place
-line_more lines (Some (on_atom command name)) line s place = line_loading lines line s place
-line_more lines (Some (put key term)) line s place = line_loading lines line s place
-line_more lines (Some (trace f g arity on)) line s place = line_loading lines line s place
-line_more lines (Some (spawn m f args)) line s place = line_loading lines line s place
 line_more lines (Some go) line s place = absurd cc
+line_more lines last line s place = line_loading lines line s place
 
 stand_kept : IsKept (λ m. Stand m.last m.lines)
 stand_kept = record { first = refl; more = λ m line s sound p. line_more m.lines m.last line s p.place }

@@ -1,14 +1,14 @@
 -- A set of keys, seen as the list of what the keys stand for.
-use Rattle.std.proofs.Common.{◌≡◌, ℕ, ◌==◌, ◌&&◌, ◌||◌, ◌≤◌, not, nat_le, Bool, true, false, cond, List, [], ◌∷◌, ◌++◌, length, Ok, refl, sym, ap, ◌∙◌, subst, arith}
+use Rattle.std.proofs.Common.{◌≡◌, ℕ, ◌==◌, ◌&&◌, ◌||◌, ◌≤◌, not, nat_le, Bool, true, false, cond, List, [], ◌∷◌, ◌++◌, length, Ok, refl, sym, ap, ◌∙◌, arith}
 use Rattle.std.specs.Prelude.{map}
 use Rattle.std.specs.List.{list_any}
 use Rattle.std.proofs.lemmas.Bool.Decides.{nat_tests}
 use Rattle.std.proofs.lemmas.List.{map-append, length-map}
 use Rattle.term_core.specs.declared.atom.Mfa.{Mfa}
 use Rattle.server_core.specs.declared.command.ModRef.{ModRef}
+use Rattle.term_core.proofs.Text.Options.{failed}
 use Rattle.script_text.specs.declared.reading.sets.FunctionKey.{FunctionKey}
 use Rattle.script_text.specs.declared.reading.sets.RefKey.{RefKey}
-use Rattle.script_text.proofs.Choices.{failed}
 use Rattle.script_text.specs.Sets.{mfa_of_key, ref_of_key, is_same_mfa, is_same_mod_ref, passes_functions, mfa_added, is_among, ref_added}
 
 pub any-map : {A B : Type 0} (f : A → Bool) (g : B → Bool) (h : A → B) → ((x : A) → f x ≡ g (h x)) → (xs : List A) → list_any f xs ≡ list_any g (map h xs)

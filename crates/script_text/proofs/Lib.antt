@@ -23,7 +23,6 @@ pub mod LineSteps
 pub mod LinesJoined
 pub mod LoadSteps
 pub mod ModuleNames
-pub mod NamesCopied
 pub mod NamedLaws
 pub mod NamedSteps
 pub mod NamingLoops

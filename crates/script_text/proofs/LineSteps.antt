@@ -2,14 +2,14 @@
 use Rattle.std.proofs.Common.{◌≡◌, ℕ, ◌+◌, Bool, true, false, cond, not, ◌||◌, List, [], length, Option, Some, None, Ok, Err, bytes_eq, codes, refl, sym, ap, ◌∙◌, subst, arith}
 use Rattle.term_core.specs.Written.{WrittenTerm}
 use Rattle.mod_text.specs.ModuleLine.{LineForm}
-use Rattle.mod_text.specs.LineReading.{cut_at}
-use Rattle.mod_text.proofs.Options.{bytes_are}
+use Rattle.term_core.specs.Text.Cuts.{cut_at}
+use Rattle.term_core.proofs.Text.Options.{bytes_are}
 use Rattle.script_text.specs.declared.fault.ScriptFault.TheVariants as faults
 use Rattle.script_text.specs.declared.reading.cause.LineCause.TheVariants as causes
 use Rattle.script_text.specs.declared.reading.reader.Place.{Place}
 use Rattle.script_text.specs.declared.reading.reader.Place.TheVariants.{Unread, Between, Within, Observing, Loading, Finished}
 use Rattle.script_text.specs.declared.reading.reader.ScriptReader.{ScriptReader}
-use Rattle.script_text.specs.ScriptLine.{RefForm, AtomCommand, ScriptLine, head, code, observer, loader, load, on_atom, put, trace, spawn, go, IsLine}
+use Rattle.script_text.specs.ScriptLine.{RefForm, AtomCommand, ScriptLine, head, loader, load, on_atom, put, trace, spawn, go, IsLine}
 use Rattle.script_text.specs.LineFaults.{is_head, may_stand}
 use Rattle.script_text.specs.Reading.{head_step, block_step, end_step, keyed_step, command_by, command_step, other_step, load_step, atom_step, put_step, trace_step, spawn_step, line_at, IsCounted}
 use Rattle.script_text.proofs.CommandLaws.{load_cut, spawn_cut}
@@ -37,15 +37,7 @@ judges_head m r closed text k u = by_text (bytes_eq text (codes "beam script 1")
   where
     no_head : bytes_eq text (codes "beam script 1") ≡ false → (line : ScriptLine) → IsLine text line → fault_by m line ≡ Some (faults.Syntax (m.count + 1))
     no_head e head l = let yes : bytes_eq text (codes "beam script 1") ≡ true = ap (λ (t : List ℕ). bytes_eq t (codes "beam script 1")) l.text_is in absurd cc
-    no_head e (code line) l = misplaced m (code line) (head_follows m r closed u (code line))
-    no_head e (observer count) l = misplaced m (observer count) (head_follows m r closed u (observer count))
-    no_head e loader l = misplaced m loader (head_follows m r closed u loader)
-    no_head e (load refs) l = misplaced m (load refs) (head_follows m r closed u (load refs))
-    no_head e (on_atom command name) l = misplaced m (on_atom command name) (head_follows m r closed u (on_atom command name))
-    no_head e (put key term) l = misplaced m (put key term) (head_follows m r closed u (put key term))
-    no_head e (trace f g arity on) l = misplaced m (trace f g arity on) (head_follows m r closed u (trace f g arity on))
-    no_head e (spawn n f args) l = misplaced m (spawn n f args) (head_follows m r closed u (spawn n f args))
-    no_head e go l = misplaced m go (head_follows m r closed u go)
+    no_head e line l = misplaced m line (head_follows m r closed u line)
 
     by_text : (t : Bool) → bytes_eq text (codes "beam script 1") ≡ t → Judges m text (cond t (Ok (record r { place = Between })) (Err causes.Syntax))
     by_text true e =
@@ -140,9 +132,5 @@ pub is_counted : (m : Summary) (r : ScriptReader) (number : ℕ) → Holds m r �
 is_counted m r number h n = by_place r.place h.stands
   where
     by_place : (p : Place) → Stands m r h.closed p → IsCounted r number p
-    by_place Unread s = tt
-    by_place Between s = tt
     by_place Within s = let t = s.is_open.title in let c = s.is_open.counted in (s.is_open.titled, omega (arith, t, c, n))
-    by_place Observing s = tt
-    by_place Loading s = tt
-    by_place Finished s = tt
+    by_place p s = tt

@@ -5,8 +5,8 @@ use Rattle.std.proofs.lemmas.Grind.{flat_map-append}
 use Rattle.mod_core.specs.declared.code.Module.{Module}
 use Rattle.mod_text.specs.Canonical.{canonical as module_lines}
 use Rattle.mod_text.specs.ModuleLine.{LineForm, line_bytes, lines_written}
-use Rattle.mod_text.specs.Reading.{Lines, lines, before_lines, lines_of}
-use Rattle.mod_text.proofs.Cuts.{lacks, lacks-cons, lines_behind}
+use Rattle.term_core.specs.Text.Cuts.{Lines, lines, before_lines, lines_of}
+use Rattle.term_core.proofs.Text.Cuts.{lacks, lacks-cons, lines_behind}
 use Rattle.script_text.specs.ScriptLine.{ScriptLine, head, code, go, script_line_written}
 use Rattle.script_text.specs.Canonical.{code_form, script_line_bytes}
 use Rattle.script_text.proofs.InOrder.{assemble}

@@ -7,12 +7,13 @@ use Rattle.std.proofs.lemmas.Bool.Decides.{nat_tests}
 use Rattle.term_core.specs.Names.{IsNames, is_atom_text}
 use Rattle.term_core.specs.TermText.{names_with_all}
 use Rattle.term_core.specs.Written.{WrittenTerm}
-use Rattle.mod_text.specs.ModuleLine.{LineForm, number_value}
-use Rattle.mod_text.specs.LineReading.{cut_at}
+use Rattle.term_core.specs.Text.Numbers.{number_value}
+use Rattle.mod_text.specs.ModuleLine.{LineForm}
+use Rattle.term_core.specs.Text.Cuts.{cut_at}
 use Rattle.mod_text.specs.ModuleValue.{module_of}
-use Rattle.mod_text.proofs.Cuts.{cut_is}
+use Rattle.term_core.proofs.Text.Cuts.{cut_is}
 use Rattle.mod_text.proofs.LineNames.{are_atoms}
-use Rattle.mod_text.proofs.Options.{some_is, same_bytes}
+use Rattle.term_core.proofs.Text.Options.{some_is, same_bytes}
 use Rattle.server_core.specs.declared.command.ModRef.{ModRef}
 use Rattle.script_text.specs.declared.fault.Which.TheVariants as which
 use Rattle.script_text.specs.declared.fault.ScriptFault.TheVariants as faults
@@ -20,7 +21,7 @@ use Rattle.script_text.specs.declared.reading.cause.LineCause.{LineCause}
 use Rattle.script_text.specs.declared.reading.cause.LineCause.TheVariants as causes
 use Rattle.script_text.specs.declared.reading.reader.Place.TheVariants.{Loading}
 use Rattle.script_text.specs.declared.reading.reader.ScriptReader.{ScriptReader}
-use Rattle.script_text.specs.declared.script.ScriptCmd.TheVariants.{Load}
+use Rattle.script_core.specs.declared.script.ScriptCmd.TheVariants.{Load}
 use Rattle.script_text.specs.ScriptLine.{RefForm, load, spawn, is_ref_form, are_some_refs, IsLine}
 use Rattle.script_text.specs.Counts.{is_same_ref, is_given}
 use Rattle.script_text.specs.Groups.{onto_last}

@@ -7,7 +7,8 @@ use Rattle.term_core.specs.declared.term.Term.TheVariants.{Atom}
 use Rattle.term_core.specs.Plain.{term_of}
 use Rattle.mod_core.specs.declared.code.Operand.TheVariants.{Const}
 use Rattle.mod_core.specs.declared.code.Instr.TheVariants.{Move, Add, Sub, Eq, Less, CallExt, Ret, Pget, PgetOr, Elem, Print}
-use Rattle.mod_text.specs.ModuleLine.{OperandForm, register, integer, atom, complex, InstrForm, move, add, sub, eq, less, jump, call, call_ext, ret, pget, pget_or, elem, print, yield, LineForm, title, header, label, instr, end, number_value}
+use Rattle.term_core.specs.Text.Numbers.{number_value}
+use Rattle.mod_text.specs.ModuleLine.{OperandForm, register, integer, atom, complex, InstrForm, move, add, sub, eq, less, call_ext, ret, pget, pget_or, elem, print, LineForm, title, header, label, instr}
 use Rattle.mod_text.specs.LineFaults.{operand_atoms, instr_atoms, line_atoms}
 use Rattle.mod_text.specs.ModuleValue.{body_of, functions_in, HeaderForm, headers_in, instrs_in, atom_in, operand_in, target_in, instr_in, function_in, title_of, IsTitled, module_of}
 use Rattle.script_text.proofs.HeldNames.{IsHeldText, number_in-more}
@@ -38,26 +39,16 @@ same_operand names more (integer text) h = refl
 same_operand names more (atom text) h = λ i. Const (Atom (same_atom names more text h.0 i))
 same_operand names more (complex text) h = λ i. Const (term_of (term_in-more names more text h i))
 
+two_same : (names more : List (List ℕ)) (a b : OperandForm) → AreHeld names (operand_atoms a ++ operand_atoms b) → (operand_in (names ++ more) a ≡ operand_in names a) × (operand_in (names ++ more) b ≡ operand_in names b)
+two_same names more a b h =
+    (same_operand names more a (held_first names (operand_atoms a) (operand_atoms b) h), same_operand names more b (held_second names (operand_atoms a) (operand_atoms b) h))
+
 same_instr : (names more : List (List ℕ)) (headers : List HeaderForm) (body : List LineForm) (i : InstrForm) → AreHeld names (instr_atoms i) → instr_in (names ++ more) headers body i ≡ instr_in names headers body i
 same_instr names more headers body (move from to) h = λ k. Move (same_operand names more from h k) (number_value to)
-same_instr names more headers body (add a b to) h =
-    let p = same_operand names more a (held_first names (operand_atoms a) (operand_atoms b) h) in
-    let q = same_operand names more b (held_second names (operand_atoms a) (operand_atoms b) h) in
-    λ k. Add (p k) (q k) (number_value to)
-same_instr names more headers body (sub a b to) h =
-    let p = same_operand names more a (held_first names (operand_atoms a) (operand_atoms b) h) in
-    let q = same_operand names more b (held_second names (operand_atoms a) (operand_atoms b) h) in
-    λ k. Sub (p k) (q k) (number_value to)
-same_instr names more headers body (eq a b target) h =
-    let p = same_operand names more a (held_first names (operand_atoms a) (operand_atoms b) h) in
-    let q = same_operand names more b (held_second names (operand_atoms a) (operand_atoms b) h) in
-    λ k. Eq (p k) (q k) (target_in body target)
-same_instr names more headers body (less a b target) h =
-    let p = same_operand names more a (held_first names (operand_atoms a) (operand_atoms b) h) in
-    let q = same_operand names more b (held_second names (operand_atoms a) (operand_atoms b) h) in
-    λ k. Less (p k) (q k) (target_in body target)
-same_instr names more headers body (jump target) h = refl
-same_instr names more headers body (call name arity at) h = refl
+same_instr names more headers body (add a b to) h = let both = two_same names more a b h in λ k. Add (both.0 k) (both.1 k) (number_value to)
+same_instr names more headers body (sub a b to) h = let both = two_same names more a b h in λ k. Sub (both.0 k) (both.1 k) (number_value to)
+same_instr names more headers body (eq a b target) h = let both = two_same names more a b h in λ k. Eq (both.0 k) (both.1 k) (target_in body target)
+same_instr names more headers body (less a b target) h = let both = two_same names more a b h in λ k. Less (both.0 k) (both.1 k) (target_in body target)
 same_instr names more headers body (call_ext m name arity at) h =
     let p = same_atom names more m h.0 in
     let q = same_atom names more name h.1.0 in
@@ -68,51 +59,35 @@ same_instr names more headers body (pget_or key other to) h =
     let p = same_atom names more key h.0 in
     let q = same_operand names more other h.1 in
     λ k. PgetOr (p k) (q k) (number_value to)
-same_instr names more headers body (elem index from to) h =
-    let p = same_operand names more index (held_first names (operand_atoms index) (operand_atoms from) h) in
-    let q = same_operand names more from (held_second names (operand_atoms index) (operand_atoms from) h) in
-    λ k. Elem (p k) (q k) (number_value to)
+same_instr names more headers body (elem index from to) h = let both = two_same names more index from h in λ k. Elem (both.0 k) (both.1 k) (number_value to)
 same_instr names more headers body (print value) h = λ k. Print (same_operand names more value h k)
-same_instr names more headers body yield h = refl
+same_instr names more headers body i h = refl
 
 same_code : (names more : List (List ℕ)) (headers : List HeaderForm) (body lines : List LineForm) → HaveHeld names lines → map (instr_in (names ++ more) headers body) (instrs_in lines) ≡ map (instr_in names headers body) (instrs_in lines)
 same_code names more headers body [] h = refl
-same_code names more headers body (title name version ∷ lines) h = same_code names more headers body lines h.1
-same_code names more headers body (header exported name arity ∷ lines) h = same_code names more headers body lines h.1
-same_code names more headers body (label name ∷ lines) h = same_code names more headers body lines h.1
 same_code names more headers body (instr i ∷ lines) h =
     let p = same_instr names more headers body i h.0 in
     let q = same_code names more headers body lines h.1 in
     λ k. p k ∷ q k
-same_code names more headers body (end ∷ lines) h = same_code names more headers body lines h.1
+same_code names more headers body (line ∷ lines) h = same_code names more headers body lines h.1
 
 pub held_body : (names : List (List ℕ)) (lines : List LineForm) → HaveHeld names lines → HaveHeld names (body_of lines)
-held_body names [] h = tt
-held_body names (title name version ∷ lines) h = tt
-held_body names (header exported name arity ∷ lines) h = tt
 held_body names (label name ∷ lines) h = (h.0, held_body names lines h.1)
 held_body names (instr i ∷ lines) h = (h.0, held_body names lines h.1)
-held_body names (end ∷ lines) h = tt
+held_body names lines h = tt
 
 same_functions : (names more : List (List ℕ)) (headers : List HeaderForm) (lines : List LineForm) → HaveHeld names lines → map (function_in (names ++ more) headers) (functions_in lines) ≡ map (function_in names headers) (functions_in lines)
 same_functions names more headers [] h = refl
-same_functions names more headers (title name version ∷ lines) h = same_functions names more headers lines h.1
 same_functions names more headers (header exported name arity ∷ lines) h =
     let n = same_atom names more name h.0.0 in
     let c = same_code names more headers (body_of lines) (body_of lines) (held_body names lines h.1) in
     let rest = same_functions names more headers lines h.1 in
     λ k. record { name = n k; arity = number_value arity; exported = exported; code = c k } ∷ rest k
-same_functions names more headers (label name ∷ lines) h = same_functions names more headers lines h.1
-same_functions names more headers (instr i ∷ lines) h = same_functions names more headers lines h.1
-same_functions names more headers (end ∷ lines) h = same_functions names more headers lines h.1
+same_functions names more headers (line ∷ lines) h = same_functions names more headers lines h.1
 
 same_title : (names more : List (List ℕ)) (lines : List LineForm) → IsTitled lines → HaveHeld names lines → atom_in (names ++ more) (title_of lines).0 ≡ atom_in names (title_of lines).0
-same_title names more [] t h = absurd t
 same_title names more (title name version ∷ lines) t h = same_atom names more name h.0.0
-same_title names more (header exported name arity ∷ lines) t h = absurd t
-same_title names more (label name ∷ lines) t h = absurd t
-same_title names more (instr i ∷ lines) t h = absurd t
-same_title names more (end ∷ lines) t h = absurd t
+same_title names more lines t h = absurd t
 
 pub module_of-more : (names more : List (List ℕ)) (lines : List LineForm) → IsTitled lines → HaveHeld names lines → module_of (names ++ more) lines ≡ module_of names lines
 module_of-more names more lines t h =

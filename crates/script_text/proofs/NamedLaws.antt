@@ -2,11 +2,12 @@
 use Rattle.std.proofs.Common.{◌≡◌, ℕ, Bool, true, false, cond, List, ◌∷◌, ◌++◌, Option, Some, None, bytes_eq, codes, refl, sym, ap, ◌∙◌, subst}
 use Rattle.std.proofs.lemmas.Bool.{and_parts, and_from}
 use Rattle.term_core.specs.Names.{is_atom_text}
-use Rattle.mod_text.specs.ModuleLine.{parted_by, spaced, function_written, is_number_text, is_arity_text, is_function_form}
-use Rattle.mod_text.specs.LineReading.{◌>>=◌, cut_at, tested, numbered_reading}
-use Rattle.mod_text.proofs.Options.{some, some_is, bind_some, bind_at, bytes_are, same_bytes, tested_is, tested_at}
-use Rattle.mod_text.proofs.Cuts.{lacks, lacks-append, lacks-cons, cut_here, cut_is}
-use Rattle.mod_text.proofs.LineAgain.{atom_lacks, number_lacks}
+use Rattle.term_core.specs.Text.Numbers.{is_number_text}
+use Rattle.mod_text.specs.ModuleLine.{parted_by, spaced, function_written, is_arity_text, is_function_form}
+use Rattle.term_core.specs.Text.Steps.{◌>>=◌, tested, numbered_reading}
+use Rattle.term_core.specs.Text.Cuts.{cut_at}
+use Rattle.term_core.proofs.Text.Options.{some, some_is, bind_some, bind_at, bytes_are, same_bytes, tested_is, tested_at}
+use Rattle.term_core.proofs.Text.Cuts.{lacks, lacks-append, lacks-cons, cut_here, cut_is, atom_lacks, number_lacks}
 use Rattle.script_text.specs.ScriptLine.{AtomCommand, delete, soft_purge, purge, check_old, erase, on_atom, trace, command_word, switch_word, trace_written, is_script_line, IsLine}
 use Rattle.script_text.specs.LineReading.{command_reading, TraceForm, switch_reading, trace_reading}
 
@@ -31,17 +32,11 @@ word_is word c e =
 
 pub word_again : (c : AtomCommand) → command_reading (command_word c) ≡ Some c
 word_again delete = refl
-word_again soft_purge = refl
-word_again purge = refl
-word_again check_old = refl
-word_again erase = refl
+word_again c = refl
 
 word_lacks : (c : AtomCommand) → lacks 32 (command_word c) ≡ true
 word_lacks delete = refl
-word_lacks soft_purge = refl
-word_lacks purge = refl
-word_lacks check_old = refl
-word_lacks erase = refl
+word_lacks c = refl
 
 -- the text of a command of one atom, cut at its first space
 pub atom_cut : (text : List ℕ) (c : AtomCommand) (n : List ℕ) → IsLine text (on_atom c n) → cut_at 32 text ≡ Some (command_word c, n)

@@ -12,10 +12,6 @@ abbrev pub with_front : {Y : Type 0} → List Y → Result (List Y × List (List
 with_front front (Ok x) = Ok (front ++ x.0, x.1)
 with_front front (Err cause) = Err cause
 
-pub with_front_none : {Y : Type 0} (r : Result (List Y × List (List ℕ)) LineCause) → with_front [] r ≡ r
-with_front_none (Ok x) = refl
-with_front_none (Err cause) = refl
-
 shifted : {Y : Type 0} (front : List Y) (y : Y) (r : Result (List Y × List (List ℕ)) LineCause) → with_front front (r >>= λ more. Ok (y ∷ more.0, more.1)) ≡ with_front (front ++ y ∷ []) r
 shifted front y (Ok x) = ap (λ (l : List _). Ok (l, x.1)) (sym (append_assoc front (y ∷ []) x.0))
 shifted front y (Err cause) = refl
@@ -35,10 +31,8 @@ names_go_on step front names after x y xs whole is so_far =
 -- an item that gets no number
 pub names_stop : {X Y : Type 0} (step : Step X Y) (front : List Y) (names : List (List ℕ)) (x : X) (xs : List X) (whole : Result (List Y × List (List ℕ)) LineCause) (cause : LineCause) → Fails (step names x) cause → with_front front (each_named step names (x ∷ xs)) ≡ whole → Fails whole cause
 unfolding each_named
-names_stop step front names x xs whole causes.Syntax is so_far = sym so_far ∙ ap (λ (r : Result _ LineCause). with_front front (r >>= rest_of step xs)) is
-names_stop step front names x xs whole (causes.Limit which) is so_far = sym so_far ∙ ap (λ (r : Result _ LineCause). with_front front (r >>= rest_of step xs)) is
-names_stop step front names x xs whole causes.Duplicate is so_far = sym so_far ∙ ap (λ (r : Result _ LineCause). with_front front (r >>= rest_of step xs)) is
 names_stop step front names x xs whole causes.NoMemory is so_far = tt
+names_stop step front names x xs whole cause is so_far = sym so_far ∙ ap (λ (r : Result _ LineCause). with_front front (r >>= rest_of step xs)) is
 
 -- all items
 pub names_end : {X Y : Type 0} (step : Step X Y) (front : List Y) (names : List (List ℕ)) (whole : Result (List Y × List (List ℕ)) LineCause) → with_front front (each_named step names []) ≡ whole → whole ≡ Ok (front, names)

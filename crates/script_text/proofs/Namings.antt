@@ -13,7 +13,7 @@ use Rattle.term_core.specs.TermForms.{term_in}
 use Rattle.term_core.specs.TermText.{number_in, names_with_all}
 use Rattle.term_core.specs.Written.{WrittenTerm, written, integer_of, is_term_integer, is_integer_text}
 use Rattle.term_core.proofs.TermForms.{form_is}
-use Rattle.mod_text.specs.ModuleLine.{number_value}
+use Rattle.term_core.specs.Text.Numbers.{number_value}
 use Rattle.mod_text.specs.ModuleValue.{atom_in, mfa_in}
 use Rattle.mod_text.proofs.LineNames.{names_with_all-append, more_names_all}
 use Rattle.server_core.specs.declared.command.ModRef.{ModRef}

@@ -1,7 +1,7 @@
 -- The lines of observers.
 use Rattle.std.proofs.Common.{◌≡◌, ℕ, List, Some, codes, refl, ap, ◌∙◌}
-use Rattle.mod_text.specs.LineReading.{cut_at}
-use Rattle.mod_text.proofs.Cuts.{cut_here}
+use Rattle.term_core.specs.Text.Cuts.{cut_at}
+use Rattle.term_core.proofs.Text.Cuts.{cut_here}
 use Rattle.script_text.specs.ScriptLine.{observer, IsLine}
 
 -- the text of an observer, cut at its first space

@@ -2,10 +2,11 @@
 use Rattle.std.proofs.Common.{◌≡◌, ℕ, ◌+◌, Bool, true, false, cond, not, ◌||◌, nat_le, nat_lt, List, [], ◌∷◌, ◌++◌, length, Option, Some, None, option_map, Ok, Err, bytes_eq, codes, refl, sym, ap, ◌∙◌, subst, arith, length-append}
 use Rattle.std.proofs.lemmas.Bool.Decides.{nat_tests}
 use Rattle.std.proofs.lemmas.List.{length-map}
-use Rattle.mod_text.specs.ModuleLine.{LineForm, number_value}
-use Rattle.mod_text.specs.LineReading.{cut_at}
-use Rattle.mod_text.proofs.Cuts.{cut_is}
-use Rattle.mod_text.proofs.Options.{some_is, bytes_are}
+use Rattle.term_core.specs.Text.Numbers.{number_value}
+use Rattle.mod_text.specs.ModuleLine.{LineForm}
+use Rattle.term_core.specs.Text.Cuts.{cut_at}
+use Rattle.term_core.proofs.Text.Cuts.{cut_is}
+use Rattle.term_core.proofs.Text.Options.{some_is, bytes_are}
 use Rattle.script_text.specs.declared.fault.Which.TheVariants as which
 use Rattle.script_text.specs.declared.fault.ScriptFault.TheVariants as faults
 use Rattle.script_text.specs.declared.reading.cause.LineCause.TheVariants as causes
@@ -13,7 +14,7 @@ use Rattle.script_text.specs.declared.reading.reader.Place.TheVariants.{Observin
 use Rattle.script_text.specs.declared.reading.reader.ScriptReader.{ScriptReader}
 use Rattle.script_text.specs.Causes.{◌>>=◌}
 use Rattle.script_text.specs.Naming.{or_syntax}
-use Rattle.script_text.specs.ScriptLine.{ScriptLine, head, code, observer, loader, load, on_atom, put, trace, spawn, go, is_snapshots_text, IsLine}
+use Rattle.script_text.specs.ScriptLine.{ScriptLine, observer, loader, go, is_snapshots_text, IsLine}
 use Rattle.script_text.specs.LineFaults.{may_stand_observing, may_stand}
 use Rattle.script_text.specs.Reading.{observer_step, observing_by, between_by, title_step}
 use Rattle.script_text.proofs.Summaries.{Summary, table, fault_by}
@@ -93,16 +94,10 @@ judges_between m r closed text number k b n no_loader no_go = by_cut (cut_at 32 
 
 -- behind an observer, a text that is none of the lines that may stand there
 no_observing : (m : Summary) (text : List ℕ) → ((line : ScriptLine) → may_stand m.last line ≡ may_stand_observing line) → bytes_eq text (codes "loader") ≡ false → bytes_eq text (codes "go") ≡ false → ((count : List ℕ) → IsLine text (observer count) → ⊥) → Judges m text (Err causes.Syntax)
-no_observing m text follows no_loader no_go no_observer head l = misplaced m head (follows head)
-no_observing m text follows no_loader no_go no_observer (code line) l = misplaced m (code line) (follows (code line))
 no_observing m text follows no_loader no_go no_observer (observer count) l = absurd (no_observer count l)
 no_observing m text follows no_loader no_go no_observer loader l = let yes : bytes_eq text (codes "loader") ≡ true = ap (λ (t : List ℕ). bytes_eq t (codes "loader")) l.text_is in absurd cc
-no_observing m text follows no_loader no_go no_observer (load refs) l = misplaced m (load refs) (follows (load refs))
-no_observing m text follows no_loader no_go no_observer (on_atom command name) l = misplaced m (on_atom command name) (follows (on_atom command name))
-no_observing m text follows no_loader no_go no_observer (put key term) l = misplaced m (put key term) (follows (put key term))
-no_observing m text follows no_loader no_go no_observer (trace f g arity on) l = misplaced m (trace f g arity on) (follows (trace f g arity on))
-no_observing m text follows no_loader no_go no_observer (spawn n f args) l = misplaced m (spawn n f args) (follows (spawn n f args))
 no_observing m text follows no_loader no_go no_observer go l = let yes : bytes_eq text (codes "go") ≡ true = ap (λ (t : List ℕ). bytes_eq t (codes "go")) l.text_is in absurd cc
+no_observing m text follows no_loader no_go no_observer line l = misplaced m line (follows line)
 
 -- a line behind an observer
 pub judges_observing : (m : Summary) (r : ScriptReader) (closed : List (List LineForm)) (text : List ℕ) → Knows m r closed → IsObserving m r → bytes_eq text (codes "loader") ≡ false → bytes_eq text (codes "go") ≡ false → Judges m text (observing_by r (cut_at 32 text))

@@ -2,10 +2,12 @@
 use Rattle.std.proofs.Common.{◌≡◌, ℕ, Bool, true, false, cond, List, Option, Some, None, option_map, bytes_eq, codes, refl, sym, ap, ◌∙◌}
 use Rattle.term_core.specs.Names.{is_atom_text}
 use Rattle.mod_text.specs.ModuleLine.{LineForm}
-use Rattle.mod_text.specs.LineReading.{cut_at, tested, parts_reading, line_split, has_sound_terms, sound_reading, line_reading}
+use Rattle.term_core.specs.Text.Cuts.{cut_at}
+use Rattle.term_core.specs.Text.Steps.{tested}
+use Rattle.mod_text.specs.LineReading.{parts_reading, line_split, has_sound_terms, sound_reading, line_reading}
 use Rattle.mod_text.proofs.LineAgain.{text_again}
-use Rattle.mod_text.proofs.Options.{some_is, failed, bytes_are, tested_at}
-use Rattle.script_text.specs.ScriptLine.{AtomCommand, delete, soft_purge, purge, check_old, erase, ScriptLine, head, code, observer, loader, load, on_atom, put, trace, spawn, go, command_word, is_snapshots_text, IsLine}
+use Rattle.term_core.proofs.Text.Options.{some_is, failed, bytes_are, tested_at}
+use Rattle.script_text.specs.ScriptLine.{AtomCommand, delete, ScriptLine, head, code, observer, loader, load, on_atom, put, trace, spawn, go, command_word, is_snapshots_text, IsLine}
 use Rattle.script_text.specs.LineReading.{CallForm, refs_reading, command_reading, PutForm, put_reading, TraceForm, trace_reading, call_reading}
 use Rattle.script_text.proofs.CommandLaws.{load_cut, spawn_cut}
 use Rattle.script_text.proofs.ObserverLaws.{observer_cut}
@@ -107,10 +109,7 @@ code_parts text line e = by_cut (cut_at 32 text) refl
     -- which is none of the words of a module's text
     no_code : (word rest : List ℕ) (c : AtomCommand) → word ≡ command_word c → parts_reading text (Some (word, rest)) ≡ Some line → ⊥
     no_code word rest delete is read = let none = sym (ap (λ (w : List ℕ). parts_reading text (Some (w, rest))) is) ∙ read in absurd cc
-    no_code word rest soft_purge is read = let none = sym (ap (λ (w : List ℕ). parts_reading text (Some (w, rest))) is) ∙ read in absurd cc
-    no_code word rest purge is read = let none = sym (ap (λ (w : List ℕ). parts_reading text (Some (w, rest))) is) ∙ read in absurd cc
-    no_code word rest erase is read = let none = sym (ap (λ (w : List ℕ). parts_reading text (Some (w, rest))) is) ∙ read in absurd cc
-    no_code word rest check_old is read = let none = sym (ap (λ (w : List ℕ). parts_reading text (Some (w, rest))) is) ∙ read in absurd cc
+    no_code word rest c is read = let none = sym (ap (λ (w : List ℕ). parts_reading text (Some (w, rest))) is) ∙ read in absurd cc
 
     by_atom : (parts : List ℕ × List ℕ) (o : Option AtomCommand) → parts_reading text (Some parts) ≡ Some line → command_reading parts.0 ≡ o → by_word o parts.1 (option_map (λ l. code l) (line_reading text)) ≡ Some (code line)
     by_atom parts None read f = ap (option_map (λ l. code l)) e
@@ -153,9 +152,6 @@ code_parts text line e = by_cut (cut_at 32 text) refl
 -- ---- the one line
 
 reads : (text : List ℕ) (line : ScriptLine) → IsLine text line → form_reading text ≡ Some line
-reads text head is = ap form_reading is.text_is
-reads text loader is = ap form_reading is.text_is
-reads text go is = ap form_reading is.text_is
 reads text (code line) is =
     let e = text_again text line (record { text_is = is.text_is; sound = is.sound }) in
     by_others text (code_other text line e) ∙ code_parts text line e
@@ -171,17 +167,11 @@ reads text (on_atom command name) is =
   where
     no_beam : (c : AtomCommand) → bytes_eq (codes "beam") (command_word c) ≡ false
     no_beam delete = refl
-    no_beam soft_purge = refl
-    no_beam purge = refl
-    no_beam check_old = refl
-    no_beam erase = refl
+    no_beam c = refl
 
     by_atom : (c : AtomCommand) → by_parts text (Some (command_word c, name)) ≡ option_map (λ n. on_atom c n) (tested is_atom_text name)
     by_atom delete = refl
-    by_atom soft_purge = refl
-    by_atom purge = refl
-    by_atom check_old = refl
-    by_atom erase = refl
+    by_atom c = refl
 reads text (put key term) is =
     let c = put_cut text key term is in
     by_others text (worded text (codes "put") c.0 c.1 refl) ∙ ap (by_parts text) c.1 ∙ ap (option_map put_of) c.2
@@ -191,6 +181,7 @@ reads text (trace n f arity on) is =
 reads text (spawn n f args) is =
     let c = spawn_cut text n f args is in
     by_others text (worded text (codes "spawn") c.0 c.1 refl) ∙ ap (by_parts text) c.1 ∙ ap (option_map spawn_of) c.2
+reads text line is = ap form_reading is.text_is
 
 -- the line of a text that begins with the word of an observer is an observer's
 pub observer_alone : (text rest : List ℕ) (line : ScriptLine) → cut_at 32 text ≡ Some (codes "observer", rest) → IsLine text line → observer_of rest ≡ Some line

@@ -1,37 +1,16 @@
 -- A module's text that is open: what a line leaves of it, and what it comes to when it is closed.
-use Rattle.std.proofs.Common.{◌≡◌, ℕ, suc, ◌+◌, ◌<◌, ◌≤◌, Bool, true, false, cond, not, List, [], ◌∷◌, ◌++◌, length, Option, Some, None, option_map, Result, Ok, Err, ◌↔◌, IsTrue, refl, sym, ap, ◌∙◌, subst, arith, length-append}
+use Rattle.std.proofs.Common.{◌≡◌, ℕ, suc, ◌+◌, ◌<◌, ◌≤◌, Bool, true, false, cond, List, [], ◌∷◌, length, Option, Some, None, option_map, Ok, Err, subst, arith, length-append}
 use Rattle.mod_text.specs.declared.fault.LineFault.{LineFault}
 use Rattle.mod_text.specs.declared.fault.LineFault.TheVariants as line_faults
-use Rattle.mod_text.specs.ModuleLine.{LineForm, title, header, label, instr, end}
+use Rattle.mod_text.specs.ModuleLine.{LineForm, header, label, instr}
 use Rattle.mod_text.specs.LineFaults.{last_line, may_follow, fault_of_line}
 use Rattle.mod_text.specs.LineReading.{line_reading}
-use Rattle.mod_text.specs.ModuleValue.{HeaderForm, IsTitled, headers_in, body_of, earlier, is_settled_line, unsettled_at, unsettled_in, unsettled_below, first_unsettled, unsettled_line}
-use Rattle.mod_text.specs.Reading.{Step, kept, judged, line_step}
-use Rattle.term_core.specs.declared.atom.Mfa.{Mfa}
-use Rattle.script_text.specs.declared.reading.cause.LineCause.{LineCause}
-use Rattle.script_text.specs.declared.reading.cause.LineCause.TheVariants as causes
-use Rattle.script_text.specs.declared.reading.reader.ScriptReader.{ScriptReader}
-use Rattle.script_text.specs.Causes.{Fails}
-use Rattle.script_text.specs.Adding.{passes_counted}
-use Rattle.script_text.specs.Reading.{is_text_end, repeat_cause, line_added}
-use Rattle.script_text.proofs.Choices.{ok_is, ok_err}
+use Rattle.mod_text.specs.ModuleValue.{HeaderForm, IsTitled, headers_in, body_of, earlier, is_settled_line, unsettled_at, unsettled_below, first_unsettled, unsettled_line}
+use Rattle.mod_text.specs.Reading.{kept, judged, line_step}
+use Rattle.script_text.proofs.CodeSteps.{titled_more}
+use Rattle.script_text.proofs.Choices.{ok_is}
 
 -- ---- the end of a text
-
--- the test of the end
-pub text_end_test : (o : Option LineForm) (t : Bool) → (IsTrue t ↔ (o ≡ Some end)) → is_text_end o ≡ t
-text_end_test (Some end) true is = refl
-text_end_test (Some end) false is = let no = is.1 refl in absurd cc
-text_end_test None true is = let e = is.0 refl in absurd cc
-text_end_test None false is = refl
-text_end_test (Some (title name version)) true is = let e = is.0 refl in absurd cc
-text_end_test (Some (title name version)) false is = refl
-text_end_test (Some (header exported name arity)) true is = let e = is.0 refl in absurd cc
-text_end_test (Some (header exported name arity)) false is = refl
-text_end_test (Some (label name)) true is = let e = is.0 refl in absurd cc
-text_end_test (Some (label name)) false is = refl
-text_end_test (Some (instr i)) true is = let e = is.0 refl in absurd cc
-text_end_test (Some (instr i)) false is = refl
 
 -- ---- what is lacking
 
@@ -56,12 +35,9 @@ suc_le : (m n : ℕ) → m ≤ n → suc m ≤ suc n
 suc_le m n h = omega arith
 
 short_body : (lines : List LineForm) → length (body_of lines) ≤ length lines
-short_body [] = omega arith
-short_body (title name version ∷ lines) = omega arith
-short_body (header exported name arity ∷ lines) = omega arith
 short_body (label name ∷ lines) = suc_le (length (body_of lines)) (length lines) (short_body lines)
 short_body (instr i ∷ lines) = suc_le (length (body_of lines)) (length lines) (short_body lines)
-short_body (end ∷ lines) = omega arith
+short_body lines = omega arith
 
 in_body : (headers : List HeaderForm) (body lines : List LineForm) → Below (length lines) (unsettled_at headers body lines)
 in_body headers body [] = tt
@@ -72,11 +48,8 @@ in_body headers body (line ∷ lines) = by_test (is_settled_line headers body li
     by_test false behind = omega arith
 
 below_header : (headers : List HeaderForm) (line : LineForm) (lines : List LineForm) → Below (length lines) (unsettled_below headers line lines)
-below_header headers (title name version) lines = tt
 below_header headers (header exported name arity) lines = wider (length (body_of lines)) (length lines) _ (short_body lines) (in_body headers (body_of lines) (body_of lines))
-below_header headers (label name) lines = tt
-below_header headers (instr i) lines = tt
-below_header headers end lines = tt
+below_header headers line lines = tt
 
 in_lines : (headers : List HeaderForm) (lines : List LineForm) → Below (length lines) (first_unsettled headers lines)
 in_lines headers [] = tt
@@ -93,14 +66,6 @@ pub record GoesOn (lines after : List LineForm) : Type 0 where
   pub titled : IsTitled lines → IsTitled after
   pub longer : length after ≡ length lines + 1
 
-titled_more : (lines : List LineForm) (line : LineForm) → IsTitled lines → IsTitled (lines ++ line ∷ [])
-titled_more [] line h = absurd h
-titled_more (title name version ∷ lines) line h = tt
-titled_more (header exported name arity ∷ lines) line h = h
-titled_more (label name ∷ lines) line h = h
-titled_more (instr i ∷ lines) line h = h
-titled_more (end ∷ lines) line h = h
-
 one_more : (names : List (List ℕ)) (lines : List LineForm) (line : LineForm) (o : Option LineFault) (x : List (List ℕ) × List LineForm) → kept names lines line o ≡ Ok x → GoesOn lines x.1
 one_more names lines line None x e = subst (λ (y : List (List ℕ) × List LineForm). GoesOn lines y.1) (ok_is _ x e) (record { titled = titled_more lines line; longer = simp length-append })
 one_more names lines line (Some fault) x e = absurd cc
@@ -115,14 +80,3 @@ by_form names lines (Some line) x e = by_place names lines line (may_follow (las
 
 pub step_goes_on : (names : List (List ℕ)) (lines : List LineForm) (text : List ℕ) (x : List (List ℕ) × List LineForm) → line_step names lines text ≡ Ok x → GoesOn lines x.1
 step_goes_on names lines text x e = by_form names lines (line_reading text) x e
-
--- a line that gives something again is refused
-pub repeat_fails : (s : ScriptReader) (text : List ℕ) (before : Option Mfa) (step : Step) (cause : LineCause) → step ≡ Err line_faults.Duplicate → cause ≡ repeat_cause s.functions before → Fails (line_added s text before step) cause
-repeat_fails s text before step cause e is =
-    subst (λ (st : Step). Fails (line_added s text before st) cause) (sym e) (by_cause (repeat_cause s.functions before) cause is)
-  where
-    by_cause : (c d : LineCause) → d ≡ c → Fails {A = ScriptReader} (Err c) d
-    by_cause c causes.Syntax e' = ap (λ k. Err k) (sym e')
-    by_cause c (causes.Limit which) e' = ap (λ k. Err k) (sym e')
-    by_cause c causes.Duplicate e' = ap (λ k. Err k) (sym e')
-    by_cause c causes.NoMemory e' = tt

@@ -1,33 +1,31 @@
 -- What a text comes to: the script that its lines say, or its fault.
-use Rattle.std.proofs.Common.{◌≡◌, ℕ, ◌+◌, ◌<◌, ◌≤◌, ◌==◌, Bool, true, false, cond, not, ◌&&◌, ◌||◌, nat_lt, List, [], ◌∷◌, ◌++◌, length, Option, Some, None, Result, Ok, Err, ◌⊎◌, inl, inr, slice_get, bytes_eq, codes, IsTrue, refl, sym, ap, ◌∙◌, subst, arith, append-nil}
+use Rattle.std.proofs.Common.{◌≡◌, ℕ, ◌+◌, ◌<◌, ◌≤◌, ◌==◌, Bool, true, false, cond, not, ◌&&◌, ◌||◌, nat_lt, List, [], ◌∷◌, ◌++◌, length, Option, Some, None, Result, Ok, Err, ◌⊎◌, inl, inr, bytes_eq, codes, refl, sym, ap, ◌∙◌, subst, arith, append-nil}
 use Rattle.std.specs.Prelude.{map}
 use Rattle.std.proofs.lemmas.Bool.Decides.{nat_tests}
-use Rattle.mod_core.specs.declared.code.Module.{Module}
-use Rattle.mod_text.specs.ModuleLine.{LineForm, title, header, label, instr, end}
+use Rattle.mod_text.specs.ModuleLine.{LineForm, title, end}
 use Rattle.mod_text.specs.ModuleValue.{module_of}
-use Rattle.mod_text.specs.Reading.{lines_of, is_end}
-use Rattle.mod_text.proofs.Options.{some_is, bytes_are, same_bytes}
-use Rattle.script_text.specs.declared.script.Script.{Script}
-use Rattle.script_text.specs.declared.script.ScriptCmd.{ScriptCmd}
+use Rattle.term_core.specs.Text.Cuts.{lines_of}
+use Rattle.mod_text.specs.Reading.{is_end}
+use Rattle.term_core.proofs.Text.Options.{some_is, bytes_are}
+use Rattle.script_core.specs.declared.script.Script.{Script}
 use Rattle.script_text.specs.declared.fault.ScriptFault.{ScriptFault}
 use Rattle.script_text.specs.declared.fault.ScriptFault.TheVariants as faults
 use Rattle.script_text.specs.declared.reading.cause.LineCause.{LineCause}
 use Rattle.script_text.specs.declared.reading.cause.LineCause.TheVariants as causes
 use Rattle.script_text.specs.declared.reading.reader.Place.{Place}
-use Rattle.script_text.specs.declared.reading.reader.Place.TheVariants.{Unread, Between, Within, Observing, Loading, Finished}
+use Rattle.script_text.specs.declared.reading.reader.Place.TheVariants.{Unread, Within, Finished}
 use Rattle.script_text.specs.declared.reading.reader.ScriptReader.{ScriptReader}
-use Rattle.script_text.specs.ScriptLine.{RefForm, ScriptLine, head, code, loader, load, spawn, go, script_line_written, IsLine}
+use Rattle.script_text.specs.ScriptLine.{ScriptLine, code, loader, go, script_line_written, IsLine}
 use Rattle.script_text.specs.Counts.{names_of, module_texts, titles_of, loader_blocks}
 use Rattle.script_text.specs.ScriptValue.{commands_of, script_of}
-use Rattle.script_text.specs.LineFaults.{may_stand_behind, may_stand, or_else, lack_in_texts, lack_in_loads, first_lack, line_fault, last_of}
-use Rattle.script_text.specs.TextLines.{last_line, all_lines}
-use Rattle.script_text.specs.ScriptText.{AreAllLines, ScriptText, IsMisplaced, Reaches, TooLongAt, MisplacedAt, FaultyAt, UnknownAt, FaultOf}
-use Rattle.script_text.specs.Causes.{fault_at}
+use Rattle.script_text.specs.LineFaults.{may_stand_behind, may_stand, or_else, lack_in_texts, lack_in_loads, first_lack, last_of}
+use Rattle.script_text.specs.TextLines.{last_line}
+use Rattle.script_text.specs.ScriptText.{AreAllLines, ScriptText, IsMisplaced, Reaches, MisplacedAt, FaultyAt, FaultOf}
 use Rattle.script_text.specs.Reading.{line_at, at_line, line_judged, script_known, ended_at, text_ended, go_on, text_on, bytes_on, opening, script_reading}
 use Rattle.script_text.proofs.GrownLines.{length-snoc, last_of-snoc}
-use Rattle.script_text.proofs.Summaries.{Summary, summary_of, summary_with, table, fault_by, line_fault-by}
+use Rattle.script_text.proofs.Summaries.{Summary, summary_of, table, fault_by, line_fault-by}
 use Rattle.script_text.proofs.Holding.{as_text, Stands, Knows, Holds}
-use Rattle.script_text.proofs.CodeSteps.{IsRead, IsRefused, Judges}
+use Rattle.script_text.proofs.CodeSteps.{IsRefused, Judges}
 use Rattle.script_text.proofs.BlockSteps.{names_few, few, few_more}
 use Rattle.script_text.proofs.LineSteps.{judges_line}
 use Rattle.script_text.proofs.OneLine.{one_line}
@@ -43,18 +41,13 @@ Comes text (Err fault) = FaultOf text fault
 
 pub finished_place : (m : Summary) (r : ScriptReader) (closed : List (List LineForm)) (p : Place) → Stands m r closed p → m.last ≡ Some go → p ≡ Finished
 finished_place m r closed Unread s e = let first = sym s.first ∙ e in absurd cc
-finished_place m r closed Between s e = let no_loader = sym (ap (λ (o : Option ScriptLine). may_stand o loader) e) ∙ s.follows loader in absurd cc
 finished_place m r closed Within s e = absurd (ends_open s.is_open.last (sym (ap (λ (o : Option ScriptLine). may_stand o (code end)) e) ∙ s.is_open.follows (code end)) (sym (ap (λ (o : Option ScriptLine). may_stand o loader) e) ∙ s.is_open.follows loader))
   where
     ends_open : (last : LineForm) → false ≡ may_stand_behind last (code end) → false ≡ may_stand_behind last loader → ⊥
     ends_open (title name version) e f = cc
-    ends_open (header exported name arity) e f = cc
-    ends_open (label name) e f = cc
-    ends_open (instr i) e f = cc
-    ends_open end e f = cc
-finished_place m r closed Observing s e = let no_loader = sym (ap (λ (o : Option ScriptLine). may_stand o loader) e) ∙ s.follows loader in absurd cc
-finished_place m r closed Loading s e = let no_loader = sym (ap (λ (o : Option ScriptLine). may_stand o loader) e) ∙ s.follows loader in absurd cc
+    ends_open last e f = cc
 finished_place m r closed Finished s e = refl
+finished_place m r closed p s e = let no_loader = sym (ap (λ (o : Option ScriptLine). may_stand o loader) e) ∙ s.follows loader in absurd cc
 
 pub finished_closed : (lines : List ScriptLine) (r : ScriptReader) (h : Holds (summary_of lines) r) → r.place ≡ Finished → h.closed ≡ module_texts lines
 finished_closed lines r h place =
@@ -107,16 +100,8 @@ nothing_left text before r Finished place p none h (inl empty) =
     let s = subst (Stands (summary_of before) r h.closed) place h.stands in
     let last : None ≡ Some go = sym (ap last_of empty) ∙ s.last in
     absurd cc
-nothing_left text before r Unread place p none h (inr last) = let other : Unread ≡ Finished = sym place ∙ finished_place (summary_of before) r h.closed r.place h.stands last in absurd cc
-nothing_left text before r Between place p none h (inr last) = let other : Between ≡ Finished = sym place ∙ finished_place (summary_of before) r h.closed r.place h.stands last in absurd cc
-nothing_left text before r Within place p none h (inr last) = let other : Within ≡ Finished = sym place ∙ finished_place (summary_of before) r h.closed r.place h.stands last in absurd cc
-nothing_left text before r Observing place p none h (inr last) = let other : Observing ≡ Finished = sym place ∙ finished_place (summary_of before) r h.closed r.place h.stands last in absurd cc
-nothing_left text before r Loading place p none h (inr last) = let other : Loading ≡ Finished = sym place ∙ finished_place (summary_of before) r h.closed r.place h.stands last in absurd cc
-nothing_left text before r Unread place p none h (inl empty) = no_text text before p none empty
-nothing_left text before r Between place p none h (inl empty) = no_text text before p none empty
-nothing_left text before r Within place p none h (inl empty) = no_text text before p none empty
-nothing_left text before r Observing place p none h (inl empty) = no_text text before p none empty
-nothing_left text before r Loading place p none h (inl empty) = no_text text before p none empty
+nothing_left text before r now place p none h (inr last) = let other : now ≡ Finished = sym place ∙ finished_place (summary_of before) r h.closed r.place h.stands last in absurd cc
+nothing_left text before r now place p none h (inl empty) = no_text text before p none empty
 
 -- no line is left that ends with a line feed
 text_ends : (text : List ℕ) (before : List ScriptLine) (r : ScriptReader) (tail : List ℕ) → (lines_of text).tail ≡ tail → IsPrefix text before [] → Holds (summary_of before) r → (is_end [] tail ≡ true → (before ≡ []) ⊎ (last_of before ≡ Some go)) → Comes text (text_ended r (length before + 1) tail)
@@ -157,13 +142,9 @@ go_fault m r closed k =
 
 -- not a limit, and nothing given again
 abbrev pub IsLate : ScriptFault → Type 0
-IsLate faults.FileTooLong = ⊥
-IsLate (faults.LineTooLong line) = ⊥
-IsLate (faults.Syntax line) = ⊥
-IsLate (faults.UnknownName line) = ⊥
 IsLate (faults.Duplicate line) = Unit {0}
 IsLate (faults.Limit line limit) = Unit {0}
-IsLate faults.NoMemory = ⊥
+IsLate fault = ⊥
 
 go_never : (m : Summary) (r : ScriptReader) (text : List ℕ) (fault : ScriptFault) → Holds m r → text ≡ codes "go" → IsLate fault → IsRefused m text fault → ⊥
 go_never m r text fault h is late f =

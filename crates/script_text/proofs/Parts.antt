@@ -3,9 +3,9 @@ use Rattle.std.proofs.Common.{◌≡◌, ℕ, ◌<◌, true, false, cond, ◌==�
 use Rattle.std.specs.List.{onto_first, join_with_byte}
 use Rattle.std.proofs.lemmas.List.{length-append}
 use Rattle.std.proofs.lemmas.List.Splits.{join_with_byte-slice_split}
-use Rattle.mod_text.specs.LineReading.{with_first, cut_at}
+use Rattle.term_core.specs.Text.Cuts.{with_first, cut_at}
 use Rattle.script_text.specs.LineReading.{parts_of}
-use Rattle.mod_text.proofs.Cuts.{lacks, cut_here, cut_is, uncut}
+use Rattle.term_core.proofs.Text.Cuts.{lacks, cut_here, cut_is, uncut}
 
 -- what is behind the byte is shorter
 pub shorter_rest : (byte : ℕ) (text part behind : List ℕ) → cut_at byte text ≡ Some (part, behind) → length behind < length text

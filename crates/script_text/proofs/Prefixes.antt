@@ -1,16 +1,13 @@
 -- The first lines of a text, of which none has a fault; the texts behind them.
-use Rattle.std.proofs.Common.{◌≡◌, ℕ, ◌+◌, ◌<◌, ◌≤◌, ◌==◌, Bool, true, false, cond, not, ◌&&◌, nat_lt, List, [], ◌∷◌, ◌++◌, length, Option, Some, None, take, slice_get, bytes_eq, codes, IsTrue, refl, sym, ap, ◌∙◌, subst, arith, length-append, append_assoc, append-nil}
+use Rattle.std.proofs.Common.{◌≡◌, ℕ, ◌+◌, ◌≤◌, ◌==◌, Bool, true, false, cond, List, [], ◌∷◌, ◌++◌, length, Some, None, take, slice_get, IsTrue, refl, sym, ap, ◌∙◌, subst, arith, length-append, append_assoc, append-nil}
 use Rattle.std.specs.Prelude.{map}
 use Rattle.std.specs.List.{AllByRecursion}
-use Rattle.std.proofs.lemmas.Bool.Decides.{nat_tests}
 use Rattle.std.proofs.lemmas.List.{map-append, length-map}
-use Rattle.mod_text.specs.Reading.{lines, before_lines, lines_of, is_end}
-use Rattle.script_text.specs.declared.fault.ScriptFault.{ScriptFault}
-use Rattle.script_text.specs.declared.fault.ScriptFault.TheVariants as faults
+use Rattle.term_core.specs.Text.Cuts.{lines, before_lines, lines_of}
 use Rattle.script_text.specs.ScriptLine.{ScriptLine, script_line_written, is_script_line, IsLine}
-use Rattle.script_text.specs.LineFaults.{line_fault, last_of}
+use Rattle.script_text.specs.LineFaults.{line_fault}
 use Rattle.script_text.specs.TextLines.{last_line, all_lines}
-use Rattle.script_text.specs.ScriptText.{IsShort, HaveNoFault, AreLines, Reaches}
+use Rattle.script_text.specs.ScriptText.{IsShort, HaveNoFault, Reaches}
 
 abbrev pub written : List ScriptLine → List (List ℕ)
 written lines = map script_line_written lines

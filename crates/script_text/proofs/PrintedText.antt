@@ -1,5 +1,5 @@
 -- How the text of a script is made of its parts, and whether a line of a text is too long.
-use Rattle.std.proofs.Common.{◌≡◌, ℕ, ◌≤◌, false, ◌||◌, List, [], ◌∷◌, ◌++◌, map, length, take, codes, decimal, Result, Ok, Err, OnOk, OnErr, Some, None, refl, sym, ap, ◌∙◌, arith, append_assoc}
+use Rattle.std.proofs.Common.{◌≡◌, ℕ, ◌≤◌, false, ◌||◌, List, [], ◌∷◌, ◌++◌, map, length, take, codes, decimal, Result, OnOk, Some, None, refl, sym, ap, ◌∙◌, arith, append_assoc}
 use Rattle.std.specs.Io.{StartsWith}
 use Rattle.std.specs.List.{flat_map, list_any}
 use Rattle.std.proofs.Math.Seq.{take-append_seam, take-length}
@@ -13,13 +13,12 @@ use Rattle.term_core.specs.PlainTerm.{row_of}
 use Rattle.term_core.specs.TermText.{term_text}
 use Rattle.term_core.specs.Written.{parted, behind}
 use Rattle.mod_text.specs.Canonical.{canonical as module_lines}
-use Rattle.mod_text.specs.LineReading.{cut_at}
+use Rattle.term_core.specs.Text.Cuts.{cut_at, Lines, lines_of}
 use Rattle.mod_text.specs.ModuleLine.{lines_written}
-use Rattle.mod_text.specs.Reading.{Lines, lines_of}
-use Rattle.mod_text.proofs.Cuts.{lines_of_cut, lines_of_tail, uncut_is}
+use Rattle.term_core.proofs.Text.Cuts.{lines_of_cut, lines_of_tail, uncut_is}
 use Rattle.server_core.specs.declared.command.ModRef.{ModRef}
-use Rattle.script_text.specs.declared.script.Script.{Script}
-use Rattle.script_text.specs.declared.script.ScriptCmd.{ScriptCmd}
+use Rattle.script_core.specs.declared.script.Script.{Script}
+use Rattle.script_core.specs.declared.script.ScriptCmd.{ScriptCmd}
 use Rattle.script_text.specs.ScriptLine.{observer, load, go, ref_written, script_line_written}
 use Rattle.script_text.specs.Canonical.{ref_form, argument_form, command_line, observer_form, block_form, observer_bytes, block_bytes, script_line_bytes, canonical_text, is_long_line}
 use Rattle.script_text.proofs.LinesJoined.{codes_bytes, modules_written}
@@ -33,11 +32,6 @@ starts_own a t b e = rw e (take-append_seam a t)
 -- what is as it was begins with what it was
 pub starts_same : (a b : List ℕ) → b ≡ a → StartsWith b a
 starts_same a b e = rw e (take-length a)
-
--- what a call appended, or left as it was, begins with what it was
-pub starts_either : {T E : Type 0} (r : Result T E) (a t b : List ℕ) → OnOk r (b ≡ a ++ t) → OnErr r (b ≡ a) → StartsWith b a
-starts_either (Ok x) a t b p q = starts_own a t b p
-starts_either (Err e) a t b p q = starts_same a b q
 
 -- what begins with a text that begins with another
 pub starts_more : (a b c : List ℕ) → StartsWith b a → StartsWith c b → StartsWith c a

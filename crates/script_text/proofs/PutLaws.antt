@@ -1,13 +1,13 @@
 -- The line of a put: what is read has this text, and what has this text is read.
-use Rattle.std.proofs.Common.{◌≡◌, ℕ, Bool, true, false, ◌&&◌, List, ◌∷◌, ◌++◌, Option, Some, None, option_map, Result, Ok, Err, codes, bytes_eq, refl, sym, ap, ◌∙◌, subst}
+use Rattle.std.proofs.Common.{◌≡◌, ℕ, true, false, List, ◌∷◌, ◌++◌, Option, Some, None, option_map, Result, Ok, codes, bytes_eq, refl, sym, ap, ◌∙◌, subst}
 use Rattle.std.proofs.lemmas.Bool.{and_parts, and_from}
 use Rattle.term_core.specs.Names.{is_atom_text}
 use Rattle.term_core.specs.Written.{WrittenTerm, written}
-use Rattle.mod_text.specs.LineReading.{◌>>=◌ as ◌>>?◌, cut_at, tested}
+use Rattle.term_core.specs.Text.Steps.{◌>>=◌ as ◌>>?◌, tested}
+use Rattle.term_core.specs.Text.Cuts.{cut_at}
 use Rattle.mod_text.specs.ModuleLine.{spaced}
-use Rattle.mod_text.proofs.Options.{some, some_is, bind_some, bind_at, same_bytes, tested_is, tested_at}
-use Rattle.mod_text.proofs.Cuts.{cut_here, cut_is}
-use Rattle.mod_text.proofs.LineAgain.{atom_lacks}
+use Rattle.term_core.proofs.Text.Options.{some, some_is, bind_some, bind_at, same_bytes, tested_is, tested_at}
+use Rattle.term_core.proofs.Text.Cuts.{cut_here, cut_is, atom_lacks}
 use Rattle.script_text.specs.declared.reading.cause.LineCause.{LineCause}
 use Rattle.script_text.specs.declared.reading.cause.LineCause.TheVariants as causes
 use Rattle.script_text.specs.Causes.{◌>>=◌, Fails}
@@ -42,10 +42,8 @@ put_at text front rest key cut named =
 
 -- a step that is refused refuses what comes behind it
 pub fails_on : {A B : Type 0} (r : Result A LineCause) (f : A → Result B LineCause) (cause : LineCause) → Fails r cause → Fails (r >>= f) cause
-fails_on r f causes.Syntax h = ap (λ x. x >>= f) h
-fails_on r f (causes.Limit which) h = ap (λ x. x >>= f) h
-fails_on r f causes.Duplicate h = ap (λ x. x >>= f) h
 fails_on r f causes.NoMemory h = tt
+fails_on r f cause h = ap (λ x. x >>= f) h
 
 pub put_stops : (text front rest key : List ℕ) (cause : LineCause) → cut_at 32 text ≡ Some (front, rest) → tested is_atom_text front ≡ Some key → Fails (or_syntax (option_map argument_words (argument_reading rest))) cause → Fails (or_syntax (option_map put_words (put_reading text))) cause
 put_stops text front rest key cause cut named h =

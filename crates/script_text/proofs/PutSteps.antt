@@ -1,15 +1,15 @@
 -- A put of a term under a key: what it leaves, or why it is refused.
-use Rattle.std.proofs.Common.{◌≡◌, ℕ, ◌+◌, Bool, true, false, cond, not, ◌||◌, ◌&&◌, nat_lt, List, [], ◌∷◌, ◌++◌, length, Option, Some, None, option_map, Result, Ok, Err, bytes_eq, codes, refl, sym, ap, ◌∙◌, subst}
+use Rattle.std.proofs.Common.{◌≡◌, ℕ, ◌+◌, Bool, true, false, cond, not, ◌||◌, ◌&&◌, nat_lt, List, ◌∷◌, ◌++◌, length, Option, Some, None, option_map, Result, Ok, Err, bytes_eq, codes, refl, sym, ap, ◌∙◌, subst}
 use Rattle.std.proofs.lemmas.Bool.{and_parts}
 use Rattle.term_core.specs.Names.{is_atom_text}
 use Rattle.term_core.specs.Plain.{term_of}
 use Rattle.term_core.specs.PlainTerm.{PlainTerm, atoms_of}
 use Rattle.term_core.specs.TermText.{number_in, names_with_all}
 use Rattle.term_core.specs.Written.{WrittenTerm}
-use Rattle.mod_text.specs.LineReading.{cut_at}
+use Rattle.term_core.specs.Text.Cuts.{cut_at}
 use Rattle.mod_text.specs.ModuleLine.{LineForm}
-use Rattle.mod_text.proofs.Cuts.{cut_is}
-use Rattle.mod_text.proofs.Options.{some_is}
+use Rattle.term_core.proofs.Text.Cuts.{cut_is}
+use Rattle.term_core.proofs.Text.Options.{some_is}
 use Rattle.script_text.specs.declared.fault.Which.TheVariants as which
 use Rattle.script_text.specs.declared.fault.ScriptFault.{ScriptFault}
 use Rattle.script_text.specs.declared.fault.ScriptFault.TheVariants as faults
@@ -17,8 +17,8 @@ use Rattle.script_text.specs.declared.reading.cause.LineCause.{LineCause}
 use Rattle.script_text.specs.declared.reading.cause.LineCause.TheVariants as causes
 use Rattle.script_text.specs.declared.reading.reader.Place.TheVariants.{Loading}
 use Rattle.script_text.specs.declared.reading.reader.ScriptReader.{ScriptReader}
-use Rattle.script_text.specs.declared.script.ScriptCmd.{ScriptCmd}
-use Rattle.script_text.specs.declared.script.ScriptCmd.TheVariants.{Put}
+use Rattle.script_core.specs.declared.script.ScriptCmd.{ScriptCmd}
+use Rattle.script_core.specs.declared.script.ScriptCmd.TheVariants.{Put}
 use Rattle.script_text.specs.ScriptLine.{ScriptLine, put, is_term_form, IsLine}
 use Rattle.script_text.specs.ScriptValue.{argument_in}
 use Rattle.script_text.specs.LineFaults.{is_wide_term, is_long_term, may_stand}
@@ -31,7 +31,7 @@ use Rattle.script_text.proofs.PutLaws.{put_is, put_cut}
 use Rattle.script_text.proofs.NamedLaws.{no_atom_command, no_trace_text}
 use Rattle.script_text.proofs.HeldNames.{number_in-more}
 use Rattle.script_text.proofs.TermNames.{term_after, term_atoms_are}
-use Rattle.script_text.proofs.Namings.{Keyed, or_full, names_after_put, put_or_full, put_named-is}
+use Rattle.script_text.proofs.Namings.{Keyed, names_after_put, put_or_full, put_named-is}
 use Rattle.script_text.proofs.Summaries.{Summary, table, fault_by}
 use Rattle.script_text.proofs.Holding.{Knows, IsLoading}
 use Rattle.script_text.proofs.CodeSteps.{Judges}

@@ -6,7 +6,8 @@ use Rattle.std.proofs.lemmas.List.Elements.{All-head, All-tail}
 use Rattle.term_core.specs.Names.{IsNames, Extends}
 use Rattle.term_core.proofs.GrownNames.{Extends-refl}
 use Rattle.mod_core.specs.declared.code.Module.{Module}
-use Rattle.mod_text.specs.Canonical.{canonical, IsModuleHeld}
+use Rattle.mod_text.specs.Canonical.{canonical}
+use Rattle.mod_core.specs.HeldNames.{IsModuleHeld}
 use Rattle.mod_core.specs.Module.{IsModule}
 use Rattle.mod_text.specs.ModuleLine.{LineForm, lines_written}
 use Rattle.mod_text.specs.ModuleValue.{module_of, unsettled_line}

@@ -2,13 +2,14 @@
 use Rattle.std.proofs.Common.{◌≡◌, ℕ, List, [], ◌∷◌, ◌++◌, Option, Some, None, option_map, Result, Ok, Err, refl, sym, ap, ◌∙◌, subst, append_assoc, append-nil}
 use Rattle.std.specs.Prelude.{map}
 use Rattle.std.specs.Option.{ok_or}
-use Rattle.mod_text.specs.LineReading.{◌>>=◌, cut_at}
+use Rattle.term_core.specs.Text.Steps.{◌>>=◌}
+use Rattle.term_core.specs.Text.Cuts.{cut_at}
+use Rattle.term_core.proofs.Text.Options.{some}
 use Rattle.script_text.specs.declared.reading.cause.LineCause.{LineCause}
 use Rattle.script_text.specs.declared.reading.cause.LineCause.TheVariants as causes
 use Rattle.script_text.specs.Causes.{Fails}
 use Rattle.script_text.specs.Naming.{or_syntax}
 use Rattle.script_text.specs.LineReading.{parts_of, each_reading}
-use Rattle.script_text.proofs.Choices.{some}
 use Rattle.script_text.proofs.Parts.{parts-cut_some, parts-cut_none}
 
 -- with these in front
@@ -86,13 +87,9 @@ part_goes_on words read front part parts w whole is so_far =
 
 fails_front : {W V : Type 0} (o : Option W) (f : W → Option V) (cause : LineCause) → Fails (or_syntax o) cause → Fails (or_syntax (o >>= f)) cause
 fails_front None f causes.Syntax h = refl
-fails_front None f (causes.Limit which) h = absurd cc
-fails_front None f causes.Duplicate h = absurd cc
 fails_front None f causes.NoMemory h = tt
-fails_front (Some w) f causes.Syntax h = absurd cc
-fails_front (Some w) f (causes.Limit which) h = absurd cc
-fails_front (Some w) f causes.Duplicate h = absurd cc
 fails_front (Some w) f causes.NoMemory h = tt
+fails_front o f cause h = absurd cc
 
 -- the first part is of no form, or memory is refused
 pub part_stops : {X W : Type 0} (words : X → W) (read : List ℕ → Option X) (front : List W) (part : List ℕ) (parts : List (List ℕ)) (whole : Option (List W)) (cause : LineCause) → Fails (or_syntax (option_map words (read part))) cause → with_read front (all_read words read (part ∷ parts)) ≡ whole → Fails (or_syntax whole) cause

@@ -1,11 +1,9 @@
 -- Lines without a fault are all read; so the script of a text, and the fault of every other text, is found.
-use Rattle.std.proofs.Common.{◌≡◌, ℕ, ◌+◌, ◌<◌, ◌≤◌, ◌==◌, Bool, true, false, cond, not, ◌&&◌, nat_lt, List, [], ◌∷◌, ◌++◌, length, Option, Some, None, Result, Ok, Err, bytes_eq, codes, IsTrue, refl, sym, ap, ◌∙◌, subst, arith, append_assoc, append-nil}
-use Rattle.std.specs.Prelude.{map}
+use Rattle.std.proofs.Common.{◌≡◌, ℕ, ◌+◌, Bool, true, false, not, ◌&&◌, nat_lt, List, [], ◌∷◌, ◌++◌, length, Some, None, Result, Ok, Err, bytes_eq, codes, IsTrue, refl, sym, ap, ◌∙◌, subst, arith, append_assoc, append-nil}
 use Rattle.std.specs.List.{AllByRecursion}
 use Rattle.std.proofs.lemmas.Bool.Decides.{nat_tests}
 use Rattle.mod_text.specs.Reading.{is_end}
-use Rattle.mod_text.proofs.Options.{some_is, failed, same_bytes}
-use Rattle.script_text.specs.declared.script.Script.{Script}
+use Rattle.term_core.proofs.Text.Options.{some_is, failed}
 use Rattle.script_text.specs.declared.fault.ScriptFault.{ScriptFault}
 use Rattle.script_text.specs.declared.fault.ScriptFault.TheVariants as faults
 use Rattle.script_text.specs.declared.reading.cause.LineCause.{LineCause}
@@ -17,7 +15,7 @@ use Rattle.script_text.specs.ScriptText.{IsShort, HaveNoFault}
 use Rattle.script_text.specs.Reading.{line_at, at_line, line_judged, go_on, text_on}
 use Rattle.script_text.proofs.Summaries.{summary_of, fault_by, line_fault-by}
 use Rattle.script_text.proofs.Holding.{Holds}
-use Rattle.script_text.proofs.CodeSteps.{IsRead, IsRefused, Judges}
+use Rattle.script_text.proofs.CodeSteps.{IsRefused, Judges}
 use Rattle.script_text.proofs.GrownLines.{length-snoc}
 use Rattle.script_text.proofs.LineSteps.{judges_line}
 use Rattle.script_text.proofs.OneLine.{one_line}

@@ -2,12 +2,12 @@
 use Rattle.std.proofs.Common.{ℕ, List, map, sym, ap, ◌∙◌, subst}
 use Rattle.mod_text.specs.ModuleValue.{module_of}
 use Rattle.server_core.specs.CommandTable.{AreTexts}
-use Rattle.script_text.specs.declared.script.Script.{Script}
+use Rattle.script_core.specs.declared.script.Script.{Script}
 use Rattle.script_text.specs.ScriptLine.{RefForm}
 use Rattle.script_text.specs.Counts.{names_of, module_texts, titles_of}
 use Rattle.script_text.specs.LineFaults.{lack_in_texts, lack_in_loads}
 use Rattle.script_text.specs.ScriptText.{ScriptText}
-use Rattle.script_text.specs.Sound.{IsScript}
+use Rattle.script_core.specs.Sound.{IsScript}
 use Rattle.script_text.proofs.HeldModules.{held_modules}
 use Rattle.script_text.proofs.SoundnessRows.{all_narrow}
 use Rattle.script_text.proofs.SoundnessNames.{names_sound, lines_held}

@@ -1,5 +1,5 @@
 -- The commands among lines without a fault can be made, and their loaders and processes are few enough.
-use Rattle.std.proofs.Common.{◌≡◌, ℕ, ◌+◌, ◌<◌, ◌≤◌, Bool, true, false, cond, not, nat_lt, nat_le, List, [], ◌∷◌, length, map, Option, Some, None, is_some, refl, sym, ap, ◌∙◌, subst, arith, length-append}
+use Rattle.std.proofs.Common.{◌≡◌, ℕ, ◌+◌, ◌<◌, ◌≤◌, Bool, true, false, cond, nat_lt, nat_le, List, [], ◌∷◌, length, map, Option, Some, None, is_some, refl, sym, ap, ◌∙◌, subst, arith, length-append}
 use Rattle.std.specs.Prelude.{IsTrue, count_by, sum_by}
 use Rattle.std.specs.List.{AllByRecursion, flat_map, list_any, list_all}
 use Rattle.std.proofs.lemmas.Bool.{and_parts, or_parts}
@@ -16,17 +16,19 @@ use Rattle.term_core.proofs.LeafFacts.{term_words-map}
 use Rattle.term_core.proofs.NameTables.{slice_get-number_of}
 use Rattle.term_core.proofs.PlainTerms.{plain-term_of}
 use Rattle.mod_core.specs.declared.code.Module.{Module}
-use Rattle.mod_text.specs.ModuleLine.{LineForm, title, header, label, instr, end, number_value}
+use Rattle.term_core.specs.Text.Numbers.{number_value}
+use Rattle.mod_text.specs.ModuleLine.{LineForm, title, header, label, instr, end}
 use Rattle.mod_text.specs.ModuleValue.{atom_in, mfa_in, module_of}
 use Rattle.server_core.specs.CommandTable.{text_of}
-use Rattle.script_text.specs.declared.script.ScriptCmd.TheVariants.{Load, Put, Trace, Spawn}
-use Rattle.script_text.specs.ScriptLine.{RefForm, AtomCommand, delete, soft_purge, purge, check_old, erase, ScriptLine, head, code, observer, loader, load, on_atom, put, trace, spawn, go, is_script_line}
-use Rattle.script_text.specs.Groups.{onto_last}
+use Rattle.script_core.specs.declared.script.ScriptCmd.TheVariants.{Load, Put, Trace, Spawn}
+use Rattle.script_text.proofs.Steps.{length-onto_last}
+use Rattle.script_text.specs.ScriptLine.{RefForm, AtomCommand, delete, ScriptLine, head, code, observer, loader, load, on_atom, put, trace, spawn, go, is_script_line}
 use Rattle.script_text.specs.Counts.{script_line_atoms, is_given, is_loader, is_spawn, block_lines, loader_blocks}
 use Rattle.script_text.specs.LineFaults.{may_stand_between, may_stand_within, may_stand_observing, may_stand, is_head, is_wide_term, is_long_term, is_lacking, lack_in_loads}
 use Rattle.script_text.specs.ScriptText.{HaveNoFault}
 use Rattle.script_text.specs.ScriptValue.{ref_in, argument_in, command_of, commands_on, commands_of}
-use Rattle.script_text.specs.Sound.{IsTermOf, IsCmdOf, spawns_in}
+use Rattle.script_core.specs.Sound.{IsTermOf, IsCmdOf}
+use Rattle.script_core.specs.Processes.{spawns_in}
 use Rattle.script_text.proofs.HeldNames.{IsHeldText, number_is}
 use Rattle.script_text.proofs.ModuleNames.{AreHeld, held_first, held_second}
 use Rattle.script_text.proofs.TermNames.{narrow_fits}
@@ -91,16 +93,9 @@ at_most n h = grind (arith, nat_tests)
 
 named_is : (names : List (List ℕ)) (texts : List Module) (command : AtomCommand) (name : List ℕ) → IsHeldText names name → IsCmdOf names texts (command_of command (atom_in names name))
 named_is names texts delete name held = held_below names name held
-named_is names texts soft_purge name held = held_below names name held
-named_is names texts purge name held = held_below names name held
-named_is names texts check_old name held = held_below names name held
-named_is names texts erase name held = held_below names name held
+named_is names texts command name held = held_below names name held
 
 command_is : (names : List (List ℕ)) (texts : List (List LineForm)) (line : ScriptLine) → IsLineOf names (map title_ref texts) line → AllByRecursion (IsCmdOf names (map (module_of names) texts)) (commands_on names line)
-command_is names texts head l = tt
-command_is names texts (code line) l = tt
-command_is names texts (observer count) l = tt
-command_is names texts loader l = tt
 command_is names texts (load refs) l = (
   record {
     some = some_refs names refs l.sound;
@@ -135,7 +130,7 @@ command_is names texts (spawn m f args) l =
       },
       tt,
     )
-command_is names texts go l = tt
+command_is names texts line l = tt
 
 -- ---- the commands of all loader blocks
 
@@ -143,13 +138,8 @@ block_line : (P : ScriptLine → Type 0) (line : ScriptLine) → P line → AllB
 block_line P head h = tt
 block_line P (code line) h = tt
 block_line P (observer count) h = tt
-block_line P loader h = (h, tt)
-block_line P (load refs) h = (h, tt)
-block_line P (on_atom command name) h = (h, tt)
-block_line P (put key term) h = (h, tt)
-block_line P (trace f g arity on) h = (h, tt)
-block_line P (spawn m f args) h = (h, tt)
 block_line P go h = tt
+block_line P line h = (h, tt)
 
 block_is : (names : List (List ℕ)) (texts : List (List LineForm)) (block : List ScriptLine) → AllByRecursion (IsLineOf names (map title_ref texts)) block → AllByRecursion (IsCmdOf names (map (module_of names) texts)) (commands_of names block)
 block_is names texts block h =
@@ -187,13 +177,8 @@ SomeBehind None n = Unit {0}
 SomeBehind (Some head) n = Unit {0}
 SomeBehind (Some (code line)) n = Unit {0}
 SomeBehind (Some (observer count)) n = Unit {0}
-SomeBehind (Some loader) n = 1 ≤ n
-SomeBehind (Some (load refs)) n = 1 ≤ n
-SomeBehind (Some (on_atom command name)) n = 1 ≤ n
-SomeBehind (Some (put key term)) n = 1 ≤ n
-SomeBehind (Some (trace f g arity on)) n = 1 ≤ n
-SomeBehind (Some (spawn m f args)) n = 1 ≤ n
 SomeBehind (Some go) n = Unit {0}
+SomeBehind last n = 1 ≤ n
 
 -- a command stands behind a block's start only
 some_block : (last : Option ScriptLine) (line : ScriptLine) (n : ℕ) → SomeBehind last n → may_stand last line ≡ true → is_head line ≡ false → may_stand_between line ≡ false → ((before : LineForm) → may_stand_within before line ≡ false) → may_stand_observing line ≡ false → 1 ≤ n
@@ -205,18 +190,8 @@ some_block (Some (code (label name))) line n h place first between within observ
 some_block (Some (code (instr i))) line n h place first between within observing = let no = within (instr i) in absurd cc
 some_block (Some (code end)) line n h place first between within observing = absurd cc
 some_block (Some (observer count)) line n h place first between within observing = absurd cc
-some_block (Some loader) line n h place first between within observing = h
-some_block (Some (load refs)) line n h place first between within observing = h
-some_block (Some (on_atom command name)) line n h place first between within observing = h
-some_block (Some (put key term)) line n h place first between within observing = h
-some_block (Some (trace f g arity on)) line n h place first between within observing = h
-some_block (Some (spawn m f args)) line n h place first between within observing = h
 some_block (Some go) line n h place first between within observing = absurd cc
-
-same_length : {X : Type 0} (groups : List (List X)) (x : X) → 1 ≤ length groups → length (onto_last groups x) ≡ length groups
-same_length [] x h = absurd (omega (arith, h))
-same_length (g ∷ []) x h = refl
-same_length (g ∷ n ∷ gs) x h = let more = same_length (n ∷ gs) x (omega arith) in omega (arith, more)
+some_block last line n h place first between within observing = h
 
 -- as many blocks as there are starts of one
 record AreCounted (m : Summary) : Type 0 where
@@ -232,31 +207,15 @@ within_processes : (n : ℕ) → nat_lt 64 n ≡ false → n ≤ 64
 within_processes n h = grind (arith, nat_tests)
 
 counted_more : (m : Summary) (line : ScriptLine) → AreCounted m → Passes m line → (length (blocks_with m.blocks line) ≡ (summary_with m line).loaders) × SomeBehind (Some line) (length (blocks_with m.blocks line))
+counted_more m loader c p = (simp length-append (omega (arith, c.blocks)), simp length-append (omega arith))
 counted_more m head c p = (omega (arith, c.blocks), tt)
 counted_more m (code line) c p = (omega (arith, c.blocks), tt)
 counted_more m (observer count) c p = (omega (arith, c.blocks), tt)
-counted_more m loader c p = (simp length-append (omega (arith, c.blocks)), simp length-append (omega arith))
-counted_more m (load refs) c p =
-    let some = some_block m.last (load refs) (length m.blocks) c.some p.place refl refl (λ before. refl) refl in
-    let same = same_length m.blocks (load refs) some in
-    (omega (arith, same, c.blocks), omega (arith, same, some))
-counted_more m (on_atom command name) c p =
-    let some = some_block m.last (on_atom command name) (length m.blocks) c.some p.place refl refl (λ before. refl) refl in
-    let same = same_length m.blocks (on_atom command name) some in
-    (omega (arith, same, c.blocks), omega (arith, same, some))
-counted_more m (put key term) c p =
-    let some = some_block m.last (put key term) (length m.blocks) c.some p.place refl refl (λ before. refl) refl in
-    let same = same_length m.blocks (put key term) some in
-    (omega (arith, same, c.blocks), omega (arith, same, some))
-counted_more m (trace f g arity on) c p =
-    let some = some_block m.last (trace f g arity on) (length m.blocks) c.some p.place refl refl (λ before. refl) refl in
-    let same = same_length m.blocks (trace f g arity on) some in
-    (omega (arith, same, c.blocks), omega (arith, same, some))
-counted_more m (spawn f g args) c p =
-    let some = some_block m.last (spawn f g args) (length m.blocks) c.some p.place refl refl (λ before. refl) refl in
-    let same = same_length m.blocks (spawn f g args) some in
-    (omega (arith, same, c.blocks), omega (arith, same, some))
 counted_more m go c p = (omega (arith, c.blocks), tt)
+counted_more m line c p =
+    let some = some_block m.last line (length m.blocks) c.some p.place refl refl (λ before. refl) refl in
+    let same = length-onto_last m.blocks line some in
+    (omega (arith, same, c.blocks), omega (arith, same, some))
 
 counted_kept : IsKept AreCounted
 counted_kept = record {
@@ -287,17 +246,12 @@ count_cons line lines = sum_by-cons (λ l. cond (is_spawn l) 1 0) line lines
 -- a command of one atom spawns nothing
 no_spawn : (command : AtomCommand) (atom : AtomId) → spawns_in (command_of command atom) ≡ 0
 no_spawn delete atom = refl
-no_spawn soft_purge atom = refl
-no_spawn purge atom = refl
-no_spawn check_old atom = refl
-no_spawn erase atom = refl
+no_spawn command atom = refl
 
 spawns_counted : (names : List (List ℕ)) (lines : List ScriptLine) → sum_by spawns_in (flat_map (commands_on names) (flat_map block_lines lines)) ≡ count_by is_spawn lines
 spawns_counted names [] = refl
-spawns_counted names (head ∷ lines) = spawns_counted names lines ∙ sym (count_cons head lines ∙ plus_none (count_by is_spawn lines))
 spawns_counted names (code line ∷ lines) = spawns_counted names lines ∙ sym (count_cons (code line) lines ∙ plus_none (count_by is_spawn lines))
 spawns_counted names (observer count ∷ lines) = spawns_counted names lines ∙ sym (count_cons (observer count) lines ∙ plus_none (count_by is_spawn lines))
-spawns_counted names (loader ∷ lines) = spawns_counted names lines ∙ sym (count_cons loader lines ∙ plus_none (count_by is_spawn lines))
 spawns_counted names (load refs ∷ lines) =
     sum_by-cons spawns_in (Load (map (ref_in names) refs)) (flat_map (commands_on names) (flat_map block_lines lines)) ∙ ap (λ n. 0 + n) (spawns_counted names lines) ∙ sym (count_cons (load refs) lines)
 spawns_counted names (on_atom command name ∷ lines) =
@@ -311,7 +265,7 @@ spawns_counted names (trace f g arity on ∷ lines) =
     sum_by-cons spawns_in (Trace (mfa_in names f g arity) on) (flat_map (commands_on names) (flat_map block_lines lines)) ∙ ap (λ n. 0 + n) (spawns_counted names lines) ∙ sym (count_cons (trace f g arity on) lines)
 spawns_counted names (spawn m f args ∷ lines) =
     sum_by-cons spawns_in (Spawn (record { «module» = atom_in names m; name = atom_in names f; arity = length args }) (map (argument_in names) args)) (flat_map (commands_on names) (flat_map block_lines lines)) ∙ ap (λ n. 1 + n) (spawns_counted names lines) ∙ sym (count_cons (spawn m f args) lines)
-spawns_counted names (go ∷ lines) = spawns_counted names lines ∙ sym (count_cons go lines ∙ plus_none (count_by is_spawn lines))
+spawns_counted names (line ∷ lines) = spawns_counted names lines ∙ sym (count_cons line lines ∙ plus_none (count_by is_spawn lines))
 
 pub few_processes : (names : List (List ℕ)) (lines : List ScriptLine) → AllByRecursion (λ line. IsTrue (is_script_line line)) lines → HaveNoFault [] lines → sum_by (λ commands. sum_by spawns_in commands) (map (commands_of names) (loader_blocks lines)) ≤ 64
 few_processes names lines sound none =

@@ -1,5 +1,5 @@
 -- The names of lines without a fault are a table, which holds the atoms of each line.
-use Rattle.std.proofs.Common.{◌≡◌, ℕ, ◌≤◌, Bool, true, false, ◌&&◌, nat_lt, nat_le, List, [], ◌∷◌, ◌++◌, length, map, refl, arith}
+use Rattle.std.proofs.Common.{◌≡◌, ℕ, ◌≤◌, Bool, true, false, ◌&&◌, nat_lt, nat_le, List, [], ◌∷◌, length, map, refl, arith}
 use Rattle.std.specs.Prelude.{IsTrue}
 use Rattle.std.specs.List.{AllByRecursion, flat_map, list_all}
 use Rattle.std.proofs.lemmas.Bool.{and_parts, and_from}
@@ -9,14 +9,15 @@ use Rattle.term_core.specs.PlainTerm.{atoms_of}
 use Rattle.term_core.specs.TermText.{names_with_all}
 use Rattle.term_core.specs.Written.{WrittenTerm}
 use Rattle.term_core.proofs.NameTables.{given_names-IsNames, names_with-IsNames}
-use Rattle.mod_text.specs.ModuleLine.{is_number_text, number_value, is_arity_text, is_function_form}
+use Rattle.term_core.specs.Text.Numbers.{is_number_text, number_value}
+use Rattle.mod_text.specs.ModuleLine.{is_arity_text, is_function_form}
 use Rattle.mod_text.proofs.LineNames.{are_atoms, line_atoms_are, more_names_all}
-use Rattle.script_text.specs.ScriptLine.{RefForm, ScriptLine, head, code, observer, loader, load, on_atom, put, trace, spawn, go, is_ref_form, is_term_form, is_script_line}
+use Rattle.script_text.specs.ScriptLine.{RefForm, ScriptLine, code, load, on_atom, put, trace, spawn, is_ref_form, is_term_form, is_script_line}
 use Rattle.script_text.specs.Counts.{script_line_atoms, names_of}
 use Rattle.script_text.specs.ScriptText.{HaveNoFault}
 use Rattle.script_text.proofs.HeldNames.{IsHeldText, held_all}
 use Rattle.script_text.proofs.ModuleNames.{AreHeld}
-use Rattle.script_text.proofs.TermNames.{term_atoms_are, terms_atoms_are}
+use Rattle.script_text.proofs.TermNames.{term_atoms_are, terms_atoms_are, each_first}
 use Rattle.script_text.proofs.Summaries.{summary_with}
 use Rattle.script_text.proofs.SoundnessRows.{IsKept, kept}
 
@@ -55,10 +56,7 @@ trace_line m f arity on h =
     record { module_is = first.0; name_is = second.0; few = (and_parts (is_number_text arity) (nat_le (number_value arity) 15) second.1).1 }
 
 atoms_are : (line : ScriptLine) → is_script_line line ≡ true → are_atoms (script_line_atoms line) ≡ true
-atoms_are head h = refl
 atoms_are (code line) h = line_atoms_are line h
-atoms_are (observer count) h = refl
-atoms_are loader h = refl
 atoms_are (load []) h = absurd cc
 atoms_are (load (r ∷ refs)) h = refs_atoms (r ∷ refs) h
 atoms_are (on_atom command name) h = and_from (is_atom_text name) true h refl
@@ -72,7 +70,7 @@ atoms_are (spawn m f args) h =
     let s = spawn_line m f args h in
     and_from (is_atom_text m) (is_atom_text f && are_atoms (flat_map atoms_of args)) s.module_is
     (and_from (is_atom_text f) (are_atoms (flat_map atoms_of args)) s.name_is (terms_atoms_are args s.args_are))
-atoms_are go h = refl
+atoms_are line h = refl
 
 -- ---- the table
 
@@ -83,7 +81,7 @@ all_named names (text ∷ texts) sound atoms room =
     let more = more_names_all (names_with names text) texts in
     all_named (names_with names text) texts (names_with-IsNames names text sound p.0 (omega (arith, more, room))) p.1 room
 
-not_over : (n : ℕ) → nat_lt 4096 n ≡ false → n ≤ 4096
+pub not_over : (n : ℕ) → nat_lt 4096 n ≡ false → n ≤ 4096
 not_over n h = grind (arith, nat_tests)
 
 -- the names are a table
@@ -98,13 +96,9 @@ names_sound lines sound none = kept (λ m. IsNames m.names) names_kept lines sou
 
 -- ---- what it holds
 
-each_front : {X : Type 0} (P : X → Type 0) (xs ys : List X) → AllByRecursion P (xs ++ ys) → AllByRecursion P xs × AllByRecursion P ys
-each_front P [] ys h = (tt, h)
-each_front P (x ∷ xs) ys h = let more = each_front P xs ys h.1 in ((h.0, more.0), more.1)
-
 each_of_parts : {X Y : Type 0} (P : Y → Type 0) (f : X → List Y) (xs : List X) → AllByRecursion P (flat_map f xs) → AllByRecursion (λ x. AllByRecursion P (f x)) xs
 each_of_parts P f [] h = tt
-each_of_parts P f (x ∷ xs) h = let p = each_front P (f x) (flat_map f xs) h in (p.0, each_of_parts P f xs p.1)
+each_of_parts P f (x ∷ xs) h = let p = each_first P (f x) (flat_map f xs) h in (p.0, each_of_parts P f xs p.1)
 
 -- the atoms of each line
 pub lines_held : (lines : List ScriptLine) → AllByRecursion (λ line. AreHeld (names_of lines) (script_line_atoms line)) lines

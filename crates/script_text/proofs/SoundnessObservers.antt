@@ -3,8 +3,8 @@ use Rattle.std.proofs.Common.{◌≡◌, ◌<◌, ◌≤◌, true, List, [], len
 use Rattle.std.specs.Prelude.{IsTrue}
 use Rattle.std.specs.List.{AllByRecursion}
 use Rattle.std.proofs.lemmas.List.{length-map}
-use Rattle.mod_text.specs.ModuleLine.{number_value}
-use Rattle.script_text.specs.ScriptLine.{ScriptLine, head, code, observer, loader, load, on_atom, put, trace, spawn, go, is_snapshots_text, is_script_line}
+use Rattle.term_core.specs.Text.Numbers.{number_value}
+use Rattle.script_text.specs.ScriptLine.{ScriptLine, observer, is_snapshots_text, is_script_line}
 use Rattle.script_text.specs.Counts.{line_observers, observers_of}
 use Rattle.script_text.specs.ScriptText.{HaveNoFault}
 use Rattle.script_text.proofs.Rooms.{all_within}
@@ -12,16 +12,8 @@ use Rattle.script_text.proofs.SoundnessGroups.{each_weaker, each_map, each_flat}
 use Rattle.script_text.proofs.TextsBack.{snapshots_bounds}
 
 line_sound : (line : ScriptLine) → is_script_line line ≡ true → AllByRecursion (λ count. is_snapshots_text count ≡ true) (line_observers line)
-line_sound head h = tt
-line_sound (code line) h = tt
 line_sound (observer count) h = (h, tt)
-line_sound loader h = tt
-line_sound (load refs) h = tt
-line_sound (on_atom command name) h = tt
-line_sound (put key term) h = tt
-line_sound (trace f g arity on) h = tt
-line_sound (spawn m f args) h = tt
-line_sound go h = tt
+line_sound line h = tt
 
 -- each observer has its text
 pub observers_sound : (lines : List ScriptLine) → AllByRecursion (λ line. IsTrue (is_script_line line)) lines → AllByRecursion (λ count. is_snapshots_text count ≡ true) (observers_of lines)

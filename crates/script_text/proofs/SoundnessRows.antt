@@ -26,18 +26,8 @@ record AllFail (a b c d e f g h i j k : Bool) : Type 0 where
   pub k_fails : k ≡ false
 
 all_fail : (a b c d e f g h i j k : Bool) (number : ℕ) → table a b c d e f g h i j k number ≡ None → AllFail a b c d e f g h i j k
-all_fail true b c d e f g h i j k number none = absurd cc
-all_fail false true c d e f g h i j k number none = absurd cc
-all_fail false false true d e f g h i j k number none = absurd cc
-all_fail false false false true e f g h i j k number none = absurd cc
-all_fail false false false false true f g h i j k number none = absurd cc
-all_fail false false false false false true g h i j k number none = absurd cc
-all_fail false false false false false false true h i j k number none = absurd cc
-all_fail false false false false false false false true i j k number none = absurd cc
-all_fail false false false false false false false false true j k number none = absurd cc
-all_fail false false false false false false false false false true k number none = absurd cc
-all_fail false false false false false false false false false false true number none = absurd cc
 all_fail false false false false false false false false false false false number none = record { a_fails = refl; b_fails = refl; c_fails = refl; d_fails = refl; e_fails = refl; f_fails = refl; g_fails = refl; h_fails = refl; i_fails = refl; j_fails = refl; k_fails = refl }
+all_fail a b c d e f g h i j k number none = absurd cc
 
 pub not_false : (b : Bool) → not b ≡ false → b ≡ true
 not_false true e = refl

@@ -8,13 +8,14 @@ use Rattle.term_core.specs.TermText.{names_with_all}
 use Rattle.term_core.proofs.GrownNames.{Extends-refl, Extends-trans}
 use Rattle.mod_text.specs.declared.fault.LineFault.TheVariants as line_faults
 use Rattle.mod_core.specs.Module.{IsModule}
-use Rattle.mod_text.specs.ModuleLine.{LineForm, title, header, label, instr, end, line_written, lines_written, is_line_form}
+use Rattle.mod_text.specs.ModuleLine.{LineForm, title, end, line_written, lines_written, is_line_form}
 use Rattle.mod_text.specs.LineFaults.{may_follow, last_line, line_atoms, names_after, has_high_register, has_wide_integer, has_long_term, overfills_names, is_seventeenth, ends_too_long, is_repeated, IsNext}
 use Rattle.mod_text.specs.ModuleValue.{IsTitled, module_of, unsettled_line}
 use Rattle.mod_text.specs.ModuleText.{FollowOn, names_behind}
 use Rattle.mod_text.proofs.Keepings.{last_line-push}
 use Rattle.mod_text.proofs.ModuleSound.{module_is_sound}
-use Rattle.script_text.specs.ScriptLine.{ScriptLine, head, code, observer, loader, load, on_atom, put, trace, spawn, go, is_script_line}
+use Rattle.script_text.proofs.CodeSteps.{last_group-snoc}
+use Rattle.script_text.specs.ScriptLine.{ScriptLine, head, code, observer, load, on_atom, put, trace, spawn, go, is_script_line}
 use Rattle.script_text.specs.Groups.{onto_last, last_group}
 use Rattle.script_text.specs.Counts.{script_line_atoms, is_title, names_of, module_texts}
 use Rattle.script_text.specs.LineFaults.{may_stand_between, may_stand_within, may_stand_behind, may_stand_observing, may_stand_loading, may_stand, of_code, last_of, or_else, lack_in_texts}
@@ -58,17 +59,8 @@ pub record HaveOpen (names : List (List ℕ)) (texts : List (List LineForm)) (la
 
 -- the texts behind this line
 abbrev pub TextsBehind : Option ScriptLine → List (List ℕ) → List (List LineForm) → Type 0
-TextsBehind None names texts = AreClosed names texts
-TextsBehind (Some head) names texts = AreClosed names texts
 TextsBehind (Some (code line)) names texts = HaveOpen names texts line
-TextsBehind (Some (observer count)) names texts = AreClosed names texts
-TextsBehind (Some loader) names texts = AreClosed names texts
-TextsBehind (Some (load refs)) names texts = AreClosed names texts
-TextsBehind (Some (on_atom command name)) names texts = AreClosed names texts
-TextsBehind (Some (put key term)) names texts = AreClosed names texts
-TextsBehind (Some (trace f g arity on)) names texts = AreClosed names texts
-TextsBehind (Some (spawn m f args)) names texts = AreClosed names texts
-TextsBehind (Some go) names texts = AreClosed names texts
+TextsBehind last names texts = AreClosed names texts
 
 closed_in : (names after : List (List ℕ)) → Extends names after → (text : List LineForm) → IsClosed names text → IsClosed after text
 closed_in names after e text c = record { before = c.before; room = c.room; follow = c.follow; closed = c.closed; among = Extends-trans (names_behind c.before text) names after c.among e }
@@ -106,13 +98,7 @@ record PassesCode (names : List (List ℕ)) (text : List LineForm) (line : LineF
 
 no_fault_by : (a b c d e f g : Bool) → a ≡ false → b ≡ false → c ≡ false → d ≡ false → e ≡ false → f ≡ false → g ≡ false → cond a (Some line_faults.Register) (cond b (Some line_faults.Int) (cond c (Some line_faults.Term) (cond d (Some line_faults.Names) (cond e (Some line_faults.TooManyFunctions) (cond f (Some line_faults.TooLong) (cond g (Some line_faults.Duplicate) None)))))) ≡ None
 no_fault_by false false false false false false false ha hb hc hd he hf hg = refl
-no_fault_by true b c d e f g ha hb hc hd he hf hg = absurd cc
-no_fault_by false true c d e f g ha hb hc hd he hf hg = absurd cc
-no_fault_by false false true d e f g ha hb hc hd he hf hg = absurd cc
-no_fault_by false false false true e f g ha hb hc hd he hf hg = absurd cc
-no_fault_by false false false false true f g ha hb hc hd he hf hg = absurd cc
-no_fault_by false false false false false true g ha hb hc hd he hf hg = absurd cc
-no_fault_by false false false false false false true ha hb hc hd he hf hg = absurd cc
+no_fault_by a b c d e f g ha hb hc hd he hf hg = absurd cc
 
 next_is : (names : List (List ℕ)) (text : List LineForm) (line : LineForm) → PassesCode names text line → may_follow (last_line text) line ≡ true → IsNext names text (line_written line) line
 next_is names text line p place = record {
@@ -122,15 +108,7 @@ next_is names text line p place = record {
 
 pub no_title : (last line : LineForm) → may_follow (Some last) line ≡ true → is_title line ≡ false
 no_title last (title name version) h = absurd cc
-no_title last (header exported name arity) h = refl
-no_title last (label name) h = refl
-no_title last (instr i) h = refl
-no_title last end h = refl
-
-pub last_group-snoc : {X : Type 0} (groups : List (List X)) (group : List X) → last_group (groups ++ group ∷ []) ≡ group
-last_group-snoc [] group = refl
-last_group-snoc (g ∷ []) group = refl
-last_group-snoc (g ∷ h ∷ gs) group = last_group-snoc (h ∷ gs) group
+no_title last line h = refl
 
 open_more : (names : List (List ℕ)) (texts : List (List LineForm)) (last line : LineForm) → HaveOpen names texts last → PassesCode names (last_group texts) line → may_follow (Some last) line ≡ true → HaveOpen (names_with_all names (line_atoms line)) (texts_with texts (code line)) line
 open_more names texts last line h p place =
@@ -163,10 +141,7 @@ starts_text names texts (title name version) room h p place =
       front_closed = all_closed_in names (names_after names (title name version)) texts (Extends-all names (name ∷ [])) h;
       is_open = record { before = names; room = room; follow = (next_is names [] (title name version) passed refl, tt); last_is = refl; names_are = refl };
     }
-starts_text names texts (header exported name arity) room h p place = absurd cc
-starts_text names texts (label name) room h p place = absurd cc
-starts_text names texts (instr i) room h p place = absurd cc
-starts_text names texts end room h p place = absurd cc
+starts_text names texts line room h p place = absurd cc
 
 -- ---- a line more of a script
 
@@ -178,96 +153,45 @@ code_passed : (m : Summary) (line : LineForm) → is_line_form line ≡ true →
 code_passed m line sound p = record { sound = sound; low = p.low; narrow = p.narrow; brief = p.brief; room = p.room; few = p.few; short = p.short; new = p.new_name }
 
 begins : (m : Summary) (line : ScriptLine) → length m.names ≤ 4096 → AreClosed m.names m.texts → IsTrue (is_script_line line) → Passes m line → Opens line → TextsBehind (Some line) (summary_with m line).names (summary_with m line).texts
-begins m head room h sound p place = h
 begins m (code line) room h sound p place = starts_text m.names m.texts line room h (code_passed m line sound p) (not_false (may_follow None line) place)
-begins m (observer count) room h sound p place = h
-begins m loader room h sound p place = h
 begins m (load refs) room h sound p place = all_closed_in m.names _ m.texts (Extends-all m.names (script_line_atoms (load refs))) h
 begins m (on_atom command name) room h sound p place = all_closed_in m.names _ m.texts (Extends-all m.names (script_line_atoms (on_atom command name))) h
 begins m (put key term) room h sound p place = all_closed_in m.names _ m.texts (Extends-all m.names (script_line_atoms (put key term))) h
 begins m (trace f g arity on) room h sound p place = all_closed_in m.names _ m.texts (Extends-all m.names (script_line_atoms (trace f g arity on))) h
 begins m (spawn f g args) room h sound p place = all_closed_in m.names _ m.texts (Extends-all m.names (script_line_atoms (spawn f g args))) h
-begins m go room h sound p place = h
+begins m line room h sound p place = h
 
 opens_first : (line : ScriptLine) → may_stand None line ≡ true → Opens line
-opens_first head e = refl
 opens_first (code line) e = absurd cc
-opens_first (observer count) e = refl
-opens_first loader e = refl
-opens_first (load refs) e = refl
-opens_first (on_atom command name) e = refl
-opens_first (put key term) e = refl
-opens_first (trace f g arity on) e = refl
-opens_first (spawn f g args) e = refl
-opens_first go e = refl
+opens_first line e = refl
 
 opens_between : (line : ScriptLine) → may_stand_between line ≡ true → Opens line
-opens_between head e = refl
 opens_between (code line) e = ap not e
-opens_between (observer count) e = refl
-opens_between loader e = refl
-opens_between (load refs) e = refl
-opens_between (on_atom command name) e = refl
-opens_between (put key term) e = refl
-opens_between (trace f g arity on) e = refl
-opens_between (spawn f g args) e = refl
-opens_between go e = refl
+opens_between line e = refl
 
 opens_observing : (line : ScriptLine) → may_stand_observing line ≡ true → Opens line
-opens_observing head e = refl
 opens_observing (code line) e = absurd cc
-opens_observing (observer count) e = refl
-opens_observing loader e = refl
-opens_observing (load refs) e = refl
-opens_observing (on_atom command name) e = refl
-opens_observing (put key term) e = refl
-opens_observing (trace f g arity on) e = refl
-opens_observing (spawn f g args) e = refl
-opens_observing go e = refl
+opens_observing line e = refl
 
 opens_loading : (line : ScriptLine) → may_stand_loading line ≡ true → Opens line
-opens_loading head e = refl
 opens_loading (code line) e = absurd cc
-opens_loading (observer count) e = refl
-opens_loading loader e = refl
-opens_loading (load refs) e = refl
-opens_loading (on_atom command name) e = refl
-opens_loading (put key term) e = refl
-opens_loading (trace f g arity on) e = refl
-opens_loading (spawn f g args) e = refl
-opens_loading go e = refl
+opens_loading line e = refl
 
 goes_on : (m : Summary) (last : LineForm) (line : ScriptLine) → HaveOpen m.names m.texts last → IsTrue (is_script_line line) → Passes m line → may_stand_within last line ≡ true → TextsBehind (Some line) (summary_with m line).names (summary_with m line).texts
-goes_on m last head h sound p place = absurd cc
 goes_on m last (code line) h sound p place = open_more m.names m.texts last line h (code_passed m line sound p) place
-goes_on m last (observer count) h sound p place = absurd cc
-goes_on m last loader h sound p place = absurd cc
-goes_on m last (load refs) h sound p place = absurd cc
-goes_on m last (on_atom command name) h sound p place = absurd cc
-goes_on m last (put key term) h sound p place = absurd cc
-goes_on m last (trace f g arity on) h sound p place = absurd cc
-goes_on m last (spawn f g args) h sound p place = absurd cc
-goes_on m last go h sound p place = absurd cc
+goes_on m last line h sound p place = absurd cc
 
 behind_code : (m : Summary) (last : LineForm) (line : ScriptLine) → length m.names ≤ 4096 → HaveOpen m.names m.texts last → IsTrue (is_script_line line) → Passes m line → may_stand_behind last line ≡ true → TextsBehind (Some line) (summary_with m line).names (summary_with m line).texts
-behind_code m (title name version) line room h sound p place = goes_on m (title name version) line h sound p place
-behind_code m (header exported name arity) line room h sound p place = goes_on m (header exported name arity) line h sound p place
-behind_code m (label name) line room h sound p place = goes_on m (label name) line h sound p place
-behind_code m (instr i) line room h sound p place = goes_on m (instr i) line h sound p place
 behind_code m end line room h sound p place = begins m line room (all_closed m.names m.texts h) sound p (opens_between line place)
+behind_code m last line room h sound p place = goes_on m last line h sound p place
 
 texts_more : (m : Summary) (last : Option ScriptLine) (line : ScriptLine) → length m.names ≤ 4096 → TextsBehind last m.names m.texts → IsTrue (is_script_line line) → Passes m line → may_stand last line ≡ true → TextsBehind (Some line) (summary_with m line).names (summary_with m line).texts
 texts_more m None line room h sound p place = begins m line room h sound p (opens_first line place)
 texts_more m (Some head) line room h sound p place = begins m line room h sound p (opens_between line place)
 texts_more m (Some (code last)) line room h sound p place = behind_code m last line room h sound p place
 texts_more m (Some (observer count)) line room h sound p place = begins m line room h sound p (opens_observing line place)
-texts_more m (Some loader) line room h sound p place = begins m line room h sound p (opens_loading line place)
-texts_more m (Some (load refs)) line room h sound p place = begins m line room h sound p (opens_loading line place)
-texts_more m (Some (on_atom command name)) line room h sound p place = begins m line room h sound p (opens_loading line place)
-texts_more m (Some (put key term)) line room h sound p place = begins m line room h sound p (opens_loading line place)
-texts_more m (Some (trace f g arity on)) line room h sound p place = begins m line room h sound p (opens_loading line place)
-texts_more m (Some (spawn f g args)) line room h sound p place = begins m line room h sound p (opens_loading line place)
 texts_more m (Some go) line room h sound p place = absurd cc
+texts_more m last line room h sound p place = begins m line room h sound p (opens_loading line place)
 
 texts_kept : IsKept (λ m. IsNames m.names × TextsBehind m.last m.names m.texts)
 texts_kept = record {
@@ -285,10 +209,7 @@ texts_closed lines sound none last =
 pub titled : (before : List (List ℕ)) (text : List LineForm) (last : LineForm) → FollowOn before [] text → last_line text ≡ Some last → IsTitled text
 titled before [] last follow e = absurd cc
 titled before (title name version ∷ lines) last follow e = tt
-titled before (header exported name arity ∷ lines) last follow e = let place = follow.0.stands.place in absurd cc
-titled before (label name ∷ lines) last follow e = let place = follow.0.stands.place in absurd cc
-titled before (instr i ∷ lines) last follow e = let place = follow.0.stands.place in absurd cc
-titled before (end ∷ lines) last follow e = let place = follow.0.stands.place in absurd cc
+titled before text last follow e = let place = follow.0.stands.place in absurd cc
 
 Extends-behind : (names : List (List ℕ)) (lines : List LineForm) → Extends names (names_behind names lines)
 Extends-behind names [] = Extends-refl names

@@ -8,14 +8,15 @@ use Rattle.term_core.specs.declared.atom.AtomId.{AtomId}
 use Rattle.term_core.specs.Names.{Extends}
 use Rattle.term_core.specs.TermText.{number_in}
 use Rattle.mod_core.specs.declared.code.Module.{Module}
-use Rattle.mod_text.specs.ModuleLine.{LineForm, title, header, label, instr, end, number_value}
+use Rattle.term_core.specs.Text.Numbers.{number_value}
+use Rattle.mod_text.specs.ModuleLine.{LineForm, title, end}
 use Rattle.mod_text.specs.LineFaults.{may_follow, last_line, names_after}
 use Rattle.mod_text.specs.ModuleValue.{title_of, IsTitled, module_of}
 use Rattle.mod_text.specs.ModuleText.{FollowOn, names_behind}
 use Rattle.mod_text.proofs.Keepings.{last_line-push}
-use Rattle.mod_text.proofs.Options.{some_is, bytes_are}
+use Rattle.term_core.proofs.Text.Options.{some_is, bytes_are}
 use Rattle.server_core.specs.CommandTable.{text_of}
-use Rattle.script_text.specs.ScriptLine.{RefForm, ScriptLine, head, code, observer, loader, load, on_atom, put, trace, spawn, go, is_script_line}
+use Rattle.script_text.specs.ScriptLine.{RefForm, ScriptLine, code, is_script_line}
 use Rattle.script_text.specs.Counts.{code_lines, is_title, module_texts, line_titles, titles_of, is_same_ref, is_given}
 use Rattle.script_text.specs.LineFaults.{of_code, is_given_again}
 use Rattle.script_text.specs.ScriptText.{HaveNoFault}
@@ -35,10 +36,7 @@ title_ref text = record { name = (title_of text).0; version = (title_of text).1 
 
 no_title : (last line : LineForm) → may_follow (Some last) line ≡ true → line_titles line ≡ []
 no_title last (title name version) h = absurd cc
-no_title last (header exported name arity) h = refl
-no_title last (label name) h = refl
-no_title last (instr i) h = refl
-no_title last end h = refl
+no_title last line h = refl
 
 no_more_titles : (names : List (List ℕ)) (before lines : List LineForm) (last : LineForm) → last_line before ≡ Some last → FollowOn names before lines → flat_map line_titles lines ≡ []
 no_more_titles names before [] last is follow = refl
@@ -47,13 +45,9 @@ no_more_titles names before (line ∷ lines) last is follow =
     ∙ no_more_titles (names_after names line) (before ++ line ∷ []) lines line (last_line-push before line) follow.1
 
 pub one_title : (names : List (List ℕ)) (text : List LineForm) → IsTitled text → FollowOn names [] text → flat_map line_titles text ≡ title_ref text ∷ []
-one_title names [] t follow = absurd t
 one_title names (title name version ∷ lines) t follow =
     ap (λ (ts : List RefForm). title_ref (title name version ∷ lines) ∷ ts) (no_more_titles (names_after names (title name version)) (title name version ∷ []) lines (title name version) refl follow.1)
-one_title names (header exported name arity ∷ lines) t follow = absurd t
-one_title names (label name ∷ lines) t follow = absurd t
-one_title names (instr i ∷ lines) t follow = absurd t
-one_title names (end ∷ lines) t follow = absurd t
+one_title names text t follow = absurd t
 
 pub each_title : (names : List (List ℕ)) (texts : List (List LineForm)) → AreClosed names texts → flat_map (λ text. flat_map line_titles text) texts ≡ map title_ref texts
 each_title names [] h = refl
@@ -84,22 +78,11 @@ apart_more (r ∷ refs) s h none =
 
 apart_line : (titles : List RefForm) (line : LineForm) → AreApart titles → is_given_again titles line ≡ false → AreApart (titles ++ line_titles line)
 apart_line titles (title name version) h new = apart_more titles (record { name = name; version = version }) h (or_parts (is_given titles (record { name = name; version = version })) false new).0
-apart_line titles (header exported name arity) h new = subst AreApart (sym (append-nil titles)) h
-apart_line titles (label name) h new = subst AreApart (sym (append-nil titles)) h
-apart_line titles (instr i) h new = subst AreApart (sym (append-nil titles)) h
-apart_line titles end h new = subst AreApart (sym (append-nil titles)) h
+apart_line titles line h new = subst AreApart (sym (append-nil titles)) h
 
 apart_with : (titles : List RefForm) (line : ScriptLine) → AreApart titles → of_code (is_given_again titles) line ≡ false → AreApart (titles_with titles line)
-apart_with titles head h new = h
 apart_with titles (code line) h new = apart_line titles line h new
-apart_with titles (observer count) h new = h
-apart_with titles loader h new = h
-apart_with titles (load refs) h new = h
-apart_with titles (on_atom command name) h new = h
-apart_with titles (put key term) h new = h
-apart_with titles (trace f g arity on) h new = h
-apart_with titles (spawn m f args) h new = h
-apart_with titles go h new = h
+apart_with titles line h new = h
 
 titles_kept : IsKept (λ m. AreApart m.titles)
 titles_kept = record { first = tt; more = λ m line h sound p. apart_with m.titles line h p.new_title }
@@ -114,12 +97,8 @@ title_held : (names : List (List ℕ)) (text : List LineForm) → IsClosed names
 title_held names text c = by_line text (titled c.before text end c.follow c.closed) (held_behind c.before text) c.among
   where
     by_line : (lines : List LineForm) → IsTitled lines → HaveHeld (names_behind c.before lines) lines → Extends (names_behind c.before lines) names → IsHeldText names (title_of lines).0
-    by_line [] t held among = absurd t
     by_line (title name version ∷ lines) t held among = held_in (names_behind c.before (title name version ∷ lines)) names name among held.0.0
-    by_line (header exported name arity ∷ lines) t held among = absurd t
-    by_line (label name ∷ lines) t held among = absurd t
-    by_line (instr i ∷ lines) t held among = absurd t
-    by_line (end ∷ lines) t held among = absurd t
+    by_line lines t held among = absurd t
 
 -- titles of one name and version are the same
 same_title : (names : List (List ℕ)) (r s : RefForm) → IsHeldText names r.name → IsHeldText names s.name → number_in names r.name ≡ number_in names s.name → number_value r.version ≡ number_value s.version → is_same_ref s r ≡ true

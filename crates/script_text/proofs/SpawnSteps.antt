@@ -1,19 +1,19 @@
 -- A spawn, behind the start of a loader block.
-use Rattle.std.proofs.Common.{◌≡◌, ℕ, ◌+◌, ◌<◌, ◌≤◌, Bool, true, false, cond, not, ◌||◌, ◌&&◌, nat_le, nat_lt, List, [], ◌∷◌, ◌++◌, length, Option, Some, None, option_map, Result, Ok, Err, bytes_eq, codes, refl, sym, ap, ◌∙◌, subst, arith}
+use Rattle.std.proofs.Common.{◌≡◌, ℕ, ◌+◌, ◌<◌, ◌≤◌, Bool, true, false, cond, not, ◌||◌, ◌&&◌, nat_le, nat_lt, List, ◌∷◌, ◌++◌, length, Option, Some, None, option_map, Result, Ok, Err, bytes_eq, codes, refl, sym, ap, ◌∙◌, subst, arith}
 use Rattle.std.specs.Prelude.{map}
 use Rattle.std.specs.List.{list_any, list_all, flat_map}
 use Rattle.std.proofs.lemmas.Bool.{and_parts}
 use Rattle.std.proofs.lemmas.Bool.Decides.{nat_tests}
 use Rattle.term_core.specs.declared.atom.Mfa.{Mfa}
 use Rattle.term_core.specs.Names.{IsNames, Extends, is_atom_text}
-use Rattle.term_core.specs.PlainTerm.{PlainTerm, integer_leaf, atom_leaf, tuple_of, list_of, atoms_of}
+use Rattle.term_core.specs.PlainTerm.{PlainTerm, atoms_of}
 use Rattle.term_core.specs.Written.{WrittenTerm}
 use Rattle.mod_text.specs.ModuleLine.{LineForm}
-use Rattle.mod_text.specs.LineReading.{cut_at}
+use Rattle.term_core.specs.Text.Cuts.{cut_at}
 use Rattle.mod_text.specs.ModuleValue.{module_of}
-use Rattle.mod_text.proofs.Cuts.{cut_is}
+use Rattle.term_core.proofs.Text.Cuts.{cut_is}
 use Rattle.mod_text.proofs.LineNames.{are_atoms}
-use Rattle.mod_text.proofs.Options.{some_is}
+use Rattle.term_core.proofs.Text.Options.{some_is}
 use Rattle.script_text.specs.declared.fault.Which.TheVariants as which
 use Rattle.script_text.specs.declared.fault.ScriptFault.{ScriptFault}
 use Rattle.script_text.specs.declared.fault.ScriptFault.TheVariants as faults
@@ -21,7 +21,7 @@ use Rattle.script_text.specs.declared.reading.cause.LineCause.{LineCause}
 use Rattle.script_text.specs.declared.reading.cause.LineCause.TheVariants as causes
 use Rattle.script_text.specs.declared.reading.reader.Place.TheVariants.{Loading}
 use Rattle.script_text.specs.declared.reading.reader.ScriptReader.{ScriptReader}
-use Rattle.script_text.specs.declared.script.ScriptCmd.TheVariants.{Spawn}
+use Rattle.script_core.specs.declared.script.ScriptCmd.TheVariants.{Spawn}
 use Rattle.script_text.specs.ScriptLine.{ScriptLine, spawn, is_term_form, IsLine}
 use Rattle.script_text.specs.Counts.{FunctionForm}
 use Rattle.script_text.specs.Groups.{onto_last}
@@ -38,7 +38,6 @@ use Rattle.script_text.proofs.TermNames.{terms_after, terms_atoms_are}
 use Rattle.script_text.proofs.PutLaws.{no_put_text}
 use Rattle.script_text.proofs.NamedLaws.{no_atom_command, no_trace_text}
 use Rattle.script_text.proofs.HeldNames.{held_all, Extends-all, number_in-more}
-use Rattle.script_text.proofs.ModuleNames.{AreHeld}
 use Rattle.script_text.proofs.Namings.{target_in, call_or_full, names_after_call, call_named-is}
 use Rattle.script_text.proofs.Summaries.{Summary, summary_with, table, fault_by}
 use Rattle.script_text.proofs.Holding.{function_in, Stands, Knows, IsLoading, grown, same_lack}

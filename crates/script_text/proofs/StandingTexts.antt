@@ -15,15 +15,16 @@ use Rattle.mod_text.specs.ModuleValue.{IsTitled}
 use Rattle.mod_text.proofs.Constants.{IsSound}
 use Rattle.mod_text.proofs.LineWords.{too_long_is}
 use Rattle.mod_text.proofs.Keepings.{last_line-push}
-use Rattle.mod_text.proofs.Options.{some_is}
-use Rattle.script_text.specs.ScriptLine.{RefForm, ScriptLine, head, code, observer, loader, load, on_atom, put, trace, spawn, go}
+use Rattle.term_core.proofs.Text.Options.{some_is}
+use Rattle.script_text.proofs.CodeSteps.{last_group-snoc}
+use Rattle.script_text.specs.ScriptLine.{RefForm, ScriptLine, head, code, observer, loader, go}
 use Rattle.script_text.specs.Groups.{onto_last, last_group}
 use Rattle.script_text.specs.Counts.{names_of, code_lines, module_texts, line_titles, titles_of, is_same_ref, is_given}
 use Rattle.script_text.specs.LineFaults.{may_stand_between, may_stand_observing, may_stand_loading, may_stand, last_of}
 use Rattle.script_text.specs.Canonical.{code_form}
 use Rattle.script_text.proofs.GrownLines.{module_texts-code, last_of-snoc}
 use Rattle.script_text.proofs.GroupLaws.{onto_last-snoc}
-use Rattle.script_text.proofs.SoundnessTexts.{IsClosed, AreClosed, titled, no_title, last_group-snoc}
+use Rattle.script_text.proofs.SoundnessTexts.{IsClosed, AreClosed, titled, no_title}
 use Rattle.script_text.proofs.SoundnessTitles.{title_ref, one_title, AreApart}
 use Rattle.script_text.proofs.InOrder.{observer_lines, AreBlocks}
 use Rattle.script_text.proofs.Assembled.{IsBlockLine, code_lines-front}
@@ -42,14 +43,8 @@ record PassesAll (names : List (List ℕ)) (text : List LineForm) (line : LineFo
 
 passes_by : (names : List (List ℕ)) (text : List LineForm) (line : LineForm) (a b c d e f g : Bool) → has_high_register line ≡ a → has_wide_integer line ≡ b → has_long_term line ≡ c → overfills_names names line ≡ d → is_seventeenth text line ≡ e → ends_too_long names text line ≡ f → is_repeated text line ≡ g →
     cond a (Some line_faults.Register) (cond b (Some line_faults.Int) (cond c (Some line_faults.Term) (cond d (Some line_faults.Names) (cond e (Some line_faults.TooManyFunctions) (cond f (Some line_faults.TooLong) (cond g (Some line_faults.Duplicate) None)))))) ≡ None → PassesAll names text line
-passes_by names text line true b c d e f g ea eb ec ed ee ef eg none = absurd cc
-passes_by names text line false true c d e f g ea eb ec ed ee ef eg none = absurd cc
-passes_by names text line false false true d e f g ea eb ec ed ee ef eg none = absurd cc
-passes_by names text line false false false true e f g ea eb ec ed ee ef eg none = absurd cc
-passes_by names text line false false false false true f g ea eb ec ed ee ef eg none = absurd cc
-passes_by names text line false false false false false true g ea eb ec ed ee ef eg none = absurd cc
-passes_by names text line false false false false false false true ea eb ec ed ee ef eg none = absurd cc
 passes_by names text line false false false false false false false ea eb ec ed ee ef eg none = record { low = ea; narrow = eb; brief = ec; few = ee; short = ef; new = eg }
+passes_by names text line a b c d e f g ea eb ec ed ee ef eg none = absurd cc
 
 passes_all : (names : List (List ℕ)) (text : List LineForm) (line : LineForm) → fault_of_line names text line ≡ None → PassesAll names text line
 passes_all names text line none =
@@ -57,11 +52,8 @@ passes_all names text line none =
 
 -- how long an image is does not depend on the names
 short_under : (names others : List (List ℕ)) (text : List LineForm) (line : LineForm) → RowFrom None text → All IsSound text → ends_too_long names text line ≡ false → ends_too_long others text line ≡ false
-short_under names others text (title name version) row sound h = refl
-short_under names others text (header exported name arity) row sound h = refl
-short_under names others text (label name) row sound h = refl
-short_under names others text (instr i) row sound h = refl
 short_under names others text end row sound h = too_long_is others text row sound ∙ sym (too_long_is names text row sound) ∙ h
+short_under names others text line row sound h = refl
 
 row_more : (before : Option LineForm) (lines : List LineForm) (last line : LineForm) → RowFrom before lines → last_line lines ≡ Some last → may_follow (Some last) line ≡ true → RowFrom before (lines ++ line ∷ [])
 row_more before [] last line row is place = absurd cc
@@ -70,22 +62,16 @@ row_more before (l ∷ m ∷ lines) last line row is place = (row.0, row_more (S
 
 -- a line of a text stands behind its others
 stands_within : (last line : LineForm) → may_follow (Some last) line ≡ true → may_stand (Some (code last)) (code line) ≡ true
-stands_within (title name version) line place = place
-stands_within (header exported name arity) line place = place
-stands_within (label name) line place = place
-stands_within (instr i) line place = place
 stands_within end (title name version) place = absurd cc
 stands_within end (header exported name arity) place = absurd cc
 stands_within end (label name) place = absurd cc
 stands_within end (instr i) place = absurd cc
 stands_within end end place = absurd cc
+stands_within last line place = place
 
 untitled : (last line : LineForm) → may_follow (Some last) line ≡ true → line_titles line ≡ []
 untitled last (title name version) h = absurd cc
-untitled last (header exported name arity) h = refl
-untitled last (label name) h = refl
-untitled last (instr i) h = refl
-untitled last end h = refl
+untitled last line h = refl
 
 -- the lines of a text so far are the last of a script's
 record IsLastText (before : List ScriptLine) (texts : List (List LineForm)) (text : List LineForm) (last : LineForm) : Type 0 where
@@ -139,7 +125,6 @@ record IsBetween (before : List ScriptLine) (texts : List (List LineForm)) : Typ
   titles_are : titles_of before ≡ map title_ref texts
 
 text_stands : (names : List (List ℕ)) (before : List ScriptLine) (texts : List (List LineForm)) (text : List LineForm) → IsTitled text → IsBetween before texts → list_any (is_same_ref (title_ref text)) (map title_ref texts) ≡ false → FollowOn names [] text → StandWell before (code_form text)
-text_stands names before texts [] t b new follow = absurd t
 text_stands names before texts (title name version ∷ lines) t b new follow =
     let line = title name version in
     let first : StandsWell before (code line) = record {
@@ -160,10 +145,7 @@ text_stands names before texts (title name version ∷ lines) t b new follow =
       sound = All-push IsSound [] line (All-nil IsSound) follow.0.stands.is_text.sound;
     } in
     (first, lines_stand (before ++ code line ∷ []) texts (line ∷ []) line (names_after names line) lines opened follow.1)
-text_stands names before texts (header exported name arity ∷ lines) t b new follow = absurd t
-text_stands names before texts (label name ∷ lines) t b new follow = absurd t
-text_stands names before texts (instr i ∷ lines) t b new follow = absurd t
-text_stands names before texts (end ∷ lines) t b new follow = absurd t
+text_stands names before texts text t b new follow = absurd t
 
 texts_behind : (before : List ScriptLine) (texts : List (List LineForm)) (text : List LineForm) (last : LineForm) (names : List (List ℕ)) (lines : List LineForm) → IsLastText before texts text last → FollowOn names text lines → module_texts (before ++ code_form lines) ≡ texts ++ (text ++ lines) ∷ []
 texts_behind before texts text last names [] l follow =
@@ -175,7 +157,6 @@ texts_behind before texts text last names (line ∷ lines) l follow =
     ∙ ap (λ (t : List LineForm). texts ++ t ∷ []) (append_assoc text (line ∷ []) lines)
 
 text_behind : (names : List (List ℕ)) (before : List ScriptLine) (texts : List (List LineForm)) (text : List LineForm) → IsTitled text → module_texts before ≡ texts → FollowOn names [] text → module_texts (before ++ code_form text) ≡ texts ++ text ∷ []
-text_behind names before texts [] t are follow = absurd t
 text_behind names before texts (title name version ∷ lines) t are follow =
     let line = title name version in
     let opened : IsLastText (before ++ code line ∷ []) texts (line ∷ []) line = record {
@@ -187,10 +168,7 @@ text_behind names before texts (title name version ∷ lines) t are follow =
     } in
     ap (λ (ls : List ScriptLine). module_texts ls) (sym (append_assoc before (code line ∷ []) (code_form lines)))
     ∙ texts_behind (before ++ code line ∷ []) texts (line ∷ []) line (names_after names line) lines opened follow.1
-text_behind names before texts (header exported name arity ∷ lines) t are follow = absurd t
-text_behind names before texts (label name ∷ lines) t are follow = absurd t
-text_behind names before texts (instr i ∷ lines) t are follow = absurd t
-text_behind names before texts (end ∷ lines) t are follow = absurd t
+text_behind names before texts text t are follow = absurd t
 
 last_codes : (before : List ScriptLine) (text : List LineForm) (last : LineForm) → last_line text ≡ Some last → last_of (before ++ code_form text) ≡ Some (code last)
 last_codes before [] last is = absurd cc
@@ -270,13 +248,8 @@ block_stands : (before : List ScriptLine) (line : ScriptLine) → IsBlockLine li
 block_stands before head is place narrow = absurd is
 block_stands before (code line) is place narrow = absurd is
 block_stands before (observer count) is place narrow = absurd is
-block_stands before loader is place narrow = record { place = place; low = refl; narrow = narrow.narrow; brief = narrow.brief; few = refl; short = refl; new_title = refl; new_name = refl }
-block_stands before (load refs) is place narrow = record { place = place; low = refl; narrow = narrow.narrow; brief = narrow.brief; few = refl; short = refl; new_title = refl; new_name = refl }
-block_stands before (on_atom command name) is place narrow = record { place = place; low = refl; narrow = narrow.narrow; brief = narrow.brief; few = refl; short = refl; new_title = refl; new_name = refl }
-block_stands before (put key term) is place narrow = record { place = place; low = refl; narrow = narrow.narrow; brief = narrow.brief; few = refl; short = refl; new_title = refl; new_name = refl }
-block_stands before (trace f g arity on) is place narrow = record { place = place; low = refl; narrow = narrow.narrow; brief = narrow.brief; few = refl; short = refl; new_title = refl; new_name = refl }
-block_stands before (spawn m f args) is place narrow = record { place = place; low = refl; narrow = narrow.narrow; brief = narrow.brief; few = refl; short = refl; new_title = refl; new_name = refl }
 block_stands before go is place narrow = absurd is
+block_stands before line is place narrow = record { place = place; low = refl; narrow = narrow.narrow; brief = narrow.brief; few = refl; short = refl; new_title = refl; new_name = refl }
 
 go_stands : (before : List ScriptLine) → may_stand (last_of before) go ≡ true → StandsWell before go
 go_stands before place = record { place = place; low = refl; narrow = refl; brief = refl; few = refl; short = refl; new_title = refl; new_name = refl }
@@ -285,25 +258,15 @@ behind_block : (last line : ScriptLine) → IsBlockLine last → may_stand (Some
 behind_block head line is = absurd is
 behind_block (code l) line is = absurd is
 behind_block (observer count) line is = absurd is
-behind_block loader line is = refl
-behind_block (load refs) line is = refl
-behind_block (on_atom command name) line is = refl
-behind_block (put key term) line is = refl
-behind_block (trace f g arity on) line is = refl
-behind_block (spawn m f args) line is = refl
 behind_block go line is = absurd is
+behind_block last line is = refl
 
 may_load : (line : ScriptLine) → IsBlockLine line → may_stand_loading line ≡ true
 may_load head is = absurd is
 may_load (code l) is = absurd is
 may_load (observer count) is = absurd is
-may_load loader is = refl
-may_load (load refs) is = refl
-may_load (on_atom command name) is = refl
-may_load (put key term) is = refl
-may_load (trace f g arity on) is = refl
-may_load (spawn m f args) is = refl
 may_load go is = absurd is
+may_load line is = refl
 
 loading_stand : (before : List ScriptLine) (last : ScriptLine) (blocks : List ScriptLine) → last_of before ≡ Some last → IsBlockLine last → AllByRecursion IsBlockLine blocks → AllByRecursion IsNarrow blocks → StandWell before (blocks ++ go ∷ [])
 loading_stand before last [] is own are narrow = (go_stands before (ap (λ (o : Option ScriptLine). may_stand o go) is ∙ behind_block last go own), tt)
@@ -313,16 +276,8 @@ loading_stand before last (line ∷ blocks) is own are narrow = (
 )
 
 opening_stands : (before : List ScriptLine) (line : ScriptLine) (lines : List ScriptLine) → AreBlocks (line ∷ lines) → may_stand (last_of before) loader ≡ true → may_stand (last_of before) line ≡ true
-opening_stands before head lines opened may = absurd opened
-opening_stands before (code line) lines opened may = absurd opened
-opening_stands before (observer count) lines opened may = absurd opened
 opening_stands before loader lines opened may = may
-opening_stands before (load refs) lines opened may = absurd opened
-opening_stands before (on_atom command name) lines opened may = absurd opened
-opening_stands before (put key term) lines opened may = absurd opened
-opening_stands before (trace f g arity on) lines opened may = absurd opened
-opening_stands before (spawn m f args) lines opened may = absurd opened
-opening_stands before go lines opened may = absurd opened
+opening_stands before line lines opened may = absurd opened
 
 -- loader blocks and `go` stand well where one of them may stand
 blocks_stand : (before : List ScriptLine) (blocks : List ScriptLine) → may_stand (last_of before) loader ≡ true → may_stand (last_of before) go ≡ true → AreBlocks blocks → AllByRecursion IsBlockLine blocks → AllByRecursion IsNarrow blocks → StandWell before (blocks ++ go ∷ [])
@@ -343,16 +298,10 @@ observing_stand before (count ∷ observers) blocks may opened are narrow = (
 )
 
 between_too : (line : ScriptLine) → may_stand_observing line ≡ true → may_stand_between line ≡ true
-between_too head stands = absurd cc
-between_too (code line) stands = absurd cc
 between_too (observer count) stands = refl
 between_too loader stands = refl
-between_too (load refs) stands = absurd cc
-between_too (on_atom command name) stands = absurd cc
-between_too (put key term) stands = absurd cc
-between_too (trace f g arity on) stands = absurd cc
-between_too (spawn m f args) stands = absurd cc
 between_too go stands = refl
+between_too line stands = absurd cc
 
 -- observers, loader blocks and `go` stand well behind module texts
 pub others_stand : (before : List ScriptLine) (observers : List (List ℕ)) (blocks : List ScriptLine) → ((line : ScriptLine) → may_stand (last_of before) line ≡ may_stand_between line) → AreBlocks blocks → AllByRecursion IsBlockLine blocks → AllByRecursion IsNarrow blocks → StandWell before ((observer_lines observers ++ blocks) ++ go ∷ [])

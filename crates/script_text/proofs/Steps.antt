@@ -1,25 +1,25 @@
 -- What is known after one line more.
-use Rattle.std.proofs.Common.{◌≡◌, ℕ, ◌+◌, ◌<◌, ◌≤◌, Bool, true, false, cond, List, [], ◌∷◌, ◌++◌, length, Option, Some, None, option_map, refl, sym, ap, ◌∙◌, subst, arith, append_assoc, append-nil, length-append}
+use Rattle.std.proofs.Common.{◌≡◌, ℕ, ◌+◌, ◌<◌, ◌≤◌, Bool, true, false, cond, List, [], ◌∷◌, ◌++◌, length, Option, Some, None, option_map, refl, sym, ap, ◌∙◌, subst, arith, append-nil, length-append}
 use Rattle.std.specs.Prelude.{map}
-use Rattle.std.specs.List.{AllByRecursion, flat_map}
 use Rattle.std.proofs.lemmas.List.{map-append}
-use Rattle.term_core.specs.Names.{IsNames, Extends}
 use Rattle.mod_core.specs.declared.code.Module.{Module}
-use Rattle.mod_text.specs.ModuleLine.{LineForm, title, header, label, instr, end, number_value}
+use Rattle.term_core.specs.Text.Numbers.{number_value}
+use Rattle.mod_text.specs.ModuleLine.{LineForm, end}
 use Rattle.mod_text.specs.LineFaults.{last_line}
-use Rattle.mod_text.specs.ModuleValue.{IsTitled, module_of, unsettled_line}
+use Rattle.mod_text.specs.ModuleValue.{module_of, unsettled_line}
+use Rattle.script_text.proofs.CodeSteps.{text_is}
 use Rattle.script_text.specs.declared.reading.reader.Place.{Place}
-use Rattle.script_text.specs.declared.reading.reader.Place.TheVariants.{Unread, Between, Within, Observing, Loading, Finished}
+use Rattle.script_text.specs.declared.reading.reader.Place.TheVariants.{Between, Within, Observing, Loading, Finished}
 use Rattle.script_text.specs.declared.reading.reader.ScriptReader.{ScriptReader}
-use Rattle.script_text.specs.declared.script.ScriptCmd.{ScriptCmd}
-use Rattle.script_text.specs.ScriptLine.{ScriptLine, head, code, observer, loader, load, spawn, go}
+use Rattle.script_core.specs.declared.script.ScriptCmd.{ScriptCmd}
+use Rattle.script_text.specs.ScriptLine.{ScriptLine, head, observer, loader, go}
 use Rattle.script_text.specs.Groups.{onto_last}
 use Rattle.script_text.specs.ScriptValue.{commands_on, commands_of}
-use Rattle.script_text.specs.LineFaults.{may_stand_between, may_stand_behind, may_stand, or_else, lack_in_texts, lack_in_loads}
+use Rattle.script_text.specs.LineFaults.{may_stand_behind, or_else, lack_in_texts, lack_in_loads}
 use Rattle.script_text.specs.Reading.{is_text_end, closed_by, text_closed}
 use Rattle.script_text.proofs.GrownLines.{flat_map-snoc}
 use Rattle.script_text.proofs.Summaries.{Summary, summary_with}
-use Rattle.script_text.proofs.Holding.{as_text, total, IsUnread, IsBetween, IsOpen, IsWithin, IsLoading, IsFinished, Stands, Knows, Holds, or_else-none, no_load_more, same_lack, lack_in_texts-snoc, total-snoc}
+use Rattle.script_text.proofs.Holding.{total, IsUnread, IsBetween, IsOpen, Stands, Knows, Holds, or_else-none, no_load_more, same_lack, lack_in_texts-snoc, total-snoc}
 use Rattle.script_text.proofs.ModuleNames.{module_of-more}
 
 pub more_lines : (m : Summary) (line : ScriptLine) → length m.lines ≡ m.count → length (m.lines ++ line ∷ []) ≡ m.count + 1
@@ -160,20 +160,8 @@ length-onto_last (g ∷ n ∷ gs) x h = let more = length-onto_last (n ∷ gs) x
 -- ---- a module's text that is closed
 
 last_text_end : (o : Option LineForm) (last : LineForm) → o ≡ Some last → is_text_end o ≡ true → last ≡ end
-last_text_end None last e h = absurd cc
-last_text_end (Some (title name version)) last e h = absurd cc
-last_text_end (Some (header exported name arity)) last e h = absurd cc
-last_text_end (Some (label name)) last e h = absurd cc
-last_text_end (Some (instr i)) last e h = absurd cc
 last_text_end (Some end) last e h = cc
-
-as_text-some : (lines : List LineForm) → IsTitled lines → as_text lines ≡ lines ∷ []
-as_text-some [] h = absurd h
-as_text-some (line ∷ lines) h = refl
-
-or_else_first : {X : Type 0} (o p : Option X) → or_else o p ≡ None → o ≡ None
-or_else_first None p e = refl
-or_else_first (Some x) p e = absurd cc
+last_text_end o last e h = absurd cc
 
 or_else_some : {X : Type 0} (o : Option X) (x : X) → or_else o (Some x) ≡ None → ⊥
 or_else_some None x e = cc
@@ -185,7 +173,7 @@ closed_none m r closed k o settled =
     record {
       names = k.names;
       sound = k.sound;
-      texts = k.texts ∙ ap (λ (l : List (List LineForm)). closed ++ l) (as_text-some r.lines o.titled) ∙ sym (append-nil (closed ++ r.lines ∷ []));
+      texts = k.texts ∙ ap (λ (l : List (List LineForm)). closed ++ l) (text_is r.lines o.titled) ∙ sym (append-nil (closed ++ r.lines ∷ []));
       modules = λ more none.
           let before : r.modules ≡ map (module_of (m.names ++ more)) closed = k.modules more (sym lack ∙ none) in
           let here : module_of r.names r.lines ≡ module_of (m.names ++ more) r.lines = ap (λ (ns : List (List ℕ)). module_of ns r.lines) k.names ∙ sym (module_of-more m.names more r.lines o.titled o.held) in
@@ -214,7 +202,7 @@ closed_some m r closed place k o missing =
     record {
       names = k.names;
       sound = k.sound;
-      texts = k.texts ∙ ap (λ (l : List (List LineForm)). closed ++ l) (as_text-some r.lines o.titled) ∙ sym (append-nil (closed ++ r.lines ∷ []));
+      texts = k.texts ∙ ap (λ (l : List (List LineForm)). closed ++ l) (text_is r.lines o.titled) ∙ sym (append-nil (closed ++ r.lines ∷ []));
       modules = λ more e. absurd (or_else_some (lack_in_texts 2 closed) (2 + total closed + place) (sym lack ∙ e));
       titles = k.titles;
       titles_held = k.titles_held;

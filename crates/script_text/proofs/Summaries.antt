@@ -44,52 +44,25 @@ summary_of lines = record {
 }
 
 abbrev pub texts_with : List (List LineForm) → ScriptLine → List (List LineForm)
-texts_with texts head = texts
 texts_with texts (code line) = groups_with is_title texts line
-texts_with texts (observer count) = texts
-texts_with texts loader = texts
-texts_with texts (load refs) = texts
-texts_with texts (on_atom command name) = texts
-texts_with texts (put key term) = texts
-texts_with texts (trace f g arity on) = texts
-texts_with texts (spawn m f args) = texts
-texts_with texts go = texts
+texts_with texts line = texts
 
 abbrev pub titles_with : List RefForm → ScriptLine → List RefForm
-titles_with titles head = titles
 titles_with titles (code line) = titles ++ line_titles line
-titles_with titles (observer count) = titles
-titles_with titles loader = titles
-titles_with titles (load refs) = titles
-titles_with titles (on_atom command name) = titles
-titles_with titles (put key term) = titles
-titles_with titles (trace f g arity on) = titles
-titles_with titles (spawn m f args) = titles
-titles_with titles go = titles
+titles_with titles line = titles
 
 abbrev pub observers_with : List (List ℕ) → ScriptLine → List (List ℕ)
-observers_with observers head = observers
-observers_with observers (code line) = observers
 observers_with observers (observer count) = observers ++ count ∷ []
-observers_with observers loader = observers
-observers_with observers (load refs) = observers
-observers_with observers (on_atom command name) = observers
-observers_with observers (put key term) = observers
-observers_with observers (trace f g arity on) = observers
-observers_with observers (spawn m f args) = observers
-observers_with observers go = observers
+observers_with observers line = observers
 
 abbrev pub blocks_with : List (List ScriptLine) → ScriptLine → List (List ScriptLine)
-blocks_with blocks head = blocks
-blocks_with blocks (code line) = blocks
-blocks_with blocks (observer count) = blocks
 blocks_with blocks loader = groups_with is_loader blocks loader
 blocks_with blocks (load refs) = groups_with is_loader blocks (load refs)
 blocks_with blocks (on_atom command name) = groups_with is_loader blocks (on_atom command name)
 blocks_with blocks (put key term) = groups_with is_loader blocks (put key term)
 blocks_with blocks (trace f g arity on) = groups_with is_loader blocks (trace f g arity on)
 blocks_with blocks (spawn m f args) = groups_with is_loader blocks (spawn m f args)
-blocks_with blocks go = blocks
+blocks_with blocks line = blocks
 
 -- the summary after one line more
 abbrev pub summary_with : Summary → ScriptLine → Summary
@@ -109,52 +82,23 @@ summary_with m line = record {
 }
 
 texts-snoc : (lines : List ScriptLine) (line : ScriptLine) → module_texts (lines ++ line ∷ []) ≡ texts_with (module_texts lines) line
-texts-snoc lines head = module_texts-other lines head refl
 texts-snoc lines (code line) = module_texts-code lines line
-texts-snoc lines (observer count) = module_texts-other lines (observer count) refl
-texts-snoc lines loader = module_texts-other lines loader refl
-texts-snoc lines (load refs) = module_texts-other lines (load refs) refl
-texts-snoc lines (on_atom command name) = module_texts-other lines (on_atom command name) refl
-texts-snoc lines (put key term) = module_texts-other lines (put key term) refl
-texts-snoc lines (trace f g arity on) = module_texts-other lines (trace f g arity on) refl
-texts-snoc lines (spawn m f args) = module_texts-other lines (spawn m f args) refl
-texts-snoc lines go = module_texts-other lines go refl
+texts-snoc lines line = module_texts-other lines line refl
 
 titles-snoc : (lines : List ScriptLine) (line : ScriptLine) → titles_of (lines ++ line ∷ []) ≡ titles_with (titles_of lines) line
-titles-snoc lines head = titles_of-other lines head refl
 titles-snoc lines (code line) = titles_of-code lines line
-titles-snoc lines (observer count) = titles_of-other lines (observer count) refl
-titles-snoc lines loader = titles_of-other lines loader refl
-titles-snoc lines (load refs) = titles_of-other lines (load refs) refl
-titles-snoc lines (on_atom command name) = titles_of-other lines (on_atom command name) refl
-titles-snoc lines (put key term) = titles_of-other lines (put key term) refl
-titles-snoc lines (trace f g arity on) = titles_of-other lines (trace f g arity on) refl
-titles-snoc lines (spawn m f args) = titles_of-other lines (spawn m f args) refl
-titles-snoc lines go = titles_of-other lines go refl
+titles-snoc lines line = titles_of-other lines line refl
 
 observers-snoc : (lines : List ScriptLine) (line : ScriptLine) → observers_of (lines ++ line ∷ []) ≡ observers_with (observers_of lines) line
-observers-snoc lines head = observers_of-other lines head refl
-observers-snoc lines (code line) = observers_of-other lines (code line) refl
 observers-snoc lines (observer count) = observers_of-line lines (observer count)
-observers-snoc lines loader = observers_of-other lines loader refl
-observers-snoc lines (load refs) = observers_of-other lines (load refs) refl
-observers-snoc lines (on_atom command name) = observers_of-other lines (on_atom command name) refl
-observers-snoc lines (put key term) = observers_of-other lines (put key term) refl
-observers-snoc lines (trace f g arity on) = observers_of-other lines (trace f g arity on) refl
-observers-snoc lines (spawn m f args) = observers_of-other lines (spawn m f args) refl
-observers-snoc lines go = observers_of-other lines go refl
+observers-snoc lines line = observers_of-other lines line refl
 
 blocks-snoc : (lines : List ScriptLine) (line : ScriptLine) → loader_blocks (lines ++ line ∷ []) ≡ blocks_with (loader_blocks lines) line
 blocks-snoc lines head = blocks-other lines head refl
 blocks-snoc lines (code line) = blocks-other lines (code line) refl
 blocks-snoc lines (observer count) = blocks-other lines (observer count) refl
-blocks-snoc lines loader = blocks-line lines loader refl
-blocks-snoc lines (load refs) = blocks-line lines (load refs) refl
-blocks-snoc lines (on_atom command name) = blocks-line lines (on_atom command name) refl
-blocks-snoc lines (put key term) = blocks-line lines (put key term) refl
-blocks-snoc lines (trace f g arity on) = blocks-line lines (trace f g arity on) refl
-blocks-snoc lines (spawn m f args) = blocks-line lines (spawn m f args) refl
 blocks-snoc lines go = blocks-other lines go refl
+blocks-snoc lines line = blocks-line lines line refl
 
 -- the summary of lines with one more
 pub summary_of-snoc : (lines : List ScriptLine) (line : ScriptLine) → summary_of (lines ++ line ∷ []) ≡ summary_with (summary_of lines) line

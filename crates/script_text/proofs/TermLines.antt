@@ -1,6 +1,5 @@
 -- The text of a term that stands in a line: its one written term, and what is read of it.
-use Rattle.std.proofs.Common.{◌≡◌, ℕ, Bool, true, false, ◌&&◌, List, [], ◌∷◌, ◌++◌, Option, None, Some, option_map, cond, ◌||◌, ◌==◌, refl, sym, ap, ◌∙◌, subst}
-use Rattle.std.specs.List.{list_all}
+use Rattle.std.proofs.Common.{◌≡◌, ℕ, Bool, true, false, List, [], ◌∷◌, Some, option_map, cond, ◌||◌, ◌==◌, refl, sym, ap, ◌∙◌, subst}
 use Rattle.std.proofs.lemmas.Bool.{and_parts, and_from}
 use Rattle.std.proofs.lemmas.Bool.Decides.{Decides-eqb}
 use Rattle.term_core.specs.Faults.{IsTextOf}
@@ -12,9 +11,9 @@ use Rattle.term_core.proofs.Shapes.{no_atom_text}
 use Rattle.term_core.proofs.TermBytes.{is_term_byte, term_bytes-written}
 use Rattle.term_core.proofs.TermForms.{is_term_text-form, form_is, tree_is}
 use Rattle.term_core.proofs.WrittenTokens.{RowHasLeafTexts}
-use Rattle.mod_text.specs.LineReading.{tested}
-use Rattle.mod_text.proofs.Cuts.{lacks, lacks-all}
-use Rattle.mod_text.proofs.Options.{some, some_is, map_some, passed, failed, tested_is, tested_at}
+use Rattle.term_core.specs.Text.Steps.{tested}
+use Rattle.term_core.proofs.Text.Cuts.{lacks, lacks-all}
+use Rattle.term_core.proofs.Text.Options.{some, some_is, map_some, passed, failed, tested_is, tested_at}
 use Rattle.script_text.specs.ScriptLine.{is_term_form, is_row_form}
 use Rattle.script_text.specs.LineReading.{argument_reading}
 use Rattle.script_text.specs.KeptTerm.{complex, argument_words}

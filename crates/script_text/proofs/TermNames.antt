@@ -1,5 +1,5 @@
 -- The terms of a line by names that hold their atoms: they stay the same as the names grow, and are written as they were.
-use Rattle.std.proofs.Common.{◌≡◌, ℕ, ℤ, Bool, true, false, cond, List, [], ◌∷◌, ◌++◌, pos, Option, None, Some, is_some, unwrap_or, refl, sym, ap, ◌∙◌, subst}
+use Rattle.std.proofs.Common.{◌≡◌, ℕ, Bool, true, false, cond, List, [], ◌∷◌, ◌++◌, pos, Option, None, Some, is_some, unwrap_or, refl, sym, ap, ◌∙◌, subst}
 use Rattle.std.specs.Fmt.{signed_decimal}
 use Rattle.std.specs.Prelude.{map}
 use Rattle.std.specs.List.{AllByRecursion, flat_map, list_all}
@@ -26,7 +26,7 @@ use Rattle.script_text.proofs.TextsBack.{atom_again}
 
 -- ---- names that grow
 
-each_first : {X : Type 0} (P : X → Type 0) (xs ys : List X) → AllByRecursion P (xs ++ ys) → AllByRecursion P xs × AllByRecursion P ys
+pub each_first : {X : Type 0} (P : X → Type 0) (xs ys : List X) → AllByRecursion P (xs ++ ys) → AllByRecursion P xs × AllByRecursion P ys
 each_first P [] ys h = (tt, h)
 each_first P (x ∷ xs) ys h = let more = each_first P xs ys h.1 in ((h.0, more.0), more.1)
 

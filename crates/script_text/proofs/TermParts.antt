@@ -1,5 +1,5 @@
 -- Terms parted by commas: a text is cut at each comma outside of all brackets, and what is left gets shorter.
-use Rattle.std.proofs.Common.{◌≡◌, ℕ, ◌+◌, ◌<◌, Bool, true, false, cond, ◌&&◌, List, [], ◌∷◌, ◌++◌, length, Option, Some, None, refl, sym, ap, ◌∙◌, arith}
+use Rattle.std.proofs.Common.{◌≡◌, ℕ, ◌+◌, ◌<◌, Bool, true, false, cond, List, [], ◌∷◌, length, Option, Some, None, refl, sym, ap, ◌∙◌, arith}
 use Rattle.std.specs.Prelude.{map}
 use Rattle.std.specs.List.{list_all}
 use Rattle.std.proofs.lemmas.Bool.{and_parts, and_from}
@@ -8,7 +8,7 @@ use Rattle.term_core.specs.TermParts.{depth_behind, is_part_end, CutText, with_b
 use Rattle.term_core.specs.Written.{WrittenTerm, written, parted}
 use Rattle.term_core.proofs.PartedTerms.{parts_by_cut, parts_of_parted}
 use Rattle.term_core.proofs.TokenLaws.{terms_of-row_of}
-use Rattle.mod_text.proofs.Options.{some_is}
+use Rattle.term_core.proofs.Text.Options.{some_is}
 use Rattle.script_text.specs.ScriptLine.{is_term_form, is_row_form}
 use Rattle.script_text.proofs.TermLines.{leaf_texts}
 

@@ -5,16 +5,16 @@ use Rattle.std.specs.List.{flat_map}
 use Rattle.std.proofs.lemmas.Bool.Decides.{nat_tests}
 use Rattle.term_core.proofs.NameTables.{given_names-IsNames}
 use Rattle.mod_text.specs.ModuleLine.{LineForm}
-use Rattle.mod_text.specs.LineReading.{cut_at}
+use Rattle.term_core.specs.Text.Cuts.{cut_at, lines, before_lines, lines_of}
 use Rattle.mod_text.specs.ModuleValue.{unsettled_line}
-use Rattle.mod_text.specs.Reading.{lines, before_lines, lines_of, is_end}
-use Rattle.mod_text.proofs.Cuts.{cut_is, uncut_is, lines_of_cut, lines_of_tail}
-use Rattle.script_text.specs.declared.script.Script.{Script}
+use Rattle.mod_text.specs.Reading.{is_end}
+use Rattle.term_core.proofs.Text.Cuts.{cut_is, uncut_is, lines_of_cut, lines_of_tail}
+use Rattle.script_core.specs.declared.script.Script.{Script}
 use Rattle.script_text.specs.declared.fault.ScriptFault.{ScriptFault}
 use Rattle.script_text.specs.declared.fault.ScriptFault.TheVariants as faults
 use Rattle.script_text.specs.declared.reading.cause.LineCause.{LineCause}
 use Rattle.script_text.specs.declared.reading.reader.ScriptReader.{ScriptReader}
-use Rattle.script_text.specs.ScriptLine.{RefForm, ScriptLine, head, code, observer, loader, load, on_atom, put, trace, spawn, go, IsLine}
+use Rattle.script_text.specs.ScriptLine.{RefForm, ScriptLine, head, IsLine}
 use Rattle.script_text.specs.Groups.{onto_last, groups_with}
 use Rattle.script_text.specs.Counts.{code_lines, is_title, module_texts}
 use Rattle.script_text.specs.LineFaults.{or_else, lack_in_texts, is_lacking, lack_in_loads, line_fault}
@@ -149,13 +149,8 @@ at_next text r number rest x next a cut judged =
     }
 
 go_on-fails : (s : Result ScriptReader ScriptFault) (more : ScriptReader → Result Script ScriptFault) (fault : ScriptFault) → FailsWith s fault → FailsWith (go_on s more) fault
-go_on-fails s more faults.FileTooLong e = ap (λ (s : Result ScriptReader ScriptFault). go_on s more) e
-go_on-fails s more (faults.LineTooLong line) e = ap (λ (s : Result ScriptReader ScriptFault). go_on s more) e
-go_on-fails s more (faults.Syntax line) e = ap (λ (s : Result ScriptReader ScriptFault). go_on s more) e
-go_on-fails s more (faults.UnknownName line) e = ap (λ (s : Result ScriptReader ScriptFault). go_on s more) e
-go_on-fails s more (faults.Duplicate line) e = ap (λ (s : Result ScriptReader ScriptFault). go_on s more) e
-go_on-fails s more (faults.Limit line limit) e = ap (λ (s : Result ScriptReader ScriptFault). go_on s more) e
 go_on-fails s more faults.NoMemory e = tt
+go_on-fails s more fault e = ap (λ (s : Result ScriptReader ScriptFault). go_on s more) e
 
 -- a line was refused
 pub at_fault : (text : List ℕ) (r : ScriptReader) (number : ℕ) (rest : List ℕ) (x : List ℕ × List ℕ) (fault : ScriptFault) → AtLine text r number rest → cut_at 10 rest ≡ Some x → FailsWith (line_judged r number (length x.1 == 0) x.0) fault → FailsWith (bytes_on opening 1 text) fault
@@ -217,15 +212,7 @@ total-groups texts (line ∷ lines) = let one = total-with texts line in let res
 few_code : (lines : List ScriptLine) → length (flat_map code_lines lines) ≤ length lines
 few_code [] = omega arith
 few_code (head ∷ lines) = let rest = few_code lines in omega (arith, rest)
-few_code (code line ∷ lines) = let rest = few_code lines in omega (arith, rest)
-few_code (observer count ∷ lines) = let rest = few_code lines in omega (arith, rest)
-few_code (loader ∷ lines) = let rest = few_code lines in omega (arith, rest)
-few_code (load refs ∷ lines) = let rest = few_code lines in omega (arith, rest)
-few_code (on_atom command name ∷ lines) = let rest = few_code lines in omega (arith, rest)
-few_code (put key term ∷ lines) = let rest = few_code lines in omega (arith, rest)
-few_code (trace n f arity on ∷ lines) = let rest = few_code lines in omega (arith, rest)
-few_code (spawn n f args ∷ lines) = let rest = few_code lines in omega (arith, rest)
-few_code (go ∷ lines) = let rest = few_code lines in omega (arith, rest)
+few_code (line ∷ lines) = let rest = few_code lines in omega (arith, rest)
 
 total-first : (closed texts : List (List LineForm)) → total closed ≤ total (closed ++ texts)
 total-first [] texts = omega arith

@@ -8,8 +8,9 @@ use Rattle.term_core.specs.TermText.{atom_text, number_in}
 use Rattle.term_core.specs.Written.{is_positive_text}
 use Rattle.term_core.proofs.IntegerTexts.{own, Positive-from}
 use Rattle.term_core.proofs.NameTables.{slice_get-number_of}
-use Rattle.mod_text.specs.ModuleLine.{number_value, is_number_text, is_version_text, is_arity_text}
-use Rattle.mod_text.proofs.Options.{bytes_are}
+use Rattle.term_core.specs.Text.Numbers.{number_value, is_number_text}
+use Rattle.mod_text.specs.ModuleLine.{is_version_text, is_arity_text}
+use Rattle.term_core.proofs.Text.Options.{bytes_are}
 use Rattle.script_text.specs.ScriptLine.{is_snapshots_text}
 use Rattle.script_text.proofs.HeldNames.{IsHeldText, number_is}
 

@@ -7,22 +7,24 @@ use Rattle.std.proofs.lemmas.List.{map-append}
 use Rattle.term_core.specs.Names.{IsNames, Extends, number_of}
 use Rattle.term_core.specs.TermText.{number_in}
 use Rattle.mod_text.specs.declared.fault.LineFault.TheVariants as line_faults
-use Rattle.mod_text.specs.ModuleLine.{LineForm, title, header, label, instr, end, number_value}
-use Rattle.mod_text.specs.LineReading.{cut_at, line_reading}
+use Rattle.term_core.specs.Text.Numbers.{number_value}
+use Rattle.mod_text.specs.ModuleLine.{LineForm, title}
+use Rattle.term_core.specs.Text.Cuts.{cut_at}
+use Rattle.mod_text.specs.LineReading.{line_reading}
 use Rattle.mod_text.specs.LineFaults.{names_after}
 use Rattle.mod_text.specs.ModuleValue.{module_of}
 use Rattle.mod_text.specs.Reading.{kept, judged}
-use Rattle.mod_text.proofs.Cuts.{cut_here, cut_is}
+use Rattle.term_core.proofs.Text.Cuts.{cut_here, cut_is}
 use Rattle.mod_text.proofs.LineAgain.{text_again}
 use Rattle.mod_text.proofs.LineNames.{line_atoms_are}
-use Rattle.mod_text.proofs.Options.{guarded, bytes_are}
+use Rattle.term_core.proofs.Text.Options.{guarded, bytes_are}
 use Rattle.server_core.specs.declared.command.ModRef.{ModRef}
 use Rattle.script_text.specs.declared.fault.Which.TheVariants as which
 use Rattle.script_text.specs.declared.reading.cause.LineCause.{LineCause}
 use Rattle.script_text.specs.declared.reading.cause.LineCause.TheVariants as causes
 use Rattle.script_text.specs.declared.reading.reader.Place.TheVariants.{Within}
 use Rattle.script_text.specs.declared.reading.reader.ScriptReader.{ScriptReader}
-use Rattle.script_text.specs.ScriptLine.{RefForm, ScriptLine, head, code, observer, loader, load, on_atom, put, trace, spawn, go, IsLine}
+use Rattle.script_text.specs.ScriptLine.{RefForm, ScriptLine, code, observer, loader, go, IsLine}
 use Rattle.script_text.specs.Counts.{is_given}
 use Rattle.script_text.specs.ScriptValue.{ref_in, commands_of}
 use Rattle.script_text.specs.LineFaults.{may_stand_between, may_stand, or_else, lack_in_texts}
@@ -67,20 +69,11 @@ title_again text t is = ap titled (ap (cut_at 32) is.text_is ∙ cut_here 32 (co
 -- ---- lines of no form
 
 no_title : (m : Summary) (text : List ℕ) → ((line : ScriptLine) → may_stand m.last line ≡ may_stand_between line) → bytes_eq text (codes "loader") ≡ false → bytes_eq text (codes "go") ≡ false → title_reading text ≡ None → ((count : List ℕ) → IsLine text (observer count) → ⊥) → Judges m text (Err causes.Syntax)
-no_title m text follows no_loader no_go none no_observer head l = misplaced m head (follows head)
 no_title m text follows no_loader no_go none no_observer (code (title name version)) l = let again = title_again text (record { name = name; version = version }) l in absurd cc
-no_title m text follows no_loader no_go none no_observer (code (header exported name arity)) l = misplaced m (code (header exported name arity)) (follows (code (header exported name arity)))
-no_title m text follows no_loader no_go none no_observer (code (label name)) l = misplaced m (code (label name)) (follows (code (label name)))
-no_title m text follows no_loader no_go none no_observer (code (instr i)) l = misplaced m (code (instr i)) (follows (code (instr i)))
-no_title m text follows no_loader no_go none no_observer (code end) l = misplaced m (code end) (follows (code end))
 no_title m text follows no_loader no_go none no_observer (observer count) l = absurd (no_observer count l)
 no_title m text follows no_loader no_go none no_observer loader l = let yes : bytes_eq text (codes "loader") ≡ true = ap (λ (t : List ℕ). bytes_eq t (codes "loader")) l.text_is in absurd cc
-no_title m text follows no_loader no_go none no_observer (load refs) l = misplaced m (load refs) (follows (load refs))
-no_title m text follows no_loader no_go none no_observer (on_atom command name) l = misplaced m (on_atom command name) (follows (on_atom command name))
-no_title m text follows no_loader no_go none no_observer (put key term) l = misplaced m (put key term) (follows (put key term))
-no_title m text follows no_loader no_go none no_observer (trace f g arity on) l = misplaced m (trace f g arity on) (follows (trace f g arity on))
-no_title m text follows no_loader no_go none no_observer (spawn n f args) l = misplaced m (spawn n f args) (follows (spawn n f args))
 no_title m text follows no_loader no_go none no_observer go l = let yes : bytes_eq text (codes "go") ≡ true = ap (λ (t : List ℕ). bytes_eq t (codes "go")) l.text_is in absurd cc
+no_title m text follows no_loader no_go none no_observer line l = misplaced m line (follows line)
 
 -- ---- what is known after a title
 

@@ -8,12 +8,12 @@ use Rattle.term_core.specs.declared.atom.Mfa.{Mfa}
 use Rattle.term_core.specs.Names.{IsNames}
 use Rattle.mod_text.specs.declared.fault.LineFault.{LineFault}
 use Rattle.mod_text.specs.declared.fault.LineFault.TheVariants as line_faults
-use Rattle.mod_text.specs.ModuleLine.{LineForm, title, header, label, instr, end, is_line_form, LineText}
+use Rattle.mod_text.specs.ModuleLine.{LineForm, title, header, label, end, is_line_form, LineText}
 use Rattle.mod_text.specs.LineReading.{line_reading}
 use Rattle.mod_text.specs.LineFaults.{last_line, may_follow, line_atoms, names_after, is_repeated, overfills_names, is_seventeenth, ends_too_long, has_high_register, has_wide_integer, has_long_term, fault_of_line, counted_name, counted_by, counted_of}
 use Rattle.mod_text.specs.ModuleValue.{headers_in, is_header, IsTitled, module_of}
 use Rattle.mod_text.specs.Reading.{judged, kept}
-use Rattle.mod_text.proofs.Options.{some_is, passed, failed, bytes_are}
+use Rattle.term_core.proofs.Text.Options.{some_is, passed, failed, bytes_are}
 use Rattle.mod_text.proofs.LineLaws.{line_is}
 use Rattle.mod_text.proofs.LineAgain.{text_again}
 use Rattle.mod_text.proofs.LineNames.{line_atoms_are}
@@ -24,7 +24,7 @@ use Rattle.script_text.specs.declared.reading.cause.LineCause.{LineCause}
 use Rattle.script_text.specs.declared.reading.cause.LineCause.TheVariants as causes
 use Rattle.script_text.specs.declared.reading.reader.Place.TheVariants.{Within}
 use Rattle.script_text.specs.declared.reading.reader.ScriptReader.{ScriptReader}
-use Rattle.script_text.specs.ScriptLine.{RefForm, ScriptLine, head, code, observer, loader, load, on_atom, put, trace, spawn, go, IsLine}
+use Rattle.script_text.specs.ScriptLine.{RefForm, ScriptLine, code, IsLine}
 use Rattle.script_text.specs.Groups.{onto_last, last_group}
 use Rattle.script_text.specs.Counts.{line_functions, line_titles, is_title, home_after_line}
 use Rattle.script_text.specs.ScriptValue.{ref_in, commands_of}
@@ -45,11 +45,8 @@ use Rattle.script_text.proofs.CodeSteps.{Judges, misplaced, exports_by, code_fau
 -- ---- where the line stands
 
 behind_within : (last : LineForm) (line : ScriptLine) → is_text_end (Some last) ≡ false → may_stand_behind last line ≡ may_stand_within last line
-behind_within (title name version) line e = refl
-behind_within (header exported name arity) line e = refl
-behind_within (label name) line e = refl
-behind_within (instr i) line e = refl
 behind_within end line e = absurd cc
+behind_within last line e = refl
 
 follows_within : (m : Summary) (r : ScriptReader) (closed : List (List LineForm)) (w : IsWithin m r closed) (line : ScriptLine) → may_stand m.last line ≡ may_stand_within w.is_open.last line
 follows_within m r closed w line = w.is_open.follows line ∙ behind_within w.is_open.last line (sym (ap is_text_end w.is_open.last_is) ∙ w.goes_on)
@@ -60,16 +57,8 @@ code_of text line l = text_again text line (record { text_is = l.text_is; sound 
 
 -- no line with this text has another fault than to stand there
 only_syntax : (m : Summary) (before : LineForm) (text : List ℕ) → ((line : ScriptLine) → may_stand m.last line ≡ may_stand_within before line) → ((l : LineForm) → line_reading text ≡ Some l → fault_by m (code l) ≡ Some (faults.Syntax (m.count + 1))) → (line : ScriptLine) → IsLine text line → fault_by m line ≡ Some (faults.Syntax (m.count + 1))
-only_syntax m before text follows none head l = misplaced m head (follows head)
 only_syntax m before text follows none (code line) l = none line (code_of text line l)
-only_syntax m before text follows none (observer count) l = misplaced m (observer count) (follows (observer count))
-only_syntax m before text follows none loader l = misplaced m loader (follows loader)
-only_syntax m before text follows none (load refs) l = misplaced m (load refs) (follows (load refs))
-only_syntax m before text follows none (on_atom command name) l = misplaced m (on_atom command name) (follows (on_atom command name))
-only_syntax m before text follows none (put key term) l = misplaced m (put key term) (follows (put key term))
-only_syntax m before text follows none (trace f g arity on) l = misplaced m (trace f g arity on) (follows (trace f g arity on))
-only_syntax m before text follows none (spawn m' f args) l = misplaced m (spawn m' f args) (follows (spawn m' f args))
-only_syntax m before text follows none go l = misplaced m go (follows go)
+only_syntax m before text follows none line l = misplaced m line (follows line)
 
 -- a line that is no title
 pub record IsInner (line : LineForm) : Type 0 where
@@ -80,41 +69,27 @@ pub record IsInner (line : LineForm) : Type 0 where
 
 inner : (last line : LineForm) → may_follow (Some last) line ≡ true → IsInner line
 inner last (title name version) e = absurd cc
-inner last (header exported name arity) e = record { titles = refl; starts = refl; home = λ n. refl; again = λ ts. refl }
-inner last (label name) e = record { titles = refl; starts = refl; home = λ n. refl; again = λ ts. refl }
-inner last (instr i) e = record { titles = refl; starts = refl; home = λ n. refl; again = λ ts. refl }
-inner last end e = record { titles = refl; starts = refl; home = λ n. refl; again = λ ts. refl }
+inner last line e = record { titles = refl; starts = refl; home = λ n. refl; again = λ ts. refl }
 
 -- ---- a line given again
 
 held_header : (names : List (List ℕ)) (name arity : List ℕ) (lines : List LineForm) → HaveHeld names lines → list_any (is_header name arity) (headers_in lines) ≡ true → IsHeldText names name
 held_header names name arity [] h e = absurd cc
-held_header names name arity (title n v ∷ lines) h e = held_header names name arity lines h.1 e
 held_header names name arity (header x n a ∷ lines) h e = held_by (is_header name arity (n, a)) refl e (held_header names name arity lines h.1)
   where
     held_by : (t : Bool) → is_header name arity (n, a) ≡ t → (t || list_any (is_header name arity) (headers_in lines)) ≡ true → (list_any (is_header name arity) (headers_in lines) ≡ true → IsHeldText names name) → IsHeldText names name
     held_by true here some behind = subst (IsHeldText names) (bytes_are n name (and_parts (bytes_eq n name) (bytes_eq a arity) here).0) h.0.0
     held_by false here some behind = behind some
-held_header names name arity (label n ∷ lines) h e = held_header names name arity lines h.1 e
-held_header names name arity (instr i ∷ lines) h e = held_header names name arity lines h.1 e
-held_header names name arity (end ∷ lines) h e = held_header names name arity lines h.1 e
+held_header names name arity (line ∷ lines) h e = held_header names name arity lines h.1 e
 
 repeated_held : (names : List (List ℕ)) (lines : List LineForm) (line : LineForm) → HaveHeld names lines → is_repeated lines line ≡ true → AreHeld names (line_atoms line)
-repeated_held names lines (title name version) h e = absurd cc
 repeated_held names lines (header exported name arity) h e = (held_header names name arity lines h e, tt)
 repeated_held names lines (label name) h e = tt
-repeated_held names lines (instr i) h e = absurd cc
-repeated_held names lines end h e = absurd cc
+repeated_held names lines line h e = absurd cc
 
 duplicate_repeats : (high wide big names functions long repeated : Bool) → own_fault high wide big names functions long repeated ≡ Some line_faults.Duplicate → repeated ≡ true
-duplicate_repeats true wide big names functions long repeated e = absurd cc
-duplicate_repeats false true big names functions long repeated e = absurd cc
-duplicate_repeats false false true names functions long repeated e = absurd cc
-duplicate_repeats false false false true functions long repeated e = absurd cc
-duplicate_repeats false false false false true long repeated e = absurd cc
-duplicate_repeats false false false false false true repeated e = absurd cc
 duplicate_repeats false false false false false false true e = refl
-duplicate_repeats false false false false false false false e = absurd cc
+duplicate_repeats high wide big names functions long repeated e = absurd cc
 
 -- ---- what is known after the line
 
@@ -187,24 +162,17 @@ never_memory false false false false false false false false false false false n
 refused : (m : Summary) (r : ScriptReader) (text : List ℕ) (line : LineForm) (before : Option Mfa) (fault : LineFault) (exports : Bool) → IsLine text (code line) → ((next : ScriptLine) → fault_by m (code line) ≡ Some (faults.Syntax (m.count + 1)) → IsLine text next → fault_by m next ≡ Some (faults.Syntax (m.count + 1))) → (fault ≡ line_faults.Duplicate → passes_counted r.functions before ≡ exports) → fault_by m (code line) ≡ with_counts (Some fault) exports false (m.count + 1) → Judges m text (line_added r text before (Err fault))
 refused m r text line before line_faults.Syntax exports is only passes e = λ next. only next e
 refused m r text line before line_faults.Register exports is only passes e = λ next. only next e
-refused m r text line before line_faults.Int exports is only passes e = record { line = code line; is_line = is; fault_is = e }
-refused m r text line before line_faults.Term exports is only passes e = record { line = code line; is_line = is; fault_is = e }
-refused m r text line before line_faults.Names exports is only passes e = record { line = code line; is_line = is; fault_is = e }
-refused m r text line before line_faults.TooManyFunctions exports is only passes e = record { line = code line; is_line = is; fault_is = e }
-refused m r text line before line_faults.TooLong exports is only passes e = record { line = code line; is_line = is; fault_is = e }
 refused m r text line before line_faults.Duplicate exports is only passes e = by_exports exports (passes refl) e
   where
     by_exports : (t : Bool) → passes_counted r.functions before ≡ t → fault_by m (code line) ≡ with_counts (Some line_faults.Duplicate) t false (m.count + 1) → Judges m text (Err (repeat_cause r.functions before))
     by_exports true p e = subst (λ (c : LineCause). Judges m text (Err c)) (sym (passed (passes_counted r.functions before) (causes.Limit which.Exports) causes.Duplicate p)) (record { line = code line; is_line = is; fault_is = e })
     by_exports false p e = subst (λ (c : LineCause). Judges m text (Err c)) (sym (failed (passes_counted r.functions before) (causes.Limit which.Exports) causes.Duplicate p)) (record { line = code line; is_line = is; fault_is = e })
 refused m r text line before line_faults.NoMemory exports is only passes e = never_memory _ _ _ _ _ _ _ _ _ _ _ (m.count + 1) e
+refused m r text line before fault exports is only passes e = record { line = code line; is_line = is; fault_is = e }
 
 names_fit : (high wide big names functions long repeated : Bool) → own_fault high wide big names functions long repeated ≡ None → names ≡ false
-names_fit true wide big names functions long repeated e = absurd cc
-names_fit false true big names functions long repeated e = absurd cc
-names_fit false false true names functions long repeated e = absurd cc
-names_fit false false false true functions long repeated e = absurd cc
 names_fit false false false false functions long repeated e = refl
+names_fit high wide big names functions long repeated e = absurd cc
 
 -- the function that the line has
 counted_is : (m : Summary) (r : ScriptReader) (closed : List (List LineForm)) (text : List ℕ) (line : LineForm) → Knows m r closed → IsOpen m r closed → IsLine text (code line) → counted_of (names_after r.names line) (r.lines ++ line ∷ []) text ≡ first (map (function_in (names_after m.names line)) (line_functions m.home line))

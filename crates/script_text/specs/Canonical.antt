@@ -11,10 +11,10 @@ use Rattle.term_core.specs.Written.{WrittenTerm}
 use Rattle.mod_text.specs.ModuleLine.{LineForm}
 use Rattle.mod_text.specs.Canonical.{canonical as module_lines}
 use Rattle.server_core.specs.declared.command.ModRef.{ModRef}
-use Rattle.script_text.specs.declared.script.TheConstants.{LONGEST_SCRIPT, LONGEST_LINE}
-use Rattle.script_text.specs.declared.script.ScriptCmd.{ScriptCmd}
-use Rattle.script_text.specs.declared.script.ScriptCmd.TheVariants.{Load, Delete, SoftPurge, Purge, CheckOld, Put, Erase, Trace, Spawn}
-use Rattle.script_text.specs.declared.script.Script.{Script}
+use Rattle.script_core.specs.declared.script.TheConstants.{LONGEST_SCRIPT, LONGEST_LINE}
+use Rattle.script_core.specs.declared.script.ScriptCmd.{ScriptCmd}
+use Rattle.script_core.specs.declared.script.ScriptCmd.TheVariants.{Load, Delete, SoftPurge, Purge, CheckOld, Put, Erase, Trace, Spawn}
+use Rattle.script_core.specs.declared.script.Script.{Script}
 use Rattle.script_text.specs.ScriptLine.{RefForm, delete, soft_purge, purge, check_old, erase, ScriptLine, head, code, observer, loader, load, on_atom, put, trace, spawn, go, script_line_written}
 use Rattle.script_text.specs.ScriptText.{ScriptText}
 use Rattle.script_text.specs.TextLines.{lines_of}

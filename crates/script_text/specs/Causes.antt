@@ -4,7 +4,6 @@ use Rattle.term_core.specs.declared.names.NameFault.{NameFault}
 use Rattle.term_core.specs.declared.names.NameFault.TheVariants as name_faults
 use Rattle.mod_text.specs.declared.fault.LineFault.{LineFault}
 use Rattle.mod_text.specs.declared.fault.LineFault.TheVariants as line_faults
-use Rattle.script_text.specs.declared.fault.Which.{Which}
 use Rattle.script_text.specs.declared.fault.Which.TheVariants as which
 use Rattle.script_text.specs.declared.fault.ScriptFault.{ScriptFault}
 use Rattle.script_text.specs.declared.fault.ScriptFault.TheVariants as faults
@@ -34,10 +33,8 @@ cause_of_code line_faults.NoMemory = causes.NoMemory
 
 -- a refusal is that of the reading; want of memory is free
 abbrev pub Fails : {A : Type 0} → Result A LineCause → LineCause → Type 0
-Fails step causes.Syntax = step ≡ Err causes.Syntax
-Fails step (causes.Limit limit) = step ≡ Err (causes.Limit limit)
-Fails step causes.Duplicate = step ≡ Err causes.Duplicate
 Fails step causes.NoMemory = Unit {0}
+Fails step cause = step ≡ Err cause
 
 -- what was answered, seen by view, is what is read, or its cause, unless memory was refused
 abbrev pub Gives : {X A : Type 0} → (X → A) → Result X LineCause → Result A LineCause → Type 0
@@ -52,13 +49,8 @@ abbrev pub ◌>>=◌ : {A B : Type 0} → Result A LineCause → (A → Result B
 
 -- the same for faults of a text
 abbrev pub FailsWith : {A : Type 0} → Result A ScriptFault → ScriptFault → Type 0
-FailsWith step faults.FileTooLong = step ≡ Err faults.FileTooLong
-FailsWith step (faults.LineTooLong line) = step ≡ Err (faults.LineTooLong line)
-FailsWith step (faults.Syntax line) = step ≡ Err (faults.Syntax line)
-FailsWith step (faults.UnknownName line) = step ≡ Err (faults.UnknownName line)
-FailsWith step (faults.Duplicate line) = step ≡ Err (faults.Duplicate line)
-FailsWith step (faults.Limit line limit) = step ≡ Err (faults.Limit line limit)
 FailsWith step faults.NoMemory = Unit {0}
+FailsWith step fault = step ≡ Err fault
 
 abbrev pub GivesText : {X A : Type 0} → (X → A) → Result X ScriptFault → Result A ScriptFault → Type 0
 GivesText view (Ok x) step = step ≡ Ok (view x)

@@ -5,7 +5,6 @@ pub mod ScriptValue
 pub mod LineFaults
 pub mod TextLines
 pub mod ScriptText
-pub mod Sound
 pub mod FaultText
 pub mod Causes
 pub mod LineReading

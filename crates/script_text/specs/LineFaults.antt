@@ -7,14 +7,14 @@ use Rattle.term_core.specs.declared.names.TheConstants.{MOST_NAMES}
 use Rattle.term_core.specs.declared.term_text.TheConstants.{MOST_WORDS}
 use Rattle.term_core.specs.PlainTerm.{term_words}
 use Rattle.term_core.specs.Written.{WrittenTerm, outside_of}
-use Rattle.mod_text.specs.ModuleLine.{LineForm, title, header, label, instr, end}
+use Rattle.mod_text.specs.ModuleLine.{LineForm, end}
 use Rattle.mod_text.specs.ModuleValue.{unsettled_line}
 use Rattle.mod_text.specs.LineFaults.{may_follow, has_high_register, has_wide_integer, has_long_term, is_seventeenth, ends_too_long, is_repeated}
-use Rattle.script_text.specs.declared.script.TheConstants.{MOST_FUNCTION_NAMES, MOST_LOADERS, MOST_PROCESSES, MOST_OBSERVERS}
+use Rattle.script_core.specs.declared.script.TheConstants.{MOST_FUNCTION_NAMES, MOST_LOADERS, MOST_PROCESSES, MOST_OBSERVERS}
 use Rattle.script_text.specs.declared.fault.Which.TheVariants as which
 use Rattle.script_text.specs.declared.fault.ScriptFault.{ScriptFault}
 use Rattle.script_text.specs.declared.fault.ScriptFault.TheVariants as faults
-use Rattle.script_text.specs.ScriptLine.{RefForm, ScriptLine, head, code, observer, loader, load, on_atom, put, trace, spawn, go}
+use Rattle.script_text.specs.ScriptLine.{RefForm, ScriptLine, head, code, observer, loader, load, put, spawn, go}
 use Rattle.script_text.specs.Groups.{last_group}
 use Rattle.script_text.specs.Counts.{names_of, functions_of, module_texts, titles_of, line_titles, is_given, observers_of, is_loader, is_spawn}
 
@@ -22,75 +22,39 @@ use Rattle.script_text.specs.Counts.{names_of, functions_of, module_texts, title
 
 -- whether a line may stand where a module's text may begin: a title, the first observer, the first loader block, or the end
 abbrev pub may_stand_between : ScriptLine → Bool
-may_stand_between head = false
 may_stand_between (code line) = may_follow None line
 may_stand_between (observer count) = true
 may_stand_between loader = true
-may_stand_between (load refs) = false
-may_stand_between (on_atom command name) = false
-may_stand_between (put key term) = false
-may_stand_between (trace «module» name arity on) = false
-may_stand_between (spawn «module» name args) = false
 may_stand_between go = true
+may_stand_between line = false
 
 -- whether a line may stand behind this line of a module's text
 abbrev pub may_stand_within : LineForm → ScriptLine → Bool
-may_stand_within before head = false
 may_stand_within before (code line) = may_follow (Some before) line
-may_stand_within before (observer count) = false
-may_stand_within before loader = false
-may_stand_within before (load refs) = false
-may_stand_within before (on_atom command name) = false
-may_stand_within before (put key term) = false
-may_stand_within before (trace «module» name arity on) = false
-may_stand_within before (spawn «module» name args) = false
-may_stand_within before go = false
+may_stand_within before line = false
 
 -- the same behind the last line of a module's text too
 abbrev pub may_stand_behind : LineForm → ScriptLine → Bool
-may_stand_behind (title name version) line = may_stand_within (title name version) line
-may_stand_behind (header exported name arity) line = may_stand_within (header exported name arity) line
-may_stand_behind (label name) line = may_stand_within (label name) line
-may_stand_behind (instr i) line = may_stand_within (instr i) line
 may_stand_behind end line = may_stand_between line
+may_stand_behind before line = may_stand_within before line
 
 -- whether a line may stand behind an observer
 abbrev pub may_stand_observing : ScriptLine → Bool
-may_stand_observing head = false
-may_stand_observing (code line) = false
 may_stand_observing (observer count) = true
 may_stand_observing loader = true
-may_stand_observing (load refs) = false
-may_stand_observing (on_atom command name) = false
-may_stand_observing (put key term) = false
-may_stand_observing (trace «module» name arity on) = false
-may_stand_observing (spawn «module» name args) = false
 may_stand_observing go = true
+may_stand_observing line = false
 
 -- whether a line may stand in the loader blocks
 abbrev pub may_stand_loading : ScriptLine → Bool
 may_stand_loading head = false
 may_stand_loading (code line) = false
 may_stand_loading (observer count) = false
-may_stand_loading loader = true
-may_stand_loading (load refs) = true
-may_stand_loading (on_atom command name) = true
-may_stand_loading (put key term) = true
-may_stand_loading (trace «module» name arity on) = true
-may_stand_loading (spawn «module» name args) = true
-may_stand_loading go = true
+may_stand_loading line = true
 
 abbrev pub is_head : ScriptLine → Bool
 is_head head = true
-is_head (code line) = false
-is_head (observer count) = false
-is_head loader = false
-is_head (load refs) = false
-is_head (on_atom command name) = false
-is_head (put key term) = false
-is_head (trace «module» name arity on) = false
-is_head (spawn «module» name args) = false
-is_head go = false
+is_head line = false
 
 -- whether a line may stand behind this one, or in front of a text where there is none: the head first, then module texts, then
 -- observers, then loader blocks, then `go`, and nothing more
@@ -99,13 +63,8 @@ may_stand None line = is_head line
 may_stand (Some head) line = may_stand_between line
 may_stand (Some (code before)) line = may_stand_behind before line
 may_stand (Some (observer count)) line = may_stand_observing line
-may_stand (Some loader) line = may_stand_loading line
-may_stand (Some (load refs)) line = may_stand_loading line
-may_stand (Some (on_atom command name)) line = may_stand_loading line
-may_stand (Some (put key term)) line = may_stand_loading line
-may_stand (Some (trace «module» name arity on)) line = may_stand_loading line
-may_stand (Some (spawn «module» name args)) line = may_stand_loading line
 may_stand (Some go) line = false
+may_stand last line = may_stand_loading line
 
 -- the last line of some
 abbrev pub last_of : List ScriptLine → Option ScriptLine
@@ -115,16 +74,8 @@ last_of (line ∷ next ∷ lines) = last_of (next ∷ lines)
 
 -- whether an instruction of a line has a register over 15, or is a call whose arguments pass register 15
 abbrev pub is_high : ScriptLine → Bool
-is_high head = false
 is_high (code line) = has_high_register line
-is_high (observer count) = false
-is_high loader = false
-is_high (load refs) = false
-is_high (on_atom command name) = false
-is_high (put key term) = false
-is_high (trace «module» name arity on) = false
-is_high (spawn «module» name args) = false
-is_high go = false
+is_high line = false
 
 -- ---- limits
 
@@ -138,42 +89,22 @@ is_long_term term = nat_lt MOST_WORDS (term_words term)
 
 -- whether a line has an integer of more than 60 bits
 abbrev pub is_wide : ScriptLine → Bool
-is_wide head = false
 is_wide (code line) = has_wide_integer line
-is_wide (observer count) = false
-is_wide loader = false
-is_wide (load refs) = false
-is_wide (on_atom command name) = false
 is_wide (put key term) = is_wide_term term
-is_wide (trace «module» name arity on) = false
 is_wide (spawn «module» name args) = list_any is_wide_term args
-is_wide go = false
+is_wide line = false
 
 -- whether a line has a term of more than 64 words
 abbrev pub is_long : ScriptLine → Bool
-is_long head = false
 is_long (code line) = has_long_term line
-is_long (observer count) = false
-is_long loader = false
-is_long (load refs) = false
-is_long (on_atom command name) = false
 is_long (put key term) = is_long_term term
-is_long (trace «module» name arity on) = false
 is_long (spawn «module» name args) = list_any is_long_term args
-is_long go = false
+is_long line = false
 
 -- whether a test holds of a line of a module's text
 abbrev pub of_code : (LineForm → Bool) → ScriptLine → Bool
-of_code test head = false
 of_code test (code line) = test line
-of_code test (observer count) = false
-of_code test loader = false
-of_code test (load refs) = false
-of_code test (on_atom command name) = false
-of_code test (put key term) = false
-of_code test (trace «module» name arity on) = false
-of_code test (spawn «module» name args) = false
-of_code test go = false
+of_code test line = false
 
 -- whether a line is the title of a module and version that is given before
 abbrev pub is_given_again : List RefForm → LineForm → Bool
@@ -223,16 +154,8 @@ lack_in_texts number (text ∷ texts) = or_else (option_map (λ place. number + 
 
 -- whether a line loads a module and version that is not given
 abbrev pub is_lacking : List RefForm → ScriptLine → Bool
-is_lacking titles head = false
-is_lacking titles (code line) = false
-is_lacking titles (observer count) = false
-is_lacking titles loader = false
 is_lacking titles (load refs) = not (list_all (is_given titles) refs)
-is_lacking titles (on_atom command name) = false
-is_lacking titles (put key term) = false
-is_lacking titles (trace «module» name arity on) = false
-is_lacking titles (spawn «module» name args) = false
-is_lacking titles go = false
+is_lacking titles line = false
 
 -- the first of lines, of which the first has this number, that loads what is not given
 abbrev pub lack_in_loads : List RefForm → ℕ → List ScriptLine → Option ℕ

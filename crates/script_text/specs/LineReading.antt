@@ -8,8 +8,10 @@ use Rattle.term_core.specs.TermForms.{is_complex_text, tree_of}
 use Rattle.term_core.specs.TermParts.{parts_of_terms}
 use Rattle.term_core.specs.Written.{WrittenTerm, is_integer_text}
 use Rattle.mod_core.specs.declared.code.TheConstants.{MOST_ARGUMENTS}
-use Rattle.mod_text.specs.ModuleLine.{number_value, is_version_text, is_arity_text}
-use Rattle.mod_text.specs.LineReading.{◌>>=◌, cut_at, tested, numbered_reading}
+use Rattle.term_core.specs.Text.Numbers.{number_value}
+use Rattle.mod_text.specs.ModuleLine.{is_version_text, is_arity_text}
+use Rattle.term_core.specs.Text.Steps.{◌>>=◌, tested, numbered_reading}
+use Rattle.term_core.specs.Text.Cuts.{cut_at}
 use Rattle.script_text.specs.ScriptLine.{RefForm, AtomCommand, delete, soft_purge, purge, check_old, erase, is_snapshots_text}
 
 -- the parts between such bytes

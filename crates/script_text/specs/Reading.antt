@@ -6,16 +6,16 @@ use Rattle.term_core.specs.declared.atom.Mfa.{Mfa}
 use Rattle.term_core.specs.Names.{number_of, given_names}
 use Rattle.term_core.specs.Plain.{term_of}
 use Rattle.mod_text.specs.declared.fault.LineFault.TheVariants as line_faults
-use Rattle.mod_text.specs.ModuleLine.{LineForm, title, header, label, instr, end}
+use Rattle.mod_text.specs.ModuleLine.{LineForm, title, end}
 use Rattle.mod_text.specs.LineFaults.{last_line, counted_of}
-use Rattle.mod_text.specs.LineReading.{cut_at}
+use Rattle.term_core.specs.Text.Cuts.{cut_at}
 use Rattle.mod_text.specs.ModuleValue.{IsTitled, module_of, unsettled_line}
 use Rattle.mod_text.specs.Reading.{Step, line_step, is_end}
 use Rattle.server_core.specs.declared.command.ModRef.{ModRef}
-use Rattle.script_text.specs.declared.script.TheConstants.{LONGEST_SCRIPT, LONGEST_LINE, MOST_LOADERS, MOST_PROCESSES, MOST_OBSERVERS}
-use Rattle.script_text.specs.declared.script.ScriptCmd.{ScriptCmd}
-use Rattle.script_text.specs.declared.script.ScriptCmd.TheVariants.{Load, Put, Trace, Spawn}
-use Rattle.script_text.specs.declared.script.Script.{Script}
+use Rattle.script_core.specs.declared.script.TheConstants.{LONGEST_SCRIPT, LONGEST_LINE, MOST_LOADERS, MOST_PROCESSES, MOST_OBSERVERS}
+use Rattle.script_core.specs.declared.script.ScriptCmd.{ScriptCmd}
+use Rattle.script_core.specs.declared.script.ScriptCmd.TheVariants.{Load, Put, Trace, Spawn}
+use Rattle.script_core.specs.declared.script.Script.{Script}
 use Rattle.script_text.specs.declared.fault.Which.TheVariants as which
 use Rattle.script_text.specs.declared.fault.ScriptFault.{ScriptFault}
 use Rattle.script_text.specs.declared.fault.ScriptFault.TheVariants as faults
@@ -64,12 +64,8 @@ repeat_cause fs f = if passes_counted fs f then causes.Limit which.Exports else 
 
 -- whether the line is the end of a module's text
 abbrev pub is_text_end : Option LineForm → Bool
-is_text_end None = false
-is_text_end (Some (title name version)) = false
-is_text_end (Some (header exported name arity)) = false
-is_text_end (Some (label name)) = false
-is_text_end (Some (instr i)) = false
 is_text_end (Some end) = true
+is_text_end last = false
 
 -- a module's text is closed: its module, or the first line that names what is not there
 abbrev pub closed_by : ScriptReader → Option ℕ → ScriptReader
@@ -191,11 +187,8 @@ command_step s number text = command_by s number (cut_at 32 text)
 -- a line that begins a module's text, or is an observer or a command
 abbrev pub keyed_step : ScriptReader → ℕ → List ℕ → Place → Result ScriptReader LineCause
 keyed_step s number text Between = between_by s number text (cut_at 32 text)
-keyed_step s number text Unread = command_step s number text
-keyed_step s number text Within = command_step s number text
 keyed_step s number text Observing = observing_by s (cut_at 32 text)
-keyed_step s number text Loading = command_step s number text
-keyed_step s number text Finished = command_step s number text
+keyed_step s number text place = command_step s number text
 
 -- a line between module texts, or behind them
 abbrev pub other_step : ScriptReader → ℕ → List ℕ → Result ScriptReader LineCause
@@ -208,21 +201,15 @@ other_step s number text =
 -- the line of this number, by the place where it stands
 abbrev pub line_at : ScriptReader → ℕ → List ℕ → Place → Result ScriptReader LineCause
 line_at s number text Unread = head_step s text
-line_at s number text Between = other_step s number text
 line_at s number text Within = within_step s text
-line_at s number text Observing = other_step s number text
-line_at s number text Loading = other_step s number text
 line_at s number text Finished = Err causes.Syntax
+line_at s number text place = other_step s number text
 
 -- what holds of what is known before the line of this number: where a module's text is open, it begins with its title, and that
 -- has its number
 abbrev pub IsCounted : ScriptReader → ℕ → Place → Type 0
-IsCounted s number Unread = Unit {0}
-IsCounted s number Between = Unit {0}
 IsCounted s number Within = IsTitled s.lines × (s.title + length s.lines ≡ number)
-IsCounted s number Observing = Unit {0}
-IsCounted s number Loading = Unit {0}
-IsCounted s number Finished = Unit {0}
+IsCounted s number place = Unit {0}
 
 -- ---- the text
 
@@ -244,12 +231,8 @@ script_known s (Some line) = Err (faults.UnknownName line)
 
 -- the end of the text, by the place of the next line, which would have this number
 abbrev pub ended_at : ScriptReader → ℕ → Place → Result Script ScriptFault
-ended_at s number Unread = Err (faults.Syntax number)
-ended_at s number Between = Err (faults.Syntax number)
-ended_at s number Within = Err (faults.Syntax number)
-ended_at s number Observing = Err (faults.Syntax number)
-ended_at s number Loading = Err (faults.Syntax number)
 ended_at s number Finished = script_known s s.unknown
+ended_at s number place = Err (faults.Syntax number)
 
 -- the end of the text, with what stands behind the last line feed
 abbrev pub text_ended : ScriptReader → ℕ → List ℕ → Result Script ScriptFault

@@ -6,8 +6,9 @@ use Rattle.term_core.specs.Names.{is_atom_text}
 use Rattle.term_core.specs.PlainTerm.{TermOf, RowOf, integer_leaf, atom_leaf, tuple_of, list_of, no_terms, term_then, row_of}
 use Rattle.term_core.specs.Written.{WrittenTerm, written, parted, is_integer_text}
 use Rattle.mod_core.specs.declared.code.TheConstants.{MOST_ARGUMENTS}
-use Rattle.mod_text.specs.ModuleLine.{LineForm, parted_by, spaced, function_written, line_written, is_line_form, is_function_form, is_number_text, is_version_text, number_value}
-use Rattle.script_text.specs.declared.script.TheConstants.{MOST_SNAPSHOTS}
+use Rattle.term_core.specs.Text.Numbers.{is_number_text, number_value}
+use Rattle.mod_text.specs.ModuleLine.{LineForm, parted_by, spaced, function_written, line_written, is_line_form, is_function_form, is_version_text}
+use Rattle.script_core.specs.declared.script.TheConstants.{MOST_SNAPSHOTS}
 
 -- a version of a module, as it is written: its name, and the digits of the version
 pub record RefForm : Type 0 where

@@ -7,13 +7,13 @@ use Rattle.term_core.specs.Plain.{term_of}
 use Rattle.term_core.specs.PlainTerm.{PlainTerm, map_leaves}
 use Rattle.term_core.specs.Written.{WrittenTerm, integer_of}
 use Rattle.term_core.specs.TermText.{number_in}
-use Rattle.mod_text.specs.ModuleLine.{number_value}
+use Rattle.term_core.specs.Text.Numbers.{number_value}
 use Rattle.mod_text.specs.ModuleValue.{atom_in, mfa_in, module_of}
 use Rattle.server_core.specs.declared.command.ModRef.{ModRef}
-use Rattle.script_text.specs.declared.script.ScriptCmd.{ScriptCmd}
-use Rattle.script_text.specs.declared.script.ScriptCmd.TheVariants.{Load, Delete, SoftPurge, Purge, CheckOld, Put, Erase, Trace, Spawn}
-use Rattle.script_text.specs.declared.script.Script.{Script}
-use Rattle.script_text.specs.ScriptLine.{RefForm, AtomCommand, delete, soft_purge, purge, check_old, erase, ScriptLine, head, code, observer, loader, load, on_atom, put, trace, spawn, go}
+use Rattle.script_core.specs.declared.script.ScriptCmd.{ScriptCmd}
+use Rattle.script_core.specs.declared.script.ScriptCmd.TheVariants.{Load, Delete, SoftPurge, Purge, CheckOld, Put, Erase, Trace, Spawn}
+use Rattle.script_core.specs.declared.script.Script.{Script}
+use Rattle.script_text.specs.ScriptLine.{RefForm, AtomCommand, delete, soft_purge, purge, check_old, erase, ScriptLine, load, on_atom, put, trace, spawn}
 use Rattle.script_text.specs.Counts.{names_of, module_texts, observers_of, loader_blocks}
 
 -- the version of a module that is written so
@@ -34,16 +34,12 @@ command_of erase key = Erase key
 
 -- the command of a line, if it is one
 abbrev pub commands_on : List (List ℕ) → ScriptLine → List ScriptCmd
-commands_on names head = []
-commands_on names (code line) = []
-commands_on names (observer count) = []
-commands_on names loader = []
 commands_on names (load refs) = Load (map (ref_in names) refs) ∷ []
 commands_on names (on_atom command name) = command_of command (atom_in names name) ∷ []
 commands_on names (put key term) = Put (atom_in names key) (term_of (argument_in names term)) ∷ []
 commands_on names (trace «module» name arity on) = Trace (mfa_in names «module» name arity) on ∷ []
 commands_on names (spawn «module» name args) = Spawn (record { «module» = atom_in names «module»; name = atom_in names name; arity = length args }) (map (argument_in names) args) ∷ []
-commands_on names go = []
+commands_on names line = []
 
 -- the commands of a loader block, in order
 abbrev pub commands_of : List (List ℕ) → List ScriptLine → List ScriptCmd

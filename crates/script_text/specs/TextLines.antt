@@ -1,6 +1,6 @@
 -- A text as lines: each ends with a line feed, and behind the last of them may stand bytes with none.
 use Rattle.std.specs.Prelude.{ℕ, List, [], ◌∷◌, ◌++◌}
-pub use Rattle.mod_text.specs.Reading.{lines_of}
+pub use Rattle.term_core.specs.Text.Cuts.{lines_of}
 
 -- these bytes as a last line, unless there are none
 abbrev pub last_line : List ℕ → List (List ℕ)

@@ -1,6 +1,6 @@
 -- The parts of a line as the code keeps them: names as slices of the text, versions by their values.
 use Rattle.std.specs.Prelude.{ℕ, Bool, List, map}
-use Rattle.mod_text.specs.ModuleLine.{number_value}
+use Rattle.term_core.specs.Text.Numbers.{number_value}
 use Rattle.script_text.specs.declared.reading.written.WrittenRef.{WrittenRef}
 use Rattle.script_text.specs.declared.reading.written.AtomWord.{AtomWord}
 use Rattle.script_text.specs.declared.reading.written.AtomWord.TheVariants as words

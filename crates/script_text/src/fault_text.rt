@@ -2,7 +2,6 @@
 
 ghost use Rattle.std.specs.Prelude.{◌≡◌, ◌++◌, OnOk, OnErr};
 ghost use Rattle.std.specs.Io.{StartsWith};
-ghost use Rattle.term_core.specs.declared.no_memory.NoMemory.{NoMemory as NoMemoryValue};
 ghost use Rattle.script_text.specs.FaultText.{fault_text, refused_at, which_text};
 
 use crate::fault::{ScriptFault, Which};

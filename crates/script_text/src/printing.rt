@@ -1,6 +1,6 @@
 //! Printing a script: the canonical text of what it says.
 
-ghost use Rattle.std.specs.Prelude.{◌≡◌, ◌↔◌, [], ◌∷◌, ◌++◌, List, ℕ, map, All, IsTrue, OnOk, OnErr, IsErrOf, codes, decimal};
+ghost use Rattle.std.specs.Prelude.{◌≡◌, ◌↔◌, ◌∷◌, ◌++◌, map, All, IsTrue, OnOk, OnErr, IsErrOf, codes, decimal};
 ghost use Rattle.std.specs.Io.{StartsWith};
 ghost use Rattle.std.specs.List.{flat_map, list_any};
 ghost use Rattle.term_core.specs.Gives.{RefusesUnless};
@@ -8,20 +8,21 @@ ghost use Rattle.term_core.specs.Plain.{plain};
 ghost use Rattle.term_core.specs.PlainTerm.{row_of};
 ghost use Rattle.term_core.specs.TermText.{atom_text, term_text};
 ghost use Rattle.term_core.specs.Written.{parted};
-ghost use Rattle.mod_text.specs.Canonical.{canonical as module_lines, IsModuleHeld};
+ghost use Rattle.mod_text.specs.Canonical.{canonical as module_lines};
+ghost use Rattle.mod_core.specs.HeldNames.{IsModuleHeld};
 ghost use Rattle.mod_core.specs.Module.{IsModule};
 ghost use Rattle.mod_text.specs.ModuleLine.{spaced, function_written, lines_written};
-ghost use Rattle.script_text.specs.declared.script.Script.{Script as ScriptValue};
+ghost use Rattle.script_core.specs.declared.script.Script.{Script as ScriptValue};
 ghost use Rattle.script_text.specs.ScriptLine.{ref_written, switch_word, trace_written, call_written, script_line_written, load};
 ghost use Rattle.script_text.specs.ScriptText.{ScriptText};
 ghost use Rattle.script_text.specs.TextLines.{lines_of};
-ghost use Rattle.script_text.specs.Canonical.{IsOfSomeText, ref_form, argument_form, command_line, observer_bytes, block_bytes, script_line_bytes, canonical_text, is_long_line, IsTooLong, IsTooLongToPrint};
+ghost use Rattle.script_text.specs.Canonical.{IsOfSomeText, ref_form, argument_form, command_line, observer_bytes, block_bytes, canonical_text, is_long_line, IsTooLong, IsTooLongToPrint};
 
 use crate::fault::PrintFault;
 use crate::reading::words::cut_at;
-use crate::script::{CommandList, LONGEST_LINE, LONGEST_SCRIPT, Script, ScriptCmd};
 use mod_core::Module;
 use mod_text::print_module;
+use script_core::{CommandList, LONGEST_LINE, LONGEST_SCRIPT, Script, ScriptCmd};
 use server_core::ModRef;
 use term_core::{
     AtomId, ByteList, Mfa, Names, NoMemory, Term, TermList, print_atom, print_number, print_term,

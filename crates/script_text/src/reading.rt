@@ -11,17 +11,17 @@ mod written;
 
 ghost use Rattle.std.specs.Prelude.{◌≡◌, ◌≤◌, ◌⊎◌, length, IfOk, IfErr};
 ghost use Rattle.term_core.specs.Gives.{GivesUnless, RefusesUnless};
-ghost use Rattle.script_text.specs.declared.script.Script.{Script as ScriptValue};
+ghost use Rattle.script_core.specs.declared.script.Script.{Script as ScriptValue};
 ghost use Rattle.script_text.specs.declared.fault.ScriptFault.{ScriptFault as FaultValue};
 ghost use Rattle.script_text.specs.ScriptText.{ScriptText, FaultOf};
-ghost use Rattle.script_text.specs.Sound.{IsScript};
+ghost use Rattle.script_core.specs.Sound.{IsScript};
 ghost use Rattle.script_text.specs.Causes.{GivesText};
 ghost use Rattle.script_text.specs.Reading.{opening, bytes_on, script_reading};
 
 use crate::fault::ScriptFault;
 use crate::reading::reader::ScriptReader;
 use crate::reading::words::cut_at;
-use crate::script::{LONGEST_SCRIPT, Script};
+use script_core::{LONGEST_SCRIPT, Script};
 use std::alloc::Global;
 
 /// The lines of a text, one after another.

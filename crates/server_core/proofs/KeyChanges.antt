@@ -8,7 +8,7 @@ use Rattle.term_core.specs.PlainTerm.{PlainTerm}
 use Rattle.mod_core.specs.declared.code.Module.{Module}
 use Rattle.mod_core.specs.Module.{IsModule}
 use Rattle.server_core.specs.declared.command.TheConstants.{MOST_KEYS, MOST_TERMS}
-use Rattle.server_core.specs.CommandTable.{with_complex, with_erased, with_immediate, with_key, with_put, without_key}
+use Rattle.server_core.specs.CommandTable.{with_complex, with_erased, with_immediate, with_key, without_key}
 use Rattle.server_core.specs.Rooms.{HasPlace, area_among}
 use Rattle.server_core.specs.ServerState.{Persistent, ServerState, TermArea, IsDropped, IsInstanceOf, IsPersistent, IsShortTerm, IsSound, IsTermArea, code_of, current_of, is_serial_in, key_area, live_areas, old_of, persistent_among, persistent_of, term_among, term_of_area}
 use Rattle.server_core.proofs.KeyEntries.{areas_put, counted, flipped}
@@ -290,14 +290,6 @@ sound_complex s key term sound short place complex =
       few_keys = one_more s.keys new place.for_key sound.few_keys;
       few_areas = areas_complex s.keys key s.next_serial term there;
     })
-
--- a key that holds a term
-pub sound_put : (s : ServerState) (key : ℕ) (term : PlainTerm) → IsSound s → IsShortTerm term → HasPlace s.keys key term → IsSound (with_put s key term)
-sound_put s key term sound short place = by (is_immediate term) refl
-  where
-    by : (b : Bool) → is_immediate term ≡ b → IsSound (if b then with_immediate s key term else with_complex s key term)
-    by true is = sound_immediate s key term sound short place is
-    by false is = sound_complex s key term sound short place is
 
 -- a key that holds nothing
 pub sound_erased : (s : ServerState) (key : ℕ) → IsSound s → IsSound (with_erased s key)

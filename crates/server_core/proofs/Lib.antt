@@ -5,9 +5,7 @@ pub mod CurrentCode
 pub mod GivenTexts
 pub mod KeyChanges
 pub mod KeyEntries
-pub mod KeyLaws
 pub mod Loads
-pub mod SoundAfter
 pub mod SoundParts
 pub mod Soundness
 pub mod Traced

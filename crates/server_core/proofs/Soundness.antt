@@ -9,8 +9,8 @@ use Rattle.server_core.specs.declared.command.Linger.{Linger}
 use Rattle.server_core.specs.declared.command.Reply.{Reply}
 use Rattle.server_core.specs.declared.command.Reply.TheVariants as replies
 use Rattle.server_core.specs.declared.command.TheConstants.{MOST_INSTANCES}
-use Rattle.server_core.specs.ServerState.{Entry, Persistent, ServerState, Versions, HasItsArea, IsDropped, IsInstanceOf, IsOldCode, IsPersistent, IsSound, IsTermArea, code_of, current_among, current_of, is_retired, is_serial_in, key_area, live_count, old_among, old_of, persistent_of, term_of_area}
-use Rattle.server_core.specs.CommandTable.{Outcome, published, soft_purge_of, while_none_doomed, with_deleted, with_dropped, with_purged, with_released, with_trace, with_versions, without_number}
+use Rattle.server_core.specs.ServerState.{Persistent, ServerState, Versions, HasItsArea, IsDropped, IsInstanceOf, IsPersistent, IsSound, IsTermArea, code_of, current_among, current_of, is_retired, is_serial_in, key_area, live_count, old_among, old_of, persistent_of, term_of_area}
+use Rattle.server_core.specs.CommandTable.{Outcome, published, soft_purge_of, while_none_doomed, with_deleted, with_dropped, with_purged, with_released, with_versions, without_number}
 use Rattle.server_core.proofs.CurrentCode.{live_set}
 use Rattle.server_core.proofs.SoundParts.{sound_terms, sound_whole, terms_kept}
 
@@ -301,38 +301,6 @@ sound_released s serial sound was = sound_whole (with_released s serial) (record
     at_released : (k : ℕ) → (is_serial_in s.released k ≡ true) ⊎ (serial ≡ k) → IsDropped (with_released s serial) k
     at_released k (inl h) = dropped_as (sound.released k h)
     at_released k (inr h) = subst (λ n. IsDropped (with_released s serial) n) h (dropped_as (sound.retired serial was))
-
--- an old instance that is doomed
-pub sound_doomed : (s : ServerState) (name serial : ℕ) → IsSound s → s.doomed ≡ [] → old_of s name ≡ Some serial → IsSound (record s { doomed = s.doomed ++ serial ∷ [] })
-sound_doomed s name serial sound rest was = sound_whole (record s { doomed = s.doomed ++ serial ∷ [] }) (record {
-  modules = sound.modules;
-  current = sound.current;
-  old = sound.old;
-  apart = sound.apart;
-  one_doomed = omega (arith, ap (λ ds. length (ds ++ serial ∷ [])) rest);
-  doomed = λ k h. at_doomed k (held_later s.doomed serial k h);
-  retired = λ k h. let d = sound.retired k h in record { known = d.known; not_current = d.not_current; not_old = d.not_old; not_held = d.not_held };
-  released = λ k h. let d = sound.released k h in record { known = d.known; not_current = d.not_current; not_old = d.not_old; not_held = d.not_held };
-  live = sound.live;
-}) (terms_kept s (record s { doomed = s.doomed ++ serial ∷ [] }) (omega arith) (λ k known none. none) (sound_terms s sound))
-  where
-    at_doomed : (k : ℕ) → (is_serial_in s.doomed k ≡ true) ⊎ (serial ≡ k) → IsOldCode s k
-    at_doomed k (inl h) = nobody_doomed s.doomed k rest h
-    at_doomed k (inr h) = (name, was ∙ ap (λ n. Some n) h)
-
--- breakpoints are no part of what makes a state sound
-pub sound_traced : (s : ServerState) (e : Entry) (on : Bool) → IsSound s → IsSound (with_trace s e on)
-sound_traced s e on sound = sound_whole (with_trace s e on) (record {
-  modules = sound.modules;
-  current = sound.current;
-  old = sound.old;
-  apart = sound.apart;
-  one_doomed = sound.one_doomed;
-  doomed = sound.doomed;
-  retired = λ k h. let d = sound.retired k h in record { known = d.known; not_current = d.not_current; not_old = d.not_old; not_held = d.not_held };
-  released = λ k h. let d = sound.released k h in record { known = d.known; not_current = d.not_current; not_old = d.not_old; not_held = d.not_held };
-  live = sound.live;
-}) (terms_kept s (with_trace s e on) (omega arith) (λ k known none. none) (sound_terms s sound))
 
 -- outside a purge, what a drop leaves is what the end of a purge leaves
 pub purged_at_rest : (s : ServerState) (name serial : ℕ) → s.doomed ≡ [] → with_purged s name serial ≡ with_dropped s name serial

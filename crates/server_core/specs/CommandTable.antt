@@ -215,17 +215,8 @@ erase_of s key (Some p) = published (with_erased s key) replies.True
 
 -- the term of a put is one that a text can say
 abbrev pub IsOfText : Cmd → Type 0
-IsOfText (Load refs) = Unit {0}
-IsOfText (Delete name) = Unit {0}
-IsOfText (SoftPurge name lingers) = Unit {0}
-IsOfText (Doom name) = Unit {0}
-IsOfText (Purge name killed) = Unit {0}
-IsOfText (CheckOld name) = Unit {0}
 IsOfText (Put key term) = IsShortTerm (plain term)
-IsOfText (Erase key) = Unit {0}
-IsOfText (Trace target on) = Unit {0}
-IsOfText (Spawn target args) = Unit {0}
-IsOfText (Release serial) = Unit {0}
+IsOfText cmd = Unit {0}
 
 -- an area that no process names is retired no more
 abbrev pub with_released : ServerState → ℕ → ServerState

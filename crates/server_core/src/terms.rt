@@ -1,4 +1,4 @@
-ghost use Rattle.std.specs.Prelude.{◌≡◌, ◌↔◌, ◌<◌, ◌&&◌, IfOk, IsErrOf, IsSome, None, OnErr, Some, false, is_none, length, nat_le, not, true};
+ghost use Rattle.std.specs.Prelude.{◌≡◌, ◌↔◌, IfOk, IsErrOf, None, OnErr, Some, false, true};
 ghost use Rattle.term_core.specs.Image.{is_immediate};
 ghost use Rattle.term_core.specs.Plain.{plain};
 ghost use Rattle.server_core.specs.CommandTable.{erase_of, published, put_of, while_none_doomed, with_complex, with_erased, with_immediate, with_put};

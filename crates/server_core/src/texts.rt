@@ -1,4 +1,4 @@
-ghost use Rattle.std.specs.Prelude.{◌≡◌, ◌↔◌, [], IfOk, IfSome, IsSome, IsTrue, Some, All, option_map, is_some};
+ghost use Rattle.std.specs.Prelude.{◌≡◌, [], IfOk, IsSome, Some, All, is_some};
 ghost use Rattle.std.specs.Option.{option_copied};
 ghost use Rattle.mod_core.specs.Module.{IsModule};
 ghost use Rattle.server_core.specs.CommandTable.{names_of, repeated_after, text_of, texts_of};

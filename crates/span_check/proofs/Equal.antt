@@ -1,18 +1,15 @@
 -- What the tests for equal values and lines say.
-use Rattle.std.proofs.Common.{◌≡◌, ◌∙◌, ◌&&◌, ◌==◌, ℕ, ap, sym, refl, Bool, true, false, List, [], ◌∷◌, ◌++◌, take, drop, length}
+use Rattle.std.proofs.Common.{◌≡◌, ◌∙◌, ◌&&◌, ◌==◌, ℕ, ap, sym, refl, Bool, true, false, List, [], ◌∷◌, ◌++◌, drop, length}
 use Rattle.std.proofs.lemmas.Bool.{eqb-true, eq-eqb}
 use Rattle.std.proofs.lemmas.Slice.Eq.{slice_eq-Decides, starts_is}
 use Rattle.std.specs.Bool.{Decides, IsTrue}
 use Rattle.std.specs.Cmp.Lexicographic.{pointwise}
 use Rattle.std.specs.List.{starts_with}
-use Rattle.term_core.specs.declared.atom.Mfa.{Mfa}
-use Rattle.term_core.specs.declared.term.Term.{Term}
 use Rattle.term_core.specs.Plain.{plain}
 use Rattle.term_core.specs.PlainTerm.{PlainTerm, row_of, terms_of}
 use Rattle.term_core.specs.Same.{are_same, is_same-Decides, is_same_row-Decides}
 use Rattle.term_core.proofs.PlainTerms.{plain-injective}
 use Rattle.machine_core.specs.declared.process.Frame.{Frame}
-use Rattle.machine_core.specs.declared.process.LitRef.{LitRef}
 use Rattle.machine_core.specs.declared.process.Line.{Line}
 use Rattle.machine_core.specs.declared.process.Line.TheVariants.{Print, Trace}
 use Rattle.machine_core.specs.declared.process.Value.{Value}

@@ -38,7 +38,7 @@ follow_first states p x (y ∷ rest) fin some follow =
     let h = some_and (turns_of (states x.generation) x.turns p []) (λ t. (t.made ≡ x.lines) × (t.end ≡ Again) × SpansFollow states t.process (y ∷ rest) fin) follow.1 in
     (h.0, (h.1.0, h.1.1.2))
 
-abbrev process_in : PlainProcess → Option Turn → PlainProcess
+abbrev pub process_in : PlainProcess → Option Turn → PlainProcess
 process_in p None = p
 process_in p (Some t) = t.process
 

@@ -1,5 +1,5 @@
 -- What a turn, and the count of those that are like it, come to; and what is then left of a span.
-use Rattle.std.proofs.Common.{◌≡◌, ◌≤◌, ◌<◌, ◌+◌, ◌-◌, ◌∙◌, ◌&&◌, ℕ, ap, sym, subst, refl, arith, Bool, true, false, IsTrue, List, [], ◌∷◌, ◌++◌, append_assoc, length, take, drop, reverse, map, Option, Some, None, IfSome, IsSomeAnd}
+use Rattle.std.proofs.Common.{◌≡◌, ◌≤◌, ◌+◌, ◌-◌, ◌∙◌, ◌&&◌, ℕ, ap, sym, refl, arith, Bool, true, false, IsTrue, List, [], ◌∷◌, ◌++◌, length, take, drop, Option, Some, None, IfSome, IsSomeAnd}
 use Rattle.std.proofs.Math.Seq.{drop-append_seam, take-add, take-append_seam}
 use Rattle.std.proofs.lemmas.List.{length-drop, length-take-le, take_all}
 use Rattle.std.specs.List.{list_all, starts_with}
@@ -11,11 +11,11 @@ use Rattle.machine_core.specs.declared.process.TheConstants.{MOST_TURNS}
 use Rattle.machine_core.specs.declared.process.TurnEnd.{TurnEnd}
 use Rattle.machine_core.specs.declared.process.TurnEnd.TheVariants.{Again}
 use Rattle.machine_core.specs.Process.{PlainProcess, Words, frames_of, process_of}
-use Rattle.machine_core.specs.Turn.{Turn, turn_of}
+use Rattle.machine_core.specs.Turn.{turn_of}
 use Rattle.run_log.specs.declared.logs.Span.{Span}
 use Rattle.span_check.specs.declared.spans.Rest.{Rest}
 use Rattle.span_check.specs.declared.watch.Watch.{Watch}
-use Rattle.span_check.specs.Watches.{all_run, due_count, one_runs, stands_in}
+use Rattle.span_check.specs.Watches.{all_run, due_count, stands_in}
 use Rattle.span_check.specs.Steps.{GoesOn, HasOtherLines, IsStep}
 use Rattle.span_check.proofs.Lists.{drop_more}
 use Rattle.span_check.proofs.Equal.{begins, line_eq, not_begins}

@@ -1,5 +1,5 @@
 -- A process lingers in an instance where a watch sees it: at its place before the turns of the generation, or after one of them.
-use Rattle.std.proofs.Common.{◌≡◌, ◌≤◌, ◌<◌, ◌+◌, ◌-◌, ◌∙◌, ◌==◌, ℕ, zero, suc, refl, sym, ap, subst, arith, Bool, true, false, List, [], ◌∷◌, ◌++◌, length, slice_get, Option, Some, None}
+use Rattle.std.proofs.Common.{◌≡◌, ◌≤◌, ◌<◌, ◌+◌, ◌-◌, ◌∙◌, ◌==◌, ℕ, zero, suc, refl, sym, ap, subst, arith, Bool, true, false, List, [], ◌∷◌, ◌++◌, length}
 use Rattle.std.proofs.lemmas.Bool.{eqb-true, eqb-false}
 use Rattle.std.proofs.lemmas.Option.{same_Some, slice_get_within}
 use Rattle.std.specs.List.{AllByRecursion}
@@ -9,12 +9,12 @@ use Rattle.run_log.specs.declared.logs.Span.{Span}
 use Rattle.run_log.specs.Legal.{Lingers, Mark, after_turns, marks_in, marks_of, process_after}
 use Rattle.run_log.proofs.Marks.{last_of, last_process, process_of_last}
 use Rattle.span_check.specs.declared.watch.Watch.{Watch}
-use Rattle.span_check.specs.Watches.{AreFrom, AreSeen, AreSeenToEnd, Sees, stands_in}
+use Rattle.span_check.specs.Watches.{stands_in}
 use Rattle.span_check.specs.Sweeps.{turns_in}
-use Rattle.span_check.proofs.Lists.{all_behind, all_both, all_map, get_within}
+use Rattle.span_check.proofs.Lists.{get_within}
 use Rattle.span_check.proofs.Repeats.{no_turn}
 use Rattle.span_check.proofs.Watching.{stands_nowhere}
-use Rattle.span_check.proofs.MarkPlaces.{LingersAt, at_lingers, at_start, at_turn, last_stands, lingers_at, mark_at, marks_all, marks_join, marks_length, marks_under, process_under}
+use Rattle.span_check.proofs.MarkPlaces.{LingersAt, at_lingers, at_start, at_turn, last_stands, lingers_at, mark_at, marks_all, marks_join, marks_length, marks_under}
 
 -- a watch within so many turns that come behind so many others, of a process that stands here between them
 pub record SeesWithin (s : ServerState) (earlier turns : ℕ) (p : PlainProcess) (watch : Watch) : Type 0 where

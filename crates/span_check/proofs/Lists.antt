@@ -1,8 +1,9 @@
 -- Lists by their places, and what holds of each element.
-use Rattle.std.proofs.Common.{◌≡◌, ◌≤◌, ◌<◌, ◌+◌, ◌-◌, ◌∙◌, ℕ, zero, suc, refl, sym, ap, subst, arith, add-one, List, [], ◌∷◌, ◌++◌, length, take, drop, get_or, slice_get, Option, Some, None, IfSome}
+use Rattle.std.proofs.Common.{◌≡◌, ◌≤◌, ◌<◌, ◌+◌, ◌-◌, ◌∙◌, ℕ, zero, suc, refl, sym, ap, subst, arith, add-one, List, [], ◌∷◌, ◌++◌, length, take, drop, get_or, slice_get, Some, IfSome}
 use Rattle.std.proofs.lemmas.List.{take_all}
 use Rattle.std.proofs.lemmas.Option.{none-some, same_Some, slice_get_read}
 use Rattle.std.specs.List.{AllByRecursion}
+use Rattle.script_core.proofs.JoinedPlaces.{take_next}
 
 -- what holds of each of two lists holds of each of both
 pub all_join : {X : Type 0} (P : X → Type 0) (xs ys : List X) → AllByRecursion P xs → AllByRecursion P ys → AllByRecursion P (xs ++ ys)
@@ -31,30 +32,6 @@ get_within [] i h = absurd (omega (arith, h))
 get_within (x ∷ xs) zero h = (x, refl)
 get_within (x ∷ xs) (suc i) h = get_within xs i (omega (arith, h))
 
--- behind a front
-pub get_behind : {X : Type 0} (xs ys : List X) (k : ℕ) → slice_get (xs ++ ys) (length xs + k) ≡ slice_get ys k
-get_behind [] ys k = ap (slice_get ys) (omega arith)
-get_behind (x ∷ xs) ys k = let e : length (x ∷ xs) + k ≡ suc (length xs + k) = omega arith in ap (slice_get (x ∷ xs ++ ys)) e ∙ get_behind xs ys k
-
-pub get_front : {X : Type 0} (xs ys : List X) (k : ℕ) (x : X) → slice_get xs k ≡ Some x → slice_get (xs ++ ys) k ≡ Some x
-get_front [] ys k x h = absurd (none-some x h)
-get_front (z ∷ xs) ys zero x h = h
-get_front (z ∷ xs) ys (suc k) x h = get_front xs ys k x h
-
--- a place in two lists joined: in the front, or behind it
-pub data JoinedAt {X : Type 0} (xs ys : List X) (k : ℕ) (x : X) : Type 0 where
-  in_front : slice_get xs k ≡ Some x → JoinedAt xs ys k x
-  behind : (n : ℕ) → k ≡ length xs + n → slice_get ys n ≡ Some x → JoinedAt xs ys k x
-
-one_further : {X : Type 0} (z : X) (xs ys : List X) (k : ℕ) (x : X) → JoinedAt xs ys k x → JoinedAt (z ∷ xs) ys (suc k) x
-one_further z xs ys k x (in_front h) = in_front h
-one_further z xs ys k x (behind n e h) = behind n (omega (arith, e)) h
-
-pub joined_at : {X : Type 0} (xs ys : List X) (k : ℕ) (x : X) → slice_get (xs ++ ys) k ≡ Some x → JoinedAt xs ys k x
-joined_at [] ys k x h = behind k (omega arith) h
-joined_at (z ∷ xs) ys zero x h = in_front h
-joined_at (z ∷ xs) ys (suc k) x h = one_further z xs ys k x (joined_at xs ys k x h)
-
 -- what holds of each holds of the one at a place
 pub all_get : {X : Type 0} (P : X → Type 0) (xs : List X) (k : ℕ) (x : X) → AllByRecursion P xs → slice_get xs k ≡ Some x → P x
 all_get P [] k x h e = absurd (none-some x e)
@@ -65,12 +42,6 @@ pub all_at : {X : Type 0} (P : X → Type 0) (xs : List X) (k : ℕ) → AllByRe
 all_at P [] k h = tt
 all_at P (x ∷ xs) zero h = h.0
 all_at P (x ∷ xs) (suc k) h = all_at P xs k h.1
-
--- a front that grows by the element at its end
-pub take_next : {X : Type 0} (xs : List X) (i : ℕ) (x : X) → slice_get xs i ≡ Some x → take (i + 1) xs ≡ take i xs ++ x ∷ []
-take_next [] i x h = absurd (none-some x h)
-take_next (y ∷ xs) zero x h = ap (λ z. z ∷ []) (same_Some y x h)
-take_next (y ∷ xs) (suc i) x h = rw add-one (ap (λ t. y ∷ t) (rw add-one at (take_next xs i x h)))
 
 -- the element at a place stands between those before it and those behind
 pub split_here : {X : Type 0} (xs : List X) (i : ℕ) (x : X) → slice_get xs i ≡ Some x → xs ≡ take i xs ++ x ∷ drop (i + 1) xs
@@ -97,11 +68,6 @@ pub all_take : {X : Type 0} (P : X → Type 0) (n : ℕ) (xs : List X) → AllBy
 all_take P zero xs h = tt
 all_take P (suc n) [] h = tt
 all_take P (suc n) (x ∷ xs) h = (h.0, all_take P n xs h.1)
-
-pub all_drop : {X : Type 0} (P : X → Type 0) (n : ℕ) (xs : List X) → AllByRecursion P xs → AllByRecursion P (drop n xs)
-all_drop P zero xs h = h
-all_drop P (suc n) [] h = tt
-all_drop P (suc n) (x ∷ xs) h = all_drop P n xs h.1
 
 -- the last element stands behind the others
 pub last_at : {X : Type 0} (xs : List X) (x : X) → 0 < length xs → slice_get xs (length xs - 1) ≡ Some x → xs ≡ take (length xs - 1) xs ++ x ∷ []

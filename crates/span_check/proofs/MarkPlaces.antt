@@ -1,7 +1,7 @@
 -- The turns of a process by their places: those before a generation, those under it and those after it.
-use Rattle.std.proofs.Common.{◌≡◌, ◌≤◌, ◌<◌, ◌+◌, ◌-◌, ◌∙◌, ◌==◌, ◌⊎◌, inl, inr, ℕ, zero, suc, refl, sym, ap, subst, arith, Bool, true, false, List, [], ◌∷◌, ◌++◌, append_assoc, length, length-append, slice_get, Option, Some, None, IfSome}
+use Rattle.std.proofs.Common.{◌≡◌, ◌≤◌, ◌<◌, ◌+◌, ◌∙◌, ◌==◌, ℕ, zero, suc, refl, sym, ap, subst, arith, Bool, true, false, List, [], ◌∷◌, ◌++◌, append_assoc, length, slice_get, Some, IfSome}
 use Rattle.std.proofs.lemmas.Bool.{eqb-true, eqb-false}
-use Rattle.std.proofs.lemmas.Option.{none-some, same_Some, slice_get_within}
+use Rattle.std.proofs.lemmas.Option.{none-some, slice_get_within}
 use Rattle.std.specs.List.{AllByRecursion}
 use Rattle.server_core.specs.ServerState.{ServerState}
 use Rattle.machine_core.specs.Process.{PlainProcess}
@@ -9,9 +9,10 @@ use Rattle.machine_core.specs.Turn.{turn_of}
 use Rattle.run_log.specs.declared.logs.Span.{Span}
 use Rattle.run_log.specs.Legal.{Lingers, Mark, after_turns, marks_in, marks_of, process_after}
 use Rattle.run_log.proofs.Marks.{last_of, last_process, later_of, process_of_last}
+use Rattle.script_core.proofs.JoinedPlaces.{get_behind, get_front, JoinedAt, in_front, behind, joined_at}
 use Rattle.span_check.specs.Watches.{stands_in}
 use Rattle.span_check.specs.Sweeps.{turns_in}
-use Rattle.span_check.proofs.Lists.{all_join, all_map, get_within, get_behind, get_front, JoinedAt, in_front, behind, joined_at, all_get, all_at}
+use Rattle.span_check.proofs.Lists.{all_join, all_map, get_within, all_get, all_at}
 use Rattle.span_check.proofs.Repeats.{no_turn}
 use Rattle.span_check.proofs.TurnRows.{after_add}
 

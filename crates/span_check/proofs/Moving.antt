@@ -1,5 +1,5 @@
 -- How far a log was judged after its spans of a generation were.
-use Rattle.std.proofs.Common.{◌≡◌, ◌≤◌, ◌<◌, ◌+◌, ◌-◌, ◌∙◌, ◌==◌, ℕ, zero, suc, refl, sym, ap, subst, arith, Bool, true, false, cond, List, [], ◌∷◌, ◌++◌, length, take, drop, Option, Some, None, is_some, IfSome}
+use Rattle.std.proofs.Common.{◌≡◌, ◌≤◌, ◌+◌, ◌-◌, ◌∙◌, ◌==◌, ℕ, zero, suc, refl, sym, ap, subst, arith, Bool, true, false, cond, List, [], ◌∷◌, length, take, drop, Option, Some, None, is_some, IfSome}
 use Rattle.std.proofs.Math.Seq.{drop-length}
 use Rattle.std.proofs.lemmas.Bool.{eqb-true, eqb-false}
 use Rattle.std.proofs.lemmas.List.{length-drop, length-take-le, take_all}
@@ -10,7 +10,6 @@ use Rattle.run_log.specs.declared.logs.Span.{Span}
 use Rattle.run_log.specs.Legal.{first_generation}
 use Rattle.span_check.specs.Standings.{NeverFall}
 use Rattle.span_check.specs.Sweeps.{count_under, spans_from}
-use Rattle.span_check.proofs.Lists.{all_join, all_map, drop_more}
 
 -- the spans as the code takes them
 pub taken_is : (log : ProcessLog) (spans : List Span) (gone here : ℕ) → spans ≡ log.spans → take (gone + here - gone) (drop gone spans) ≡ spans_from log gone here

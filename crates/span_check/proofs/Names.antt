@@ -1,5 +1,5 @@
 -- What frames name, noted frame by frame; and what is kept of a process's names, whatever the words of the areas are.
-use Rattle.std.proofs.Common.{◌≡◌, ◌==◌, ◌||◌, ◌<◌, ◌+◌, ◌∙◌, ℕ, ap, sym, Bool, true, false, List, [], ◌∷◌, ◌++◌, take, length, get_or, refl}
+use Rattle.std.proofs.Common.{◌≡◌, ◌==◌, ◌||◌, ◌<◌, ◌+◌, ◌∙◌, ℕ, ap, sym, Bool, true, false, List, [], ◌∷◌, take, length, get_or, refl}
 use Rattle.std.proofs.lemmas.List.Folds.{list_any-append}
 use Rattle.std.specs.List.{flat_map, list_any}
 use Rattle.term_core.specs.declared.hold.Kind.TheVariants.{Frame as for_frames}
@@ -10,11 +10,12 @@ use Rattle.machine_core.specs.Process.{Words, code_names, names_of, process_of, 
 use Rattle.machine_core.proofs.CodeNames.{among-flat_map, code_names-shown}
 use Rattle.machine_core.proofs.DroppedHolds.{named_instance}
 use Rattle.machine_core.proofs.SerialLists.{among-serials_of}
+use Rattle.script_core.proofs.JoinedPlaces.{take_next}
 use Rattle.span_check.specs.declared.named.Named.{Named}
 use Rattle.span_check.specs.declared.standing.Standing.{Standing}
 use Rattle.span_check.specs.Standings.{AreNames, HasItsNames}
 use Rattle.span_check.specs.Watches.{one_runs, stands_in}
-use Rattle.span_check.proofs.Lists.{read_at, take_next}
+use Rattle.span_check.proofs.Lists.{read_at}
 
 or_none : (b : Bool) → (b || false) ≡ b
 or_none true = refl

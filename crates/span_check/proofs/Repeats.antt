@@ -1,5 +1,5 @@
 -- A turn that leaves the frames as they were, makes no line and goes on is repeated by the next one, as long as the count of turns allows.
-use Rattle.std.proofs.Common.{◌≡◌, ◌≢◌, ◌==◌, ◌+◌, ◌≤◌, ◌<◌, ◌∙◌, ℕ, zero, suc, refl, sym, ap, arith, Bool, true, false, List, [], ◌++◌, Option, Some, None, add-one}
+use Rattle.std.proofs.Common.{◌≡◌, ◌==◌, ◌+◌, ◌≤◌, ◌<◌, ◌∙◌, ℕ, zero, suc, refl, sym, ap, arith, false, List, [], ◌++◌, Option, Some, None}
 use Rattle.std.proofs.lemmas.Bool.{ne_eqb}
 use Rattle.std.proofs.lemmas.List.{append-nil}
 use Rattle.server_core.specs.ServerState.{ServerState}
@@ -9,6 +9,7 @@ use Rattle.machine_core.specs.declared.process.End.TheVariants.{SystemLimit}
 use Rattle.machine_core.specs.declared.process.TurnEnd.{TurnEnd}
 use Rattle.machine_core.specs.declared.process.TurnEnd.TheVariants.{Again}
 use Rattle.machine_core.specs.Process.{PlainProcess}
+use Rattle.machine_core.specs.ServerReads.{reads_of}
 use Rattle.machine_core.specs.Turn.{Ran, Turn, counted, doomed_serial, ran_of, ran_unless_doomed, turn_from, turn_of}
 use Rattle.run_log.specs.Legal.{after_turn, after_turns, turns_of}
 use Rattle.machine_core.proofs.TurnLaws.{limit_ends}
@@ -21,19 +22,19 @@ abbrev pub at_turn : PlainProcess → ℕ → PlainProcess
 at_turn p turns = record p { turns = turns }
 
 module _ (s : ServerState) (p : PlainProcess) where
-  ran_same : (turns : ℕ) (o : Option ℕ) → ran_unless_doomed s (at_turn p turns) o ≡ ran_unless_doomed s p o
+  ran_same : (turns : ℕ) (o : Option ℕ) → ran_unless_doomed (reads_of s) (at_turn p turns) o ≡ ran_unless_doomed (reads_of s) p o
   ran_same turns None = refl
   ran_same turns (Some serial) = refl
 
-  ran_below : (turns : ℕ) → (turns == MOST_TURNS) ≡ false → ran_of s (at_turn p turns) ≡ ran_unless_doomed s p (doomed_serial s p.frames)
-  ran_below turns e = rw e (ran_same turns (doomed_serial s p.frames))
+  ran_below : (turns : ℕ) → (turns == MOST_TURNS) ≡ false → ran_of (reads_of s) (at_turn p turns) ≡ ran_unless_doomed (reads_of s) p (doomed_serial (reads_of s) p.frames)
+  ran_below turns e = rw e (ran_same turns (doomed_serial (reads_of s) p.frames))
 
   counted_at : (turns : ℕ) → (turns == MOST_TURNS) ≡ false → counted (at_turn p turns) ≡ at_turn p (turns + 1)
   counted_at turns e = rw e refl
 
   -- below the limit a turn does not depend on the count
-  turn_at : (turns : ℕ) → (turns == MOST_TURNS) ≡ false → turn_of s (at_turn p turns) ≡ turn_from (at_turn p (turns + 1)) (ran_unless_doomed s p (doomed_serial s p.frames))
-  turn_at turns e = ap (λ (ran : Ran). turn_from (counted (at_turn p turns)) ran) (ran_below turns e) ∙ ap (λ (q : PlainProcess). turn_from q (ran_unless_doomed s p (doomed_serial s p.frames))) (counted_at turns e)
+  turn_at : (turns : ℕ) → (turns == MOST_TURNS) ≡ false → turn_of s (at_turn p turns) ≡ turn_from (at_turn p (turns + 1)) (ran_unless_doomed (reads_of s) p (doomed_serial (reads_of s) p.frames))
+  turn_at turns e = ap (λ (ran : Ran). turn_from (counted (at_turn p turns)) ran) (ran_below turns e) ∙ ap (λ (q : PlainProcess). turn_from q (ran_unless_doomed (reads_of s) p (doomed_serial (reads_of s) p.frames))) (counted_at turns e)
 
 -- a turn that goes on is below the limit
 goes_below : (s : ServerState) (p : PlainProcess) → (turn_of s p).end ≡ Again → (p.turns == MOST_TURNS) ≡ false
@@ -54,7 +55,7 @@ no_turn s p = refl
 
 module _ (s : ServerState) (p : PlainProcess) (leaves : LeavesFrames s p) where
   abbrev what : Ran
-  what = ran_unless_doomed s p (doomed_serial s p.frames)
+  what = ran_unless_doomed (reads_of s) p (doomed_serial (reads_of s) p.frames)
 
   here : turn_of s p ≡ turn_from (at_turn p (p.turns + 1)) what
   here = turn_at s p p.turns (goes_below s p leaves.goes)

@@ -1,7 +1,7 @@
 -- A span step by step: what is left of it gives the whole.
-use Rattle.std.proofs.Common.{◌≡◌, ◌≢◌, ◌+◌, ◌-◌, ◌≤◌, ◌<◌, ◌∙◌, ℕ, zero, suc, refl, sym, ap, subst, arith, Bool, true, false, List, [], ◌∷◌, ◌++◌, append_assoc, length, take, drop, Option, Some, None}
+use Rattle.std.proofs.Common.{◌≡◌, ◌+◌, ◌-◌, ◌≤◌, ◌<◌, ◌∙◌, ℕ, zero, suc, refl, sym, ap, subst, arith, Bool, true, false, List, [], ◌++◌, append_assoc, length, take, drop, Some}
 use Rattle.std.proofs.lemmas.List.{take_all, length-take}
-use Rattle.std.specs.List.{AllByRecursion, list_all}
+use Rattle.std.specs.List.{list_all}
 use Rattle.server_core.specs.ServerState.{ServerState}
 use Rattle.machine_core.specs.declared.process.Line.{Line}
 use Rattle.machine_core.specs.declared.process.TurnEnd.{TurnEnd}
@@ -11,11 +11,11 @@ use Rattle.machine_core.specs.Turn.{Turn, turn_of}
 use Rattle.machine_core.proofs.TurnLaws.{turn_ended}
 use Rattle.run_log.specs.declared.logs.Span.{Span}
 use Rattle.run_log.specs.Legal.{after_turns, turns_of}
-use Rattle.run_log.proofs.TurnRuns.{ended_again, no_turns, some_turn}
+use Rattle.run_log.proofs.TurnRuns.{no_turns, some_turn}
 use Rattle.span_check.specs.declared.spans.Rest.{Rest}
 use Rattle.span_check.specs.declared.watch.Watch.{Watch}
-use Rattle.span_check.specs.Watches.{AreInOrder, AreLater, AreSeen, AreSeenToEnd, Sees, due_count, stands_in}
-use Rattle.span_check.specs.Steps.{GoesOn, HasOtherLines, IsSpanJudged, IsSpanRefused, IsSpanTaken, IsStep, IsWhole, SeenSo}
+use Rattle.span_check.specs.Watches.{AreInOrder, AreLater, AreSeen, AreSeenToEnd, due_count, stands_in}
+use Rattle.span_check.specs.Steps.{HasOtherLines, IsSpanJudged, IsSpanRefused, IsSpanTaken, IsStep, IsWhole, SeenSo}
 use Rattle.span_check.proofs.Lists.{all_map}
 use Rattle.span_check.proofs.Repeats.{no_turn}
 use Rattle.span_check.proofs.TurnRows.{after_add, end_is, first_lines, made_is, no_more, one_turn}

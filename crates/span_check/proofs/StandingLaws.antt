@@ -1,6 +1,6 @@
 -- What one who judges a whole log needs of where its processes stand: which processes a clause on all turns looks at, and that they stand there still
 -- under a later state.
-use Rattle.std.proofs.Common.{◌≡◌, ◌↔◌, ◌≤◌, ◌<◌, ◌+◌, ◌∙◌, ◌||◌, ℕ, refl, sym, ap, subst, arith, Bool, true, false, List, [], ◌∷◌, ◌++◌, append_assoc, length, map, take, drop, Option, Some, None, IfSome}
+use Rattle.std.proofs.Common.{◌≡◌, ◌↔◌, ◌≤◌, ◌<◌, ◌+◌, ◌∙◌, ℕ, refl, sym, ap, subst, arith, Bool, true, false, List, [], ◌∷◌, ◌++◌, append_assoc, length, map, take, drop, Option, Some, None, IfSome}
 use Rattle.std.proofs.lemmas.List.{append-nil, length-map, length-reverse, take-append-drop, take_all}
 use Rattle.std.specs.List.{AllByRecursion}
 use Rattle.term_core.specs.declared.hold.TheConstants.{MOST_AREAS}
@@ -8,11 +8,9 @@ use Rattle.server_core.specs.ServerState.{ServerState}
 use Rattle.machine_core.specs.declared.process.End.{End}
 use Rattle.machine_core.specs.declared.process.Frame.{Frame}
 use Rattle.machine_core.specs.declared.process.Process.{Process}
-use Rattle.machine_core.specs.declared.process.TurnEnd.{TurnEnd}
 use Rattle.machine_core.specs.declared.process.TurnEnd.TheVariants.{Again, Ended}
-use Rattle.machine_core.specs.Holds.{area_count, is_among}
+use Rattle.machine_core.specs.Holds.{area_count}
 use Rattle.machine_core.specs.Process.{PlainProcess, Words, frame_of, frames_of, names_of, process_of}
-use Rattle.machine_core.specs.Turn.{Turn}
 use Rattle.machine_core.specs.View.{server_words}
 use Rattle.machine_core.proofs.LaterWords.{HasAreas, process_later}
 use Rattle.machine_core.proofs.TurnLaws.{may_turn_later}
@@ -22,8 +20,10 @@ use Rattle.run_log.specs.Legal.{Mark, NamesNot, SpansFollow, SpansGo, StandsNotI
 use Rattle.run_log.proofs.Marks.{last_of, last_of_all, last_past, last_process, marks_within, process_now, process_of_last, process_over}
 use Rattle.run_log.proofs.SpanRuns.{some_and}
 use Rattle.run_log.proofs.TurnRuns.{ended_again}
+use Rattle.span_check.proofs.Following.{process_in}
+use Rattle.span_check.proofs.TurnRows.{end_in}
 use Rattle.span_check.specs.declared.standing.Standing.{Standing}
-use Rattle.span_check.specs.Standings.{IsReached, IsReady, MayGoOn, StandsAt, StandsSo, first_of, marks_in_log}
+use Rattle.span_check.specs.Standings.{IsReached, IsReady, StandsAt, StandsSo, first_of, marks_in_log}
 use Rattle.span_check.proofs.Lists.{all_map}
 use Rattle.span_check.proofs.MarkPlaces.{marks_all, marks_join}
 
@@ -92,26 +92,7 @@ module _ (states : ℕ → ServerState) (words : Words) (number : ℕ) (log : Pr
     last_from (NamesNot serial) (last_up_to g (marks_in_log states number log)) (last_stands at),
   )
 
-or_false : (a b : Bool) → (a || b) ≡ false → (a ≡ false) × (b ≡ false)
-or_false true b h = absurd (cc)
-or_false false b h = (refl, h)
-
--- what the look for a name answers
-pub names_by : (p : PlainProcess) (serial : ℕ) → ((is_among (names_of p).frames serial || is_among (names_of p).literals serial) ≡ false) ↔ NamesNot serial p
-names_by p serial = (
-  λ h. let k = or_false (is_among (names_of p).frames serial) (is_among (names_of p).literals serial) h in record { frames = k.0; literals = k.1 },
-  λ n. ap (λ b. b || is_among (names_of p).literals serial) n.frames ∙ n.literals,
-)
-
 -- ---- where all spans are gone
-
-abbrev end_in : Option Turn → TurnEnd
-end_in None = Again
-end_in (Some t) = t.end
-
-abbrev process_in : PlainProcess → Option Turn → PlainProcess
-process_in p None = p
-process_in p (Some t) = t.process
 
 -- a process that goes on after all its spans did not end with them
 pub goes_not_over : (states : ℕ → ServerState) (p last : PlainProcess) (spans : List Span) (fin : End) → SpansGo states p spans last → SpansFollow states p spans fin → ⊥

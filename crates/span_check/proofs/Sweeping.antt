@@ -1,7 +1,7 @@
 -- The spans of a generation and the watches of their process, judged together.
-use Rattle.std.proofs.Common.{◌≡◌, ◌≢◌, ◌≤◌, ◌<◌, ◌+◌, ◌-◌, ◌∙◌, ◌==◌, ◌&&◌, ℕ, zero, suc, refl, sym, ap, subst, arith, Bool, true, false, List, [], ◌∷◌, ◌++◌, length, take, drop, Option, Some, None, is_some, if◌then◌else◌}
-use Rattle.std.proofs.Math.Seq.{drop-length, take-add, take-length}
-use Rattle.std.proofs.lemmas.Bool.{cond-false, cond-true, eqb-true, eqb-false, eq-eqb}
+use Rattle.std.proofs.Common.{◌≡◌, ◌≤◌, ◌<◌, ◌+◌, ◌-◌, ◌∙◌, ◌==◌, ℕ, refl, sym, ap, subst, arith, Bool, true, false, List, [], ◌∷◌, ◌++◌, length, take, drop, Option, Some, None, is_some, if◌then◌else◌}
+use Rattle.std.proofs.Math.Seq.{drop-length, take-add}
+use Rattle.std.proofs.lemmas.Bool.{eqb-true, eqb-false}
 use Rattle.std.proofs.lemmas.List.{append-nil, length-drop, length-take-le, take-append-drop, take_all}
 use Rattle.std.proofs.lemmas.List.Sums.{prefix_len-le-length}
 use Rattle.std.proofs.lemmas.Option.{none-some, same_Some}
@@ -17,14 +17,14 @@ use Rattle.run_log.proofs.Marks.{marks_counted, process_now, process_over}
 use Rattle.span_check.specs.declared.standing.Standing.{Standing}
 use Rattle.span_check.specs.declared.watch.Watch.{Watch}
 use Rattle.span_check.specs.Standings.{AreTold, HasItsNames, IsOver, IsReached, IsReady, NeverFall, StandsAt, StandsSo, first_of}
-use Rattle.span_check.specs.Sweeps.{AreJudgedSo, AreNotTaken, AreTaken, EndsNotSo, EndsSo, IsMoved, IsRefused, IsTaken, count_under, end_at, spans_from, turns_in}
+use Rattle.span_check.specs.Sweeps.{AreJudgedSo, AreNotTaken, IsMoved, IsRefused, IsTaken, count_under, end_at, spans_from, turns_in}
 use Rattle.span_check.specs.Watches.{AreFrom, AreInOrder, AreLater, AreSeen, AreSeenToEnd, Sees, due_count, stands_in}
 use Rattle.span_check.proofs.Lists.{all_behind, all_both, all_join, all_map, all_take, drop_more}
 use Rattle.span_check.proofs.Lingering.{SeesWithin, lingers_sees, sees_lingers}
 use Rattle.span_check.proofs.MarkPlaces.{process_join, process_under}
 use Rattle.span_check.proofs.Moving.{falls_drop, under_split}
 use Rattle.span_check.proofs.Repeats.{no_turn}
-use Rattle.span_check.proofs.Watching.{all_tested, due_split, each_seen, seen_on, seen_to_end, stands_nowhere, unseen_on}
+use Rattle.span_check.proofs.Watching.{all_tested, due_split, each_seen, seen_on, seen_to_end, stands_nowhere}
 
 -- ---- watches at the first look, before any turn of the generation
 

@@ -1,5 +1,5 @@
 -- Spans of one generation in a row: they grow by one behind them, and the first that is refused refuses all.
-use Rattle.std.proofs.Common.{◌≡◌, ◌≤◌, ◌<◌, ◌+◌, ◌∙◌, ℕ, sym, ap, subst, arith, refl, Bool, true, false, List, [], ◌∷◌, ◌++◌, append_assoc, Option, Some, Result, Ok, Err, IfOk}
+use Rattle.std.proofs.Common.{◌≡◌, ◌<◌, ◌+◌, ◌∙◌, ℕ, sym, ap, subst, arith, refl, Bool, true, false, List, [], ◌∷◌, ◌++◌, append_assoc, Some, Result, Ok, Err, IfOk}
 use Rattle.std.proofs.lemmas.List.{append-nil}
 use Rattle.std.specs.List.{AllByRecursion}
 use Rattle.term_core.specs.declared.no_memory.NoMemory.{NoMemory}
@@ -11,7 +11,7 @@ use Rattle.machine_core.specs.Turn.{Turn}
 use Rattle.run_log.specs.declared.logs.Span.{Span}
 use Rattle.run_log.specs.Legal.{SpansFollow, SpansGo, after_turns, turns_of}
 use Rattle.span_check.specs.declared.watch.Watch.{Watch}
-use Rattle.span_check.specs.Watches.{AreLater, AreSeen, AreSeenToEnd, Sees}
+use Rattle.span_check.specs.Watches.{AreLater, AreSeen, AreSeenToEnd}
 use Rattle.span_check.specs.Steps.{IsSpanJudged, IsSpanRefused, IsSpanTaken}
 use Rattle.span_check.specs.Sweeps.{AreNotTaken, AreTaken, EndsNotSo, EndsSo, IsEndJudged, turns_in}
 use Rattle.span_check.proofs.Lists.{all_map}

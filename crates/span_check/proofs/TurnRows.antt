@@ -1,17 +1,15 @@
 -- Turns in a row: their lines begin with those before, and rows join.
-use Rattle.std.proofs.Common.{◌≡◌, ◌≢◌, ◌==◌, ◌+◌, ◌∙◌, ℕ, zero, suc, refl, sym, ap, arith, Bool, true, false, List, [], ◌∷◌, ◌++◌, append_assoc, Option, Some, None, if◌then◌else◌}
+use Rattle.std.proofs.Common.{◌≡◌, ◌==◌, ◌+◌, ◌∙◌, ℕ, zero, suc, refl, sym, ap, arith, Bool, true, false, List, [], ◌++◌, append_assoc, Option, Some, None, if◌then◌else◌}
 use Rattle.std.proofs.lemmas.Bool.{cond-false, ne_eqb}
 use Rattle.std.proofs.lemmas.List.{append-nil}
 use Rattle.server_core.specs.ServerState.{ServerState}
 use Rattle.machine_core.specs.declared.process.Line.{Line}
-use Rattle.machine_core.specs.declared.process.End.{End}
 use Rattle.machine_core.specs.declared.process.TurnEnd.{TurnEnd}
 use Rattle.machine_core.specs.declared.process.TurnEnd.TheVariants.{Again, Ended}
 use Rattle.machine_core.specs.Process.{PlainProcess}
 use Rattle.machine_core.specs.Turn.{Turn, turn_of}
 use Rattle.run_log.specs.Legal.{after_turn, after_turns, turns_of}
 use Rattle.run_log.proofs.TurnRuns.{some_turn}
-use Rattle.span_check.proofs.Repeats.{no_turn}
 
 -- a list that begins with another
 abbrev pub BeginsWith : List Line → List Line → Type 0
@@ -80,7 +78,7 @@ module _ (s : ServerState) where
 pub made_is : (p : PlainProcess) (made : List Line) (e : TurnEnd) (t : Turn) → some_turn p made e ≡ Some t → made ≡ t.made
 made_is p made e t h = ap lines_in h
 
-abbrev end_in : Option Turn → TurnEnd
+abbrev pub end_in : Option Turn → TurnEnd
 end_in None = Again
 end_in (Some t) = t.end
 

@@ -1,20 +1,15 @@
 -- Watches as turns go by: those that come due look at the process as it is, and the others look later.
-use Rattle.std.proofs.Common.{◌≡◌, ◌≢◌, ◌+◌, ◌-◌, ◌≤◌, ◌<◌, ◌∙◌, ◌&&◌, ℕ, zero, suc, refl, sym, ap, subst, arith, Bool, true, false, List, [], ◌∷◌, ◌++◌, append_assoc, length, take, drop, nat_le, cond, IfSome, Option, Some, None}
-use Rattle.std.proofs.lemmas.Bool.{le-leb, lt-leb, leb-true, leb-false}
+use Rattle.std.proofs.Common.{◌≡◌, ◌+◌, ◌-◌, ◌≤◌, ◌<◌, ◌∙◌, ◌&&◌, ℕ, zero, suc, refl, sym, ap, subst, arith, Bool, true, false, List, [], ◌∷◌, ◌++◌, append_assoc, take, drop, nat_le, cond, IfSome, Option, Some, None}
+use Rattle.std.proofs.lemmas.Bool.{leb-true, leb-false}
 use Rattle.std.proofs.lemmas.List.{take-append-drop}
-use Rattle.std.specs.List.{AllByRecursion, list_all, prefix_len}
+use Rattle.std.specs.List.{AllByRecursion, list_all}
 use Rattle.server_core.specs.ServerState.{ServerState}
-use Rattle.machine_core.specs.declared.process.Line.{Line}
-use Rattle.machine_core.specs.declared.process.TurnEnd.{TurnEnd}
-use Rattle.machine_core.specs.declared.process.TurnEnd.TheVariants.{Again}
 use Rattle.machine_core.specs.Process.{PlainFrame, PlainProcess, frame_names}
 use Rattle.machine_core.specs.Holds.{is_among}
 use Rattle.run_log.specs.Legal.{after_turns}
 use Rattle.span_check.specs.declared.watch.Watch.{Watch}
 use Rattle.span_check.specs.Watches.{AreFrom, AreInOrder, AreLater, AreSeen, AreSeenToEnd, Sees, due_count, first_turn, stands_in}
-use Rattle.span_check.specs.Steps.{GoesOn}
-use Rattle.span_check.proofs.Lists.{all_join, all_front, all_behind, all_map, all_both, behind}
-use Rattle.span_check.proofs.Repeats.{no_turn}
+use Rattle.span_check.proofs.Lists.{all_join, all_front, all_behind, all_map, all_both}
 use Rattle.span_check.proofs.TurnRows.{after_add}
 
 -- watches behind the first are in order, and look no earlier than it

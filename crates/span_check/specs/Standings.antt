@@ -1,6 +1,6 @@
 -- How far the log of a process was judged: the spans that are gone, and where the process then stands.
 -- Source: this project's profile. The definitions replay all spans that are gone; the code keeps the process.
-use Rattle.std.specs.Prelude.{◌≡◌, ℕ, ◌+◌, ◌<◌, ◌≤◌, Bool, true, false, List, [], ◌∷◌, length, take, drop, IfSome}
+use Rattle.std.specs.Prelude.{◌≡◌, ℕ, ◌<◌, ◌≤◌, Bool, true, false, List, [], ◌∷◌, length, take, drop, IfSome}
 use Rattle.std.specs.List.{AllByRecursion}
 use Rattle.term_core.specs.declared.hold.TheConstants.{MOST_AREAS}
 use Rattle.server_core.specs.ServerState.{ServerState}

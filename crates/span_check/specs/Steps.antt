@@ -1,6 +1,6 @@
 -- What the parts of a span come to: one turn with those that only repeat it, the lines, and the whole span.
 -- Source: this project's report text. The definitions speak of turns in a row under one state; the code takes those at once that leave a process as it was.
-use Rattle.std.specs.Prelude.{◌≡◌, ◌≢◌, ℕ, ◌+◌, ◌<◌, ◌≤◌, Bool, true, false, List, [], ◌∷◌, ◌++◌, length, take, Option, Some, None}
+use Rattle.std.specs.Prelude.{◌≡◌, ◌≢◌, ℕ, ◌+◌, ◌<◌, ◌≤◌, Bool, true, false, List, [], ◌++◌, length, take, Option, Some, None}
 use Rattle.std.specs.List.{AllByRecursion}
 use Rattle.server_core.specs.ServerState.{ServerState}
 use Rattle.machine_core.specs.declared.process.Line.{Line}

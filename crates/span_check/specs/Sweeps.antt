@@ -1,6 +1,6 @@
 -- What the spans of a process under one generation come to: they are its turns, and what soft purges told of it is so; or else not both.
 -- Source: this project's profile. The definitions hold for all states of the other generations; the code has the server's alone.
-use Rattle.std.specs.Prelude.{◌≡◌, ◌≢◌, ℕ, ◌+◌, ◌<◌, ◌≤◌, ◌==◌, Bool, true, false, List, [], ◌∷◌, ◌++◌, length, take, drop, Option, Some, None, is_some, if◌then◌else◌}
+use Rattle.std.specs.Prelude.{◌≡◌, ℕ, ◌+◌, ◌≤◌, ◌==◌, Bool, true, false, List, [], ◌∷◌, ◌++◌, length, take, drop, Option, Some, None, is_some, if◌then◌else◌}
 use Rattle.std.specs.List.{AllByRecursion, prefix_len}
 use Rattle.server_core.specs.ServerState.{ServerState}
 use Rattle.machine_core.specs.declared.process.End.{End}
@@ -90,8 +90,3 @@ pub record IsMoved (s : ServerState) (log : ProcessLog) (here : ℕ) (before aft
   pub judged : AreJudgedSo s (spans_from log before.gone here) (end_at log (before.gone + here)) (process_of (server_words s) before.process) (process_of (server_words s) after.process) watches left taken
   pub named : HasItsNames after
   pub ready : taken ≡ true → IsReady s after
-
--- how the spans of a generation were judged
-abbrev pub IsSweep : ServerState → ProcessLog → List Watch → Standing → Standing → Bool → Type 0
-IsSweep s log watches before after true = IsTaken s log watches before after
-IsSweep s log watches before after false = IsRefused s log watches before

@@ -1,7 +1,7 @@
 -- Watches: a soft purge told that a process stands in old code after one of its turns. They are judged as the turns go by.
 -- Source: the manual page `code`, on `soft_purge`; what a process and its turn in the answer mean is this project's own. The lawful log says it of all turns of a process;
 -- here it is said of the turns under one generation, since no others can make it true.
-use Rattle.std.specs.Prelude.{◌≡◌, ℕ, ◌+◌, ◌-◌, ◌<◌, ◌≤◌, ◌==◌, nat_le, Bool, true, List, [], ◌∷◌, ◌++◌, length, drop, Option, Some, None, IfSome}
+use Rattle.std.specs.Prelude.{◌≡◌, ℕ, ◌+◌, ◌-◌, ◌<◌, ◌≤◌, ◌==◌, nat_le, Bool, true, List, [], ◌∷◌, ◌++◌, Option, Some, None, IfSome}
 use Rattle.std.specs.List.{AllByRecursion, list_all, list_any, prefix_len}
 use Rattle.server_core.specs.ServerState.{ServerState}
 use Rattle.machine_core.specs.declared.process.Frame.{Frame}

@@ -1,6 +1,6 @@
 ghost use Rattle.std.specs.Prelude.{◌≡◌, ◌↔◌, ◌+◌, ℕ, false, length, IfSome};
 ghost use Rattle.server_core.specs.ServerState.{ServerState};
-ghost use Rattle.machine_core.specs.Process.{PlainProcess, Words, process_of};
+ghost use Rattle.machine_core.specs.Process.{Words, process_of};
 ghost use Rattle.machine_core.specs.View.{server_words};
 ghost use Rattle.machine_core.proofs.LaterWords.{HasAreas};
 ghost use Rattle.run_log.specs.declared.logs.ProcessLog.{ProcessLog as Log};

@@ -1,4 +1,4 @@
-ghost use Rattle.std.specs.Prelude.{◌≡◌, ◌||◌, ◌==◌, ◌++◌, ℕ, IfOk, OnOk};
+ghost use Rattle.std.specs.Prelude.{◌≡◌, ◌||◌, ◌==◌, ℕ, IfOk, OnOk};
 ghost use Rattle.machine_core.specs.Holds.{is_among};
 ghost use Rattle.machine_core.specs.Process.{value_area, value_areas};
 ghost use Rattle.span_check.specs.Standings.{AreNames};

@@ -3,7 +3,6 @@ ghost use Rattle.std.specs.List.{AllByRecursion};
 ghost use Rattle.server_core.specs.ServerState.{ServerState};
 ghost use Rattle.machine_core.specs.Holds.{is_among};
 ghost use Rattle.machine_core.specs.Process.{Words, names_of, process_of};
-ghost use Rattle.machine_core.specs.View.{server_words};
 ghost use Rattle.span_check.specs.Standings.{HasItsNames, IsReached, IsReady, MayGoOn, NeverFall, StandsAt};
 ghost use Rattle.span_check.specs.Sweeps.{IsMoved, IsRefused, IsTaken, end_at, spans_from};
 ghost use Rattle.span_check.specs.Watches.{AreInOrder, AreLater};

@@ -1,11 +1,11 @@
 -- Lemmas on the terms and names that the tokens of a text make, as the loop takes them.
 use Rattle.std.proofs.Common.{◌≡◌, ℕ, ◌+◌, ◌-◌, ◌<◌, ◌≤◌, Bool, true, false, cond, List, [], ◌∷◌, ◌++◌, length, drop, take, get_or, refl, sym, ap, ◌∙◌, arith}
 use Rattle.term_core.specs.declared.byte_kind.ByteKind.{ByteKind}
-use Rattle.term_core.specs.declared.byte_kind.ByteKind.TheVariants.{Open, Close, Comma, Minus, Zero, Digit, Letter, NameByte, Foreign}
+use Rattle.term_core.specs.declared.byte_kind.ByteKind.TheVariants.{Open, Close, Comma}
 use Rattle.term_core.specs.Bytes.{kind_of, is_leaf_kind, leaf_front}
 use Rattle.term_core.specs.Names.{Extends, is_atom_text, names_with}
 use Rattle.term_core.specs.TermText.{names_with_all}
-use Rattle.term_core.specs.Tokens.{Token, opened, shut, leaf, begins, token_at, tokens_in, atoms_among, IsLeaf, AreLeaves, names_with_leaf}
+use Rattle.term_core.specs.Tokens.{Token, leaf, begins, token_at, tokens_in, atoms_among, IsLeaf, AreLeaves, names_with_leaf}
 use Rattle.term_core.proofs.GrownNames.{Extends-refl, names_with-Extends}
 use Rattle.term_core.proofs.Lefts.{left_byte, rest_is}
 use Rattle.term_core.proofs.Numbers.{names_with_all-Extends, names_with_all-append, length-Extends}
@@ -15,18 +15,8 @@ pub begun_leaf : (inside : Bool) (kind : ByteKind) (front : List ℕ) → begins
 begun_leaf inside (Open b) front begun h = cc
 begun_leaf inside (Close b) front begun h = cc
 begun_leaf inside Comma front begun h = cc
-begun_leaf false Minus front begun h = h.0
-begun_leaf false Zero front begun h = h.0
-begun_leaf false Digit front begun h = h.0
-begun_leaf false Letter front begun h = h.0
-begun_leaf false NameByte front begun h = h.0
-begun_leaf false Foreign front begun h = h.0
-begun_leaf true Minus front begun h = cc
-begun_leaf true Zero front begun h = cc
-begun_leaf true Digit front begun h = cc
-begun_leaf true Letter front begun h = cc
-begun_leaf true NameByte front begun h = cc
-begun_leaf true Foreign front begun h = cc
+begun_leaf false kind front begun h = h.0
+begun_leaf true kind front begun h = cc
 
 -- by whether a leaf is an atom
 leaf_joins : (b : Bool) (names : List (List ℕ)) (text : List ℕ) → Extends names (cond b (names_with names text) names)
@@ -45,24 +35,21 @@ atom_first false text xs ys = refl
 -- the atoms of two rows of tokens
 pub atoms_among-append : (tokens more : List Token) → atoms_among (tokens ++ more) ≡ atoms_among tokens ++ atoms_among more
 atoms_among-append [] more = refl
-atoms_among-append (opened b ∷ tokens) more = atoms_among-append tokens more
-atoms_among-append (shut ∷ tokens) more = atoms_among-append tokens more
 atoms_among-append (leaf text ∷ tokens) more =
     ap (λ xs. cond (is_atom_text text) (text ∷ xs) xs) (atoms_among-append tokens more) ∙ atom_first (is_atom_text text) text (atoms_among tokens) (atoms_among more)
+atoms_among-append (one ∷ tokens) more = atoms_among-append tokens more
 
 -- the leaves of the first row
 pub AreLeaves-front : (tokens more : List Token) → AreLeaves (tokens ++ more) → AreLeaves tokens
 AreLeaves-front [] more h = tt
-AreLeaves-front (opened b ∷ tokens) more h = AreLeaves-front tokens more h
-AreLeaves-front (shut ∷ tokens) more h = AreLeaves-front tokens more h
 AreLeaves-front (leaf text ∷ tokens) more h = (h.0, AreLeaves-front tokens more h.1)
+AreLeaves-front (one ∷ tokens) more h = AreLeaves-front tokens more h
 
 -- and of the second
 pub AreLeaves-back : (tokens more : List Token) → AreLeaves (tokens ++ more) → AreLeaves more
 AreLeaves-back [] more h = h
-AreLeaves-back (opened b ∷ tokens) more h = AreLeaves-back tokens more h
-AreLeaves-back (shut ∷ tokens) more h = AreLeaves-back tokens more h
 AreLeaves-back (leaf text ∷ tokens) more h = AreLeaves-back tokens more h.1
+AreLeaves-back (one ∷ tokens) more h = AreLeaves-back tokens more h
 
 -- what is left begins with the token of the first byte
 pub tokens_behind : (text : List ℕ) (at c : ℕ) (inside later : Bool) (kind : ByteKind) → c ≡ get_or text at 0 → at < length text → kind ≡ kind_of c → later ≡ is_leaf_kind kind →

@@ -1,5 +1,5 @@
--- Lemmas on the kinds of bytes: what a byte of each kind is, and the kinds of digits, letters and names' bytes.
-use Rattle.std.proofs.Common.{◌≡◌, ℕ, Bool, true, false, cond, ◌==◌, refl, sym, ap, ◌∙◌, subst, arith}
+-- Lemmas on the kinds of bytes: what a byte of each kind is, and the kinds of digits, letters and names' bytes, and the integer or atom in front of a text.
+use Rattle.std.proofs.Common.{◌≡◌, ℕ, Bool, true, false, cond, ◌==◌, refl, sym, ap, ◌∙◌, arith, suc, ◌+◌, not, List, [], ◌∷◌, take, length, position, unwrap_or, Option, None, Some, option_map, add-one}
 use Rattle.std.specs.Char.{is_ascii_digit, is_ascii_lowercase}
 use Rattle.std.specs.Int.{is_in_range}
 use Rattle.std.proofs.lemmas.Bool.Decides.{nat_tests, Decides-eqb}
@@ -7,9 +7,10 @@ use Rattle.term_core.specs.declared.byte_kind.Bracket.{Bracket}
 use Rattle.term_core.specs.declared.byte_kind.Bracket.TheVariants.{Curly, Square}
 use Rattle.term_core.specs.declared.byte_kind.ByteKind.{ByteKind}
 use Rattle.term_core.specs.declared.byte_kind.ByteKind.TheVariants.{Open, Close, Comma, Minus, Zero, Digit, Letter, NameByte, Foreign}
-use Rattle.term_core.specs.Bytes.{kind_of, is_leaf_kind}
+use Rattle.term_core.specs.Bytes.{kind_of, is_leaf_kind, leaf_front}
 use Rattle.term_core.specs.Names.{is_name_byte}
 use Rattle.term_core.proofs.Truths.{false_is_no_true}
+use Rattle.term_core.proofs.Places.{position-cons}
 
 -- the byte that opens such brackets
 abbrev pub opening : Bracket → ℕ
@@ -68,10 +69,6 @@ kind_is c =
     either c (is_ascii_lowercase c) Letter _ (λ h. h) (λ letter.
     either c (is_name_byte c) NameByte Foreign (λ h. (h, no_digit c zero_test range, letter)) (λ h. (h, letter)))))))))))
 
--- of a byte with a known kind
-pub kind_is_at : (c : ℕ) (k : ByteKind) → kind_of c ≡ k → IsOfKind c k
-kind_is_at c k e = subst (IsOfKind c) e (kind_is c)
-
 -- the kinds of digits
 abbrev pub is_digit_kind : ByteKind → Bool
 is_digit_kind Zero = true
@@ -92,13 +89,11 @@ digit_by c (Open Curly) h = ap is_ascii_digit h
 digit_by c (Open Square) h = ap is_ascii_digit h
 digit_by c (Close Curly) h = ap is_ascii_digit h
 digit_by c (Close Square) h = ap is_ascii_digit h
-digit_by c Comma h = ap is_ascii_digit h
-digit_by c Minus h = ap is_ascii_digit h
-digit_by c Zero h = ap is_ascii_digit h
 digit_by c Digit h = grind (arith, nat_tests)
 digit_by c Letter h = grind (arith, nat_tests)
 digit_by c NameByte h = h.1
 digit_by c Foreign h = grind (arith, nat_tests)
+digit_by c k h = ap is_ascii_digit h
 
 -- so of each byte
 pub digit_kind : (c : ℕ) → is_ascii_digit c ≡ is_digit_kind (kind_of c)
@@ -110,13 +105,11 @@ name_by c (Open Curly) h = ap is_name_byte h
 name_by c (Open Square) h = ap is_name_byte h
 name_by c (Close Curly) h = ap is_name_byte h
 name_by c (Close Square) h = ap is_name_byte h
-name_by c Comma h = ap is_name_byte h
-name_by c Minus h = ap is_name_byte h
-name_by c Zero h = ap is_name_byte h
 name_by c Digit h = grind (arith, nat_tests)
 name_by c Letter h = grind (arith, nat_tests)
 name_by c NameByte h = h.0
 name_by c Foreign h = h.0
+name_by c k h = ap is_name_byte h
 
 -- so of each byte
 pub name_kind : (c : ℕ) → is_name_byte c ≡ is_name_kind (kind_of c)
@@ -128,13 +121,11 @@ positive_by c (Open Curly) h p = absurd (false_is_no_true (sym (ap (is_in_range 
 positive_by c (Open Square) h p = absurd (false_is_no_true (sym (ap (is_in_range 49 57) h) ∙ p))
 positive_by c (Close Curly) h p = absurd (false_is_no_true (sym (ap (is_in_range 49 57) h) ∙ p))
 positive_by c (Close Square) h p = absurd (false_is_no_true (sym (ap (is_in_range 49 57) h) ∙ p))
-positive_by c Comma h p = absurd (false_is_no_true (sym (ap (is_in_range 49 57) h) ∙ p))
-positive_by c Minus h p = absurd (false_is_no_true (sym (ap (is_in_range 49 57) h) ∙ p))
-positive_by c Zero h p = absurd (false_is_no_true (sym (ap (is_in_range 49 57) h) ∙ p))
 positive_by c Digit h p = refl
 positive_by c Letter h p = absurd (letter_is_no_digit c h p)
 positive_by c NameByte h p = absurd (other_is_no_digit c h.1 p)
 positive_by c Foreign h p = absurd (foreign_is_no_digit c h.0 p)
+positive_by c k h p = absurd (false_is_no_true (sym (ap (is_in_range 49 57) h) ∙ p))
 
 -- so of each byte
 pub positive_kind : (c : ℕ) → is_in_range 49 57 c ≡ true → kind_of c ≡ Digit
@@ -146,13 +137,11 @@ letter_by c (Open Curly) h p = absurd (false_is_no_true (sym (ap is_ascii_lowerc
 letter_by c (Open Square) h p = absurd (false_is_no_true (sym (ap is_ascii_lowercase h) ∙ p))
 letter_by c (Close Curly) h p = absurd (false_is_no_true (sym (ap is_ascii_lowercase h) ∙ p))
 letter_by c (Close Square) h p = absurd (false_is_no_true (sym (ap is_ascii_lowercase h) ∙ p))
-letter_by c Comma h p = absurd (false_is_no_true (sym (ap is_ascii_lowercase h) ∙ p))
-letter_by c Minus h p = absurd (false_is_no_true (sym (ap is_ascii_lowercase h) ∙ p))
-letter_by c Zero h p = absurd (false_is_no_true (sym (ap is_ascii_lowercase h) ∙ p))
 letter_by c Digit h p = absurd (letter_is_no_digit c p h)
 letter_by c Letter h p = refl
 letter_by c NameByte h p = absurd (false_is_no_true (sym (h.2) ∙ p))
 letter_by c Foreign h p = absurd (false_is_no_true (sym (h.1) ∙ p))
+letter_by c k h p = absurd (false_is_no_true (sym (ap is_ascii_lowercase h) ∙ p))
 
 -- so of each byte
 pub letter_kind : (c : ℕ) → is_ascii_lowercase c ≡ true → kind_of c ≡ Letter
@@ -162,13 +151,7 @@ letter_kind c p = letter_by c (kind_of c) (kind_is c) p
 pub leaf_if_digit : (k : ByteKind) → is_digit_kind k ≡ true → is_leaf_kind k ≡ true
 leaf_if_digit Zero h = refl
 leaf_if_digit Digit h = refl
-leaf_if_digit (Open b) h = cc
-leaf_if_digit (Close b) h = cc
-leaf_if_digit Comma h = cc
-leaf_if_digit Minus h = cc
-leaf_if_digit Letter h = cc
-leaf_if_digit NameByte h = cc
-leaf_if_digit Foreign h = cc
+leaf_if_digit k h = cc
 
 -- and so is a byte of a name
 pub leaf_if_name : (k : ByteKind) → is_name_kind k ≡ true → is_leaf_kind k ≡ true
@@ -176,8 +159,18 @@ leaf_if_name Zero h = refl
 leaf_if_name Digit h = refl
 leaf_if_name Letter h = refl
 leaf_if_name NameByte h = refl
-leaf_if_name (Open b) h = cc
-leaf_if_name (Close b) h = cc
-leaf_if_name Comma h = cc
-leaf_if_name Minus h = cc
-leaf_if_name Foreign h = cc
+leaf_if_name k h = cc
+
+-- so many bytes, by whether the first is one
+front_step : (b : Bool) (c : ℕ) (rest : List ℕ) (o : Option ℕ) → take (unwrap_or o (length rest)) rest ≡ leaf_front rest →
+    take (unwrap_or (cond (not b) (Some 0) (option_map (λ i. i + 1) o)) (suc (length rest))) (c ∷ rest) ≡ cond b (c ∷ leaf_front rest) []
+front_step true c rest None h = ap (λ t. c ∷ t) h
+front_step true c rest (Some i) h = ap (λ n. take n (c ∷ rest)) (add-one i) ∙ ap (λ t. c ∷ t) h
+front_step false c rest o h = refl
+
+-- the bytes up to the first between terms
+pub front_is : (text : List ℕ) → take (unwrap_or (position (λ c. not (is_leaf_kind (kind_of c))) text) (length text)) text ≡ leaf_front text
+front_is [] = refl
+front_is (c ∷ rest) =
+    ap (λ o. take (unwrap_or o (length (c ∷ rest))) (c ∷ rest)) (position-cons (λ c. not (is_leaf_kind (kind_of c))) c rest)
+    ∙ front_step (is_leaf_kind (kind_of c)) c rest (position (λ c. not (is_leaf_kind (kind_of c))) rest) (front_is rest)

@@ -1,18 +1,18 @@
 -- Lemmas on terms as names grow: each keeps its text, and what is printed of a term that was read is the text that it was read from.
-use Rattle.std.proofs.Common.{◌≡◌, ℕ, ℤ, ◌≤◌, cond, List, [], ◌∷◌, ◌++◌, length, Some, is_some, unwrap_or, slice_get, IsSome, IsTrue, refl, sym, ap, ◌∙◌, subst, arith}
+use Rattle.std.proofs.Common.{◌≡◌, ℕ, ℤ, cond, List, [], ◌∷◌, ◌++◌, Some, is_some, unwrap_or, slice_get, IsSome, IsTrue, refl, sym, ap, ◌∙◌, subst}
 use Rattle.std.specs.Fmt.{signed_decimal}
 use Rattle.term_core.specs.declared.term.Term.{Term}
 use Rattle.term_core.specs.Names.{IsNames, Extends, is_atom_text, number_of, names_with}
 use Rattle.term_core.specs.Plain.{plain}
-use Rattle.term_core.specs.PlainTerm.{PlainTerm, map_leaves, EachLeaf, atoms_of}
-use Rattle.term_core.specs.TermText.{TermText, IsTerm, IsHeld, atom_text, term_text, number_in, names_with_all}
+use Rattle.term_core.specs.PlainTerm.{map_leaves, EachLeaf, atoms_of}
+use Rattle.term_core.specs.TermText.{TermText, IsTerm, atom_text, term_text, number_in, names_with_all}
 use Rattle.term_core.specs.Written.{WrittenTerm, written, IsTermInteger, is_integer_text, integer_of, HasLeafTexts}
-use Rattle.term_core.proofs.GrownNames.{slice_get-Extends, number_of-at}
+use Rattle.term_core.proofs.GrownNames.{number_of-at}
 use Rattle.term_core.proofs.IntegerTexts.{signed_decimal-integer_of, signed_decimal-says}
 use Rattle.term_core.proofs.LeafFacts.{EachOf, EachLeaf-weaker, EachLeaf-both, EachLeaf-map, EachLeaf-atoms, EachOf-atoms, map_leaves-map, map_leaves-same, map_leaves-id}
-use Rattle.term_core.proofs.NameTables.{names_with-IsNames, slice_get-number_of, texts_are_atoms}
-use Rattle.term_core.proofs.Numbers.{names_with_all-Extends, number_of-Extends, length-Extends, number_of-named}
-use Rattle.term_core.proofs.Truths.{is_some_at, some_inside}
+use Rattle.term_core.proofs.NameTables.{slice_get-number_of, texts_are_atoms}
+use Rattle.term_core.proofs.Numbers.{names_with_all-Extends, number_of-Extends, number_of-named}
+use Rattle.term_core.proofs.Truths.{some_inside}
 
 -- a text that has a number
 pub record HasNumber (names : List (List ℕ)) (text : List ℕ) : Type 0 where
@@ -44,31 +44,6 @@ numbered_leaves before text term after t =
     EachLeaf-atoms (λ text. IsTermInteger (integer_of text)) (λ _. Unit {0}) (HasNumber after) t.form t.fits
     (subst (λ (names : List (List ℕ)). EachOf (HasNumber names) (atoms_of t.form)) (sym t.named) (HasNumber-all before (atoms_of t.form)))
 
--- a term's text keeps the names before
-pub TermText-Extends : (before : List (List ℕ)) (text : List ℕ) (term : Term) (after : List (List ℕ)) → TermText before text term after → Extends before after
-TermText-Extends before text term after t = subst (Extends before) (sym t.named) (names_with_all-Extends before (atoms_of t.form))
-
--- naming atoms keeps a table of names, where there is room
-names_with_all-IsNames : (names texts : List (List ℕ)) → IsNames names → EachOf (λ text. IsTrue (is_atom_text text)) texts → length (names_with_all names texts) ≤ 4096 → IsNames (names_with_all names texts)
-names_with_all-IsNames names [] sound atoms room = sound
-names_with_all-IsNames names (text ∷ texts) sound atoms room =
-    let later = length-Extends (names_with names text) (names_with_all names (text ∷ texts)) (names_with_all-Extends (names_with names text) texts) in
-    names_with_all-IsNames (names_with names text) texts (names_with-IsNames names text sound atoms.0 (omega arith)) atoms.1 room
-
--- after a term's text the names are a table again
-pub TermText-IsNames : (before : List (List ℕ)) (text : List ℕ) (term : Term) (after : List (List ℕ)) → IsNames before → TermText before text term after → IsNames after
-TermText-IsNames before text term after sound t =
-    subst IsNames (sym t.named) (names_with_all-IsNames before (atoms_of t.form) sound (EachOf-atoms (λ text. IsTrue (is_integer_text text)) (λ text. IsTrue (is_atom_text text)) t.form t.leaves)
-    (subst (λ (names : List (List ℕ)). length names ≤ 4096) t.named t.room))
-
--- a term that was read is one of the names after
-pub IsTerm-TermText : (before : List (List ℕ)) (text : List ℕ) (term : Term) (after : List (List ℕ)) → TermText before text term after → IsTerm after term
-IsTerm-TermText before text term after t =
-    subst (λ (p : PlainTerm). EachLeaf IsTermInteger (λ atom. IsSome (slice_get after atom)) p) (sym t.value)
-    (EachLeaf-map IsTermInteger (λ atom. IsSome (slice_get after atom)) integer_of (number_in after) t.form
-    (EachLeaf-weaker (λ text. IsTermInteger (integer_of text)) (λ text. IsTermInteger (integer_of text)) (HasNumber after) (λ text. IsSome (slice_get after (number_in after text))) (λ text h. h)
-    (λ text h. is_some_at (slice_get after (number_in after text)) text (slice_get-number_in after text h)) t.form (numbered_leaves before text term after t)))
-
 -- what an integer's text says is written so
 integer_back : (text : List ℕ) → IsTrue (is_integer_text text) × IsTermInteger (integer_of text) → signed_decimal (integer_of text) ≡ text
 integer_back text h = sym (signed_decimal-integer_of text h.0 h.1)
@@ -84,36 +59,6 @@ term_text-TermText before text term after t =
     (EachLeaf-both (λ text. IsTrue (is_integer_text text)) (λ text. IsTermInteger (integer_of text)) (λ text. IsTrue (is_atom_text text)) (HasNumber after) t.form t.leaves (numbered_leaves before text term after t)))
     ∙ map_leaves-id t.form)
     ∙ sym t.whole
-
--- the atoms of a term are held
-pub IsHeld-IsTerm : (names : List (List ℕ)) (term : Term) → IsTerm names term → IsHeld names term
-IsHeld-IsTerm names term h = EachLeaf-weaker IsTermInteger (λ _. Unit {0}) (λ atom. IsSome (slice_get names atom)) (λ atom. IsSome (slice_get names atom)) (λ z k. tt) (λ atom k. k) (plain term) h
-
--- an atom that is held stays held
-held_later : (before after : List (List ℕ)) → Extends before after → (atom : ℕ) → IsSome (slice_get before atom) → IsSome (slice_get after atom)
-held_later before after grown atom h =
-    let inside = some_inside (slice_get before atom) h in
-    is_some_at (slice_get after atom) inside.0 (slice_get-Extends before after atom inside.0 grown inside.1)
-
--- so do the atoms of a term
-pub IsHeld-Extends : (before after : List (List ℕ)) (term : Term) → Extends before after → IsHeld before term → IsHeld after term
-IsHeld-Extends before after term grown h = EachLeaf-weaker (λ _. Unit {0}) (λ _. Unit {0}) (λ atom. IsSome (slice_get before atom)) (λ atom. IsSome (slice_get after atom)) (λ z k. k) (held_later before after grown) (plain term) h
-
--- it stays a term
-pub IsTerm-Extends : (before after : List (List ℕ)) (term : Term) → Extends before after → IsTerm before term → IsTerm after term
-IsTerm-Extends before after term grown h = EachLeaf-weaker IsTermInteger IsTermInteger (λ atom. IsSome (slice_get before atom)) (λ atom. IsSome (slice_get after atom)) (λ z k. k) (held_later before after grown) (plain term) h
-
--- an atom's text stays
-text_later : (before after : List (List ℕ)) → Extends before after → (atom : ℕ) → IsSome (slice_get before atom) → atom_text after atom ≡ atom_text before atom
-text_later before after grown atom h =
-    let inside = some_inside (slice_get before atom) h in
-    ap (λ o. unwrap_or o []) (slice_get-Extends before after atom inside.0 grown inside.1 ∙ sym inside.1)
-
--- and a term's text stays
-pub term_text-Extends : (before after : List (List ℕ)) (term : Term) → Extends before after → IsHeld before term → term_text after term ≡ term_text before term
-term_text-Extends before after term grown h =
-    ap written (map_leaves-same signed_decimal signed_decimal (atom_text after) (atom_text before) (plain term)
-    (EachLeaf-weaker {Z = ℤ} (λ _. Unit {0}) (λ z. signed_decimal z ≡ signed_decimal z) (λ atom. IsSome (slice_get before atom)) (λ atom. atom_text after atom ≡ atom_text before atom) (λ z k. refl) (text_later before after grown) (plain term) h))
 
 -- what an integer is written as is an integer's text, which says it
 record SaysBack (z : ℤ) : Type 0 where

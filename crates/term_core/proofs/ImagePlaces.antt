@@ -1,14 +1,14 @@
 -- What stands at a place of a block where a term has its image: the term, its kind, and where each of its parts stands.
-use Rattle.std.proofs.Common.{◌≡◌, ℕ, zero, suc, ◌+◌, ◌*◌, ◌/◌, ◌%◌, ◌<◌, ◌≤◌, ℤ, pos, true, List, [], ◌∷◌, ◌++◌, length, take, drop, get_or, None, Some, slice_get, refl, sym, ap, ◌∙◌, subst, arith, length-append}
+use Rattle.std.proofs.Common.{◌≡◌, ℕ, zero, suc, ◌+◌, ◌*◌, ◌<◌, ◌≤◌, ℤ, pos, true, List, [], ◌∷◌, ◌++◌, length, take, drop, get_or, None, Some, slice_get, refl, sym, ap, ◌∙◌, subst, arith, length-append}
 use Rattle.std.proofs.lemmas.List.{append_assoc, append-nil, take_at, drop_at, drop-drop, length-drop, get_or-drop, take-append-drop}
-use Rattle.std.proofs.lemmas.Option.{slice_get-get_or}
 use Rattle.term_core.specs.Image.{image_of, row_image, IsPlainTerm, is_immediate, IsImageAt, low_bits, immediate_word, term_of_word, terms_in, term_at, parts_of_word, images_len}
 use Rattle.term_core.specs.Plain.{term_of}
 use Rattle.term_core.specs.PlainTerm.{RowOf, PlainTerm, integer_leaf, atom_leaf, tuple_of, list_of, no_terms, term_then, terms_of, row_count, term_words, row_words}
 use Rattle.term_core.specs.Written.{place_or}
 use Rattle.term_core.proofs.ImageTerms.{IsPlainRow, terms_in-image, images_len-image, some_words}
 use Rattle.term_core.proofs.WordTags.{integer_parts, atom_parts, tuple_parts, list_parts}
-use Rattle.term_core.proofs.Words.{tagged, term_of_word-immediate_word}
+use Rattle.term_core.proofs.Words.{term_of_word-immediate_word}
+use Rattle.term_core.proofs.Text.Options.{some_is}
 -- an image has the term's words
 pub use Rattle.term_core.proofs.ImageTerms.{length-image}
 
@@ -44,17 +44,9 @@ within-at words at t h =
 
 -- ---- where an image stands
 
--- at the front of words
-pub stands_first : (t : PlainTerm) (rest : List ℕ) → IsPlainTerm t → term_words t ≤ 64 → IsImageAt (image_of t ++ rest) 0 t
-stands_first t rest fits short = record { rest = rest; whole = refl; fits = fits; short = short }
-
 -- alone
 pub stands_alone : (t : PlainTerm) → IsPlainTerm t → term_words t ≤ 64 → IsImageAt (image_of t) 0 t
 stands_alone t fits short = record { rest = []; whole = sym (append-nil (image_of t)); fits = fits; short = short }
-
--- behind words
-pub stands_behind : (front : List ℕ) (t : PlainTerm) (rest : List ℕ) → IsPlainTerm t → term_words t ≤ 64 → IsImageAt (front ++ (image_of t ++ rest)) (length front) t
-stands_behind front t rest fits short = record { rest = rest; whole = drop_at front (image_of t ++ rest) (length front) refl; fits = fits; short = short }
 
 -- the first words from its place on are its image
 pub image_at : (words : List ℕ) (at : ℕ) (t : PlainTerm) → IsImageAt words at t → take (term_words t) (drop at words) ≡ image_of t
@@ -80,24 +72,9 @@ first_word (list_of row) = row_count row * 16 + 4
 
 -- how many parts a term has
 abbrev pub part_count : PlainTerm → ℕ
-part_count (integer_leaf z) = 0
-part_count (atom_leaf a) = 0
 part_count (tuple_of row) = row_count row
 part_count (list_of row) = row_count row
-
--- what a word says of the term that begins with it
-abbrev pub IsWordOf : PlainTerm → ℕ → Type 0
-IsWordOf (integer_leaf z) word = (word % 16 ≡ 1) × (word / 16 ≡ low_bits z)
-IsWordOf (atom_leaf a) word = (word % 16 ≡ 2) × (word / 16 ≡ a)
-IsWordOf (tuple_of row) word = (word % 16 ≡ 3) × (word / 16 ≡ row_count row)
-IsWordOf (list_of row) word = (word % 16 ≡ 4) × (word / 16 ≡ row_count row)
-
--- the first word says so
-pub first_word-says : (t : PlainTerm) → IsWordOf t (first_word t)
-first_word-says (integer_leaf z) = tagged (low_bits z) 1 (omega arith)
-first_word-says (atom_leaf a) = tagged a 2 (omega arith)
-first_word-says (tuple_of row) = tagged (row_count row) 3 (omega arith)
-first_word-says (list_of row) = tagged (row_count row) 4 (omega arith)
+part_count _ = 0
 
 -- and counts the term's parts
 pub first_word-parts : (t : PlainTerm) → parts_of_word (first_word t) ≡ part_count t
@@ -109,87 +86,45 @@ first_word-parts (list_of row) = list_parts (row_count row)
 -- an image begins with it
 image_first : (t : PlainTerm) (rest : List ℕ) → get_or (image_of t ++ rest) 0 0 ≡ first_word t
 image_first (integer_leaf z) rest = refl
-image_first (atom_leaf a) rest = refl
-image_first (tuple_of row) rest = refl
-image_first (list_of row) rest = refl
+image_first t rest = refl
 
 -- so it stands at the image's place
 pub first_word-at : (words : List ℕ) (at : ℕ) (t : PlainTerm) → IsImageAt words at t → get_or words at 0 ≡ first_word t
 first_word-at words at t h =
     ap (λ n. get_or words n 0) (omega arith) ∙ sym (get_or-drop at words 0 0) ∙ ap (λ ws. get_or ws 0 0) h.whole ∙ image_first t h.rest
 
--- and is there
-pub first_word-found : (words : List ℕ) (at : ℕ) (t : PlainTerm) → IsImageAt words at t → slice_get words at ≡ Some (first_word t)
-first_word-found words at t h =
-    slice_get-get_or words at 0 (omega (arith, within-at words at t h, some_words t)) ∙ ap Some (first_word-at words at t h)
-
--- what the word at a place says of the term there
-pub word-says : (words : List ℕ) (at : ℕ) (t : PlainTerm) → IsImageAt words at t → IsWordOf t (get_or words at 0)
-word-says words at t h = subst (IsWordOf t) (sym (first_word-at words at t h)) (first_word-says t)
-
 -- the word of an integer or an atom is that of its term
 pub first_word-immediate : (t : PlainTerm) → is_immediate t ≡ true → first_word t ≡ immediate_word (term_of t)
-first_word-immediate (integer_leaf z) h = refl
-first_word-immediate (atom_leaf a) h = refl
 first_word-immediate (tuple_of row) h = cc
 first_word-immediate (list_of row) h = cc
+first_word-immediate t h = refl
 
 -- and is read as it
 pub term_of_word-first_word : (t : PlainTerm) → is_immediate t ≡ true → IsPlainTerm t → term_of_word (first_word t) ≡ term_of t
 term_of_word-first_word (integer_leaf z) h fits = term_of_word-immediate_word (term_of (integer_leaf z)) fits tt
 term_of_word-first_word (atom_leaf a) h fits = term_of_word-immediate_word (term_of (atom_leaf a)) tt fits
-term_of_word-first_word (tuple_of row) h fits = cc
-term_of_word-first_word (list_of row) h fits = cc
-
--- so for such a term the word at its place is its term's
-pub immediate-at : (words : List ℕ) (at : ℕ) (t : PlainTerm) → IsImageAt words at t → is_immediate t ≡ true → get_or words at 0 ≡ immediate_word (term_of t)
-immediate-at words at t h is = first_word-at words at t h ∙ first_word-immediate t is
-
--- and is read as it
-pub term_of_word-at : (words : List ℕ) (at : ℕ) (t : PlainTerm) → IsImageAt words at t → is_immediate t ≡ true → term_of_word (get_or words at 0) ≡ term_of t
-term_of_word-at words at t h is = ap term_of_word (first_word-at words at t h) ∙ term_of_word-first_word t is h.fits
-
--- and any word counts the parts of its term
-pub parts-at : (words : List ℕ) (at : ℕ) (t : PlainTerm) → IsImageAt words at t → parts_of_word (get_or words at 0) ≡ part_count t
-parts-at words at t h = ap parts_of_word (first_word-at words at t h) ∙ first_word-parts t
+term_of_word-first_word t h fits = cc
 
 -- ---- the parts
 
 -- the terms in brackets, if there are any
 abbrev pub row_in : PlainTerm → RowOf ℤ ℕ
-row_in (integer_leaf z) = no_terms
-row_in (atom_leaf a) = no_terms
 row_in (tuple_of row) = row
 row_in (list_of row) = row
+row_in _ = no_terms
 
 -- what a part of a row is: a term as it can be, of no more words than the row
 pub record IsPart (row : RowOf ℤ ℕ) (u : PlainTerm) : Type 0 where
   pub fits : IsPlainTerm u
   pub few : term_words u ≤ row_words row
 
--- a value
-same_some : (t u : PlainTerm) → Some t ≡ Some u → t ≡ u
-same_some t u e = cc
-
 -- each part is one
 pub part_of : (row : RowOf ℤ ℕ) (i : ℕ) (u : PlainTerm) → IsPlainRow row → slice_get (terms_of row) i ≡ Some u → IsPart row u
 part_of no_terms i u h at = cc
 part_of (term_then t row) zero u h at =
-    let e : t ≡ u = same_some t u at in
+    let e : t ≡ u = some_is t u at in
     record { fits = subst IsPlainTerm e h.0; few = omega (arith, ap (term_words {Z = ℤ} {A = ℕ}) e) }
 part_of (term_then t row) (suc i) u h at = let later = part_of row i u h.1 at in record { fits = later.fits; few = omega (arith, later.few) }
-
--- a part of a term: a term as it can be, of fewer words
-pub record IsPartOf (t u : PlainTerm) : Type 0 where
-  pub fits : IsPlainTerm u
-  pub fewer : term_words u < term_words t
-
--- each part of a term as it can be is one
-pub part_of_term : (t : PlainTerm) (i : ℕ) (u : PlainTerm) → IsPlainTerm t → slice_get (terms_of (row_in t)) i ≡ Some u → IsPartOf t u
-part_of_term (integer_leaf z) i u h is = cc
-part_of_term (atom_leaf a) i u h is = cc
-part_of_term (tuple_of row) i u h is = let part = part_of row i u h is in record { fits = part.fits; fewer = omega (arith, part.few) }
-part_of_term (list_of row) i u h is = let part = part_of row i u h is in record { fits = part.fits; fewer = omega (arith, part.few) }
 
 -- where a part of a row begins among the row's words
 pub record PartIn (words : List ℕ) (i : ℕ) (u : PlainTerm) : Type 0 where
@@ -217,7 +152,7 @@ part_in (term_then t row) rest zero u at = record {
   skip = 0;
   behind = refl;
   left = row_image row ++ rest;
-  whole = append_assoc (image_of t) (row_image row) rest ∙ ap (λ v. image_of v ++ (row_image row ++ rest)) (same_some t u at);
+  whole = append_assoc (image_of t) (row_image row) rest ∙ ap (λ v. image_of v ++ (row_image row ++ rest)) (some_is t u at);
 }
 part_in (term_then t row) rest (suc i) u at =
     let later = part_in row rest i u at in
@@ -261,7 +196,6 @@ part_behind words at word row rest i u whole fits short is =
 
 -- each part of a term that stands at a place stands behind its word
 pub part_at : (words : List ℕ) (at : ℕ) (t : PlainTerm) (i : ℕ) (u : PlainTerm) → IsImageAt words at t → slice_get (terms_of (row_in t)) i ≡ Some u → PartAt words at i u
-part_at words at (integer_leaf z) i u h is = cc
-part_at words at (atom_leaf a) i u h is = cc
 part_at words at (tuple_of row) i u h is = let short = h.short in part_behind words at (row_count row * 16 + 3) row h.rest i u h.whole h.fits (omega arith) is
 part_at words at (list_of row) i u h is = let short = h.short in part_behind words at (row_count row * 16 + 4) row h.rest i u h.whole h.fits (omega arith) is
+part_at words at t i u h is = cc

@@ -1,5 +1,5 @@
 -- Where the code finds an image, a term has one; and what it reads back is that term.
-use Rattle.std.proofs.Common.{◌≡◌, ℕ, zero, suc, ◌+◌, ◌-◌, ◌*◌, ◌<◌, ◌≤◌, ℤ, Bool, true, false, cond, List, [], ◌∷◌, ◌++◌, length, take, drop, min, All, IsTrue, Option, None, Some, option_map, refl, sym, ap, ◌∙◌, subst, arith}
+use Rattle.std.proofs.Common.{◌≡◌, ℕ, zero, suc, ◌+◌, ◌-◌, ◌*◌, ◌<◌, ◌≤◌, ℤ, Bool, true, cond, List, [], ◌∷◌, ◌++◌, length, take, drop, min, All, IsTrue, Option, None, Some, option_map, refl, sym, ap, ◌∙◌, subst, arith}
 use Rattle.std.proofs.lemmas.List.{append_assoc, append-nil, take-append-drop, length-take-le, length-take, length-drop, take_min}
 use Rattle.std.proofs.lemmas.List.Elements.{All-nil, All-cons}
 use Rattle.std.proofs.Math.Seq.{take-append-add}
@@ -14,6 +14,7 @@ use Rattle.term_core.proofs.Lefts.{rest_is}
 use Rattle.term_core.proofs.ImagePlaces.{IsImageAt-unique}
 use Rattle.term_core.proofs.PlainTerms.{term_of-plain}
 use Rattle.term_core.proofs.WordTags.{WordKind, integer_word, atom_word, tuple_word, list_word, word_kind, with_integer, with_atom, with_tuple, with_list, integer_parts, atom_parts, tuple_parts, list_parts, low_bits-back, integer_of_bits-fits}
+use Rattle.term_core.proofs.Text.Options.{some_is}
 
 -- what is said of two rows one behind the other
 row_append : (xs ys : List PlainTerm) → row_image (row_of (xs ++ ys)) ≡ row_image (row_of xs) ++ row_image (row_of ys)
@@ -22,9 +23,8 @@ row_append (t ∷ xs) ys = ap (λ ws. image_of t ++ ws) (row_append xs ys) ∙ s
 
 -- the terms of the front of a row
 plain_front : (n : ℕ) (ts : List PlainTerm) → IsPlainRow (row_of ts) → IsPlainRow (row_of (take n ts))
-plain_front zero ts h = tt
-plain_front (suc n) [] h = tt
 plain_front (suc n) (t ∷ ts) h = (h.0, plain_front n ts h.1)
+plain_front n ts h = tt
 
 -- and of the rest
 plain_rest : (n : ℕ) (ts : List PlainTerm) → IsPlainRow (row_of ts) → IsPlainRow (row_of (drop n ts))
@@ -119,15 +119,10 @@ record Step (b : Bool) (o : Option ℕ) (k : ℕ) : Type 0 where
   is : o ≡ Some rest
   next : suc rest ≡ k
 
--- one number
-same_some : (m n : ℕ) → Some m ≡ Some n → m ≡ n
-same_some m n e = cc
-
 -- by the test and what is found
 step_of : (b : Bool) (o : Option ℕ) (k : ℕ) → cond b (option_map suc o) None ≡ Some k → Step b o k
-step_of false o k h = cc
-step_of true None k h = cc
-step_of true (Some j) k h = record { fits = refl; rest = j; is = refl; next = same_some (suc j) k h }
+step_of true (Some j) k h = record { fits = refl; rest = j; is = refl; next = some_is (suc j) k h }
+step_of b o k h = cc
 
 -- what is found: images of as many terms, which are read back from them
 record IsFound (n k : ℕ) (words : List ℕ) : Type 0 where
@@ -140,9 +135,9 @@ found_none words k e = subst (λ (j : ℕ). IsFound 0 j words) e (record { withi
 
 -- so of any words
 found_back : (words : List ℕ) (n k : ℕ) → found_len n words ≡ Some k → IsFound n k words
-found_back [] zero k h = found_none [] k (same_some 0 k h)
+found_back [] zero k h = found_none [] k (some_is 0 k h)
 found_back [] (suc n) k h = cc
-found_back (word ∷ words) zero k h = found_none (word ∷ words) k (same_some 0 k h)
+found_back (word ∷ words) zero k h = found_none (word ∷ words) k (some_is 0 k h)
 found_back (word ∷ words) (suc n) k h =
     let step = step_of (is_image_word word) (found_len (n + parts_of_word word) words) k h in
     let later = found_back words (n + parts_of_word word) step.rest step.is in
@@ -162,9 +157,9 @@ AllFit words = All (λ word. IsTrue (is_image_word word)) words
 
 -- so may each that is found
 pub found_fit : (words : List ℕ) (n k : ℕ) → found_len n words ≡ Some k → AllFit (take k words)
-found_fit [] zero k h = subst (λ (j : ℕ). AllFit (take j [])) (same_some 0 k h) (All-nil (λ word. IsTrue (is_image_word word)))
+found_fit [] zero k h = subst (λ (j : ℕ). AllFit (take j [])) (some_is 0 k h) (All-nil (λ word. IsTrue (is_image_word word)))
 found_fit [] (suc n) k h = cc
-found_fit (word ∷ words) zero k h = subst (λ (j : ℕ). AllFit (take j (word ∷ words))) (same_some 0 k h) (All-nil (λ word. IsTrue (is_image_word word)))
+found_fit (word ∷ words) zero k h = subst (λ (j : ℕ). AllFit (take j (word ∷ words))) (some_is 0 k h) (All-nil (λ word. IsTrue (is_image_word word)))
 found_fit (word ∷ words) (suc n) k h =
     let step = step_of (is_image_word word) (found_len (n + parts_of_word word) words) k h in
     subst (λ (j : ℕ). AllFit (take j (word ∷ words))) step.next
@@ -172,9 +167,8 @@ found_fit (word ∷ words) (suc n) k h =
 
 -- a list of one
 one_of : (ts : List PlainTerm) → length ts ≡ 1 → (t : PlainTerm) × (ts ≡ t ∷ [])
-one_of [] e = absurd (omega (arith, e))
 one_of (t ∷ []) e = (t, refl)
-one_of (t ∷ (u ∷ ts)) e = absurd (omega (arith, e))
+one_of ts e = absurd (omega (arith, e))
 
 -- the one term that is found is read back
 pub found_one : (words : List ℕ) (k : ℕ) → found_len 1 words ≡ Some k → (t : PlainTerm) × (terms_in (take k words) ≡ t ∷ [])

@@ -16,10 +16,9 @@ IsPlainRow row = EachInRow IsTermInteger (λ atom. atom < 4294967296) row
 -- an image has the term's words
 mutual
   pub length-image : (t : TermOf ℤ ℕ) → length (image_of t) ≡ term_words t
-  length-image (integer_leaf z) = refl
-  length-image (atom_leaf a) = refl
   length-image (tuple_of row) = omega (arith, length-row_image row)
   length-image (list_of row) = omega (arith, length-row_image row)
+  length-image t = refl
 
   -- the same of a row
   pub length-row_image : (row : RowOf ℤ ℕ) → length (row_image row) ≡ row_words row
@@ -91,9 +90,7 @@ mutual
 -- a term has a word
 pub some_words : {Z A : Type 0} (t : TermOf Z A) → 1 ≤ term_words t
 some_words (integer_leaf z) = omega arith
-some_words (atom_leaf a) = omega arith
-some_words (tuple_of row) = omega arith
-some_words (list_of row) = omega arith
+some_words t = omega arith
 
 -- so a row has no more terms than words
 pub count_le-words : {Z A : Type 0} (row : RowOf Z A) → row_count row ≤ row_words row

@@ -12,7 +12,7 @@ use Rattle.std.proofs.lemmas.Int.{ints}
 use Rattle.std.proofs.lemmas.Str.Ascii.{IsAscii-cons, IsAscii-nil}
 use Rattle.std.proofs.lemmas.Str.Parse.{IsNumeralModel, numerals_by_value, parse_signed_minus, parse_signed_plain}
 use Rattle.term_core.specs.Written.{IsTermInteger, is_positive_text, is_integer_text, integer_of}
-use Rattle.term_core.proofs.Truths.{both}
+use Rattle.std.proofs.lemmas.Bool.{and_parts}
 
 -- the digits of `decimal`, as std asks for them
 pub own : IsNumeralModel (λ ds. list_all is_ascii_digit ds ≡ true) (digits_value 10)
@@ -41,7 +41,7 @@ pub record Positive (text : List ℕ) : Type 0 where
 pub Positive-from : (text : List ℕ) → is_positive_text text ≡ true → Positive text
 Positive-from [] h = cc
 Positive-from (c ∷ rest) h =
-    let parts = both (is_in_range 49 57 c) (list_all is_ascii_digit rest) h in
+    let parts = and_parts (is_in_range 49 57 c) (list_all is_ascii_digit rest) h in
     let range = in_1_to_9 c parts.0 in
     record {
       digits = ap (λ b. b && list_all is_ascii_digit rest) (digit_1_to_9 c range.0 range.1) ∙ parts.1;
@@ -104,7 +104,7 @@ value-positive text h z =
 -- digits with no zero in front begin with no zero and no minus
 plain_tests : (c : ℕ) (rest : List ℕ) → is_positive_text (c ∷ rest) ≡ true → ((c == 48) ≡ false) × ((c == 45) ≡ false)
 plain_tests c rest h =
-    let range = in_1_to_9 c (both (is_in_range 49 57 c) (list_all is_ascii_digit rest) h).0 in
+    let range = in_1_to_9 c (and_parts (is_in_range 49 57 c) (list_all is_ascii_digit rest) h).0 in
     grind (arith, nat_tests)
 
 -- digits with no zero in front are an integer's text
@@ -146,7 +146,7 @@ positive-decimal_at : (n : ℕ) (text : List ℕ) → text ≡ decimal n → 0 <
 positive-decimal_at n [] e low small = absurd (omega (arith, decimal_nonempty n small, ap length e))
 positive-decimal_at n (c ∷ rest) e low small =
     let digits : list_all is_ascii_digit (c ∷ rest) ≡ true = ap (list_all is_ascii_digit) e ∙ digits_decimal own n small in
-    let parts = both (is_ascii_digit c) (list_all is_ascii_digit rest) digits in
+    let parts = and_parts (is_ascii_digit c) (list_all is_ascii_digit rest) digits in
     let first : 48 < c = omega (arith, first_decimal n low small, ap (λ t. get_or t 0 0) e) in
     ap (λ b. b && list_all is_ascii_digit rest) (first_1_to_9 c first parts.0) ∙ parts.1
 

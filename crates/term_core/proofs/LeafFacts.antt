@@ -18,10 +18,9 @@ mutual
 -- two facts of each leaf
 mutual
   pub EachLeaf-both : {Z A : Type 0} (P R : Z → Type 0) (Q S : A → Type 0) (t : TermOf Z A) → EachLeaf P Q t → EachLeaf R S t → EachLeaf (λ z. P z × R z) (λ a. Q a × S a) t
-  EachLeaf-both P R Q S (integer_leaf z) h k = (h, k)
-  EachLeaf-both P R Q S (atom_leaf a) h k = (h, k)
   EachLeaf-both P R Q S (tuple_of row) h k = EachInRow-both P R Q S row h k
   EachLeaf-both P R Q S (list_of row) h k = EachInRow-both P R Q S row h k
+  EachLeaf-both P R Q S t h k = (h, k)
 
   -- the same of a row
   EachInRow-both : {Z A : Type 0} (P R : Z → Type 0) (Q S : A → Type 0) (row : RowOf Z A) → EachInRow P Q row → EachInRow R S row → EachInRow (λ z. P z × R z) (λ a. Q a × S a) row
@@ -31,10 +30,9 @@ mutual
 -- what holds of each leaf that was made of one
 mutual
   pub EachLeaf-map : {Z A Y B : Type 0} (P : Y → Type 0) (Q : B → Type 0) (f : Z → Y) (g : A → B) (t : TermOf Z A) → EachLeaf (λ z. P (f z)) (λ a. Q (g a)) t → EachLeaf P Q (map_leaves f g t)
-  EachLeaf-map P Q f g (integer_leaf z) h = h
-  EachLeaf-map P Q f g (atom_leaf a) h = h
   EachLeaf-map P Q f g (tuple_of row) h = EachInRow-map P Q f g row h
   EachLeaf-map P Q f g (list_of row) h = EachInRow-map P Q f g row h
+  EachLeaf-map P Q f g t h = h
 
   -- the same of a row
   EachInRow-map : {Z A Y B : Type 0} (P : Y → Type 0) (Q : B → Type 0) (f : Z → Y) (g : A → B) (row : RowOf Z A) → EachInRow (λ z. P (f z)) (λ a. Q (g a)) row → EachInRow P Q (map_row f g row)
@@ -44,10 +42,9 @@ mutual
 -- leaves that are made again
 mutual
   pub map_leaves-map : {Z A Y B X C : Type 0} (f : Y → X) (g : B → C) (h : Z → Y) (k : A → B) (t : TermOf Z A) → map_leaves f g (map_leaves h k t) ≡ map_leaves (λ z. f (h z)) (λ a. g (k a)) t
-  map_leaves-map f g h k (integer_leaf z) = refl
-  map_leaves-map f g h k (atom_leaf a) = refl
   map_leaves-map f g h k (tuple_of row) = ap tuple_of (map_row-map f g h k row)
   map_leaves-map f g h k (list_of row) = ap list_of (map_row-map f g h k row)
+  map_leaves-map f g h k t = refl
 
   -- the same of a row
   map_row-map : {Z A Y B X C : Type 0} (f : Y → X) (g : B → C) (h : Z → Y) (k : A → B) (row : RowOf Z A) → map_row f g (map_row h k row) ≡ map_row (λ z. f (h z)) (λ a. g (k a)) row
@@ -70,10 +67,9 @@ mutual
 -- leaves that are left
 mutual
   pub map_leaves-id : {Z A : Type 0} (t : TermOf Z A) → map_leaves (λ z. z) (λ a. a) t ≡ t
-  map_leaves-id (integer_leaf z) = refl
-  map_leaves-id (atom_leaf a) = refl
   map_leaves-id (tuple_of row) = ap tuple_of (map_row-id row)
   map_leaves-id (list_of row) = ap list_of (map_row-id row)
+  map_leaves-id t = refl
 
   -- the same of a row
   map_row-id : {Z A : Type 0} (row : RowOf Z A) → map_row (λ z. z) (λ a. a) row ≡ row
@@ -83,10 +79,9 @@ mutual
 -- no word more or less
 mutual
   pub term_words-map : {Z A Y B : Type 0} (f : Z → Y) (g : A → B) (t : TermOf Z A) → term_words (map_leaves f g t) ≡ term_words t
-  term_words-map f g (integer_leaf z) = refl
-  term_words-map f g (atom_leaf a) = refl
   term_words-map f g (tuple_of row) = ap (λ n. 1 + n) (row_words-map f g row)
   term_words-map f g (list_of row) = ap (λ n. 1 + n) (row_words-map f g row)
+  term_words-map f g t = refl
 
   -- the same of a row
   row_words-map : {Z A Y B : Type 0} (f : Z → Y) (g : A → B) (row : RowOf Z A) → row_words (map_row f g row) ≡ row_words row
@@ -112,11 +107,6 @@ EachOf-back P (x ∷ xs) ys h = EachOf-back P xs ys h.1
 pub EachOf-append : {A : Type 0} (P : A → Type 0) (xs ys : List A) → EachOf P xs → EachOf P ys → EachOf P (xs ++ ys)
 EachOf-append P [] ys h k = k
 EachOf-append P (x ∷ xs) ys h k = (h.0, EachOf-append P xs ys h.1 k)
-
--- by another fact
-pub EachOf-weaker : {A : Type 0} (P Q : A → Type 0) → ((a : A) → P a → Q a) → (xs : List A) → EachOf P xs → EachOf Q xs
-EachOf-weaker P Q f [] h = tt
-EachOf-weaker P Q f (x ∷ xs) h = (f x h.0, EachOf-weaker P Q f xs h.1)
 
 -- what holds of each atom holds of the leaves
 mutual

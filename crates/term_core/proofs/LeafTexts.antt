@@ -7,7 +7,7 @@ use Rattle.term_core.specs.Names.{is_name_byte, is_atom_text}
 use Rattle.term_core.specs.Written.{is_integer_text}
 use Rattle.term_core.proofs.ByteKinds.{digit_kind, name_kind, letter_kind, leaf_if_digit, leaf_if_name}
 use Rattle.term_core.proofs.IntegerTexts.{Zero, Minus, Plain, shape_of, Positive-from}
-use Rattle.term_core.proofs.Truths.{both}
+use Rattle.std.proofs.lemmas.Bool.{and_parts}
 
 -- the byte stands in an integer or atom
 abbrev pub is_leaf_byte : ℕ → Bool
@@ -39,7 +39,7 @@ leaf_letter c h = ap is_leaf_kind (letter_kind c h)
 all_by : (p q : ℕ → Bool) → ((c : ℕ) → p c ≡ true → q c ≡ true) → (text : List ℕ) → list_all p text ≡ true → list_all q text ≡ true
 all_by p q h [] k = refl
 all_by p q h (c ∷ rest) k =
-    let parts = both (p c) (list_all p rest) k in
+    let parts = and_parts (p c) (list_all p rest) k in
     ap (λ b. b && list_all q rest) (h c parts.0) ∙ all_by p q h rest parts.1
 
 -- digits are bytes of a leaf
@@ -58,8 +58,8 @@ LeafText-integer text h = elim (shape_of text h) [
 pub LeafText-atom : (text : List ℕ) → IsTrue (is_atom_text text) → LeafText text
 LeafText-atom [] h = cc
 LeafText-atom (c ∷ rest) h =
-    let parts = both (is_ascii_lowercase c) _ h in
-    let tail = both (list_all is_name_byte rest) _ parts.1 in
+    let parts = and_parts (is_ascii_lowercase c) _ h in
+    let tail = and_parts (list_all is_name_byte rest) _ parts.1 in
     record {
       bytes = ap (λ b. b && list_all is_leaf_byte rest) (leaf_letter c parts.0) ∙ all_by is_name_byte is_leaf_byte leaf_name rest tail.0;
       some = omega arith;
@@ -74,5 +74,5 @@ front_none (c ∷ rest) h = ap (λ b. cond b (c ∷ leaf_front rest) []) h
 pub front_text : (text rest : List ℕ) → list_all is_leaf_byte text ≡ true → IsDelimited rest → leaf_front (text ++ rest) ≡ text
 front_text [] rest h d = front_none rest d
 front_text (c ∷ text) rest h d =
-    let parts = both (is_leaf_byte c) (list_all is_leaf_byte text) h in
+    let parts = and_parts (is_leaf_byte c) (list_all is_leaf_byte text) h in
     ap (λ b. cond b (c ∷ leaf_front (text ++ rest)) []) parts.0 ∙ ap (λ t. c ∷ t) (front_text text rest parts.1 d)

@@ -1,7 +1,6 @@
 pub mod Building
 pub mod ByteKinds
 pub mod CutTerms
-pub mod Fronts
 pub mod GrownNames
 pub mod GrownTerms
 pub mod ImagePlaces
@@ -16,7 +15,6 @@ pub mod Numbers
 pub mod OutsidePlaces
 pub mod PartedTerms
 pub mod Places
-pub mod PlainFacts
 pub mod PlainTerms
 pub mod PrintedTerms
 pub mod Ranges
@@ -24,18 +22,14 @@ pub mod ReadingFaults
 pub mod ReadingLaws
 pub mod Readings
 pub mod SameTerms
-pub mod ScanFaults
-pub mod ScanRests
-pub mod ScanRuns
-pub mod ScanSound
-pub mod ScanTerms
-pub mod Scans
+pub mod Scanning
 pub mod Shapes
 pub mod SyntaxPlaces
 pub mod TakenTerms
 pub mod TermBytes
 pub mod TermForms
 pub mod TermTexts
+pub mod Text
 pub mod TextForms
 pub mod TokenLaws
 pub mod TokenSteps

@@ -1,47 +1,19 @@
 -- Lemmas on tables of names and atom texts.
-use Rattle.std.proofs.Common.{◌≡◌, ℕ, zero, suc, ◌<◌, ◌≤◌, Bool, true, false, cond, ◌&&◌, ◌⊎◌, List, [], ◌∷◌, ◌++◌, map, take, length, get_or, Option, Some, None, is_some, position, bytes_eq, slice_get, slice_index_or, nat_lt, String, string_bytes, string_eq, IsTrue, IsAscii, All, refl, sym, ap, ◌∙◌, subst, inl, inr, arith, length-append, length-take}
+use Rattle.std.proofs.Common.{◌≡◌, ℕ, zero, suc, ◌<◌, ◌≤◌, Bool, true, false, cond, ◌&&◌, ◌⊎◌, List, [], ◌∷◌, ◌++◌, map, take, length, get_or, Option, Some, None, is_some, position, bytes_eq, slice_get, slice_index_or, nat_lt, String, string_bytes, string_eq, IsTrue, All, refl, sym, ap, ◌∙◌, subst, inl, inr, arith, length-append, length-take}
 use Rattle.std.specs.List.{list_all, list_any}
 use Rattle.std.specs.Char.{is_ascii_lowercase}
-use Rattle.std.proofs.lemmas.Bool.Decides.{nat_tests}
 use Rattle.std.proofs.lemmas.List.{take-append-le, map-append, length-map}
 use Rattle.std.proofs.lemmas.List.Elements.{All-push}
 use Rattle.std.proofs.lemmas.List.Folds.{list_any_at}
 use Rattle.std.proofs.lemmas.List.Quantifiers.{position-Some}
 use Rattle.std.proofs.lemmas.Option.{slice_get-get_or, slice_get_within, get_or_from_slice_get}
 use Rattle.std.proofs.lemmas.Slice.Eq.{bytes_eq-Decides}
-use Rattle.std.proofs.lemmas.Str.Ascii.{IsAscii-cons, IsAscii-nil}
 use Rattle.std.specs.HashSet.{HashSet}
 use Rattle.indexmap.specs.IndexSet.{insert_key}
 use Rattle.term_core.specs.Names.{IsNames, AtomText, is_name_byte, is_atom_text, number_of, names_with, given_names, texts_of}
 use Rattle.term_core.proofs.Places.{is_some-position, position-map, position-append_one, slice_get-append, slice_get-append_one}
-use Rattle.term_core.proofs.Truths.{both}
-
--- a byte of a name is ASCII
-name_byte_is_ascii : (c : ℕ) → is_name_byte c ≡ true → c < 128
-name_byte_is_ascii c h = grind (arith, nat_tests)
-
--- and so is a small letter
-small_letter_is_ascii : (c : ℕ) → is_ascii_lowercase c ≡ true → c < 128
-small_letter_is_ascii c h = grind (arith, nat_tests)
-
--- and so are the bytes of a name
-name_bytes_are_ascii : (text : List ℕ) → list_all is_name_byte text ≡ true → IsAscii text
-name_bytes_are_ascii [] h = IsAscii-nil
-name_bytes_are_ascii (c ∷ rest) h =
-    let parts = both (is_name_byte c) (list_all is_name_byte rest) h in
-    IsAscii-cons c rest (name_byte_is_ascii c parts.0) (name_bytes_are_ascii rest parts.1)
-
--- an atom's text is ASCII
-pub IsAscii-atom : (text : List ℕ) → IsTrue (is_atom_text text) → IsAscii text
-IsAscii-atom [] h = IsAscii-nil
-IsAscii-atom (c ∷ rest) h =
-    let parts = both (is_ascii_lowercase c) _ h in
-    let tail = both (list_all is_name_byte rest) _ parts.1 in
-    IsAscii-cons c rest (small_letter_is_ascii c parts.0) (name_bytes_are_ascii rest tail.0)
-
--- a text is its own
-same_bytes : (xs : List ℕ) → bytes_eq xs xs ≡ true
-same_bytes xs = (bytes_eq-Decides xs xs).1 refl
+use Rattle.term_core.proofs.Text.Options.{same_bytes}
+use Rattle.term_core.proofs.Truths.{none_unless}
 
 -- what has a number stands at it
 pub slice_get-number_of : (names : List (List ℕ)) (text : List ℕ) (n : ℕ) → number_of names text ≡ Some n → slice_get names n ≡ Some text
@@ -60,11 +32,6 @@ number_of-slice_get names text i at none =
     let here : bytes_eq text (get_or names i []) ≡ true = ap (bytes_eq text) (get_or_from_slice_get names i text [] at) ∙ same_bytes text in
     no_and_some (number_of names text) none (is_some-position (bytes_eq text) names ∙ list_any_at (bytes_eq text) names i [] (slice_get_within names i text at) here)
 
--- what is no value is none
-none_unless : (o : Option ℕ) → ((i : ℕ) → o ≡ Some i → ⊥) → o ≡ None
-none_unless None h = refl
-none_unless (Some i) h = absurd (h i refl)
-
 -- each text of a table is an atom's
 pub texts_are_atoms : (names : List (List ℕ)) (text : List ℕ) (n : ℕ) → IsNames names → slice_get names n ≡ Some text → IsTrue (is_atom_text text)
 texts_are_atoms names text n sound at =
@@ -77,20 +44,15 @@ number_of-no_atom names text sound none =
 
 -- the given names are atoms
 given_texts : (k : ℕ) (d : List ℕ) → k < 3 → IsTrue (is_atom_text (slice_index_or given_names k d))
-given_texts zero d h = refl
-given_texts (suc zero) d h = refl
-given_texts (suc (suc zero)) d h = refl
 given_texts (suc (suc (suc k))) d h = absurd (omega arith)
+given_texts k d h = refl
 
 -- no two of them are alike
 given_apart : (i j : ℕ) → i < j → j < 3 → slice_get given_names i ≡ slice_get given_names j → ⊥
 given_apart zero (suc zero) l h e = cc
 given_apart zero (suc (suc zero)) l h e = cc
 given_apart (suc zero) (suc (suc zero)) l h e = cc
-given_apart i zero l h e = omega arith
-given_apart (suc i) (suc zero) l h e = omega arith
-given_apart (suc (suc i)) (suc (suc zero)) l h e = omega arith
-given_apart i (suc (suc (suc k))) l h e = omega arith
+given_apart i j l h e = omega arith
 
 -- the given names are a table
 pub given_names-IsNames : IsNames given_names

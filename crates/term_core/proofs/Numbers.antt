@@ -1,18 +1,14 @@
 -- Lemmas on the numbers of atoms as names grow.
-use Rattle.std.proofs.Common.{◌≡◌, ℕ, ◌≤◌, cond, List, [], ◌∷◌, ◌++◌, length, Option, None, Some, is_some, unwrap_or, bytes_eq, refl, ap, ◌∙◌, arith, length-append}
+use Rattle.std.proofs.Common.{◌≡◌, ℕ, ◌≤◌, cond, List, [], ◌∷◌, ◌++◌, length, Option, None, Some, is_some, bytes_eq, refl, ap, ◌∙◌, arith, length-append}
 use Rattle.std.proofs.lemmas.Slice.Eq.{bytes_eq-Decides}
 use Rattle.term_core.specs.Names.{Extends, number_of, names_with}
-use Rattle.term_core.specs.TermText.{number_in, names_with_all}
+use Rattle.term_core.specs.TermText.{names_with_all}
 use Rattle.term_core.proofs.GrownNames.{Extends-refl, Extends-trans, names_with-Extends}
 use Rattle.term_core.proofs.Places.{position-append_one, position-append_found}
 
 -- a text that has a number keeps it
 pub number_of-Extends : (before after : List (List ℕ)) (text : List ℕ) (n : ℕ) → Extends before after → number_of before text ≡ Some n → number_of after text ≡ Some n
 number_of-Extends before after text n grown at = ap (λ names. number_of names text) grown.whole ∙ position-append_found (bytes_eq text) before grown.more n at
-
--- so it is the number in later names
-pub number_in-Extends : (before after : List (List ℕ)) (text : List ℕ) (n : ℕ) → Extends before after → number_of before text ≡ Some n → number_in after text ≡ n
-number_in-Extends before after text n grown at = ap (λ o. unwrap_or o 0) (number_of-Extends before after text n grown at)
 
 -- naming more texts keeps the names before
 pub names_with_all-Extends : (names : List (List ℕ)) (texts : List (List ℕ)) → Extends names (names_with_all names texts)

@@ -5,7 +5,7 @@ use Rattle.std.proofs.lemmas.List.{append_assoc, append-nil}
 use Rattle.term_core.specs.declared.byte_kind.Bracket.{Bracket}
 use Rattle.term_core.specs.declared.byte_kind.Bracket.TheVariants.{Curly, Square}
 use Rattle.term_core.specs.declared.byte_kind.ByteKind.{ByteKind}
-use Rattle.term_core.specs.declared.byte_kind.ByteKind.TheVariants.{Open, Close, Comma, Minus, Zero, Digit, Letter, NameByte, Foreign}
+use Rattle.term_core.specs.declared.byte_kind.ByteKind.TheVariants.{Open, Close, Comma}
 use Rattle.term_core.specs.Bytes.{kind_of, is_leaf_kind, leaf_front}
 use Rattle.term_core.specs.PlainTerm.{TermOf, RowOf, integer_leaf, atom_leaf, tuple_of, list_of, no_terms, term_then}
 use Rattle.term_core.specs.Tokens.{begins, is_outside, outside_at}
@@ -14,44 +14,27 @@ use Rattle.term_core.proofs.ByteKinds.{closing}
 use Rattle.term_core.proofs.Lefts.{place_or-twice}
 use Rattle.term_core.proofs.LeafTexts.{is_leaf_byte, LeafText, IsDelimited, LeafText-integer, LeafText-atom, front_text}
 use Rattle.term_core.proofs.Shapes.{no_integer_text}
-use Rattle.term_core.proofs.Truths.{both}
 use Rattle.term_core.proofs.WrittenTokens.{RowHasLeafTexts, delimited_behind}
+use Rattle.std.proofs.lemmas.Bool.{and_parts}
 
 -- inside of a leaf no integer begins
 inside_none : (kind : ByteKind) → (b : Bool) → (begins true kind && b) ≡ false
 inside_none (Open c) b = refl
-inside_none (Close c) b = refl
-inside_none Comma b = refl
-inside_none Minus b = refl
-inside_none Zero b = refl
-inside_none Digit b = refl
-inside_none Letter b = refl
-inside_none NameByte b = refl
-inside_none Foreign b = refl
+inside_none kind b = refl
 
 -- nor with a byte between terms
 between_none : (kind : ByteKind) → is_leaf_kind kind ≡ false → (b : Bool) → (begins false kind && b) ≡ false
 between_none (Open c) h b = refl
 between_none (Close c) h b = refl
 between_none Comma h b = refl
-between_none Minus h b = cc
-between_none Zero h b = cc
-between_none Digit h b = cc
-between_none Letter h b = cc
-between_none NameByte h b = cc
-between_none Foreign h b = cc
+between_none kind h b = cc
 
 -- with a byte of a leaf one begins where the leaf is outside
 leaf_begins : (kind : ByteKind) → is_leaf_kind kind ≡ true → (b : Bool) → (begins false kind && b) ≡ b
 leaf_begins (Open c) h b = cc
 leaf_begins (Close c) h b = cc
 leaf_begins Comma h b = cc
-leaf_begins Minus h b = refl
-leaf_begins Zero h b = refl
-leaf_begins Digit h b = refl
-leaf_begins Letter h b = refl
-leaf_begins NameByte h b = refl
-leaf_begins Foreign h b = refl
+leaf_begins kind h b = refl
 
 -- one byte further
 step_none : (inside : Bool) (c : ℕ) (rest : List ℕ) → (begins inside (kind_of c) && is_outside (leaf_front (c ∷ rest))) ≡ false → outside_at inside (c ∷ rest) ≡ place_or None 1 (outside_at (is_leaf_byte c) rest)
@@ -72,7 +55,7 @@ shift_none (Some i) = ap Some (omega arith)
 outside_inside : (text rest : List ℕ) → list_all is_leaf_byte text ≡ true → IsDelimited rest → outside_at true (text ++ rest) ≡ place_or None (length text) (outside_at false rest)
 outside_inside [] rest h d = outside_delimited rest d ∙ shift_none (outside_at false rest)
 outside_inside (c ∷ text) rest h d =
-    let parts = both (is_leaf_byte c) (list_all is_leaf_byte text) h in
+    let parts = and_parts (is_leaf_byte c) (list_all is_leaf_byte text) h in
     step_none true c (text ++ rest) (inside_none (kind_of c) (is_outside (leaf_front (c ∷ (text ++ rest)))))
     ∙ ap (λ b. place_or None 1 (outside_at b (text ++ rest))) parts.0 ∙ ap (place_or None 1) (outside_inside text rest parts.1 d)
     ∙ place_or-twice 1 (length text) (outside_at false rest) ∙ ap (λ n. place_or None n (outside_at false rest)) (omega arith)
@@ -86,7 +69,7 @@ leaf_choice false n later = refl
 outside_leaf : (text rest : List ℕ) → LeafText text → IsDelimited rest → outside_at false (text ++ rest) ≡ place_or (cond (is_outside text) (Some 0) None) (length text) (outside_at false rest)
 outside_leaf [] rest h d = absurd (omega (arith, h.some))
 outside_leaf (c ∷ text) rest h d =
-    let parts = both (is_leaf_byte c) (list_all is_leaf_byte text) h.bytes in
+    let parts = and_parts (is_leaf_byte c) (list_all is_leaf_byte text) h.bytes in
     ap (λ b. cond b (Some 0) (place_or None 1 (outside_at (is_leaf_byte c) (text ++ rest))))
     (leaf_begins (kind_of c) parts.0 (is_outside (leaf_front (c ∷ (text ++ rest)))) ∙ ap is_outside (front_text (c ∷ text) rest h.bytes d))
     ∙ ap (λ b. cond (is_outside (c ∷ text)) (Some 0) (place_or None 1 (outside_at b (text ++ rest)))) parts.0
@@ -103,16 +86,14 @@ integer_choice false b h = cc
 
 -- behind the brackets
 shut_in : (o later : Option ℕ) (n m : ℕ) → m ≡ 1 + n → place_or None 1 (place_or o n later) ≡ place_or (place_or None 1 o) m later
-shut_in None None n m e = refl
 shut_in None (Some i) n m e = ap Some (omega (arith, e))
-shut_in (Some i) later n m e = refl
+shut_in o later n m e = refl
 
 -- a term, and those behind it
 row_places : (front row later : Option ℕ) (n k m : ℕ) → m ≡ n + k → place_or front n (place_or (place_or None 1 row) k later) ≡ place_or (place_or front (n + 1) row) m later
-row_places (Some i) row later n k m e = refl
 row_places None (Some i) later n k m e = ap Some (omega arith)
-row_places None None None n k m e = refl
 row_places None None (Some i) n k m e = ap Some (omega (arith, e))
+row_places front row later n k m e = refl
 
 -- a closing bracket stands at no integer
 outside_closing : (b : Bracket) (rest : List ℕ) → outside_at false (closing b ∷ rest) ≡ place_or None 1 (outside_at false rest)

@@ -1,17 +1,15 @@
 -- Commas outside of brackets: the text of a term has none, so they part the terms of a row.
-use Rattle.std.proofs.Common.{◌≡◌, ℕ, ◌+◌, ◌-◌, ◌<◌, Bool, true, false, cond, ◌&&◌, ◌||◌, ◌==◌, List, [], ◌∷◌, ◌++◌, map, None, Some, Option, All, IsTrue, refl, sym, ap, ◌∙◌, arith}
+use Rattle.std.proofs.Common.{◌≡◌, ℕ, ◌+◌, ◌-◌, ◌<◌, Bool, true, false, cond, ◌&&◌, ◌||◌, ◌==◌, List, [], ◌∷◌, ◌++◌, map, None, Some, Option, refl, sym, ap, ◌∙◌, arith}
 use Rattle.std.specs.List.{list_all}
 use Rattle.std.proofs.lemmas.Bool.Decides.{nat_tests, Decides-eqb}
 use Rattle.std.proofs.lemmas.List.{append-nil}
 use Rattle.term_core.specs.PlainTerm.{TermOf, RowOf, integer_leaf, atom_leaf, tuple_of, list_of, no_terms, term_then, terms_of, row_of, row_count}
-use Rattle.std.proofs.lemmas.List.Elements.{All-nil, All-cons, All-head, All-tail}
-use Rattle.term_core.specs.TermForms.{is_term_text, tree_of}
-use Rattle.term_core.specs.TermParts.{depth_behind, is_part_end, CutText, with_byte, cut_at_depth, cut_part, in_first, parts_at_depth, parts_of_terms, joined_behind, joined, parts_of_rest}
+use Rattle.term_core.specs.TermParts.{depth_behind, is_part_end, with_byte, cut_at_depth, cut_part, in_first, parts_at_depth, parts_of_terms, joined_behind, joined, parts_of_rest}
 use Rattle.term_core.specs.Written.{WrittenTerm, WrittenRow, written, parted, behind, HasLeafTexts}
 use Rattle.term_core.proofs.LeafTexts.{is_leaf_byte, LeafText-integer, LeafText-atom}
-use Rattle.term_core.proofs.TermForms.{tree_is, is_term_text-form}
-use Rattle.term_core.proofs.Truths.{both, false_is_no_true, false_unless}
+use Rattle.term_core.proofs.Truths.{false_is_no_true}
 use Rattle.term_core.proofs.WrittenTokens.{RowHasLeafTexts}
+use Rattle.std.proofs.lemmas.Bool.{and_parts, false_from_ne_true}
 
 -- how many brackets are open behind a text
 abbrev pub depth_after : ℕ → List ℕ → ℕ
@@ -54,7 +52,7 @@ passed-append depth xs ys h k = record {
 
 -- a byte that stands in an integer or atom is no bracket and no comma
 no_other : (c other : ℕ) → is_leaf_byte c ≡ true → is_leaf_byte other ≡ false → (c == other) ≡ false
-no_other c other h k = false_unless (c == other) (λ e. false_is_no_true (sym k ∙ ap is_leaf_byte (sym ((Decides-eqb c other).0 e)) ∙ h))
+no_other c other h k = false_from_ne_true (c == other) (λ e. false_is_no_true (sym k ∙ ap is_leaf_byte (sym ((Decides-eqb c other).0 e)) ∙ h))
 
 -- so it changes nothing
 leaf_depth : (depth c : ℕ) → is_leaf_byte c ≡ true → depth_behind depth c ≡ depth
@@ -71,7 +69,7 @@ leaf_no_end depth c h = ap (λ b. b && (depth == 0)) (no_other c 44 h refl)
 passed_bytes : (depth : ℕ) (text : List ℕ) → list_all is_leaf_byte text ≡ true → IsPassed depth text
 passed_bytes depth [] h = record { no_end = refl; same = refl }
 passed_bytes depth (c ∷ rest) h =
-    let parts = both (is_leaf_byte c) (list_all is_leaf_byte rest) h in
+    let parts = and_parts (is_leaf_byte c) (list_all is_leaf_byte rest) h in
     let later = passed_bytes depth rest parts.1 in
     record {
       no_end = ap (λ b. cond b false (has_no_end (depth_behind depth c) rest)) (leaf_no_end depth c parts.0) ∙ ap (λ d. has_no_end d rest) (leaf_depth depth c parts.0) ∙ later.no_end;
@@ -117,31 +115,6 @@ mutual
       }
 
 -- ---- cuts
-
--- a text in front of a cut
-abbrev pub with_front : List ℕ → CutText → CutText
-with_front text cut = record { front = text ++ cut.front; rest = cut.rest }
-
--- what is passed stands in front of the cut
-cut_passed : (depth : ℕ) (text rest : List ℕ) → has_no_end depth text ≡ true → cut_at_depth depth (text ++ rest) ≡ with_front text (cut_at_depth (depth_after depth text) rest)
-cut_passed depth [] rest h = refl
-cut_passed depth (c ∷ text) rest h =
-    let parts = past_test (is_part_end depth c) (has_no_end (depth_behind depth c) text) h in
-    ap (λ b. cond b (record { front = []; rest = Some (text ++ rest) }) (with_byte c (cut_at_depth (depth_behind depth c) (text ++ rest)))) parts.0 ∙ ap (with_byte c) (cut_passed (depth_behind depth c) text rest parts.1)
-
--- a term's text alone is not cut
-pub cut_term_alone : (t : WrittenTerm) → HasLeafTexts t → cut_part (written t) ≡ record { front = written t; rest = None }
-unfolding cut_part
-cut_term_alone t h =
-    let p = passed_written 0 t h in
-    ap (cut_at_depth 0) (sym (append-nil (written t))) ∙ cut_passed 0 (written t) [] p.no_end ∙ ap (λ text. record { front = text; rest = None }) (append-nil (written t))
-
--- and in front of a comma it is what is cut off
-pub cut_term_first : (t : WrittenTerm) (rest : List ℕ) → HasLeafTexts t → cut_part (written t ++ 44 ∷ rest) ≡ record { front = written t; rest = Some rest }
-unfolding cut_part
-cut_term_first t rest h =
-    let p = passed_written 0 t h in
-    cut_passed 0 (written t) (44 ∷ rest) p.no_end ∙ ap (λ d. with_front (written t) (cut_at_depth d (44 ∷ rest))) p.same ∙ ap (λ text. record { front = text; rest = Some rest }) (append-nil (written t))
 
 -- ---- parts
 
@@ -192,7 +165,7 @@ parts_of_parted (term_then t row) h some = parts_row t row h.0 h.1
 
 -- a byte that ends a part is a comma
 end_is_comma : (depth c : ℕ) → is_part_end depth c ≡ true → c ≡ 44
-end_is_comma depth c h = (Decides-eqb c 44).0 (both (c == 44) (depth == 0) h).0
+end_is_comma depth c h = (Decides-eqb c 44).0 (and_parts (c == 44) (depth == 0) h).0
 
 -- a byte in front of the first part is in front of the whole
 joined_more : (c : ℕ) (parts : List (List ℕ)) → joined (in_first c parts) ≡ c ∷ joined parts
@@ -263,38 +236,3 @@ joined_behind_written (t ∷ terms) = ap (λ rest. 44 ∷ (written t ++ rest)) (
 pub joined_written : (terms : List WrittenTerm) → joined (map written terms) ≡ parted (row_of terms)
 joined_written [] = refl
 joined_written (t ∷ terms) = ap (λ rest. written t ++ rest) (joined_behind_written terms)
-
--- the text of a term is that of its tree
-written_tree : (part : List ℕ) → IsTrue (is_term_text part) → written (tree_of part) ≡ part
-written_tree part h = let form = tree_is part h in sym form.is_text.whole
-
--- so are the texts of terms
-written_trees : (parts : List (List ℕ)) → All (λ part. IsTrue (is_term_text part)) parts → map written (map tree_of parts) ≡ parts
-written_trees [] h = refl
-written_trees (part ∷ parts) h = λ i.
-    written_tree part (All-head (λ part. IsTrue (is_term_text part)) part parts h) i ∷ written_trees parts (All-tail (λ part. IsTrue (is_term_text part)) part parts h) i
-
--- and the trees have leaf texts
-leaves_trees : (parts : List (List ℕ)) → All (λ part. IsTrue (is_term_text part)) parts → RowHasLeafTexts (row_of (map tree_of parts))
-leaves_trees [] h = tt
-leaves_trees (part ∷ parts) h =
-    let form = tree_is part (All-head (λ part. IsTrue (is_term_text part)) part parts h) in
-    (form.is_text.leaves, leaves_trees parts (All-tail (λ part. IsTrue (is_term_text part)) part parts h))
-
--- a text whose parts are terms' texts is that of the row of their trees
-pub record IsRowText (text : List ℕ) (row : WrittenRow) : Type 0 where
-  pub whole : text ≡ parted row
-  pub leaves : RowHasLeafTexts row
-
--- so it is read back
-pub row_of_parts : (text : List ℕ) → All (λ part. IsTrue (is_term_text part)) (parts_of_terms text) → IsRowText text (row_of (map tree_of (parts_of_terms text)))
-row_of_parts text h = record {
-  whole = sym (joined_parts_of_terms text) ∙ ap joined (sym (written_trees (parts_of_terms text) h)) ∙ joined_written (map tree_of (parts_of_terms text));
-  leaves = leaves_trees (parts_of_terms text) h;
-}
-
--- and each part of a row's text is a term's text
-pub parts_are_texts : (row : WrittenRow) → RowHasLeafTexts row → All (λ part. IsTrue (is_term_text part)) (map written (terms_of row))
-parts_are_texts no_terms h = All-nil (λ part. IsTrue (is_term_text part))
-parts_are_texts (term_then t row) h =
-    All-cons (λ part. IsTrue (is_term_text part)) (written t) (map written (terms_of row)) (is_term_text-form (written t) t (record { whole = refl; leaves = h.0 })) (parts_are_texts row h.1)

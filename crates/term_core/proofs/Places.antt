@@ -1,7 +1,8 @@
 -- Lemmas on `position`, `slice_get` and `list_any`, of any lists.
-use Rattle.std.proofs.Common.{◌≡◌, ℕ, zero, suc, ◌+◌, ◌<◌, Bool, true, false, cond, not, List, [], ◌∷◌, ◌++◌, map, length, Option, Some, None, option_map, is_some, position, slice_get, nat_lt, refl, sym, ap, ◌∙◌, arith, add-one, ◌||◌}
+use Rattle.std.proofs.Common.{◌≡◌, ℕ, zero, suc, ◌+◌, ◌<◌, Bool, true, false, cond, not, List, [], ◌∷◌, ◌++◌, map, length, Option, Some, None, option_map, is_some, position, slice_get, nat_lt, refl, sym, ap, ◌∙◌, arith, add-one, ◌||◌, All, subst}
 use Rattle.std.specs.List.{position_or_len, list_any}
 use Rattle.std.proofs.lemmas.Bool.Decides.{nat_tests}
+use Rattle.std.proofs.lemmas.Option.{get_or_from_slice_get, slice_get_within}
 
 -- the place of one that follows
 place_after : (r n : ℕ) → cond {A = Option ℕ} (nat_lt (1 + r) (suc n)) (Some (1 + r)) None ≡ option_map (λ i. i + 1) (cond {A = Option ℕ} (nat_lt r n) (Some r) None)
@@ -49,9 +50,8 @@ is_some-position p (x ∷ xs) =
 
 -- where none passes, the first does not, nor any behind
 none_parts : (b : Bool) (o : Option ℕ) → cond {A = Option ℕ} b (Some 0) (option_map (λ i. i + 1) o) ≡ None → (b ≡ false) × (o ≡ None)
-none_parts true o h = cc
 none_parts false None h = (refl, refl)
-none_parts false (Some i) h = cc
+none_parts b o h = cc
 
 -- behind a list where none passes, the first of what follows is found where it passes
 pub position-append_one : {X : Type 0} (p : X → Bool) (xs : List X) (y : X) → position p xs ≡ None → p y ≡ true → position p (xs ++ y ∷ []) ≡ Some (length xs)
@@ -83,3 +83,7 @@ pub position-append_found : {X : Type 0} (p : X → Bool) (xs ys : List X) (n : 
 position-append_found p [] ys n h = cc
 position-append_found p (x ∷ xs) ys n h =
     position-cons p x (xs ++ ys) ∙ found_first p x xs ys n (p x) refl (λ m at. position-append_found p xs ys m at) (position p xs) refl (sym (position-cons p x xs) ∙ h)
+
+-- what is true of each is true of the one at a place
+pub all_at : {X : Type 0} (P : X → Type 0) (xs : List X) (k : ℕ) (x : X) → All P xs → slice_get xs k ≡ Some x → P x
+all_at P xs k x each here = subst P (get_or_from_slice_get xs k x x here) (each k x (slice_get_within xs k x here))

@@ -1,26 +1,24 @@
 -- A term and its plain term say the same.
 use Rattle.std.proofs.Common.{◌≡◌, ℕ, ℤ, refl, sym, ap, ◌∙◌}
 use Rattle.term_core.specs.declared.term.Term.{Term}
-use Rattle.term_core.specs.declared.term.Term.TheVariants.{Int, Atom, Tuple, List as ListOf}
+use Rattle.term_core.specs.declared.term.Term.TheVariants.{Tuple, List as ListOf}
 use Rattle.term_core.specs.Plain.{plain, term_of}
-use Rattle.term_core.specs.PlainTerm.{TermOf, integer_leaf, atom_leaf, tuple_of, list_of}
+use Rattle.term_core.specs.PlainTerm.{TermOf, tuple_of, list_of}
 use Rattle.term_core.proofs.TokenLaws.{row_of-terms_of, terms_of-row_of}
 use Rattle.std.specs.Bool.{Decides}
 use Rattle.term_core.specs.Same.{is_same, is_same-Decides}
 
 -- from a term and back
 pub term_of-plain : (t : Term) → term_of (plain t) ≡ t
-term_of-plain (Int z) = refl
-term_of-plain (Atom a) = refl
 term_of-plain (Tuple ts) = ap Tuple (terms_of-row_of ts)
 term_of-plain (ListOf ts) = ap ListOf (terms_of-row_of ts)
+term_of-plain t = refl
 
 -- from a plain term and back
 pub plain-term_of : (t : TermOf ℤ ℕ) → plain (term_of t) ≡ t
-plain-term_of (integer_leaf z) = refl
-plain-term_of (atom_leaf a) = refl
 plain-term_of (tuple_of row) = ap tuple_of (row_of-terms_of row)
 plain-term_of (list_of row) = ap list_of (row_of-terms_of row)
+plain-term_of t = refl
 
 -- so terms with one plain term are one term
 pub plain-injective : (t u : Term) → plain t ≡ plain u → t ≡ u

@@ -1,7 +1,7 @@
 -- Lemmas on the range of integers, and on the leftmost integer out of it.
-use Rattle.std.proofs.Common.{◌≡◌, ℕ, ◌+◌, ◌≤◌, Bool, true, false, cond, Option, None, Some, List, length, ℤ, pos, negsuc, refl, ap, ◌∙◌, arith, w64, to_z, of_z}
+use Rattle.std.proofs.Common.{◌≡◌, ℕ, ◌+◌, ◌≤◌, Bool, true, false, cond, Option, None, Some, List, length, ℤ, pos, negsuc, refl, ap, ◌∙◌, arith}
 use Rattle.std.proofs.lemmas.Bool.Decides.{nat_tests}
-use Rattle.std.proofs.lemmas.Int.{ints, to_z-of_z}
+use Rattle.std.proofs.lemmas.Int.{ints}
 use Rattle.term_core.specs.PlainTerm.{TermOf, RowOf, integer_leaf, atom_leaf, tuple_of, list_of, no_terms, term_then, EachInRow}
 use Rattle.term_core.specs.Written.{written, IsTermInteger, is_term_integer, integer_of, IntegersFit, place_or, outside_of, outside_in}
 use Rattle.term_core.proofs.IntegerTexts.{range_pos, range_negsuc}
@@ -20,16 +20,10 @@ pub IsTermInteger-from : (z : ℤ) → is_term_integer z ≡ true → IsTermInte
 IsTermInteger-from (pos n) h = let small = small_then n h in record { low = omega (arith, ints); high = omega (arith, ints) }
 IsTermInteger-from (negsuc n) h = let small = small_then n h in record { low = omega (arith, ints); high = omega (arith, ints) }
 
--- an integer that is a term keeps its value in 64 bits
-pub kept_in_64 : (z : ℤ) → IsTermInteger z → to_z w64 (of_z w64 z) ≡ z
-kept_in_64 (pos n) range = let small = range_pos n range in to_z-of_z w64 (pos n) (record { sfits = omega arith })
-kept_in_64 (negsuc n) range = let small = range_negsuc n range in to_z-of_z w64 (negsuc n) (record { sfits = omega arith })
-
 -- no place, nor one behind it
 none_places : (o : Option ℕ) (n : ℕ) (later : Option ℕ) → place_or o n later ≡ None → (o ≡ None) × (later ≡ None)
 none_places None n None h = (refl, refl)
-none_places None n (Some i) h = cc
-none_places (Some i) n later h = cc
+none_places o n later h = cc
 
 -- by the test
 fits_if : (z : ℤ) (b : Bool) → is_term_integer z ≡ b → cond {A = Option ℕ} b None (Some 0) ≡ None → IsTermInteger z

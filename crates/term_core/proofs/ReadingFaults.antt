@@ -16,7 +16,7 @@ use Rattle.term_core.specs.Tops.{top_of}
 use Rattle.term_core.specs.Written.{integer_of}
 use Rattle.term_core.proofs.ReadingLaws.{text_names, reading_again, reading_is, reading_short, cause_again}
 use Rattle.term_core.proofs.Readings.{readable_if}
-use Rattle.term_core.proofs.ScanFaults.{text_if, SyntaxAt-fault}
+use Rattle.term_core.proofs.Scanning.Faults.{text_if, SyntaxAt-fault}
 use Rattle.term_core.proofs.TextForms.{text_words, text_outside}
 
 -- one fault

@@ -17,9 +17,10 @@ use Rattle.term_core.proofs.LeafFacts.{term_words-map}
 use Rattle.term_core.proofs.PlainTerms.{plain-term_of}
 use Rattle.term_core.proofs.Ranges.{none_of_fits}
 use Rattle.term_core.proofs.Readings.{readable_if, many_words, past_syntax, past_range, reads_term, refuses_names}
-use Rattle.term_core.proofs.ScanFaults.{text_if, SyntaxAt-fault}
+use Rattle.term_core.proofs.Scanning.Faults.{text_if, SyntaxAt-fault}
 use Rattle.term_core.proofs.SyntaxPlaces.{SyntaxAt-unique}
 use Rattle.term_core.proofs.TextForms.{text_words, text_atoms, text_built, text_outside, text_no_fault}
+use Rattle.term_core.proofs.Text.Options.{some_is}
 
 -- the names after a text are those with its atoms
 pub text_names : (names : List (List ℕ)) (text : List ℕ) (form : WrittenTerm) → IsTextOf text form → names_after names text ≡ names_with_all names (atoms_of form)
@@ -119,10 +120,6 @@ judged names text term after h =
     let e = un_read (top_of (built integer_of (number_in (names_after names text)) (tokens_in false text) [] [])) (names_after names text) term after d.1 in
     record { no_fault = a.0; in_range = b.0; short = small_words (starts (tokens_in false text)) c.0; room = small_names (length (names_after names text)) d.0; one = e.0; first = e.1; value = e.2; named = e.3 }
 
--- one value
-same_some : (p q : PlainTerm) → Some p ≡ Some q → p ≡ q
-same_some p q e = cc
-
 -- a text that is read is the term's
 pub reading_is : (names : List (List ℕ)) (text : List ℕ) (term : Term) (after : List (List ℕ)) → term_reading names text ≡ Ok (term, after) → TermText names text term after
 reading_is names text term after h =
@@ -136,7 +133,7 @@ reading_is names text term after h =
       fits = r.fits;
       named = j.named ∙ text_names names text r.form r.is_text;
       room = omega (arith, ap length j.named, j.room);
-      value = ap plain j.value ∙ plain-term_of j.one ∙ sym (same_some _ j.one (ap top_of (sym built_one) ∙ j.first)) ∙ ap (λ ns. map_leaves integer_of (number_in ns) r.form) (sym j.named);
+      value = ap plain j.value ∙ plain-term_of j.one ∙ sym (some_is _ j.one (ap top_of (sym built_one) ∙ j.first)) ∙ ap (λ ns. map_leaves integer_of (number_in ns) r.form) (sym j.named);
     }
 
 -- and has few words

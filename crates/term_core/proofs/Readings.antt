@@ -15,7 +15,7 @@ use Rattle.term_core.specs.Tops.{top_of}
 use Rattle.term_core.specs.Written.{integer_of}
 use Rattle.term_core.proofs.PlainTerms.{term_of-plain}
 use Rattle.term_core.proofs.Ranges.{fits_of_none}
-use Rattle.term_core.proofs.ScanFaults.{text_if}
+use Rattle.term_core.proofs.Scanning.Faults.{text_if}
 use Rattle.term_core.proofs.TextForms.{text_outside}
 
 -- a text with no fault, and with no integer out of range, is a term's

@@ -4,7 +4,7 @@ use Rattle.std.proofs.lemmas.Bool.Decides.{nat_tests}
 use Rattle.term_core.specs.Names.{is_atom_text}
 use Rattle.term_core.specs.Written.{is_integer_text}
 use Rattle.term_core.proofs.IntegerTexts.{IntegerShape, Zero, Minus, Plain, shape_of, Positive-from}
-use Rattle.term_core.proofs.Truths.{false_unless}
+use Rattle.std.proofs.lemmas.Bool.{false_from_ne_true}
 
 -- an atom begins with a small letter
 small_letter : (text : List ℕ) → is_atom_text text ≡ true → 97 ≤ get_or text 0 0
@@ -23,8 +23,8 @@ atoms_are_no_integers text a i = omega (arith, small_letter text a, starts_low t
 
 -- an integer's text is no atom's
 pub no_atom_text : (text : List ℕ) → IsTrue (is_integer_text text) → is_atom_text text ≡ false
-no_atom_text text h = false_unless (is_atom_text text) (λ a. atoms_are_no_integers text a h)
+no_atom_text text h = false_from_ne_true (is_atom_text text) (λ a. atoms_are_no_integers text a h)
 
 -- an atom's text is no integer's
 pub no_integer_text : (text : List ℕ) → IsTrue (is_atom_text text) → is_integer_text text ≡ false
-no_integer_text text h = false_unless (is_integer_text text) (λ i. atoms_are_no_integers text h i)
+no_integer_text text h = false_from_ne_true (is_integer_text text) (λ i. atoms_are_no_integers text h i)

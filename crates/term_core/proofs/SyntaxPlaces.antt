@@ -1,7 +1,7 @@
 -- A text has one place of its fault.
-use Rattle.std.proofs.Common.{◌≡◌, ℕ, zero, suc, ◌+◌, ◌<◌, ◌≤◌, inl, inr, List, [], ◌∷◌, length, take, drop, refl, sym, ap, subst, arith}
+use Rattle.std.proofs.Common.{◌≡◌, ℕ, zero, suc, ◌+◌, ◌<◌, ◌≤◌, inl, inr, List, ◌∷◌, length, take, drop, refl, sym, ap, subst, arith}
 use Rattle.term_core.specs.Faults.{BeginsTermText, SyntaxAt}
-use Rattle.term_core.proofs.ScanFaults.{cut_again}
+use Rattle.term_core.proofs.Scanning.Faults.{cut_again}
 use Rattle.term_core.proofs.TextForms.{begins_shorter}
 use Rattle.term_core.proofs.Truths.{three_ways}
 
@@ -11,10 +11,9 @@ within text i s = elim s.stops [ inl e ↦ omega (arith, e) | inr l ↦ omega (a
 
 -- the front of a front
 front_of_front : (i j : ℕ) (text : List ℕ) → i ≤ j → take i (take j text) ≡ take i text
-front_of_front zero j text h = refl
 front_of_front (suc i) zero text h = absurd (omega arith)
-front_of_front (suc i) (suc j) [] h = refl
 front_of_front (suc i) (suc j) (c ∷ text) h = ap (λ t. c ∷ t) (front_of_front i j text (omega arith))
+front_of_front i j text h = refl
 
 -- none is before another
 not_before : (text : List ℕ) (i j : ℕ) → SyntaxAt text i → SyntaxAt text j → i < j → ⊥

@@ -8,7 +8,7 @@ use Rattle.term_core.specs.Faults.{IsTextOf}
 use Rattle.term_core.specs.Image.{is_immediate}
 use Rattle.term_core.specs.Names.{IsNames, number_of}
 use Rattle.term_core.specs.Plain.{plain}
-use Rattle.term_core.specs.PlainTerm.{integer_leaf, atom_leaf, tuple_of, list_of, map_leaves, atoms_of, term_words}
+use Rattle.term_core.specs.PlainTerm.{integer_leaf, atom_leaf, map_leaves, atoms_of, term_words}
 use Rattle.term_core.specs.Scanning.{at_start, syntax_fault}
 use Rattle.term_core.specs.TermForms.{is_term_text, is_bracketed, tree_of, term_atoms, text_words, is_wide_text, term_in, IsFormOf, is_in_brackets, IsPrinted}
 use Rattle.term_core.specs.TermText.{IsTerm, number_in, names_with_all, term_text}
@@ -20,11 +20,12 @@ use Rattle.term_core.proofs.LeafFacts.{EachOf, map_leaves-id}
 use Rattle.term_core.proofs.LeafTexts.{is_leaf_byte, LeafText, LeafText-integer, LeafText-atom}
 use Rattle.term_core.proofs.Ranges.{none_of_fits}
 use Rattle.term_core.proofs.ReadingLaws.{TermText-is_text, TermText-words}
-use Rattle.term_core.proofs.ScanFaults.{text_if}
-use Rattle.term_core.proofs.ScanSound.{FormOf}
+use Rattle.term_core.proofs.Scanning.Faults.{text_if}
+use Rattle.term_core.proofs.Scanning.Sound.{FormOf}
 use Rattle.term_core.proofs.TermBytes.{is_term_byte, term_bytes-written, nonempty-written}
 use Rattle.term_core.proofs.TextForms.{text_words as words_of_text, text_atoms, text_built, text_outside, text_no_fault}
-use Rattle.term_core.proofs.Truths.{both, false_is_no_true, false_unless, is_some_at}
+use Rattle.term_core.proofs.Truths.{false_is_no_true, is_some_at}
+use Rattle.std.proofs.lemmas.Bool.{and_parts, false_from_ne_true}
 
 -- what is none
 none_if : {X : Type 0} (o : Option X) → is_none o ≡ true → o ≡ None
@@ -103,11 +104,6 @@ tree_is text h =
     let found = form_if text h in
     subst (IsFormOf text) (sym (tree_of-form text found.form found.is_text)) (form_is text found.form found.is_text)
 
--- twice not is as before
-not_not : (b : Bool) → not (not b) ≡ b
-not_not true = refl
-not_not false = refl
-
 -- by one of two tests
 either_test : {P : Type 0} (a b : Bool) → (a ≡ true → P) → (b ≡ true → P) → (a || b) ≡ true → P
 either_test true b f g h = f refl
@@ -122,22 +118,19 @@ opens_no_leaf c h k =
 leaf_bracketed : (text : List ℕ) → LeafText text → is_bracketed text ≡ false
 leaf_bracketed [] h = refl
 leaf_bracketed (c ∷ rest) h =
-    let parts = both (is_leaf_byte c) (list_all is_leaf_byte rest) h.bytes in
-    false_unless (c == 123 || c == 91) (λ is. opens_no_leaf c is parts.0)
+    let parts = and_parts (is_leaf_byte c) (list_all is_leaf_byte rest) h.bytes in
+    false_from_ne_true (c == 123 || c == 91) (λ is. opens_no_leaf c is parts.0)
 
 -- but that of a tuple or a list
 bracketed_written : (form : WrittenTerm) → HasLeafTexts form → is_bracketed (written form) ≡ is_in_brackets form
 bracketed_written (integer_leaf text) h = leaf_bracketed text (LeafText-integer text h)
 bracketed_written (atom_leaf text) h = leaf_bracketed text (LeafText-atom text h)
-bracketed_written (tuple_of row) h = refl
-bracketed_written (list_of row) h = refl
+bracketed_written form h = refl
 
 -- one word stands for a term that is in no brackets
 immediate_of : (f : List ℕ → ℤ) (g : List ℕ → ℕ) (form : WrittenTerm) → is_immediate (map_leaves f g form) ≡ not (is_in_brackets form)
 immediate_of f g (integer_leaf text) = refl
-immediate_of f g (atom_leaf text) = refl
-immediate_of f g (tuple_of row) = refl
-immediate_of f g (list_of row) = refl
+immediate_of f g form = refl
 
 -- a text begins with a bracket exactly where its term stands in brackets
 pub is_bracketed-form : (text : List ℕ) (form : WrittenTerm) → IsTextOf text form → is_bracketed text ≡ is_in_brackets form
@@ -178,10 +171,3 @@ printed_is names term sound is =
       held = held_by names (term_atoms text) (subst (λ (ns : List (List ℕ)). EachOf (HasNumber ns) (term_atoms text)) kept (HasNumber-all names (term_atoms text)));
       kept = kept;
     }
-
--- the text of a tuple or a list begins with a bracket
-pub is_bracketed-term_text : (names : List (List ℕ)) (term : Term) → IsNames names → IsTerm names term → is_bracketed (term_text names term) ≡ not (is_immediate (plain term))
-is_bracketed-term_text names term sound is =
-    let t = TermText-term_text names term sound is in
-    is_bracketed-form (term_text names term) t.form (TermText-is_text names (term_text names term) term names t)
-    ∙ sym (not_not (is_in_brackets t.form)) ∙ ap not (sym (ap is_immediate t.value ∙ immediate_of integer_of (number_in names) t.form))

@@ -1,5 +1,5 @@
 -- What the text of a written term is, by the code's measures. So a text has one written term.
-use Rattle.std.proofs.Common.{◌≡◌, ℕ, false, List, [], ◌∷◌, ◌++◌, Option, None, Some, refl, sym, ap, ◌∙◌, subst, arith}
+use Rattle.std.proofs.Common.{◌≡◌, ℕ, false, List, [], ◌∷◌, ◌++◌, None, sym, ap, ◌∙◌, subst, arith}
 use Rattle.std.proofs.lemmas.List.{append_assoc, append-nil}
 use Rattle.term_core.specs.Faults.{IsTextOf, BeginsTermText}
 use Rattle.term_core.specs.PlainTerm.{map_leaves, term_words, atoms_of}
@@ -8,9 +8,10 @@ use Rattle.term_core.specs.Tokens.{tokens_in, starts, atoms_among, AreLeaves, bu
 use Rattle.term_core.specs.Written.{WrittenTerm, IntegersFit, outside_of}
 use Rattle.term_core.proofs.LeafFacts.{map_leaves-id}
 use Rattle.term_core.proofs.OutsidePlaces.{outside_is}
-use Rattle.term_core.proofs.ScanFaults.{text_accepted, not_accepted, fault_stops, start}
+use Rattle.term_core.proofs.Scanning.Faults.{text_accepted, not_accepted, fault_stops, start}
 use Rattle.term_core.proofs.TokenLaws.{starts-tokens, atoms-tokens, leaves-tokens, built-tokens}
 use Rattle.term_core.proofs.WrittenTokens.{tokens_of, tokens_is}
+use Rattle.term_core.proofs.Truths.{none_unless}
 
 -- its tokens
 pub text_tokens : (text : List ℕ) (form : WrittenTerm) → IsTextOf text form → tokens_in false text ≡ tokens_of form ++ []
@@ -35,11 +36,6 @@ text_built f g text form h = ap (λ ts. built f g ts [] []) (text_tokens text fo
 -- its leftmost integer out of range
 pub text_outside : (text : List ℕ) (form : WrittenTerm) → IsTextOf text form → outside_at false text ≡ outside_of form
 text_outside text form h = ap (outside_at false) h.whole ∙ outside_is form h.leaves
-
--- what is no place is none
-none_unless : (o : Option ℕ) → ((i : ℕ) → o ≡ Some i → ⊥) → o ≡ None
-none_unless None h = refl
-none_unless (Some i) h = absurd (h i refl)
 
 -- it has no fault
 pub text_no_fault : (text : List ℕ) (form : WrittenTerm) → IsTextOf text form → syntax_fault at_start text ≡ None

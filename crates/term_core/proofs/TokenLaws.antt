@@ -12,10 +12,9 @@ use Rattle.term_core.proofs.WrittenTokens.{RowHasLeafTexts, tokens_of, row_token
 -- as many terms begin as the image has words
 mutual
   pub starts-tokens : (t : TermOf (List ℕ) (List ℕ)) (more : List Token) → starts (tokens_of t ++ more) ≡ term_words t + starts more
-  starts-tokens (integer_leaf text) more = refl
-  starts-tokens (atom_leaf text) more = refl
   starts-tokens (tuple_of row) more = omega (arith, ap starts (append_assoc (row_tokens row) (shut ∷ []) more), starts-row row (shut ∷ more))
   starts-tokens (list_of row) more = omega (arith, ap starts (append_assoc (row_tokens row) (shut ∷ []) more), starts-row row (shut ∷ more))
+  starts-tokens t more = refl
 
   -- the same of a row
   starts-row : (row : RowOf (List ℕ) (List ℕ)) (more : List Token) → starts (row_tokens row ++ more) ≡ row_words row + starts more

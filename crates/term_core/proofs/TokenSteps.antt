@@ -1,7 +1,7 @@
 -- Lemmas on the tokens of a text, as a loop goes over its bytes.
 use Rattle.std.proofs.Common.{◌≡◌, ℕ, ◌+◌, ◌<◌, Bool, true, false, cond, ◌&&◌, List, [], ◌∷◌, ◌++◌, length, drop, get_or, None, Some, refl, sym, ap, ◌∙◌, arith}
 use Rattle.term_core.specs.declared.byte_kind.ByteKind.{ByteKind}
-use Rattle.term_core.specs.declared.byte_kind.ByteKind.TheVariants.{Open, Close, Comma, Minus, Zero, Digit, Letter, NameByte, Foreign}
+use Rattle.term_core.specs.declared.byte_kind.ByteKind.TheVariants.{Open, Close}
 use Rattle.term_core.specs.Bytes.{kind_of, is_leaf_kind, leaf_front}
 use Rattle.term_core.specs.Tokens.{Token, leaf, begins, is_outside, outside_at, word_at, token_at, tokens_in, starts}
 use Rattle.term_core.specs.Written.{place_or}
@@ -27,13 +27,7 @@ leaf_word false front tokens = omega arith
 pub starts-token : (inside : Bool) (kind : ByteKind) (front : List ℕ) (tokens : List Token) → starts (token_at inside kind front ++ tokens) ≡ word_at inside kind + starts tokens
 starts-token inside (Open b) front tokens = refl
 starts-token inside (Close b) front tokens = omega arith
-starts-token inside Comma front tokens = leaf_word (begins inside Comma) front tokens
-starts-token inside Minus front tokens = leaf_word (begins inside Minus) front tokens
-starts-token inside Zero front tokens = leaf_word (begins inside Zero) front tokens
-starts-token inside Digit front tokens = leaf_word (begins inside Digit) front tokens
-starts-token inside Letter front tokens = leaf_word (begins inside Letter) front tokens
-starts-token inside NameByte front tokens = leaf_word (begins inside NameByte) front tokens
-starts-token inside Foreign front tokens = leaf_word (begins inside Foreign) front tokens
+starts-token inside kind front tokens = leaf_word (begins inside kind) front tokens
 
 -- the words of a byte and of what is behind it
 pub words_behind : (text : List ℕ) (at c : ℕ) (inside later : Bool) (kind : ByteKind) → c ≡ get_or text at 0 → at < length text → kind ≡ kind_of c → later ≡ is_leaf_kind kind →

@@ -1,10 +1,5 @@
 -- Small facts on tests and options.
-use Rattle.std.proofs.Common.{◌≡◌, ℕ, ◌<◌, ◌⊎◌, Bool, true, false, ◌&&◌, Option, None, Some, is_some, IsSome, refl, ap, arith}
-
--- where `&&` is true, so are both sides
-pub both : (a b : Bool) → (a && b) ≡ true → (a ≡ true) × (b ≡ true)
-both true b h = (refl, h)
-both false b h = cc
+use Rattle.std.proofs.Common.{◌≡◌, ℕ, ◌<◌, ◌⊎◌, Bool, true, false, Option, None, Some, is_some, IsSome, refl, ap, arith}
 
 -- no test is true and false
 pub not_both : (b : Bool) → b ≡ true → b ≡ false → ⊥
@@ -16,14 +11,14 @@ pub none_is_not_some : {X : Type 0} (o : Option X) (x : X) → o ≡ None → o 
 none_is_not_some None x e h = cc
 none_is_not_some (Some y) x e h = cc
 
+-- what is no value is none
+pub none_unless : {X : Type 0} (o : Option X) → ((x : X) → o ≡ Some x → ⊥) → o ≡ None
+none_unless None h = refl
+none_unless (Some x) h = absurd (h x refl)
+
 -- what is false is not true
 pub false_is_no_true : false ≡ true → ⊥
 false_is_no_true h = cc
-
--- what is not true is false
-pub false_unless : (b : Bool) → (b ≡ true → ⊥) → b ≡ false
-false_unless true h = absurd (h refl)
-false_unless false h = refl
 
 -- what has a value is there
 pub is_some_at : {X : Type 0} (o : Option X) (x : X) → o ≡ Some x → IsSome o

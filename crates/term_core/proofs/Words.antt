@@ -1,8 +1,8 @@
 -- Lemmas on the words of integers and atoms.
-use Rattle.std.proofs.Common.{◌≡◌, ℕ, ◌+◌, ◌-◌, ◌*◌, ◌/◌, ◌%◌, ◌<◌, ◌≤◌, true, false, cond, ◌==◌, nat_lt, ℤ, pos, negsuc, refl, sym, ap, ◌∙◌, arith}
+use Rattle.std.proofs.Common.{◌≡◌, ℕ, ◌+◌, ◌-◌, ◌*◌, ◌/◌, ◌%◌, ◌<◌, ◌≤◌, true, false, cond, ◌==◌, nat_lt, ℤ, pos, negsuc, refl, ap, ◌∙◌, arith}
 use Rattle.std.proofs.lemmas.Bool.Decides.{nat_tests}
 use Rattle.term_core.specs.declared.term.Term.{Term}
-use Rattle.term_core.specs.declared.term.Term.TheVariants.{Int, Atom, Tuple, List as ListOf}
+use Rattle.term_core.specs.declared.term.Term.TheVariants.{Int, Atom}
 use Rattle.term_core.specs.Image.{IsImmediate, HasSmallAtoms, low_bits, immediate_word, integer_of_bits, term_of_word}
 use Rattle.term_core.specs.Written.{IsTermInteger}
 use Rattle.term_core.proofs.IntegerTexts.{range_pos, range_negsuc}
@@ -48,10 +48,4 @@ term_of_word-immediate_word (Int z) is small =
 term_of_word-immediate_word (Atom a) is small =
     let parts = tagged a.0 2 (omega arith) in
     atom_tag (immediate_word (Atom a)) a.0 parts.0 parts.1 small
-term_of_word-immediate_word (Tuple ts) is small = absurd is
-term_of_word-immediate_word (ListOf ts) is small = absurd is
-
--- two terms with one word are the same
-pub immediate_word-injective : (t u : Term) → IsImmediate t → IsImmediate u → HasSmallAtoms t → HasSmallAtoms u → immediate_word t ≡ immediate_word u → t ≡ u
-immediate_word-injective t u is are small less e =
-    sym (term_of_word-immediate_word t is small) ∙ ap term_of_word e ∙ term_of_word-immediate_word u are less
+term_of_word-immediate_word t is small = absurd is

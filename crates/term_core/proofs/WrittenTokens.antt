@@ -5,7 +5,7 @@ use Rattle.std.proofs.lemmas.List.{append_assoc, append-nil}
 use Rattle.term_core.specs.declared.byte_kind.Bracket.{Bracket}
 use Rattle.term_core.specs.declared.byte_kind.Bracket.TheVariants.{Curly, Square}
 use Rattle.term_core.specs.declared.byte_kind.ByteKind.{ByteKind}
-use Rattle.term_core.specs.declared.byte_kind.ByteKind.TheVariants.{Open, Close, Comma, Minus, Zero, Digit, Letter, NameByte, Foreign}
+use Rattle.term_core.specs.declared.byte_kind.ByteKind.TheVariants.{Open, Close, Comma}
 use Rattle.term_core.specs.Bytes.{kind_of, is_leaf_kind, leaf_front}
 use Rattle.term_core.specs.Names.{is_atom_text}
 use Rattle.term_core.specs.PlainTerm.{TermOf, RowOf, integer_leaf, atom_leaf, tuple_of, list_of, no_terms, term_then, EachInRow}
@@ -13,7 +13,7 @@ use Rattle.term_core.specs.Tokens.{Token, opened, shut, leaf, token_at, tokens_i
 use Rattle.term_core.specs.Written.{WrittenTerm, WrittenRow, written, parted, behind, is_integer_text, HasLeafTexts}
 use Rattle.term_core.proofs.ByteKinds.{closing}
 use Rattle.term_core.proofs.LeafTexts.{is_leaf_byte, LeafText, IsDelimited, LeafText-integer, LeafText-atom, front_text}
-use Rattle.term_core.proofs.Truths.{both}
+use Rattle.std.proofs.lemmas.Bool.{and_parts}
 
 -- the same of the terms of a row
 abbrev pub RowHasLeafTexts : WrittenRow → Type 0
@@ -37,36 +37,21 @@ token_leaf : (kind : ByteKind) (front : List ℕ) → is_leaf_kind kind ≡ true
 token_leaf (Open b) front h = cc
 token_leaf (Close b) front h = cc
 token_leaf Comma front h = cc
-token_leaf Minus front h = refl
-token_leaf Zero front h = refl
-token_leaf Digit front h = refl
-token_leaf Letter front h = refl
-token_leaf NameByte front h = refl
-token_leaf Foreign front h = refl
+token_leaf kind front h = refl
 
 -- inside of it none does
 token_inside : (kind : ByteKind) (front : List ℕ) → is_leaf_kind kind ≡ true → token_at true kind front ≡ []
 token_inside (Open b) front h = cc
 token_inside (Close b) front h = cc
 token_inside Comma front h = cc
-token_inside Minus front h = refl
-token_inside Zero front h = refl
-token_inside Digit front h = refl
-token_inside Letter front h = refl
-token_inside NameByte front h = refl
-token_inside Foreign front h = refl
+token_inside kind front h = refl
 
 -- between terms it makes no difference
 token_between : (kind : ByteKind) (front : List ℕ) → is_leaf_kind kind ≡ false → token_at true kind front ≡ token_at false kind front
 token_between (Open b) front h = refl
 token_between (Close b) front h = refl
 token_between Comma front h = refl
-token_between Minus front h = cc
-token_between Zero front h = cc
-token_between Digit front h = cc
-token_between Letter front h = cc
-token_between NameByte front h = cc
-token_between Foreign front h = cc
+token_between kind front h = cc
 
 -- behind a leaf the tokens are those of what is behind
 tokens_delimited : (rest : List ℕ) → IsDelimited rest → tokens_in true rest ≡ tokens_in false rest
@@ -77,7 +62,7 @@ tokens_delimited (c ∷ rest) h = ap (λ ts. ts ++ tokens_in (is_leaf_byte c) re
 tokens_inside : (text rest : List ℕ) → list_all is_leaf_byte text ≡ true → IsDelimited rest → tokens_in true (text ++ rest) ≡ tokens_in false rest
 tokens_inside [] rest h d = tokens_delimited rest d
 tokens_inside (c ∷ text) rest h d =
-    let parts = both (is_leaf_byte c) (list_all is_leaf_byte text) h in
+    let parts = and_parts (is_leaf_byte c) (list_all is_leaf_byte text) h in
     ap (λ ts. ts ++ tokens_in (is_leaf_byte c) (text ++ rest)) (token_inside (kind_of c) (leaf_front (c ∷ (text ++ rest))) parts.0)
     ∙ ap (λ b. tokens_in b (text ++ rest)) parts.0 ∙ tokens_inside text rest parts.1 d
 
@@ -85,7 +70,7 @@ tokens_inside (c ∷ text) rest h d =
 tokens_leaf : (text rest : List ℕ) → LeafText text → IsDelimited rest → tokens_in false (text ++ rest) ≡ leaf text ∷ tokens_in false rest
 tokens_leaf [] rest h d = absurd (omega (arith, h.some))
 tokens_leaf (c ∷ text) rest h d =
-    let parts = both (is_leaf_byte c) (list_all is_leaf_byte text) h.bytes in
+    let parts = and_parts (is_leaf_byte c) (list_all is_leaf_byte text) h.bytes in
     ap (λ ts. ts ++ tokens_in (is_leaf_byte c) (text ++ rest)) (token_leaf (kind_of c) (leaf_front (c ∷ (text ++ rest))) parts.0)
     ∙ ap (λ front. leaf front ∷ tokens_in (is_leaf_byte c) (text ++ rest)) (front_text (c ∷ text) rest h.bytes d)
     ∙ ap (λ b. leaf (c ∷ text) ∷ tokens_in b (text ++ rest)) parts.0 ∙ ap (λ ts. leaf (c ∷ text) ∷ ts) (tokens_inside text rest parts.1 d)

@@ -18,12 +18,7 @@ abbrev pub is_leaf_kind : ByteKind → Bool
 is_leaf_kind (Open b) = false
 is_leaf_kind (Close b) = false
 is_leaf_kind Comma = false
-is_leaf_kind Minus = true
-is_leaf_kind Zero = true
-is_leaf_kind Digit = true
-is_leaf_kind Letter = true
-is_leaf_kind NameByte = true
-is_leaf_kind Foreign = true
+is_leaf_kind _ = true
 
 -- what stands in front of the first byte between terms
 abbrev pub leaf_front : List ℕ → List ℕ

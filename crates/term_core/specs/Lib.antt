@@ -15,6 +15,7 @@ pub mod TermForms
 pub mod TermParts
 pub mod TermSize
 pub mod TermText
+pub mod Text
 pub mod Tokens
 pub mod Tops
 pub mod Written

@@ -5,26 +5,16 @@ use Rattle.std.specs.Bool.{Decides}
 use Rattle.std.specs.Cmp.{IsEquivalence, decided, on_equiv, signed_Decides, unsigned_Decides}
 use Rattle.std.specs.Ordering.{int_eq}
 use Rattle.term_core.specs.PlainTerm.{TermOf, RowOf, integer_leaf, atom_leaf, tuple_of, list_of, no_terms, term_then, PlainTerm, row_of}
+use Rattle.std.proofs.lemmas.Bool.{and_parts}
 
 -- the same kind of term with the same parts
 abbrev mutual
   pub is_same : TermOf ℤ ℕ → TermOf ℤ ℕ → Bool
   is_same (integer_leaf y) (integer_leaf z) = int_eq y z
-  is_same (integer_leaf y) (atom_leaf b) = false
-  is_same (integer_leaf y) (tuple_of s) = false
-  is_same (integer_leaf y) (list_of s) = false
-  is_same (atom_leaf a) (integer_leaf z) = false
   is_same (atom_leaf a) (atom_leaf b) = a == b
-  is_same (atom_leaf a) (tuple_of s) = false
-  is_same (atom_leaf a) (list_of s) = false
-  is_same (tuple_of r) (integer_leaf z) = false
-  is_same (tuple_of r) (atom_leaf b) = false
   is_same (tuple_of r) (tuple_of s) = is_same_row r s
-  is_same (tuple_of r) (list_of s) = false
-  is_same (list_of r) (integer_leaf z) = false
-  is_same (list_of r) (atom_leaf b) = false
-  is_same (list_of r) (tuple_of s) = false
   is_same (list_of r) (list_of s) = is_same_row r s
+  is_same _ _ = false
 
   -- the same terms in the same order
   pub is_same_row : RowOf ℤ ℕ → RowOf ℤ ℕ → Bool
@@ -37,30 +27,14 @@ abbrev mutual
 abbrev pub are_same : List PlainTerm → List PlainTerm → Bool
 are_same ts us = is_same_row (row_of ts) (row_of us)
 
--- where `&&` is true, so are both sides
-both_true : (a b : Bool) → (a && b) ≡ true → (a ≡ true) × (b ≡ true)
-both_true true b h = (refl, h)
-both_true false b h = cc
-
 -- terms that pass the test are one term, and so are rows
 mutual
   same_is : (t u : TermOf ℤ ℕ) → is_same t u ≡ true → t ≡ u
   same_is (integer_leaf y) (integer_leaf z) h = ap integer_leaf ((signed_Decides y z).0 h)
-  same_is (integer_leaf y) (atom_leaf b) h = cc
-  same_is (integer_leaf y) (tuple_of s) h = cc
-  same_is (integer_leaf y) (list_of s) h = cc
-  same_is (atom_leaf a) (integer_leaf z) h = cc
   same_is (atom_leaf a) (atom_leaf b) h = ap atom_leaf ((unsigned_Decides a b).0 h)
-  same_is (atom_leaf a) (tuple_of s) h = cc
-  same_is (atom_leaf a) (list_of s) h = cc
-  same_is (tuple_of r) (integer_leaf z) h = cc
-  same_is (tuple_of r) (atom_leaf b) h = cc
   same_is (tuple_of r) (tuple_of s) h = ap tuple_of (same_row_is r s h)
-  same_is (tuple_of r) (list_of s) h = cc
-  same_is (list_of r) (integer_leaf z) h = cc
-  same_is (list_of r) (atom_leaf b) h = cc
-  same_is (list_of r) (tuple_of s) h = cc
   same_is (list_of r) (list_of s) h = ap list_of (same_row_is r s h)
+  same_is t u h = cc
 
   -- the same of rows
   same_row_is : (r s : RowOf ℤ ℕ) → is_same_row r s ≡ true → r ≡ s
@@ -68,7 +42,7 @@ mutual
   same_row_is no_terms (term_then u s) h = cc
   same_row_is (term_then t r) no_terms h = cc
   same_row_is (term_then t r) (term_then u s) h =
-      let parts = both_true (is_same t u) (is_same_row r s) h in
+      let parts = and_parts (is_same t u) (is_same_row r s) h in
       λ i. term_then (same_is t u parts.0 i) (same_row_is r s parts.1 i)
 
 -- and each passes it with itself

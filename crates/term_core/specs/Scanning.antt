@@ -4,7 +4,7 @@ use Rattle.std.specs.Prelude.{ℕ, ◌+◌, nat_lt, Bool, true, false, if◌then
 use Rattle.term_core.specs.declared.byte_kind.Bracket.{Bracket}
 use Rattle.term_core.specs.declared.byte_kind.Bracket.TheVariants.{Curly, Square}
 use Rattle.term_core.specs.declared.byte_kind.ByteKind.{ByteKind}
-use Rattle.term_core.specs.declared.byte_kind.ByteKind.TheVariants.{Open, Close, Comma, Minus, Zero, Digit, Letter, NameByte, Foreign}
+use Rattle.term_core.specs.declared.byte_kind.ByteKind.TheVariants.{Open, Close, Comma, Minus, Zero, Digit, Letter, NameByte}
 use Rattle.term_core.specs.declared.names.TheConstants.{LONGEST_ATOM}
 use Rattle.term_core.specs.declared.scan.Place.{Place}
 use Rattle.term_core.specs.declared.scan.Place.TheVariants.{TermStart, AfterOpen, AfterMinus, InDigits, InName, AfterTerm}
@@ -17,35 +17,23 @@ use Rattle.term_core.specs.Written.{place_or}
 -- where a term begins: a bracket opens, or an integer or an atom begins
 abbrev pub begun : ByteKind → Option Move
 begun (Open b) = Some (Push b)
-begun (Close b) = None
-begun Comma = None
 begun Minus = Some (To AfterMinus)
 begun Zero = Some (To AfterTerm)
 begun Digit = Some (To InDigits)
 begun Letter = Some (To (InName 1))
-begun NameByte = None
-begun Foreign = None
+begun _ = None
 
 -- the innermost open bracket is closed by its like alone
 abbrev pub closed : Option Bracket → Bracket → Option Move
-closed None b = None
 closed (Some Curly) Curly = Some Pop
-closed (Some Curly) Square = None
-closed (Some Square) Curly = None
 closed (Some Square) Square = Some Pop
+closed _ _ = None
 
 -- behind a term inside brackets: a comma, or the closing bracket
 abbrev pub ended : Option Bracket → ByteKind → Option Move
-ended top (Open b) = None
 ended top (Close b) = closed top b
-ended None Comma = None
 ended (Some b) Comma = Some (To TermStart)
-ended top Minus = None
-ended top Zero = None
-ended top Digit = None
-ended top Letter = None
-ended top NameByte = None
-ended top Foreign = None
+ended top _ = None
 
 -- behind a digit of an integer: a digit, or what may stand behind the integer
 abbrev pub after_digit : Option Bracket → ByteKind → Option Move
@@ -111,12 +99,10 @@ run s (c ∷ rest) = run (stepped_on s c) rest
 
 -- whether a term may end here
 abbrev pub is_end_place : Place → Bool
-is_end_place TermStart = false
-is_end_place AfterOpen = false
-is_end_place AfterMinus = false
 is_end_place InDigits = true
 is_end_place (InName count) = true
 is_end_place AfterTerm = true
+is_end_place _ = false
 
 -- whether a term ends here and no bracket is open
 abbrev pub is_end : Place → List Bracket → Bool

@@ -44,21 +44,10 @@ tag g = num (front_of g)
 mutual
   pub code_term_injective : (t u : TermOf ℤ ℕ) → code_term t ≡ code_term u → t ≡ u
   code_term_injective (integer_leaf y) (integer_leaf z) p = ap integer_leaf (coded_ℤ.inj y z (ap rest_of p))
-  code_term_injective (integer_leaf y) (atom_leaf b) p = absurd (omega (arith, ap tag p))
-  code_term_injective (integer_leaf y) (tuple_of row) p = absurd (omega (arith, ap tag p))
-  code_term_injective (integer_leaf y) (list_of row) p = absurd (omega (arith, ap tag p))
-  code_term_injective (atom_leaf a) (integer_leaf z) p = absurd (omega (arith, ap tag p))
   code_term_injective (atom_leaf a) (atom_leaf b) p = ap (λ g. atom_leaf (num (rest_of g))) p
-  code_term_injective (atom_leaf a) (tuple_of row) p = absurd (omega (arith, ap tag p))
-  code_term_injective (atom_leaf a) (list_of row) p = absurd (omega (arith, ap tag p))
-  code_term_injective (tuple_of row) (integer_leaf z) p = absurd (omega (arith, ap tag p))
-  code_term_injective (tuple_of row) (atom_leaf b) p = absurd (omega (arith, ap tag p))
   code_term_injective (tuple_of row) (tuple_of other) p = ap tuple_of (code_row_injective row other (ap rest_of p))
-  code_term_injective (tuple_of row) (list_of other) p = absurd (omega (arith, ap tag p))
-  code_term_injective (list_of row) (integer_leaf z) p = absurd (omega (arith, ap tag p))
-  code_term_injective (list_of row) (atom_leaf b) p = absurd (omega (arith, ap tag p))
-  code_term_injective (list_of row) (tuple_of other) p = absurd (omega (arith, ap tag p))
   code_term_injective (list_of row) (list_of other) p = ap list_of (code_row_injective row other (ap rest_of p))
+  code_term_injective t u p = absurd (omega (arith, ap tag p))
 
   -- the same of rows
   pub code_row_injective : (r s : RowOf ℤ ℕ) → code_row r ≡ code_row s → r ≡ s

@@ -1,6 +1,6 @@
 -- The text of a term: each term has one.
 -- Source: this project's profile of Erlang's term notation. The grammar relates whole texts and terms; the code reads bytes.
-use Rattle.std.specs.Prelude.{◌≡◌, ℕ, ◌≤◌, ℤ, List, [], ◌∷◌, length, slice_get, unwrap_or, IsSome}
+use Rattle.std.specs.Prelude.{◌≡◌, ℕ, ◌≤◌, List, [], ◌∷◌, length, slice_get, unwrap_or, IsSome}
 use Rattle.std.specs.Fmt.{signed_decimal}
 use Rattle.term_core.specs.declared.names.TheConstants.{MOST_NAMES}
 use Rattle.term_core.specs.declared.term.Term.{Term}
@@ -13,10 +13,6 @@ use Rattle.term_core.specs.Written.{WrittenTerm, written, HasLeafTexts, Integers
 -- a term whose atoms are held by these names, and whose integers are in range
 abbrev pub IsTerm : List (List ℕ) → Term → Type 0
 IsTerm names term = EachLeaf IsTermInteger (λ atom. IsSome (slice_get names atom)) (plain term)
-
--- a term whose atoms are held by these names
-abbrev pub IsHeld : List (List ℕ) → Term → Type 0
-IsHeld names term = EachLeaf {Z = ℤ} (λ _. Unit {0}) (λ atom. IsSome (slice_get names atom)) (plain term)
 
 -- the text of the atom with a number
 abbrev pub atom_text : List (List ℕ) → ℕ → List ℕ

@@ -1,6 +1,7 @@
 ghost use Rattle.std.specs.Prelude.{◌≡◌, IsTrue, MatchOption};
 ghost use Rattle.std.specs.Char.{is_ascii_digit};
 ghost use Rattle.std.specs.List.{list_all};
+ghost use Rattle.term_core.specs.Text.Numbers.{is_number_text, small_number};
 ghost use Rattle.term_core.specs.Tokens.{is_outside};
 ghost use Rattle.term_core.specs.Written.{IsTermInteger, is_positive_text, is_integer_text, integer_of};
 
@@ -18,7 +19,7 @@ fn are_digits(bytes: &[u8]) -> bool
     bytes.iter().all(|byte| byte.is_ascii_digit())
 }
 
-fn is_positive_text(text: &[u8]) -> bool
+pub(crate) fn is_positive_text(text: &[u8]) -> bool
     ensures { result ≡ is_positive_text text.now }
 {
     match text.split_first() {
@@ -27,7 +28,23 @@ fn is_positive_text(text: &[u8]) -> bool
     }
 }
 
-fn is_integer_text(text: &[u8]) -> bool
+/// Whether these are a number's digits.
+pub fn is_number_text(text: &[u8]) -> bool
+    ensures { result ≡ is_number_text text.now }
+{
+    text == b"0".as_slice() || is_positive_text(text)
+}
+
+/// The number that digits write, unless it is 2 ^ 32 or more.
+pub fn small_number(digits: &[u8]) -> Option<u32>
+    requires { IsTrue (is_number_text digits.now) }
+    ensures { result ≡ small_number digits.now }
+{
+    ascii_text(digits).parse::<u32>().ok()
+}
+
+/// Whether this is an integer's text, of any length.
+pub fn is_integer_text(text: &[u8]) -> bool
     ensures { result ≡ is_integer_text text.now }
 {
     match text.split_first() {
@@ -38,8 +55,8 @@ fn is_integer_text(text: &[u8]) -> bool
     }
 }
 
-// None where the integer has more than 64 bits.
-fn parsed_integer(text: &[u8]) -> Option<i64>
+/// The integer that a text says, unless it has more than 64 bits.
+pub fn parsed_integer(text: &[u8]) -> Option<i64>
     requires { IsTrue (is_integer_text text.now) }
     ensures { MatchOption result (IsTermInteger (integer_of text.now) → ⊥) (λ z. z ≡ integer_of text.now) }
 {

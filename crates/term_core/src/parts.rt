@@ -1,7 +1,20 @@
 ghost use Rattle.std.specs.Prelude.{◌≡◌, ◌≤◌, ◌+◌, ◌<◌, ◌^◌, ◌∷◌, ℕ, List, map, option_map};
 ghost use Rattle.term_core.specs.PlainTerm.{tuple_of, terms_of, row_count};
 ghost use Rattle.term_core.specs.TermParts.{cut_part, depth_behind, is_part_end, joined, parts_of_rest, parts_of_terms};
+ghost use Rattle.term_core.specs.Text.Cuts.{cut_at};
 ghost use Rattle.term_core.specs.Written.{WrittenRow, HasLeafTexts, written, parted};
+
+/// What stands before and behind the first such byte, if there is one.
+pub fn cut_at(text: &[u8], byte: u8) -> Option<(&[u8], &[u8])>
+    ensures { option_map (λ p. (p.0.now, p.1.now)) result ≡ cut_at byte text.now }
+{
+    for (place, found) in text.iter().enumerate() {
+        if *found == byte {
+            return Some((&text[..place], &text[place + 1..]));
+        }
+    }
+    None
+}
 
 fn depth_behind(depth: usize, byte: u8) -> usize
     requires { depth + 1 < 2 ^ 64 }

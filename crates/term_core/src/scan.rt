@@ -1,5 +1,5 @@
 ghost use Rattle.std.specs.Prelude.{◌≡◌, Some, None, if◌then◌else◌, IfOk, OnOk};
-ghost use Rattle.term_core.specs.Scanning.{begun, closed, ended, after_digit, named, after_name, after_open, after_minus, next, moved, stepped, is_end_place, is_end, syntax_fault, at_start};
+ghost use Rattle.term_core.specs.Scanning.{begun, closed, ended, after_digit, named, after_name, after_open, after_minus, next, moved, stepped, is_end_place, syntax_fault, at_start};
 
 use crate::byte_kind::{Bracket, ByteKind, kind_of};
 use crate::names::LONGEST_ATOM;

@@ -1,5 +1,4 @@
-ghost use Rattle.std.specs.Prelude.{◌≡◌, [], ◌∷◌, ◌++◌, length, map, slice_get, option_map, ◌↔◌, IsTrue, OnOk, OnErr, IfOk, MatchOption};
-ghost use Rattle.std.specs.Option.{option_copied};
+ghost use Rattle.std.specs.Prelude.{◌≡◌, [], ◌∷◌, ◌++◌, length, map, slice_get, option_map, ◌↔◌, IsTrue, OnOk, OnErr, MatchOption};
 ghost use Rattle.term_core.specs.Plain.{plain};
 
 use crate::atom::AtomId;

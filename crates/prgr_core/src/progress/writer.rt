@@ -3,9 +3,9 @@
 ghost use Rattle.std.specs.Prelude.{◌≡◌, ◌↔◌, IsErrOf, OnOk, OnErr, Some, None};
 ghost use Rattle.prgr_core.specs.declared.fault.StepFault.TheVariants.{NotEnabled, NoMemory};
 ghost use Rattle.prgr_core.specs.declared.event.PrgrEvent.TheVariants as events;
-ghost use Rattle.prgr_core.specs.Step.{after, LacksMemory, IsSound};
+ghost use Rattle.prgr_core.specs.Step.{after, with_pair, LacksMemory, IsSound};
 
-use crate::fault::StepFault;
+use crate::fault::{self, StepFault};
 use crate::member::Retirement;
 use crate::progress::Progress;
 
@@ -63,4 +63,17 @@ pub fn release(progress: &mut Progress, generation: u64) -> Result<(), StepFault
             Ok(())
         }
     }
+}
+
+/// Keeps that the present generation needs two more values of the counter. What is awaited stays.
+pub fn keep_need(progress: &mut Progress) -> Result<(), fault::NoMemory>
+    requires { IsSound progress.old }
+    ensures ok { OnOk result (progress.new ≡ with_pair progress.old) }
+    ensures err { OnErr result (progress.new ≡ progress.old) }
+{
+    let retirement = Retirement {
+        generation: progress.generation,
+        need: progress.counter + 2,
+    };
+    progress.retired.push(retirement)
 }

@@ -10,7 +10,7 @@ ghost use Rattle.script_text.specs.WrittenLine.{kept_word};
 use crate::reading::cause::LineCause;
 use crate::reading::sets::FunctionSet;
 use crate::reading::written::AtomWord;
-use crate::script::{CommandList, LoaderList, ScriptCmd};
+use script_core::{CommandList, LoaderList, ScriptCmd};
 use std::alloc::Global;
 use term_core::{AtomId, Mfa, NoMemory};
 

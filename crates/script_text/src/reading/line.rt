@@ -5,7 +5,7 @@ ghost use Rattle.term_core.specs.Names.{is_atom_text as is_atom};
 ghost use Rattle.term_core.specs.TermForms.{is_complex_text};
 ghost use Rattle.term_core.specs.TermParts.{parts_of_terms};
 ghost use Rattle.mod_text.specs.ModuleLine.{is_arity_text};
-ghost use Rattle.mod_text.specs.LineReading.{tested, numbered_reading};
+ghost use Rattle.term_core.specs.Text.Steps.{tested, numbered_reading};
 ghost use Rattle.script_text.specs.Causes.{Gives};
 ghost use Rattle.script_text.specs.LineReading.{ref_reading, refs_reading, command_reading, switch_reading, put_reading, trace_reading, argument_reading, arguments_reading, each_reading, closed_arguments, call_reading, title_reading};
 ghost use Rattle.script_text.specs.Naming.{or_syntax};

@@ -7,12 +7,12 @@ use crate::reading::line::{read_call, read_put, read_refs, read_title, read_trac
 use crate::reading::naming::{name_atom, name_call, name_put, name_refs, name_trace};
 use crate::reading::sets::{FunctionSet, RefSet};
 use crate::reading::words::{cut_at, snapshots_of};
-use crate::script::{
+use mod_core::ModuleList;
+use mod_text::{FinishFault, LineFault, ModuleReader};
+use script_core::{
     CommandList, LONGEST_LINE, LoaderList, MOST_LOADERS, MOST_OBSERVERS, MOST_PROCESSES, Script,
     ScriptCmd,
 };
-use mod_core::ModuleList;
-use mod_text::{FinishFault, LineFault, ModuleReader};
 use server_core::ModRef;
 use std::alloc::Global;
 use std::mem;
@@ -60,7 +60,7 @@ pub struct ScriptReader<'a> {
 impl<'a> ScriptReader<'a> {
     ghost use Rattle.std.specs.Prelude.{◌≡◌, ◌+◌, ◌<◌, ◌^◌, length, IfOk, IfSome, OnOk};
     ghost use Rattle.std.specs.List.{list_all};
-    ghost use Rattle.mod_text.specs.LineReading.{cut_at};
+    ghost use Rattle.term_core.specs.Text.Cuts.{cut_at};
     ghost use Rattle.mod_text.specs.ModuleValue.{IsTitled, unsettled_line};
     ghost use Rattle.script_text.specs.LineFaults.{or_else};
     ghost use Rattle.script_text.specs.Causes.{Gives, GivesText};

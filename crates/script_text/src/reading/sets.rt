@@ -5,8 +5,8 @@ ghost use Rattle.script_text.specs.Sets.{mfa_of_key, ref_of_key};
 
 use crate::fault::Which;
 use crate::reading::cause::LineCause;
-use crate::script::MOST_FUNCTION_NAMES;
 use indexmap::IndexSet;
+use script_core::MOST_FUNCTION_NAMES;
 use server_core::ModRef;
 use std::alloc::Global;
 use std::marker::Model;
@@ -81,7 +81,7 @@ fn ref_key(to: ModRef) -> RefKey
 }
 
 impl FunctionSet {
-    ghost use Rattle.std.specs.Prelude.{◌≡◌, [], nat_lt, length};
+    ghost use Rattle.std.specs.Prelude.{◌≡◌, []};
     ghost use Rattle.script_text.specs.Causes.{Gives};
     ghost use Rattle.script_text.specs.Sets.{mfa_added, passes_functions};
 

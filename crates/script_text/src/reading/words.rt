@@ -4,13 +4,13 @@ ghost use Rattle.std.specs.Prelude.{◌≡◌, IsTrue, IsAscii, option_map, Matc
 ghost use Rattle.std.specs.Char.{is_ascii_digit};
 ghost use Rattle.std.specs.List.{list_all};
 ghost use Rattle.term_core.specs.Written.{IsTermInteger, is_positive_text, is_integer_text, integer_of};
-ghost use Rattle.mod_text.specs.LineReading.{cut_at};
-ghost use Rattle.mod_text.specs.ModuleLine.{is_number_text, small_number};
+ghost use Rattle.term_core.specs.Text.Cuts.{cut_at};
+ghost use Rattle.term_core.specs.Text.Numbers.{is_number_text, small_number};
 ghost use Rattle.script_text.specs.LineReading.{version_reading, snapshots_reading, arity_reading};
 ghost use Rattle.script_text.specs.WrittenLine.{term_integer};
 
-use crate::script::MOST_SNAPSHOTS;
 use mod_core::{GREATEST_VERSION, MOST_ARGUMENTS};
+use script_core::MOST_SNAPSHOTS;
 use std::str;
 use term_core::{GREATEST_INTEGER, LEAST_INTEGER};
 

@@ -1,6 +1,6 @@
 use Rattle.std.proofs.Common.{◌≡◌, ◌++◌, take, drop}
 use Rattle.std.specs.Prelude.{option_map}
-use Rattle.mod_text.specs.LineReading.{cut_at}
+use Rattle.term_core.specs.Text.Cuts.{cut_at}
 use Rattle.beam_tool.proofs.parting.cut_line.Given as goal
 
 -- no line ends among the bytes so far

@@ -1,8 +1,9 @@
 use Rattle.std.proofs.Common.{◌≡◌, ◌+◌, ◌++◌, ◌≤◌, drop, length, map}
 use Rattle.std.specs.List.{AllByRecursion}
 use Rattle.machine_core.specs.Process.{Words}
-use Rattle.script_text.specs.declared.script.TheConstants.{MOST_PROCESSES}
-use Rattle.lap_runner.specs.Runs.{HasArity, spawn_count, waiting_from}
+use Rattle.script_core.specs.declared.script.TheConstants.{MOST_PROCESSES}
+use Rattle.lap_runner.specs.Runs.{HasArity, waiting_from}
+use Rattle.script_core.specs.Processes.{spawn_count}
 use Rattle.lap_runner.specs.Steps.{stand_of}
 use Rattle.lap_runner.proofs.run.list_processes.Given as goal
 

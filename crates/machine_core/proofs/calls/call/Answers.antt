@@ -1,5 +1,5 @@
 -- The new frame stands on the caller's, and the line says the call.
-use Rattle.std.proofs.Common.{◌∙◌, ◌++◌, ◌≡◌, ◌+◌, Some, ap, length, subst, sym, refl}
+use Rattle.std.proofs.Common.{◌∙◌, ◌++◌, ◌≡◌, ◌+◌, Some, ap, length, subst, refl}
 use Rattle.server_core.specs.ServerState.{entry_of}
 use Rattle.machine_core.specs.Process.{arguments_at, arguments_of, first_registers, frame_of, values_shown}
 use Rattle.machine_core.specs.Turn.{trace_of}
@@ -9,7 +9,7 @@ use Rattle.machine_core.proofs.calls.call.Goals as goal
 
 pub trace_call-requires-clause-reached : goal.trace_call-requires-clause-reached
 trace_call-requires-clause-reached g c =
-    held_now (g.V.CodeView.shown c.enter.new.view).state (g.V.CodeView.held c.args.view.now) (g.V.CodeView.held c.enter.new.view) c.args.callee.code.area.serial
+    held_now (g.V.CodeView.shown c.enter.new.view).reads (g.V.CodeView.held c.args.view.now) (g.V.CodeView.held c.enter.new.view) c.args.callee.code.area.serial
     (rw c.in-Some.is at c.in_ok-enter.ensures.holds)
 
 pub trace_call-requires-clause-usable : goal.trace_call-requires-clause-usable
@@ -23,7 +23,7 @@ pub returns-in-None-clause-ok : goal.returns-in-None-clause-ok
 returns-in-None-clause-ok g c =
     let words = (g.V.CodeView.shown c.args.view.now).words in
     let args = arguments_at (values_shown words c.args.top.now.registers) c.args.callee.at c.args.callee.to.arity in
-    call_refused words (g.V.CodeView.shown c.args.view.now).state _ c.args.below.now (g.V.CodeView.held c.args.view.now) (g.V.CodeView.held c.enter.new.view) (entry_of c.args.callee.code) c.args.callee.to c.args.callee.at
+    call_refused words (g.V.CodeView.shown c.args.view.now).reads _ c.args.below.now (g.V.CodeView.held c.args.view.now) (g.V.CodeView.held c.enter.new.view) (entry_of c.args.callee.code) c.args.callee.to c.args.callee.at
     (length c.as_slice.result.now + 1) args (values_shown words c.in_ok-registers.registers) c.args.lines.now (ap (λ fs. length fs + 1) c.as_slice.ensures)
     (ap (values_shown words) c.in_ok-registers.ensures ∙ entered_shown words (arguments_of c.args.top.now.registers c.args.callee.at c.args.callee.to.arity)
     ∙ ap first_registers (arguments_shown words c.args.top.now.registers c.args.callee.at c.args.callee.to.arity))
@@ -34,7 +34,7 @@ returns-in_ok-push-in-Some-clause-ok g c =
     let words = (g.V.CodeView.shown c.args.view.now).words in
     let e = entry_of c.args.callee.code in
     let args = arguments_at (values_shown words c.args.top.now.registers) c.args.callee.at c.args.callee.to.arity in
-    call_gives words (g.V.CodeView.shown c.args.view.now).state _ (frame_of words c.replace-caller.new.dest) c.args.below.now c.push.new.self c.replace-caller.result
+    call_gives words (g.V.CodeView.shown c.args.view.now).reads _ (frame_of words c.replace-caller.new.dest) c.args.below.now c.push.new.self c.replace-caller.result
     (g.V.CodeView.held c.args.view.now) (g.V.CodeView.held c.trace_call.new.view) e c.args.callee.to c.args.callee.at (length c.as_slice.result.now + 1)
     args (values_shown words c.in_ok-registers.registers) c.args.lines.now c.trace_call.new.lines
     (ap (frame_of words) c.replace-caller.ensures.value) c.in_ok-push-in-Some.ensures.ok (ap (λ fs. length fs + 1) c.as_slice.ensures)
@@ -42,7 +42,7 @@ returns-in_ok-push-in-Some-clause-ok g c =
     ∙ ap first_registers (arguments_shown words c.args.top.now.registers c.args.callee.at c.args.callee.to.arity))
     (ap (λ f. Some (frame_of words f)) c.replace-caller.ensures.after ∙ (rw c.in-Some.is at (c.in_ok-enter.ensures.ok words)))
     (c.in_ok-trace_call-in-Some.ensures.holds ∙ (rw c.in-Some.is at c.in_ok-enter.ensures.holds))
-    (subst (λ (v : Shown). c.trace_call.new.lines ≡ c.args.lines.now ++ trace_of v.state e c.args.callee.to (arguments_at (values_shown v.words c.args.top.now.registers) c.args.callee.at c.args.callee.to.arity)) c.in_ok-enter.ensures.same c.in_ok-trace_call-in-Some.ensures.ok)
+    (subst (λ (v : Shown). c.trace_call.new.lines ≡ c.args.lines.now ++ trace_of v.reads e c.args.callee.to (arguments_at (values_shown v.words c.args.top.now.registers) c.args.callee.at c.args.callee.to.arity)) c.in_ok-enter.ensures.same c.in_ok-trace_call-in-Some.ensures.ok)
 
 pub returns-in_ok-push-in-Some-clause-values : goal.returns-in_ok-push-in-Some-clause-values
 returns-in_ok-push-in-Some-clause-values g c =

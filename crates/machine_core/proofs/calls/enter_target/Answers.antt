@@ -1,5 +1,5 @@
 -- The target is entered, or a limit is met.
-use Rattle.std.proofs.Common.{◌∙◌, ◌++◌, ◌≡◌, ap, sym, subst, Some}
+use Rattle.std.proofs.Common.{◌∙◌, ◌++◌, ◌≡◌, ap, subst}
 use Rattle.server_core.specs.ServerState.{entry_of}
 use Rattle.machine_core.specs.Process.{frame_of, first_registers, owned_values, owned_terms, values_shown}
 use Rattle.machine_core.specs.Turn.{trace_of}
@@ -24,7 +24,7 @@ returns-in_ok-trace_target-in-Some-2-clause-ok g c =
     (owned_values c.args.args.now) (values_shown words c.in_ok-registers.registers) (frame_of words c.in-Some-2.frame) c.args.lines.now c.trace_target.new.lines c.in-Some.ensures.same c.in-Some.ensures.holds c.in-Some.ensures.value
     (ap (values_shown words) c.in_ok-registers.ensures ∙ entered_shown words (owned_terms c.args.args.now) ∙ ap first_registers (owned_shown words c.args.args.now))
     (rw c.in-Some-2.is at (c.in_ok-enter.ensures.ok words)) (c.in_ok-trace_target-in-Some-2.ensures.holds ∙ (rw c.in-Some-2.is at c.in_ok-enter.ensures.holds))
-    (subst (λ (v : Shown). c.trace_target.new.lines ≡ c.args.lines.now ++ trace_of v.state (entry_of c.in-Some.code) c.args.target (owned_values c.args.args.now)) (c.in_ok-enter.ensures.same ∙ c.in-Some.ensures.same) c.in_ok-trace_target-in-Some-2.ensures.ok)
+    (subst (λ (v : Shown). c.trace_target.new.lines ≡ c.args.lines.now ++ trace_of v.reads (entry_of c.in-Some.code) c.args.target (owned_values c.args.args.now)) (c.in_ok-enter.ensures.same ∙ c.in-Some.ensures.same) c.in_ok-trace_target-in-Some-2.ensures.ok)
 
 pub returns-in_ok-trace_target-in-Some-2-clause-values : goal.returns-in_ok-trace_target-in-Some-2-clause-values
 returns-in_ok-trace_target-in-Some-2-clause-values g c =

@@ -1,5 +1,5 @@
 -- The line has the terms of the arguments.
-use Rattle.std.proofs.Common.{◌∙◌, sym}
+use Rattle.std.proofs.Common.{sym}
 use Rattle.server_core.specs.ServerState.{entry_of}
 use Rattle.machine_core.specs.Stand.{IsUsable}
 use Rattle.machine_core.proofs.Calling.{all_arguments, usable_seen}

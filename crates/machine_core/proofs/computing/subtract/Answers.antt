@@ -1,5 +1,5 @@
 -- The terms are those of the two sources.
-use Rattle.std.proofs.Common.{◌∙◌, Ok, ap, sym, refl}
+use Rattle.std.proofs.Common.{◌∙◌, ap, sym, refl}
 use Rattle.mod_core.specs.declared.code.Instr.TheVariants as instrs
 use Rattle.machine_core.specs.Decode.{operand_shown}
 use Rattle.machine_core.specs.Process.{frame_of}

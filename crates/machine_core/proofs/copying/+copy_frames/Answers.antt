@@ -1,5 +1,5 @@
 -- The frames below are fewer, and what they name is held.
-use Rattle.std.proofs.Common.{◌∙◌, [], ◌∷◌, ap, arith, length, length-append, sym, subst}
+use Rattle.std.proofs.Common.{[], ◌∷◌, ap, arith, length, length-append, sym, subst}
 use Rattle.machine_core.specs.View.{IsLawful}
 use Rattle.machine_core.proofs.CopiedValues.{rest_named, rest_values}
 use Rattle.machine_core.proofs.copying.+copy_frames.Goals as goal

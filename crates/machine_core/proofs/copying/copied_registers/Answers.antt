@@ -1,5 +1,5 @@
 -- The area of each literal is held.
-use Rattle.std.proofs.Common.{◌≡◌, ◌<◌, All, get_or, length, subst, sym, ap, arith}
+use Rattle.std.proofs.Common.{◌≡◌, ◌<◌, get_or, length, subst, sym, ap, arith}
 use Rattle.machine_core.specs.Holds.{Holds}
 use Rattle.machine_core.specs.Process.{value_shown}
 use Rattle.machine_core.specs.Stand.{IsValueHeld}

@@ -10,6 +10,6 @@ invariant-loop-value g l = record {
   shown : g.V.CodeView.shown l.view ≡ g.V.CodeView.shown l.initial.view;
   held : g.V.CodeView.held l.view ≡ g.V.CodeView.held l.initial.view;
   copied : values_shown (g.V.CodeView.shown l.initial.view).words l.copies.items
-      ≡ map (copied_value (g.V.CodeView.shown l.initial.view).state) (values_shown (g.V.CodeView.shown l.initial.view).words (take l.value-index l.value-items));
+      ≡ map (copied_value (g.V.CodeView.shown l.initial.view).reads) (values_shown (g.V.CodeView.shown l.initial.view).words (take l.value-index l.value-items));
   values : All (IsValue (g.V.CodeView.shown l.initial.view)) l.copies.items;
 }

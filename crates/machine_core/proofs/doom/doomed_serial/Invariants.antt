@@ -8,5 +8,5 @@ abbrev pub invariant-loop-frame : goal.invariant-loop-frame
 invariant-loop-frame g l = record {
   shown : g.V.CodeView.shown l.view ≡ g.V.CodeView.shown l.initial.view;
   held : g.V.CodeView.held l.view ≡ g.V.CodeView.held l.initial.view;
-  found : l.found ≡ doomed_serial (g.V.CodeView.shown l.initial.view).state (frames_of (g.V.CodeView.shown l.initial.view).words (take l.frame-index l.frames));
+  found : l.found ≡ doomed_serial (g.V.CodeView.shown l.initial.view).reads (frames_of (g.V.CodeView.shown l.initial.view).words (take l.frame-index l.frames));
 }

@@ -1,14 +1,12 @@
 -- The part stands behind those before it.
-use Rattle.std.proofs.Common.{◌≡◌, ◌+◌, ◌∙◌, ap, sym, subst, arith, option_map, slice_get, slice_index}
-use Rattle.term_core.specs.Image.{term_at}
-use Rattle.term_core.specs.Plain.{term_of}
+use Rattle.std.proofs.Common.{◌+◌, ◌∙◌, ap, sym, subst, arith, option_map, slice_index}
 use Rattle.machine_core.specs.Process.{value_shown}
 use Rattle.machine_core.specs.Stand.{AreImages, images_end}
-use Rattle.machine_core.specs.Turn.{part_value, parts_of}
+use Rattle.machine_core.specs.Turn.{part_value}
 use Rattle.machine_core.specs.View.{IsReadable, Shown}
 use Rattle.machine_core.specs.declared.process.Value.TheVariants.{Literal}
 use Rattle.machine_core.proofs.ImageSteps.{readable_low}
-use Rattle.machine_core.proofs.LiteralParts.{IsPartOf, first_readable, no_part, part_of_literal, part_shows}
+use Rattle.machine_core.proofs.LiteralParts.{first_readable, no_part, part_of_literal, part_shows}
 use Rattle.machine_core.proofs.elements.literal_part.Goals as goal
 
 pub word-word-requires-clause-readable : goal.word-word-requires-clause-readable
@@ -22,7 +20,7 @@ returns-then-place-parts_of_word-clause-value g c =
 pub overflow_add-at : goal.overflow_add-at
 overflow_add-at g c =
     let shown = g.V.CodeView.shown c.args.view.now in
-    omega (arith, readable_low shown.state c.args.at.area.serial c.args.at.at c.requires.lawful.sound (first_readable shown c.args.at c.requires.usable.0))
+    omega (arith, readable_low shown c.args.at.area.serial c.args.at.at c.requires.lawful (first_readable shown c.args.at c.requires.usable.0))
 
 pub place_behind-requires-clause-images : goal.place_behind-requires-clause-images
 place_behind-requires-clause-images g c =
@@ -35,8 +33,8 @@ word-first-requires-clause-readable g c =
     let shown = g.V.CodeView.shown c.args.view.now in
     let p = part_of_literal shown c.args.at c.requires.usable.0 c.args.place c.word-word.result c.parts_of_word.result c.word-word.ensures.value c.parts_of_word.ensures c.if-place-parts_of_word.false in
     let end = c.place_behind.ensures.value ∙ ap (λ (v : Shown). images_end (v.words c.args.at.area.serial) (c.args.at.at + 1) c.args.place) c.word-word.ensures.same ∙ p.end in
-    subst (λ (v : Shown). IsReadable v.state c.args.at.area.serial c.place_behind.result) (sym (c.place_behind.ensures.same ∙ c.word-word.ensures.same))
-    (subst (IsReadable shown.state c.args.at.area.serial) (sym end) (first_readable shown (record { area = c.args.at.area; at = c.args.at.at + 1 + p.skip }) p.part))
+    subst (λ (v : Shown). IsReadable v c.args.at.area.serial c.place_behind.result) (sym (c.place_behind.ensures.same ∙ c.word-word.ensures.same))
+    (subst (IsReadable shown c.args.at.area.serial) (sym end) (first_readable shown (record { area = c.args.at.area; at = c.args.at.at + 1 + p.skip }) p.part))
 
 pub returns-clause-value : goal.returns-clause-value
 returns-clause-value g c =

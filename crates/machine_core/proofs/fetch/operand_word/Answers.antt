@@ -1,5 +1,5 @@
 -- The word is one of the instruction's, or there is none.
-use Rattle.std.proofs.Common.{arith, ◌+◌, ◌<◌, ◌∙◌}
+use Rattle.std.proofs.Common.{arith, ◌+◌, ◌<◌}
 use Rattle.machine_core.specs.Process.{frame_of}
 use Rattle.machine_core.proofs.Fetching.{numbered_word}
 use Rattle.machine_core.proofs.fetch.operand_word.Goals as goal

@@ -1,6 +1,5 @@
 -- The words are those of the literal's image.
-use Rattle.std.proofs.Common.{◌≡◌, ◌∙◌, ◌+◌, ◌≤◌, arith, ap, sym, subst, length, take, drop, ◌-◌}
-use Rattle.term_core.specs.PlainTerm.{term_words}
+use Rattle.std.proofs.Common.{◌∙◌, ◌≤◌, arith, ap, sym, subst, length, take, drop, ◌-◌}
 use Rattle.term_core.proofs.ImagePlaces.{within-at}
 use Rattle.machine_core.specs.View.{IsReadable, Shown}
 use Rattle.machine_core.proofs.ImageSteps.{literal_images, literal_end, literal_read, literal_readable}
@@ -25,7 +24,7 @@ words_between-requires-clause-readable g c = λ place from to.
     let shown = g.V.CodeView.shown c.args.view.now in
     let h = c.requires.usable.0 in
     let end = c.place_behind-end.ensures.value ∙ literal_end shown c.args.at h in
-    subst (λ (v : Shown). IsReadable v.state c.args.at.area.serial place) (sym c.place_behind-end.ensures.same) (literal_readable shown c.args.at h place from (omega (arith, end)))
+    subst (λ (v : Shown). IsReadable v c.args.at.area.serial place) (sym c.place_behind-end.ensures.same) (literal_readable shown c.args.at h place from (omega (arith, end)))
 
 pub returns-in-Ok-clause-ok : goal.returns-in-Ok-clause-ok
 returns-in-Ok-clause-ok g c =

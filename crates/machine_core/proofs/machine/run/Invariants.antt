@@ -11,6 +11,6 @@ invariant-loop g l = record {
   tracked : g.V.CodeView.held l.view ≡ area_holds l.areas;
   ready : AreReady (g.V.CodeView.shown l.initial.view) (g.V.CodeView.held l.view) l.top l.frames;
   left : (n : ℕ) → n + l.counter ≡ 200 →
-      run_of (g.V.CodeView.shown l.initial.view).state n (frame_of (g.V.CodeView.shown l.initial.view).words l.top ∷ frames_of (g.V.CodeView.shown l.initial.view).words l.frames) (g.V.CodeView.held l.view) l.lines
-      ≡ run_of (g.V.CodeView.shown l.initial.view).state 200 (frame_of (g.V.CodeView.shown l.initial.view).words l.initial.top ∷ frames_of (g.V.CodeView.shown l.initial.view).words l.initial.frames) (g.V.CodeView.held l.initial.view) l.initial.lines;
+      run_of (g.V.CodeView.shown l.initial.view).reads n (frame_of (g.V.CodeView.shown l.initial.view).words l.top ∷ frames_of (g.V.CodeView.shown l.initial.view).words l.frames) (g.V.CodeView.held l.view) l.lines
+      ≡ run_of (g.V.CodeView.shown l.initial.view).reads 200 (frame_of (g.V.CodeView.shown l.initial.view).words l.initial.top ∷ frames_of (g.V.CodeView.shown l.initial.view).words l.initial.frames) (g.V.CodeView.held l.initial.view) l.initial.lines;
 }

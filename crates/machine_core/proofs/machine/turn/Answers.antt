@@ -2,7 +2,8 @@
 use Rattle.std.proofs.Common.{◌∷◌, ◌∙◌, ap, refl, sym}
 use Rattle.machine_core.specs.Process.{frame_of, frames_of, process_of}
 use Rattle.machine_core.proofs.CodeNames.{process_named}
-use Rattle.machine_core.proofs.TurnAnswers.{IsBegun, begun_at, begun_ready, runs_seen, values_seen}
+use Rattle.machine_core.proofs.Placing.{keeps_standing}
+use Rattle.machine_core.proofs.TurnAnswers.{begun_at, begun_ready, runs_seen, values_seen}
 use Rattle.machine_core.proofs.Turns.{gives_ok, held_named, held_ok, is_below, run_again_ok, run_behind_ok, runs_spared}
 use Rattle.machine_core.proofs.machine.turn.Goals as goal
 
@@ -24,7 +25,7 @@ run-requires-clause-ready g c =
     let begun = begun_at shown (g.V.CodeView.shown c.doomed_serial.new.view) (g.V.CodeView.shown c.copy_retired.new.view) p c.args.process.now.frames c.copy_retired.new.frames c.begin.new.frames now then c.in-Ok.top c.in_ok-top.top
     c.args.lines.now c.begin.new.lines c.in_default.ensures.same c.in_ok-copy_retired.ensures.same refl c.in_ok-copy_retired.ensures.copied c.in_ok-copy_retired.ensures.names c.in-Ok.is c.in_ok-top.ensures.ok in
     let same = c.in_ok-copy_retired.ensures.same ∙ c.in_default.ensures.same in
-    begun_ready shown (g.V.CodeView.shown c.copy_retired.new.view) (g.V.CodeView.shown c.begin.new.view) p now then c.in-Ok.top c.begin.new.frames c.args.lines.now c.begin.new.lines c.in_ok-top.top
+    begun_ready shown (g.V.CodeView.shown c.copy_retired.new.view) (g.V.CodeView.shown c.begin.new.view) p now then c.in-Ok.top c.begin.new.frames c.args.lines.now c.begin.new.lines c.in_ok-top.top (keeps_standing shown c.requires.lawful)
     (c.in_ok-top.ensures.same ∙ same) same c.requires.ready.placed begun c.in-Ok.is c.in_ok-top.ensures.top c.in_ok-top.ensures.values
 
 pub returns-in-Ok-clause-ok : goal.returns-in-Ok-clause-ok
@@ -38,9 +39,9 @@ returns-in-Ok-clause-ok g c =
     let same = c.in_ok-copy_retired.ensures.same ∙ c.in_default.ensures.same in
     let frames = frame_of shown.words c.in-Ok.top ∷ frames_of shown.words c.begin.new.frames in
     let last = g.V.CodeView.held c.run.new.view in
-    let runs = runs_spared shown.state now p (frames_of shown.words c.as_slice.result.now) c.if-process.false begun.names (ap (frames_of shown.words) c.as_slice.ensures) c.in_default.ensures.value in
+    let runs = runs_spared shown.reads now p (frames_of shown.words c.as_slice.result.now) c.if-process.false begun.names (ap (frames_of shown.words) c.as_slice.ensures) c.in_default.ensures.value in
     let ran = runs_seen c.run.result shown (g.V.CodeView.shown c.begin.new.view) c.in-Ok.top c.begin.new.frames c.run.new.frames then last c.begin.new.lines c.run.new.lines (c.in_ok-top.ensures.same ∙ same) c.run.ensures.ok in
-    gives_ok c.run.result shown.state p last (frames_of shown.words c.run.new.frames) c.args.lines.now c.run.new.lines (is_below p.turns c.if-process.false)
+    gives_ok c.run.result shown.reads p last (frames_of shown.words c.run.new.frames) c.args.lines.now c.run.new.lines (is_below p.turns c.if-process.false)
     (run_behind_ok c.run.result shown shown p now then last frames (frames_of shown.words c.run.new.frames) c.args.lines.now c.begin.new.lines c.run.new.lines refl runs begun.begins ran)
 
 pub returns-in-Ok-clause-held : goal.returns-in-Ok-clause-held
@@ -54,9 +55,9 @@ returns-in-Ok-clause-held g c =
     let same = c.in_ok-copy_retired.ensures.same ∙ c.in_default.ensures.same in
     let frames = frame_of shown.words c.in-Ok.top ∷ frames_of shown.words c.begin.new.frames in
     let last = g.V.CodeView.held c.run.new.view in
-    let runs = runs_spared shown.state now p (frames_of shown.words c.as_slice.result.now) c.if-process.false begun.names (ap (frames_of shown.words) c.as_slice.ensures) c.in_default.ensures.value in
+    let runs = runs_spared shown.reads now p (frames_of shown.words c.as_slice.result.now) c.if-process.false begun.names (ap (frames_of shown.words) c.as_slice.ensures) c.in_default.ensures.value in
     let ran = runs_seen c.run.result shown (g.V.CodeView.shown c.begin.new.view) c.in-Ok.top c.begin.new.frames c.run.new.frames then last c.begin.new.lines c.run.new.lines (c.in_ok-top.ensures.same ∙ same) c.run.ensures.ok in
-    held_ok c.run.result shown.state p last (frames_of shown.words c.run.new.frames) c.args.lines.now c.run.new.lines
+    held_ok c.run.result shown.reads p last (frames_of shown.words c.run.new.frames) c.args.lines.now c.run.new.lines
     (run_behind_ok c.run.result shown shown p now then last frames (frames_of shown.words c.run.new.frames) c.args.lines.now c.begin.new.lines c.run.new.lines refl runs begun.begins ran)
 
 pub returns-in-Ok-clause-again : goal.returns-in-Ok-clause-again
@@ -71,5 +72,5 @@ returns-in-Ok-clause-again g c =
     let frames = frame_of shown.words c.in-Ok.top ∷ frames_of shown.words c.begin.new.frames in
     let last = g.V.CodeView.held c.run.new.view in
     let ran = runs_seen c.run.result shown (g.V.CodeView.shown c.begin.new.view) c.in-Ok.top c.begin.new.frames c.run.new.frames then last c.begin.new.lines c.run.new.lines (c.in_ok-top.ensures.same ∙ same) c.run.ensures.ok in
-    run_again_ok c.run.result shown shown p now then last frames _ c.args.lines.now c.begin.new.lines c.run.new.lines refl c.requires.lawful.sound c.requires.ready.placed begun.names begun.begins ran
+    run_again_ok c.run.result shown shown p now then last frames _ c.args.lines.now c.begin.new.lines c.run.new.lines refl (keeps_standing shown c.requires.lawful) c.requires.ready.placed begun.names begun.begins ran
     (values_seen c.run.result shown (g.V.CodeView.shown c.begin.new.view) c.run.new.frames (c.in_ok-top.ensures.same ∙ same) c.run.ensures.values)

@@ -1,5 +1,5 @@
 -- What the frames name is held, and the rest is dropped.
-use Rattle.std.proofs.Common.{◌∙◌, ap, sym}
+use Rattle.std.proofs.Common.{◌∙◌, ap}
 use Rattle.term_core.specs.declared.hold.Kind.TheVariants.{Frame as for_frames, Literal as for_literals}
 use Rattle.machine_core.specs.HoldKinds.{held_for, holding}
 use Rattle.machine_core.specs.Process.{code_names}

@@ -1,5 +1,4 @@
 -- The value goes to the frame below.
-use Rattle.std.proofs.Common.{◌∙◌}
 use Rattle.machine_core.proofs.Steps.{leaves_to, on_any, values_popped}
 use Rattle.machine_core.proofs.step.leave.Goals as goal
 

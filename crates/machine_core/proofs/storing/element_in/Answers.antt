@@ -1,5 +1,5 @@
 -- The element is that of the two sources.
-use Rattle.std.proofs.Common.{subst, sym, ◌∙◌}
+use Rattle.std.proofs.Common.{subst, sym}
 use Rattle.machine_core.specs.Holds.{Holds}
 use Rattle.machine_core.specs.Stand.{IsUsable}
 use Rattle.machine_core.specs.View.{Shown}

@@ -1,6 +1,6 @@
 -- The value is kept, or its area is one too many.
 use Rattle.std.proofs.Common.{◌+◌, ◌∙◌, ap, sym}
-use Rattle.machine_core.specs.Process.{frame_of, value_shown, values_shown}
+use Rattle.machine_core.specs.Process.{values_shown}
 use Rattle.machine_core.proofs.StoredValues.{set_shown, store_kept, store_refused}
 use Rattle.machine_core.proofs.storing.store.Goals as goal
 

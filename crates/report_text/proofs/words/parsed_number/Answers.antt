@@ -1,7 +1,7 @@
 -- What `parse` says of a number's digits.
 use Rattle.std.proofs.Common.{◌∙◌, subst, List, ℕ}
 use Rattle.std.specs.Str.Parse.{ParsesUnsigned}
-use Rattle.mod_text.proofs.Numbers.{IsAscii-number}
+use Rattle.term_core.proofs.Text.Numbers.{IsAscii-number}
 use Rattle.report_text.proofs.Parsed.{parsed_number}
 use Rattle.report_text.proofs.words.parsed_number.Goals as goal
 

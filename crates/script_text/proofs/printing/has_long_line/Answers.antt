@@ -1,7 +1,7 @@
 use Rattle.std.proofs.Common.{◌≡◌, ◌∙◌, ◌||◌, length, None, true, false, sym, ap, arith}
 use Rattle.std.proofs.lemmas.Bool.{lt-ltb, le-ltb}
 use Rattle.std.specs.List.{list_any}
-use Rattle.mod_text.specs.LineReading.{cut_at}
+use Rattle.term_core.specs.Text.Cuts.{cut_at}
 use Rattle.script_text.specs.TextLines.{lines_of}
 use Rattle.script_text.specs.Canonical.{is_long_line}
 use Rattle.script_text.proofs.Parts.{shorter_rest}

@@ -1,9 +1,7 @@
 -- The spans before the last one go on, and the last one ends the process.
-use Rattle.std.proofs.Common.{◌≡◌, ◌∷◌, ◌+◌, ◌-◌, ◌++◌, ◌∙◌, [], IfOk, List, sym, ap, subst, arith, drop, length, take}
-use Rattle.std.proofs.lemmas.List.{take_all}
+use Rattle.std.proofs.Common.{◌≡◌, ◌-◌, IfOk, sym, subst, arith, drop, length, take}
 use Rattle.machine_core.specs.Process.{process_of}
 use Rattle.machine_core.specs.View.{server_words}
-use Rattle.run_log.specs.declared.logs.Span.{Span}
 use Rattle.span_check.specs.Sweeps.{AreJudged, EndsNotSo, IsEndJudged}
 use Rattle.span_check.proofs.Lists.{all_get, all_take, last_at, last_split, read_at}
 use Rattle.span_check.proofs.Taking.{end_judged, front_refused, left_later}

@@ -1,12 +1,13 @@
 -- Each span that is taken joins those before it; one that is refused refuses all.
-use Rattle.std.proofs.Common.{◌≡◌, ◌∷◌, ◌+◌, ◌++◌, true, sym, subst, arith, drop, take}
+use Rattle.std.proofs.Common.{◌≡◌, ◌+◌, sym, subst, drop, take}
 use Rattle.std.proofs.lemmas.List.{take_all}
 use Rattle.machine_core.specs.declared.process.TurnEnd.TheVariants.{Again}
 use Rattle.machine_core.specs.Process.{process_of}
 use Rattle.machine_core.specs.View.{server_words}
+use Rattle.script_core.proofs.JoinedPlaces.{take_next}
 use Rattle.span_check.specs.Steps.{IsSpanJudged}
 use Rattle.span_check.specs.Sweeps.{AreNotTaken, AreTaken}
-use Rattle.span_check.proofs.Lists.{all_get, all_take, read_at, split_here, take_next}
+use Rattle.span_check.proofs.Lists.{all_get, all_take, read_at, split_here}
 use Rattle.span_check.proofs.Taking.{left_later, none_taken, one_refused, one_taken}
 use Rattle.std.proofs.Common.{refl}
 use Rattle.span_check.proofs.spans.take_going.Goals as goal

@@ -1,5 +1,5 @@
 -- The watches that are due are looked at, then the spans are taken, if there are some under the generation.
-use Rattle.std.proofs.Common.{◌≡◌, ◌≤◌, ◌<◌, ◌+◌, ◌∙◌, sym, ap, subst, arith, drop, length}
+use Rattle.std.proofs.Common.{◌≡◌, ◌≤◌, ◌+◌, ◌∙◌, sym, subst, arith, drop, length}
 use Rattle.std.specs.List.{AllByRecursion}
 use Rattle.machine_core.specs.Process.{process_of}
 use Rattle.machine_core.specs.View.{server_words}

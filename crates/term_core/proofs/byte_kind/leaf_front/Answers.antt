@@ -1,6 +1,6 @@
 -- The bytes up to the first between terms.
 use Rattle.std.proofs.Common.{take, length, unwrap_or, ap, ◌∙◌}
-use Rattle.term_core.proofs.Fronts.{front_is}
+use Rattle.term_core.proofs.ByteKinds.{front_is}
 use Rattle.term_core.proofs.byte_kind.leaf_front.Goals as goal
 
 -- by where it stands

@@ -4,8 +4,8 @@ use Rattle.std.proofs.lemmas.List.{drop_all, length-map}
 use Rattle.term_core.specs.Plain.{plain}
 use Rattle.term_core.specs.Same.{are_same}
 use Rattle.term_core.proofs.SameTerms.{same_from, same_length}
-use Rattle.term_core.proofs.Truths.{false_unless}
 use Rattle.term_core.proofs.same.+same.Goals as goal
+use Rattle.std.proofs.lemmas.Bool.{false_from_ne_true}
 
 -- at the start all is left
 pub are_same-loop-at-init : goal.are_same-loop-at-init
@@ -17,7 +17,7 @@ are_same-loop-at-init t c =
 -- lists of other lengths are not the same
 pub are_same-returns-then-len : goal.are_same-returns-then-len
 are_same-returns-then-len t c =
-    sym (false_unless (are_same c.args.terms.now c.args.others.now) (λ h. omega (arith, same_length c.args.terms.now c.args.others.now h, ap length c.terms.view_is, ap length c.others.view_is, length-map c.terms.inside.items.items plain, length-map c.others.inside.items.items plain, c.if-len.true)))
+    sym (false_from_ne_true (are_same c.args.terms.now c.args.others.now) (λ h. omega (arith, same_length c.args.terms.now c.args.others.now h, ap length c.terms.view_is, ap length c.others.view_is, length-map c.terms.inside.items.items plain, length-map c.others.inside.items.items plain, c.if-len.true)))
 
 -- where two terms differ, so do the lists
 pub are_same-returns-then-not-is_same : goal.are_same-returns-then-not-is_same

@@ -1,7 +1,7 @@
 -- Where the scan goes on, what is left decides.
 use Rattle.std.proofs.Common.{cond, Some, None, get_or, refl, sym, ap, ◌∙◌, arith}
 use Rattle.term_core.specs.Scanning.{Scanned}
-use Rattle.term_core.proofs.Scans.{fault_behind}
+use Rattle.term_core.proofs.Scanning.Steps.{fault_behind}
 use Rattle.term_core.proofs.scan.syntax_fault.Goals as goal
 
 -- by the byte that was taken

@@ -1,7 +1,7 @@
 -- A term that was read has an image.
 use Rattle.std.proofs.lemmas.Result.{IfOk-at_ok}
 use Rattle.term_core.specs.TermText.{TermText}
-use Rattle.term_core.proofs.PlainFacts.{integers_fit_read}
+use Rattle.term_core.proofs.TermTexts.{integers_fit_read}
 use Rattle.term_core.proofs.tests.has_image.Goals as goal
 
 -- since its integers have 60 bits

@@ -1,6 +1,6 @@
 -- The areas that the process names are few, and the server's state is sound.
-use Rattle.std.proofs.Common.{◌≡◌, ◌∙◌, ◌≤◌, sym, ap, arith, length}
-use Rattle.machine_core.specs.Holds.{Holds, area_count, serials_of}
+use Rattle.std.proofs.Common.{◌∙◌, ap, arith, length}
+use Rattle.machine_core.specs.Holds.{serials_of}
 use Rattle.machine_core.specs.Process.{area_holds, area_serials, names_of, process_of}
 use Rattle.machine_core.specs.View.{server_words}
 use Rattle.machine_core.proofs.AreaLists.{same_holds}

@@ -1,8 +1,7 @@
-use Rattle.std.proofs.Common.{sym, ap, ◌∙◌}
 use Rattle.std.proofs.lemmas.Result.{err_from_is_err_and}
 use Rattle.script_text.specs.WrittenLine.{kept_ref}
-use Rattle.script_text.specs.Naming.{ref_named, refs_named}
-use Rattle.script_text.proofs.NamingLoops.{with_front_none, loop_goes_on, loop_stops, loop_ends}
+use Rattle.script_text.specs.Naming.{ref_named}
+use Rattle.script_text.proofs.NamingLoops.{loop_goes_on, loop_stops, loop_ends}
 use Rattle.script_text.proofs.reading.naming.name_refs.Goals as goal
 
 -- a module is named

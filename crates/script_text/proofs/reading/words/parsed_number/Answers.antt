@@ -1,7 +1,7 @@
 -- What `parse` says of a number's digits.
-use Rattle.std.proofs.Common.{◌≡◌, ◌∙◌, subst, List, ℕ}
+use Rattle.std.proofs.Common.{◌∙◌, subst, List, ℕ}
 use Rattle.std.specs.Str.Parse.{ParsesUnsigned}
-use Rattle.mod_text.proofs.Numbers.{IsAscii-number, parsed_number}
+use Rattle.term_core.proofs.Text.Numbers.{IsAscii-number, parsed_number}
 use Rattle.script_text.proofs.reading.words.parsed_number.Goals as goal
 
 -- they are ASCII

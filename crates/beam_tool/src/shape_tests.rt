@@ -1,0 +1,369 @@
+use legality::{
+    has_commands_in_order, is_complete, is_killed, killed_serials, snapshots_fit, spans_rise,
+    spawns_come_first,
+};
+use machine_core::{End, LineList};
+use run_log::{
+    Entry, EntryList, ExportList, ObserverList, ProcessLog, ProcessLogList, RunLog, Snapshot,
+    SnapshotList, Span, SpanList, Who,
+};
+use script_text::read_script;
+use server_core::{Cmd, ModRef, RefList, Reply};
+use std::alloc::Global;
+use std::test::Fail;
+use term_core::{AtomId, CountList, Mfa, NoMemory, Term, TermList};
+
+/// Two loaders, each of which spawns a process. Its atoms are `m`, `main` and `k`, numbered from 3 on.
+const SCRIPT: &str = "beam script 1
+module m.1
+export main/1
+end
+loader
+put k {1}
+spawn m:main(1)
+loader
+load m.1
+purge m
+spawn m:main([1])
+go
+";
+
+const M: AtomId = AtomId(3);
+
+const K: AtomId = AtomId(5);
+
+const MAIN: Mfa = Mfa {
+    module: M,
+    name: AtomId(4),
+    arity: 1,
+};
+
+/// A command of the journal, by what it differs in from others of its kind.
+#[derive(Clone, Copy, Debug)]
+enum Step {
+    Load(u32),
+    Put(i64),
+    SpawnOf(i64),
+    SpawnOfList(i64),
+    Doom,
+    Purge,
+    CheckOld,
+    Release,
+}
+
+fn one_term(alloc: Global, number: i64) -> Result<TermList, NoMemory> {
+    let mut terms = TermList::new(alloc);
+    terms.push(Term::Int(number))?;
+    Ok(terms)
+}
+
+fn one_list(alloc: Global, number: i64) -> Result<TermList, NoMemory> {
+    let mut terms = TermList::new(alloc);
+    terms.push(Term::List(one_term(alloc, number)?))?;
+    Ok(terms)
+}
+
+fn command(alloc: Global, step: Step) -> Result<Cmd, NoMemory> {
+    Ok(match step {
+        Step::Load(version) => {
+            Cmd::Load(RefList::from_slice(alloc, &[ModRef { name: M, version }])?)
+        }
+        Step::Put(number) => Cmd::Put {
+            key: K,
+            term: Term::Tuple(one_term(alloc, number)?),
+        },
+        Step::SpawnOf(number) => Cmd::Spawn {
+            target: MAIN,
+            args: one_term(alloc, number)?,
+        },
+        Step::SpawnOfList(number) => Cmd::Spawn {
+            target: MAIN,
+            args: one_list(alloc, number)?,
+        },
+        Step::Doom => Cmd::Doom(M),
+        Step::Purge => Cmd::Purge {
+            module: M,
+            killed: false,
+        },
+        Step::CheckOld => Cmd::CheckOld(M),
+        Step::Release => Cmd::Release(1),
+    })
+}
+
+/// A journal of steps, each with its loader; of these the loads, puts and purges publish.
+fn journal(alloc: Global, steps: &[(u32, Step)]) -> Result<EntryList, NoMemory> {
+    let mut entries = EntryList::new(alloc);
+    for (loader, step) in steps {
+        let publishes = matches!(*step, Step::Load(_) | Step::Put(_) | Step::Purge);
+        entries.push(Entry {
+            who: Who::Loader(*loader),
+            cmd: command(alloc, *step)?,
+            reply: Reply::Ok,
+            published: if publishes { Some(1) } else { None },
+        })?;
+    }
+    Ok(entries)
+}
+
+fn spans(alloc: Global, generations: &[u64]) -> Result<SpanList, NoMemory> {
+    let mut spans = SpanList::new(alloc);
+    for generation in generations {
+        spans.push(Span {
+            generation: *generation,
+            turns: 1,
+            lines: LineList::new(alloc),
+        })?;
+    }
+    Ok(spans)
+}
+
+fn process(
+    alloc: Global,
+    args: TermList,
+    generations: &[u64],
+    fin: End,
+) -> Result<ProcessLog, NoMemory> {
+    Ok(ProcessLog {
+        target: MAIN,
+        args,
+        spans: spans(alloc, generations)?,
+        fin,
+    })
+}
+
+/// The processes of the script, each with the generations of its spans.
+fn processes(alloc: Global, first: &[u64], second: &[u64]) -> Result<ProcessLogList, NoMemory> {
+    let mut processes = ProcessLogList::new(alloc);
+    processes.push(process(alloc, one_term(alloc, 1)?, first, End::Normal)?)?;
+    processes.push(process(alloc, one_list(alloc, 1)?, second, End::Normal)?)?;
+    Ok(processes)
+}
+
+fn snapshots(alloc: Global, generations: &[u64]) -> Result<SnapshotList, NoMemory> {
+    let mut shots = SnapshotList::new(alloc);
+    for generation in generations {
+        shots.push(Snapshot {
+            generation: *generation,
+            exports: ExportList::new(alloc),
+        })?;
+    }
+    Ok(shots)
+}
+
+fn observers(alloc: Global, rows: &[&[u64]]) -> Result<ObserverList, NoMemory> {
+    let mut observers = ObserverList::new(alloc);
+    for generations in rows {
+        observers.push(snapshots(alloc, generations)?)?;
+    }
+    Ok(observers)
+}
+
+/// The commands of the script, its loaders in turn: generation 1 is that of the load, 2 that of the put, 3 that of the purge.
+const IN_TURN: [(u32, Step); 7] = [
+    (1, Step::Load(1)),
+    (0, Step::Put(1)),
+    (1, Step::Doom),
+    (7, Step::Release),
+    (0, Step::SpawnOf(1)),
+    (1, Step::Purge),
+    (1, Step::SpawnOfList(1)),
+];
+
+#[test]
+fn commands_are_in_order(rt: HostRuntime) -> Result<(), Fail> {
+    let alloc = rt.alloc();
+    let script = read_script(alloc, SCRIPT.as_bytes())?;
+    let at_four: [(Step, bool); 4] = [
+        (Step::SpawnOf(1), true),
+        (Step::SpawnOf(2), false),
+        (Step::SpawnOfList(1), false),
+        (Step::CheckOld, false),
+    ];
+    for (step, expected) in at_four {
+        let mut steps = IN_TURN;
+        steps[4] = (0, step);
+        let log = log_of(alloc, journal(alloc, &steps)?, &[2], &[3])?;
+        assert_eq!(rt; has_commands_in_order(&script, &log), expected, "{step:?}");
+    }
+    let at_zero = [
+        (1, Step::Load(1), true),
+        (1, Step::Load(2), false),
+        (0, Step::Load(1), false),
+        (7, Step::Load(1), false),
+        (1, Step::Doom, false),
+    ];
+    for (loader, step, expected) in at_zero {
+        let mut steps = IN_TURN;
+        steps[0] = (loader, step);
+        let log = log_of(alloc, journal(alloc, &steps)?, &[2], &[3])?;
+        assert_eq!(rt;
+            has_commands_in_order(&script, &log),
+            expected,
+            "{loader} {step:?}"
+        );
+    }
+    Ok(())
+}
+
+#[test]
+fn all_commands_stand_in_the_journal(rt: HostRuntime) -> Result<(), Fail> {
+    let alloc = rt.alloc();
+    let script = read_script(alloc, SCRIPT.as_bytes())?;
+    let twice = [
+        (1, Step::Load(1)),
+        (1, Step::Load(1)),
+        (0, Step::Put(1)),
+        (0, Step::SpawnOf(1)),
+        (1, Step::Purge),
+        (1, Step::SpawnOfList(1)),
+    ];
+    let cases: [(&[(u32, Step)], bool); 5] = [
+        (IN_TURN.as_slice(), true),
+        (twice.as_slice(), false),
+        (&twice[1..], true),
+        (&IN_TURN[..6], false),
+        (&[], false),
+    ];
+    for (steps, expected) in cases {
+        let log = log_of(alloc, journal(alloc, steps)?, &[2], &[3])?;
+        assert_eq!(rt; has_commands_in_order(&script, &log), expected, "{steps:?}");
+    }
+    Ok(())
+}
+
+fn log_of(
+    alloc: Global,
+    journal: EntryList,
+    first: &[u64],
+    second: &[u64],
+) -> Result<RunLog, NoMemory> {
+    Ok(RunLog {
+        journal,
+        processes: processes(alloc, first, second)?,
+        observers: ObserverList::new(alloc),
+    })
+}
+
+#[test]
+fn first_turns_have_seen_their_spawns(rt: HostRuntime) -> Result<(), Fail> {
+    let alloc = rt.alloc();
+    let script = read_script(alloc, SCRIPT.as_bytes())?;
+    let cases: [(u64, u64, bool); 5] = [
+        (2, 3, true),
+        (1, 3, false),
+        (2, 2, false),
+        (3, 3, true),
+        (0, 3, false),
+    ];
+    for (first, second, expected) in cases {
+        let log = log_of(alloc, journal(alloc, &IN_TURN)?, &[first, 3], &[second])?;
+        let holds = has_commands_in_order(&script, &log) && spawns_come_first(&script, &log);
+        assert_eq!(rt; holds, expected, "{first} {second}");
+    }
+    Ok(())
+}
+
+#[test]
+fn turns_and_snapshots_are_of_published_generations(rt: HostRuntime) -> Result<(), Fail> {
+    let alloc = rt.alloc();
+    let mut script = read_script(alloc, SCRIPT.as_bytes())?;
+    script.observers = CountList::from_slice(alloc, &[1])?;
+    let cases: [(&[u64], &[u64], &[&[u64]], bool); 6] = [
+        (&[2], &[3], &[&[3]], true),
+        (&[2, 4], &[3], &[&[3]], false),
+        (&[2], &[], &[&[3]], false),
+        (&[2], &[3], &[&[4]], false),
+        (&[2], &[3], &[], false),
+        (&[2], &[3], &[&[3], &[3]], false),
+    ];
+    for (first, second, shots, expected) in cases {
+        let mut log = log_of(alloc, journal(alloc, &IN_TURN)?, first, second)?;
+        log.observers = observers(alloc, shots)?;
+        assert_eq!(rt;
+            is_complete(&script, &log),
+            expected,
+            "{first:?} {second:?} {shots:?}"
+        );
+    }
+    Ok(())
+}
+
+#[test]
+fn each_spawn_has_its_log(rt: HostRuntime) -> Result<(), Fail> {
+    let alloc = rt.alloc();
+    let script = read_script(alloc, SCRIPT.as_bytes())?;
+    let cases: [(&[i64], bool); 4] = [(&[], true), (&[1], false), (&[-1], false), (&[-2], false)];
+    for (changes, expected) in cases {
+        let mut log = log_of(alloc, journal(alloc, &IN_TURN)?, &[2], &[3])?;
+        for change in changes {
+            change_logs(alloc, &mut log.processes, *change)?;
+        }
+        assert_eq!(rt; is_complete(&script, &log), expected, "{changes:?}");
+    }
+    Ok(())
+}
+
+/// Adds a log, takes the last one away, or gives it other arguments.
+fn change_logs(alloc: Global, processes: &mut ProcessLogList, change: i64) -> Result<(), NoMemory> {
+    if change == 1 {
+        return processes.push(process(alloc, one_term(alloc, 1)?, &[3], End::Normal)?);
+    }
+    let _last = processes.pop();
+    if change == -2 {
+        processes.push(process(alloc, one_list(alloc, 2)?, &[3], End::Normal)?)?;
+    }
+    Ok(())
+}
+
+#[test]
+fn snapshots_are_counted_and_rise(rt: HostRuntime) -> Result<(), Fail> {
+    let alloc = rt.alloc();
+    let mut script = read_script(alloc, SCRIPT.as_bytes())?;
+    script.observers = CountList::from_slice(alloc, &[2, 1])?;
+    let cases: [(&[&[u64]], bool); 6] = [
+        (&[&[0, 1], &[0]], true),
+        (&[&[1, 1], &[0]], true),
+        (&[&[1, 0], &[0]], false),
+        (&[&[0], &[0]], false),
+        (&[&[0, 1], &[0, 1]], false),
+        (&[&[0, 1]], true),
+    ];
+    for (shots, expected) in cases {
+        let mut log = log_of(alloc, journal(alloc, &IN_TURN)?, &[2], &[3])?;
+        log.observers = observers(alloc, shots)?;
+        assert_eq!(rt; snapshots_fit(&script, &log), expected, "{shots:?}");
+    }
+    Ok(())
+}
+
+#[test]
+fn no_span_is_older_than_the_one_before(rt: HostRuntime) -> Result<(), Fail> {
+    let alloc = rt.alloc();
+    let cases: [(&[u64], &[u64], bool); 5] = [
+        (&[], &[], true),
+        (&[1, 1, 2], &[0, 5], true),
+        (&[2, 1], &[3], false),
+        (&[2], &[3, 4, 3], false),
+        (&[2], &[1], true),
+    ];
+    for (first, second, expected) in cases {
+        let log = log_of(alloc, journal(alloc, &IN_TURN)?, first, second)?;
+        assert_eq!(rt; spans_rise(&log), expected, "{first:?} {second:?}");
+    }
+    Ok(())
+}
+
+#[test]
+fn serials_of_kills_are_gathered(rt: HostRuntime) -> Result<(), Fail> {
+    let alloc = rt.alloc();
+    let mut log = log_of(alloc, journal(alloc, &IN_TURN)?, &[2], &[3])?;
+    for fin in [End::Killed(7), End::Badarg, End::Killed(9), End::Killed(7)] {
+        log.processes
+            .push(process(alloc, one_term(alloc, 1)?, &[3], fin)?)?;
+    }
+    let serials = killed_serials(alloc, &log)?;
+    for (serial, expected) in [(7, true), (8, false), (9, true), (0, false)] {
+        assert_eq!(rt; is_killed(&serials, serial), expected, "{serial}");
+    }
+    Ok(())
+}

@@ -1,8 +1,0 @@
-pub mod Equivalences
-pub mod RisingNumbers
-pub mod SameParts
-pub mod ListPlaces
-pub mod CommandPlaces
-pub mod SpawnLines
-pub mod SpawnSteps
-pub mod LogsMatching

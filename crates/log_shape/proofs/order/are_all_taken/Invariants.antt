@@ -1,7 +1,0 @@
-use Rattle.std.proofs.Common.{ℕ, ◌<◌, ◌≤◌, length}
-use Rattle.log_shape.specs.Places.{commands_at, place_of}
-use Rattle.log_shape.proofs.order.are_all_taken.Given as goal
-
--- the commands of the loaders so far were taken
-abbrev pub invariant-loop-loader : goal.invariant-loop-loader
-invariant-loop-loader l = (k : ℕ) → k < l.loader → length (commands_at l.loaders k) ≤ place_of l.places k

@@ -1,7 +1,0 @@
-use Rattle.std.proofs.lemmas.Bool.Decides.{Decides-at}
-use Rattle.log_shape.proofs.SameParts.{are_same-Decides}
-use Rattle.log_shape.proofs.same.are_same_terms.Goals as goal
-
--- by their rows
-pub returns : goal.returns
-returns c = Decides-at _ _ c.eq.ensures (are_same-Decides _ _)

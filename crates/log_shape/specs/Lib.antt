@@ -1,4 +1,0 @@
-pub mod RisingSpans
-pub mod SnapshotShape
-pub mod Places
-pub mod SpawnNumbers

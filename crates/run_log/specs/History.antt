@@ -1,0 +1,147 @@
+-- What the answers of a journal tell of the processes, and that it stays true whatever turns come, under this and later generations.
+-- Source: this project's profile, as the sequential reading of erts internal documentation, CodeLoading.
+-- A lawful log speaks of the turns that were over when an entry was made; a run asks what its processes name now.
+use Rattle.std.specs.Prelude.{◌≡◌, ◌⊎◌, ℕ, ◌+◌, ◌<◌, ◌≤◌, Bool, false, List, [], ◌∷◌, ◌++◌, length, Option, Some, None, slice_get, IfSome, IsSome, IsSomeAnd, IsTrue}
+use Rattle.std.specs.List.{AllByRecursion, list_any}
+use Rattle.mod_core.specs.declared.code.Module.{Module}
+use Rattle.server_core.specs.declared.command.Cmd.{Cmd}
+use Rattle.server_core.specs.declared.command.Cmd.TheVariants as cmds
+use Rattle.server_core.specs.declared.command.Linger.{Linger}
+use Rattle.server_core.specs.ServerState.{ServerState, IsDropped, current_of, empty_state, is_doomed, old_of}
+use Rattle.machine_core.specs.declared.process.End.{End}
+use Rattle.machine_core.specs.declared.process.End.TheVariants.{Killed}
+use Rattle.machine_core.specs.declared.process.TurnEnd.{TurnEnd}
+use Rattle.machine_core.specs.declared.process.TurnEnd.TheVariants.{Again, Ended}
+use Rattle.machine_core.specs.Holds.{is_among}
+use Rattle.machine_core.specs.Process.{PlainProcess, names_of}
+use Rattle.machine_core.specs.Turn.{turn_of}
+use Rattle.script_core.specs.declared.script.Script.{Script}
+use Rattle.run_log.specs.declared.logs.Entry.{Entry}
+use Rattle.run_log.specs.declared.logs.ProcessLog.{ProcessLog}
+use Rattle.run_log.specs.declared.logs.RunLog.{RunLog}
+use Rattle.run_log.specs.Journal.{newest_state}
+use Rattle.run_log.specs.Legal.{Mark, Lingers, NamesNot, StandsNotIn, is_killed_by, last_up_to, published_to, state_before, turns_in_log}
+
+-- a process of a run: its turns so far, what it is now, and its end if it has ended
+pub record History : Type 0 where
+  pub marks : List Mark
+  pub now : PlainProcess
+  pub fin : Option End
+
+-- the process is what its last turn left; where it has had none, it has no frames
+abbrev pub IsLeftBy : List Mark → PlainProcess → Type 0
+IsLeftBy [] now = now.frames ≡ []
+IsLeftBy (m ∷ []) now = m.process ≡ now
+IsLeftBy (m ∷ next ∷ marks) now = IsLeftBy (next ∷ marks) now
+
+-- what is known of each process of a run whose newest generation is this
+pub record IsHistory (top : ℕ) (h : History) : Type 0 where
+  pub known : AllByRecursion (λ m. m.generation ≤ top) h.marks
+  pub left : IsLeftBy h.marks h.now
+  pub over : IsSome h.fin → h.now.frames ≡ []
+  pub counted : h.fin ≡ None → h.now.turns ≡ length h.marks
+
+-- a fact of each element of a list
+abbrev pub Each : {X : Type 0} → List X → (X → Type 0) → Type 0
+Each {X} xs P = (place : ℕ) (x : X) → slice_get xs place ≡ Some x → P x
+
+-- an area that was released when so many generations were published: it is out of use, and no process names it, then or now
+pub record StaysReleased (now : ServerState) (published serial : ℕ) (histories : List History) : Type 0 where
+  pub dropped : IsDropped now serial
+  pub unnamed_then : Each histories (λ h. IfSome (last_up_to published h.marks) (λ m. NamesNot serial m.process))
+  pub unnamed : Each histories (λ h. NamesNot serial h.now)
+
+-- an instance that was dropped when so many generations were published: it is out of use, and no process stood in it then; each later turn is under a
+-- later generation
+pub record StaysDropped (now : ServerState) (published serial : ℕ) (histories : List History) : Type 0 where
+  pub over : published < now.generation
+  pub dropped : IsDropped now serial
+  pub unnamed : Each histories (λ h. IfSome (last_up_to published h.marks) (λ m. StandsNotIn serial m.process))
+
+-- a process that lingered in an instance when so many generations were published
+pub record StaysLingering (now : ServerState) (published serial : ℕ) (linger : Linger) (histories : List History) : Type 0 where
+  pub by_now : published ≤ now.generation
+  pub lingers : IsSomeAnd (slice_get histories linger.process) (λ h. Lingers serial published linger.turn h.marks)
+
+-- whether a process has ended since it stood in this instance
+abbrev pub has_ended_by : ℕ → Option End → Bool
+has_ended_by serial None = false
+has_ended_by serial (Some end) = is_killed_by serial end
+
+-- an instance that was purged when so many generations were published: it was dropped, and the answer tells whether a process was killed
+pub record StaysPurged (now : ServerState) (published serial : ℕ) (killed : Bool) (histories : List History) : Type 0 where
+  pub dropped : StaysDropped now published serial histories
+  pub told : killed ≡ list_any (λ h. has_ended_by serial h.fin) histories
+
+-- what a command tells of the processes is so under the state now: it was made in that other state, when so many generations were published
+abbrev pub AnswerStands : ServerState → ServerState → ℕ → List History → Cmd → Type 0
+AnswerStands now s published histories (cmds.SoftPurge name None) = IfSome (old_of s name.0) (λ serial. StaysDropped now published serial histories)
+AnswerStands now s published histories (cmds.SoftPurge name (Some linger)) = IfSome (old_of s name.0) (λ serial. StaysLingering now published serial linger histories)
+AnswerStands now s published histories (cmds.Purge name killed) = IfSome (old_of s name.0) (λ serial. StaysPurged now published serial killed histories)
+AnswerStands now s published histories (cmds.Release serial) = StaysReleased now published serial histories
+AnswerStands now s published histories _ = Unit {0}
+
+-- the state after a journal
+abbrev pub newest : List Module → List Entry → ServerState
+newest texts journal = newest_state texts empty_state journal
+
+-- what each entry of the journal tells of the processes is so under the newest state
+pub record AnswersStand (texts : List Module) (journal : List Entry) (histories : List History) : Type 0 where
+  pub each : (place : ℕ) (e : Entry) → slice_get journal place ≡ Some e
+      → AnswerStands (newest texts journal) (state_before texts place journal) (published_to place journal) histories e.cmd
+
+-- what is known of a run before its next step: its answers stand, and so much is known of each process
+pub record AreKnown (texts : List Module) (journal : List Entry) (histories : List History) : Type 0 where
+  pub stand : AnswersStand texts journal histories
+  pub processes : Each histories (IsHistory (newest texts journal).generation)
+
+-- the instance of a frame after a turn was one before, or it is current; an area that is out of use and that was not named before is not named after
+pub record NamesAfter (s : ServerState) (before after : PlainProcess) : Type 0 where
+  pub frames : (serial : ℕ) → IsTrue (is_among (names_of after).frames serial) → IsTrue (is_among (names_of before).frames serial) ⊎ ((name : ℕ) × (current_of s name ≡ Some serial))
+  pub unnamed : (serial : ℕ) → IsDropped s serial → NamesNot serial before → NamesNot serial after
+
+-- a process had a turn under a state: it has one mark more, and a kill is by an instance that is doomed
+pub record HasTurned (s : ServerState) (before after : History) : Type 0 where
+  pub going : before.fin ≡ None
+  pub marks : after.marks ≡ before.marks ++ record { generation = s.generation; process = after.now } ∷ []
+  pub names : NamesAfter s before.now after.now
+  pub killed : (serial : ℕ) → after.fin ≡ Some (Killed serial) → IsTrue (is_doomed s serial)
+  pub over : IsSome after.fin → after.now.frames ≡ []
+  pub counts : after.fin ≡ None → after.now.turns ≡ before.now.turns + 1
+
+-- the end of a process whose turn ended so, if it is one
+abbrev pub fin_after : TurnEnd → Option End
+fin_after Again = None
+fin_after (Ended end) = Some end
+
+-- a process after a turn under a state
+abbrev pub history_after : ServerState → History → History
+history_after s h =
+    record {
+      marks = h.marks ++ record { generation = s.generation; process = (turn_of s h.now).process } ∷ [];
+      now = (turn_of s h.now).process;
+      fin = fin_after (turn_of s h.now).end;
+    }
+
+-- a process between two steps of a run is as it was, or it had a turn
+pub data RestsOrTurns (s : ServerState) (before after : History) : Type 0 where
+  rests : after ≡ before → RestsOrTurns s before after
+  turns : HasTurned s before after → RestsOrTurns s before after
+
+-- each of these processes is as it was, or had a turn under this state
+pub record AllRestOrTurn (s : ServerState) (before after : List History) : Type 0 where
+  pub many : length after ≡ length before
+  pub each : (number : ℕ) (h g : History) → slice_get before number ≡ Some h → slice_get after number ≡ Some g → RestsOrTurns s h g
+
+-- a command that tells nothing of the processes: none but a release and a purge does, and no purge where there is no old code
+abbrev pub IsSilent : ServerState → Cmd → Type 0
+IsSilent s (cmds.SoftPurge name lingers) = old_of s name.0 ≡ None
+IsSilent s (cmds.Purge name killed) = old_of s name.0 ≡ None
+IsSilent s (cmds.Release serial) = ⊥
+IsSilent s _ = Unit {0}
+
+-- the histories are those of the processes of a log, which have all ended
+pub record AreHistoriesOf (s : Script) (log : RunLog) (histories : List History) : Type 0 where
+  pub many : length histories ≡ length log.processes
+  pub marks : (number : ℕ) (h : History) (process : ProcessLog) → slice_get histories number ≡ Some h → slice_get log.processes number ≡ Some process → h.marks ≡ turns_in_log s log number process
+  pub fin : (number : ℕ) (h : History) (process : ProcessLog) → slice_get histories number ≡ Some h → slice_get log.processes number ≡ Some process → h.fin ≡ Some process.fin

@@ -1,0 +1,3 @@
+pub mod JoinedPlaces
+pub mod NamesCopied
+pub mod SpawnLines

@@ -1,6 +1,0 @@
-use Rattle.std.proofs.Common.{◌≡◌, take}
-use Rattle.script_text.proofs.copying.copy_loaders.Given as goal
-
--- those so far are copied
-abbrev pub invariant-loop-commands : goal.invariant-loop-commands
-invariant-loop-commands l = l.copies ≡ take l.commands-index l.loaders

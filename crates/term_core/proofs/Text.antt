@@ -1,0 +1,4 @@
+-- Laws of texts that readers of any format cite.
+pub mod Cuts
+pub mod Numbers
+pub mod Options

@@ -1,0 +1,38 @@
+# Completion of bash for beam and ./beam.
+
+_beam() {
+    local word=${COMP_WORDS[COMP_CWORD]} first=1
+    [ "${COMP_WORDS[1]}" = --unproved ] && first=2
+    COMPREPLY=()
+    if [ "$COMP_CWORD" -le "$first" ]; then
+        local words="run check progress"
+        [ "$first" -eq 1 ] && words="$words --unproved"
+        mapfile -t COMPREPLY < <(compgen -W "$words" -- "$word")
+    elif [ "${COMP_WORDS[COMP_CWORD - 1]}" = --schedulers ]; then
+        mapfile -t COMPREPLY < <(compgen -W "1 2 3 4 5 6 7 8 9 10 11 12 13 14 15 16" -- "$word")
+    else
+        _beam_files "${COMP_WORDS[first]}" $((COMP_CWORD - first)) "$word"
+    fi
+}
+
+# The files that a form may take at a place behind its first word, and the option of run.
+_beam_files() {
+    local ending=
+    case $1.$2 in
+        run.1)
+            mapfile -t COMPREPLY < <(compgen -W "--schedulers" -- "$3")
+            ending=script
+            ;;
+        run.3 | check.1) ending=script ;;
+        check.2) ending=report ;;
+        progress.1) ending=events ;;
+        *) return ;;
+    esac
+    compopt -o filenames 2>/dev/null
+    local file
+    while IFS= read -r file; do
+        COMPREPLY+=("$file")
+    done < <(compgen -f -X "!*.$ending" -- "$3"; compgen -d -- "$3")
+}
+
+complete -F _beam beam ./beam

@@ -1,0 +1,144 @@
+"""Tests of tools/why: each faulty input gets its reason, and no faultless line gets one."""
+
+import pathlib
+import subprocess
+import sys
+import tempfile
+import unittest
+
+from faults import FAULTS, FIRST, HEAD, ENTRIES, PROCESS
+from loading import TOOLS, load_tool
+
+why = load_tool("why")
+
+
+class EachFaultHasItsReason(unittest.TestCase):
+    """The table of faulty inputs."""
+
+    def test_there_are_many_faults(self):
+        self.assertGreaterEqual(len(FAULTS), 90)
+        self.assertEqual(len({fault.name for fault in FAULTS}), len(FAULTS))
+
+    def test_the_hint_is_told(self):
+        for fault in FAULTS:
+            with self.subTest(fault.name):
+                told = why.answer(fault.text, fault.line, "auto")
+                reasons = "\n".join(line for line in told.lines if "why: " in line or "stands on line" in line)
+                self.assertIn(fault.hint, reasons)
+                self.assertTrue(told.found)
+
+    def test_the_line_is_told(self):
+        for fault in FAULTS:
+            words = fault.line.split(" ")
+            if words[0] == "refused" and words[-1] != "file_too_long":
+                number = words[2] if words[1] == "report" else words[1]
+                text = {"report": "a report", "progress": "an event list"}.get(
+                    words[1] if words[1] == "report" else fault.words, "a script")
+                with self.subTest(fault.name):
+                    told = why.answer(fault.text, fault.line, "auto").lines[0]
+                    self.assertTrue(told.startswith(f"line {number} of {text}: "), told)
+
+    def test_bytes_are_shown(self):
+        for name, shown in [("crlf_one_line", "print 1<CR>"), ("tab_between", "move 1<TAB>$0"),
+                            ("trailing_space", "print 1<SP>"), ("double_space", "move 1<SP><SP>$0"),
+                            ("byte_order_mark", "<BOM>beam script 1"), ("last_line_feed", "go<NO LINE FEED>")]:
+            fault = next(fault for fault in FAULTS if fault.name == name)
+            self.assertIn(shown, why.answer(fault.text, fault.line, "auto").lines[0])
+
+
+class NoReasonIsInvented(unittest.TestCase):
+    """Lines without a fault get none."""
+
+    def test_lines_of_a_script(self):
+        for number in range(2, FIRST.count("\n") + 1):
+            told = why.answer(FIRST, f"refused {number} syntax", "script")
+            self.assertFalse(told.found, told.lines)
+            self.assertIn("no reason was found", "\n".join(told.lines))
+
+    def test_lines_of_a_report(self):
+        text = FIRST + HEAD + ENTRIES + PROCESS + "observer 0\nsnapshot 1\nexport m:main/0 1\nend report\n"
+        for number in range(1, text.count("\n") - FIRST.count("\n") + 1):
+            told = why.answer(text, f"refused report {number} syntax", "auto")
+            self.assertFalse(told.found, told.lines)
+
+    def test_examples_of_the_repository(self):
+        for path in sorted((TOOLS.parent / "examples").glob("*.script")):
+            text = path.read_bytes().decode("latin-1")
+            for number in range(2, text.count("\n") + 1):
+                told = why.answer(text, f"refused {number} syntax", "script")
+                self.assertFalse(told.found, (path.name, told.lines))
+
+    def test_reports_of_the_repository(self):
+        for path in sorted((TOOLS.parent / "examples").glob("*.report")):
+            lines = path.read_text(encoding="latin-1")
+            text = path.with_suffix(".script").read_text(encoding="latin-1") + lines
+            for number in range(1, lines.count("\n") + 1):
+                told = why.answer(text, f"refused report {number} syntax", "auto")
+                self.assertFalse(told.found, (path.name, told.lines))
+
+    def test_events_of_the_repository(self):
+        for path in sorted((TOOLS.parent / "examples").glob("*.events")):
+            text = path.read_text(encoding="latin-1")
+            for number in range(2, text.count("\n") + 1):
+                told = why.answer(text, f"refused {number} syntax", "auto")
+                self.assertFalse(told.found, (path.name, told.lines))
+
+    def test_another_text_than_the_program_read(self):
+        for fault in ("refused 99 syntax", "refused report 9 syntax", "not enabled 40", "refused 2 duplicate", "nonsense",
+                      "refused 0 syntax", "refused 3 unknown_name", "refused 6 limit integers", "refused 6 noise",
+                      "refused 4 limit integer", "refused 4 limit term"):
+            told = why.answer(FIRST, fault, "auto")
+            self.assertFalse(told.found, told.lines)
+
+
+class OtherAnswers(unittest.TestCase):
+    """Lines of the program that name no line of the input."""
+
+    def test_what_is_told(self):
+        for line, phrase in [("words not understood", "run --schedulers N"), ("not lawful", "no code server"),
+                             ("lawful", "nothing was refused")]:
+            self.assertIn(phrase, "\n".join(why.answer(FIRST, line, "auto").lines))
+
+    def test_several_faults_of_a_line(self):
+        text = "beam script 1\nloader\n\tput k {1, $0}\r\ngo\n"
+        told = "\n".join(why.answer(text, "refused 3 syntax", "auto").lines)
+        for phrase in ("carriage return", "a tab", "a space stands inside", "holds no registers"):
+            self.assertIn(phrase, told)
+
+    def test_many_brackets(self):
+        text = "beam script 1\nloader\nput k " + "[" * 4000 + "\ngo\n"
+        self.assertIn("is not closed", "\n".join(why.answer(text, "refused 3 syntax", "auto").lines))
+
+    def test_forms_that_may_stand(self):
+        told = why.answer("beam script 1\nloader\nnoise\ngo\n", "refused 3 syntax", "auto").lines
+        for form in why.COMMANDS.values():
+            self.assertIn(f"  {form.shape}", told)
+
+
+class TheProgram(unittest.TestCase):
+    """The tool as it is called."""
+
+    def call(self, text, *words, given=""):
+        with tempfile.TemporaryDirectory() as folder:
+            path = pathlib.Path(folder) / "input"
+            path.write_bytes(text.encode("latin-1"))
+            return subprocess.run([sys.executable, str(TOOLS / "why"), str(path), *words], input=given, text=True,
+                                  capture_output=True, check=False)
+
+    def test_fault_from_standard_input(self):
+        done = self.call("beam script 1\nloader\nput k 01\ngo\n", given="refused 3 syntax\n")
+        self.assertEqual(done.returncode, 0)
+        self.assertIn("leading zero", done.stdout)
+
+    def test_fault_from_words(self):
+        self.assertIn("leading zero", self.call("beam script 1\nloader\nput k 01\ngo\n", "refused", "3", "syntax").stdout)
+
+    def test_statuses(self):
+        self.assertEqual(self.call(FIRST, "refused 3 syntax").returncode, 1)
+        missing = subprocess.run([sys.executable, str(TOOLS / "why"), "/no/such/file", "lawful"], capture_output=True,
+                                 check=False)
+        self.assertEqual(missing.returncode, 2)
+
+
+if __name__ == "__main__":
+    unittest.main()
