@@ -12,7 +12,8 @@ use Rattle.machine_core.specs.Decode.{operand_shown}
 use Rattle.machine_core.specs.Holds.{Holds}
 use Rattle.machine_core.specs.Process.{PlainFrame, frame_of, owned}
 use Rattle.machine_core.specs.Stand.{runs, stand_after}
-use Rattle.machine_core.specs.Turn.{computed, operand_term}
+use Rattle.machine_core.specs.Turn.{computed}
+use Rattle.machine_core.specs.Values.{operand_term}
 use Rattle.machine_core.specs.View.{Shown}
 
 -- a register that gets what was computed

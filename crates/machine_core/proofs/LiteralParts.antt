@@ -19,7 +19,7 @@ use Rattle.machine_core.specs.declared.process.Value.TheVariants.{Owned, Literal
 use Rattle.machine_core.specs.Holds.{Holds}
 use Rattle.machine_core.specs.Process.{PlainValue, literal, owned, value_shown}
 use Rattle.machine_core.specs.Stand.{AreImages, IsUsable, images_end, is_immediate_word, place_number}
-use Rattle.machine_core.specs.Turn.{element_at, element_of, integer_of, part_value, parts_of, term_of as value_term, value_in}
+use Rattle.machine_core.specs.Values.{element_at, element_of, integer_of, part_value, parts_of, term_of as value_term, value_in}
 use Rattle.machine_core.specs.View.{IsLiteral, IsReadable, Shown}
 use Rattle.machine_core.proofs.LiteralPlaces.{part_within}
 use Rattle.machine_core.proofs.OwnedTerms.{term_of-plain}

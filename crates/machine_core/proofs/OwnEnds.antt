@@ -6,7 +6,7 @@ use Rattle.machine_core.specs.declared.process.End.{End}
 use Rattle.machine_core.specs.declared.process.End.TheVariants.{Badarg, Badarith, SystemLimit, Killed}
 use Rattle.machine_core.specs.declared.process.TurnEnd.{TurnEnd}
 use Rattle.machine_core.specs.declared.process.TurnEnd.TheVariants.{Again, Ended}
-use Rattle.machine_core.specs.Turn.{difference_of, fits, fitting, integer_of, less_of, of_integers, sum_of}
+use Rattle.machine_core.specs.Values.{difference_of, fits, fitting, integer_of, less_of, of_integers, sum_of}
 
 -- an end that is none of a doomed instance
 abbrev pub IsOwnEnd : End → Type 0

@@ -15,7 +15,8 @@ use Rattle.server_core.specs.ServerState.{Entry}
 use Rattle.machine_core.specs.declared.process.End.{End}
 use Rattle.machine_core.specs.Holds.{Holds}
 use Rattle.machine_core.specs.Process.{PlainFrame, PlainValue, first_registers, owned_values}
-use Rattle.machine_core.specs.Turn.{ArePlaced, IsPlaceIn, IsPlaced, Step, begun, branched, called, computed, element_of, ends, executed, frame_at, goes_on, goes_past, held_with, is_same, less_of, difference_of, moved_past, operand_term, put_found, returned, stands_at, stands_behind, stands_first, step_of, stored, sum_of, target_of, tested, value_of, with_register, yields}
+use Rattle.machine_core.specs.Turn.{ArePlaced, IsPlaceIn, IsPlaced, Step, begun, branched, called, computed, ends, executed, frame_at, goes_on, goes_past, held_with, moved_past, put_found, returned, stands_at, stands_behind, stands_first, step_of, stored, target_of, tested, with_register, yields}
+use Rattle.machine_core.specs.Values.{element_of, is_same, less_of, difference_of, operand_term, sum_of, value_of}
 use Rattle.machine_core.specs.Stand.{AreHeld, AreStanding}
 use Rattle.machine_core.proofs.Calling.{reached_known}
 use Rattle.machine_core.proofs.NextInstr.{is_instr, is_next}

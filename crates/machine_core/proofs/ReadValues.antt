@@ -22,7 +22,7 @@ use Rattle.machine_core.specs.Decode.{operand_shown}
 use Rattle.machine_core.specs.Holds.{Holds}
 use Rattle.machine_core.specs.Process.{PlainValue, Words, frame_of, literal, no_held, owned, register_of, value_shown, values_shown}
 use Rattle.machine_core.specs.Stand.{IsReadyFrame, IsSource, IsUsable, IsValueOf}
-use Rattle.machine_core.specs.Turn.{operand_term, term_of as value_term}
+use Rattle.machine_core.specs.Values.{operand_term, term_of as value_term}
 use Rattle.machine_core.specs.View.{IsKeyValue, IsLawful, IsLiteral, IsTermIn, Shown}
 use Rattle.machine_core.specs.Reads.{area_of, found_of}
 

@@ -12,7 +12,8 @@ use Rattle.machine_core.specs.Holds.{Holds, is_full}
 use Rattle.machine_core.specs.Process.{PlainFrame, PlainProcess, PlainValue, arguments_at, first_registers, frame_names, literal, owned, owned_values}
 use Rattle.machine_core.specs.Reads.{HasFunction, Reads, dispatched, entry_at, instr_at, mfa_of}
 use Rattle.machine_core.specs.Stand.{AreStanding}
-use Rattle.machine_core.specs.Turn.{ArePlaced, IsPlaceIn, IsPlaced, Step, after_step, begun, called, called_by_name, called_out, copied, copied_frame, copied_value, counted, doomed_serial, ends, entered, executed, goes_on, moved_past, put_found, put_value, ran_copied, ran_of, ran_unless_doomed, run_of, stacked, step_of, terms_of, trace_of, turn_by, turn_from, value_of, yields}
+use Rattle.machine_core.specs.Turn.{ArePlaced, IsPlaceIn, IsPlaced, Step, after_step, begun, called, called_by_name, called_out, copied, copied_frame, copied_value, counted, doomed_serial, ends, entered, executed, goes_on, moved_past, put_found, put_value, ran_copied, ran_of, ran_unless_doomed, run_of, stacked, step_of, terms_of, trace_of, turn_by, turn_from, yields}
+use Rattle.machine_core.specs.Values.{value_of}
 use Rattle.machine_core.specs.View.{IsLawful, Shown}
 use Rattle.machine_core.proofs.Calling.{reached_known}
 use Rattle.machine_core.proofs.CopiedFrames.{copied_placed}

@@ -18,7 +18,8 @@ use Rattle.machine_core.specs.declared.process.Line.{Line}
 use Rattle.machine_core.specs.declared.process.TheConstants.{MOST_FRAMES}
 use Rattle.machine_core.specs.Holds.{Holds, is_among, is_full, with_hold}
 use Rattle.machine_core.specs.Process.{PlainFrame, PlainValue, arguments_at, first_registers, literal, owned, owned_values, register_of, register_serials}
-use Rattle.machine_core.specs.Turn.{Step, branched, called, called_by_name, called_out, computed, difference_of, element_at, element_of, ends, executed, frame_at, goes_on, held_with, integer_of, is_same, less_of, moved_past, operand_term, part_value, parts_of, put_found, put_value, returned, stacked, stored, sum_of, term_of, tested, trace_of, value_of, with_register, yields}
+use Rattle.machine_core.specs.Turn.{Step, branched, called, called_by_name, called_out, computed, ends, executed, frame_at, goes_on, held_with, moved_past, put_found, put_value, returned, stacked, stored, tested, trace_of, with_register, yields}
+use Rattle.machine_core.specs.Values.{difference_of, element_at, element_of, integer_of, is_same, less_of, operand_term, part_value, parts_of, sum_of, term_of, value_of}
 use Rattle.machine_core.proofs.Calling.{dispatch_reaches}
 use Rattle.machine_core.proofs.NamedAreas.{HasArea, all_first, registers_within}
 use Rattle.machine_core.proofs.OwnEnds.{IsOwnEnd, IsOwnFault, difference_own, less_own, sum_own}

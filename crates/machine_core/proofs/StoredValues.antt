@@ -17,7 +17,8 @@ use Rattle.machine_core.specs.Decode.{instr_shown, operand_shown}
 use Rattle.machine_core.specs.Holds.{Holds}
 use Rattle.machine_core.specs.Process.{PlainFrame, PlainValue, Words, frame_of, value_shown, values_shown}
 use Rattle.machine_core.specs.Stand.{ComesTo, IsReadyFrame, IsSource, IsValueOf, over, runs, stand_after, stand_of, stored_found}
-use Rattle.machine_core.specs.Turn.{Step, element_of, executed, held_with, put_found, stored, value_of}
+use Rattle.machine_core.specs.Turn.{Step, executed, held_with, put_found, stored}
+use Rattle.machine_core.specs.Values.{element_of, value_of}
 use Rattle.machine_core.specs.View.{Shown}
 
 -- a register of the code's that is set is one that is set

@@ -6,5 +6,6 @@ pub mod ServerReads
 pub mod Reach
 pub mod View
 pub mod Decode
+pub mod Values
 pub mod Turn
 pub mod Stand

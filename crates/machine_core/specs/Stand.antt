@@ -24,7 +24,8 @@ use Rattle.machine_core.specs.Reach.{MayHold}
 use Rattle.machine_core.specs.Reads.{HasFunction, Reads}
 use Rattle.machine_core.specs.Decode.{instr_shown, operand_shown}
 use Rattle.machine_core.specs.Process.{PlainFrame, PlainValue, Words, frame_of, frames_of, literal, owned, value_shown}
-use Rattle.machine_core.specs.Turn.{ArePlaced, Step, goes_on, yields, ends, executed, held_with, stored, value_of}
+use Rattle.machine_core.specs.Turn.{ArePlaced, Step, goes_on, yields, ends, executed, held_with, stored}
+use Rattle.machine_core.specs.Values.{value_of}
 use Rattle.machine_core.specs.View.{AreValues, HasValues, IsLiteral, IsReadable, Shown}
 
 -- where a process stands, with what is held and the lines so far: it goes on, its turn ends, or it ended

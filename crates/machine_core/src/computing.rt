@@ -5,7 +5,8 @@ ghost use Rattle.machine_core.specs.Decode.{instr_shown};
 ghost use Rattle.machine_core.specs.Holds.{Holds};
 ghost use Rattle.machine_core.specs.Process.{PlainFrame, Words, frame_of};
 ghost use Rattle.machine_core.specs.Stand.{ComesTo, IsReadyFrame, IsSource, stand_after, stand_of};
-ghost use Rattle.machine_core.specs.Turn.{computed, executed, is_same, tested};
+ghost use Rattle.machine_core.specs.Turn.{computed, executed, tested};
+ghost use Rattle.machine_core.specs.Values.{is_same};
 ghost use Rattle.machine_core.specs.View.{HasValues, IsLawful, Shown};
 
 use crate::integers::{difference, is_less, sum};

@@ -3,7 +3,7 @@ ghost use Rattle.term_core.specs.Image.{term_at, term_of_word};
 ghost use Rattle.term_core.specs.Plain.{term_of};
 ghost use Rattle.machine_core.specs.Process.{Words, owned, value_shown};
 ghost use Rattle.machine_core.specs.Stand.{IsUsable, is_immediate_word, place_number};
-ghost use Rattle.machine_core.specs.Turn.{element_of, integer_of, part_value, parts_of};
+ghost use Rattle.machine_core.specs.Values.{element_of, integer_of, part_value, parts_of};
 ghost use Rattle.machine_core.specs.Holds.{Holds};
 ghost use Rattle.machine_core.specs.View.{IsLawful, Shown};
 

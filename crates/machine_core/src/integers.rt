@@ -1,5 +1,5 @@
 ghost use Rattle.std.specs.Prelude.{◌≡◌, ◌+ℤ◌, ◌-ℤ◌};
-ghost use Rattle.machine_core.specs.Turn.{difference_of, fitting, integer_of, less_of, sum_of};
+ghost use Rattle.machine_core.specs.Values.{difference_of, fitting, integer_of, less_of, sum_of};
 
 use crate::process::End;
 use term_core::{GREATEST_INTEGER, LEAST_INTEGER, Term};

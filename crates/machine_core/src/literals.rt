@@ -1,7 +1,8 @@
 ghost use Rattle.std.specs.Prelude.{◌≡◌, ◌-◌, ◌≤◌, ℕ, ◌<◌, All, IfOk, drop, length, take};
 ghost use Rattle.machine_core.specs.Process.{value_shown, values_shown};
 ghost use Rattle.machine_core.specs.Stand.{AreImages, IsUsable, images_end};
-ghost use Rattle.machine_core.specs.Turn.{term_of, terms_of};
+ghost use Rattle.machine_core.specs.Turn.{terms_of};
+ghost use Rattle.machine_core.specs.Values.{term_of};
 ghost use Rattle.machine_core.specs.View.{IsLawful, IsReadable};
 ghost use Rattle.machine_core.specs.Reach.{MayRead};
 

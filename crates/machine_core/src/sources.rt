@@ -3,7 +3,7 @@ ghost use Rattle.machine_core.specs.Decode.{operand_shown};
 ghost use Rattle.machine_core.specs.Holds.{Holds};
 ghost use Rattle.machine_core.specs.Process.{frame_of, value_shown};
 ghost use Rattle.machine_core.specs.Stand.{IsReadyFrame, IsSource, IsUsable, IsValueOf};
-ghost use Rattle.machine_core.specs.Turn.{operand_term};
+ghost use Rattle.machine_core.specs.Values.{operand_term};
 ghost use Rattle.machine_core.specs.View.{IsLawful, Shown};
 
 use crate::literals::term_of;

@@ -2,7 +2,8 @@ ghost use Rattle.std.specs.Prelude.{◌≡◌, ◌+◌, ◌≤◌, ◌∷◌, Li
 ghost use Rattle.machine_core.specs.Decode.{operand_shown};
 ghost use Rattle.machine_core.specs.Process.{PlainFrame, area_holds, frame_of, value_shown, values_shown};
 ghost use Rattle.machine_core.specs.Stand.{ComesTo, IsReadyFrame, IsSource, IsUsable, stand_after, stand_of, stored_found};
-ghost use Rattle.machine_core.specs.Turn.{element_of, held_with, operand_term, stored, value_of};
+ghost use Rattle.machine_core.specs.Turn.{held_with, stored};
+ghost use Rattle.machine_core.specs.Values.{element_of, operand_term, value_of};
 ghost use Rattle.machine_core.specs.View.{HasValues, IsLawful};
 
 use crate::areas::{HeldAreas, note};

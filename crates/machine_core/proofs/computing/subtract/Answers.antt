@@ -4,7 +4,8 @@ use Rattle.mod_core.specs.declared.code.Instr.TheVariants as instrs
 use Rattle.machine_core.specs.Decode.{operand_shown}
 use Rattle.machine_core.specs.Process.{frame_of}
 use Rattle.machine_core.specs.Stand.{stand_after}
-use Rattle.machine_core.specs.Turn.{computed, difference_of, operand_term}
+use Rattle.machine_core.specs.Turn.{computed}
+use Rattle.machine_core.specs.Values.{difference_of, operand_term}
 use Rattle.machine_core.proofs.Computed.{of_terms, term_seen}
 use Rattle.machine_core.proofs.computing.subtract.Goals as goal
 

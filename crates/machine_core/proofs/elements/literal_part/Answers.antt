@@ -2,7 +2,7 @@
 use Rattle.std.proofs.Common.{◌+◌, ◌∙◌, ap, sym, subst, arith, option_map, slice_index}
 use Rattle.machine_core.specs.Process.{value_shown}
 use Rattle.machine_core.specs.Stand.{AreImages, images_end}
-use Rattle.machine_core.specs.Turn.{part_value}
+use Rattle.machine_core.specs.Values.{part_value}
 use Rattle.machine_core.specs.View.{IsReadable, Shown}
 use Rattle.machine_core.specs.declared.process.Value.TheVariants.{Literal}
 use Rattle.machine_core.proofs.ImageSteps.{readable_low}
