@@ -1,0 +1,18 @@
+//! What stands in the shared words beneath readers: blocks, slots and entry words, and which steps keep them.
+#![tactic(auto)]
+
+mod event;
+mod generations;
+mod map;
+mod readers;
+mod roots;
+mod state;
+mod stores;
+mod table;
+mod terms;
+
+pub use event::{AreaEvent, SeatName};
+pub use map::{TABLE_WORDS, WordKind, kind_of};
+pub use readers::Slots;
+pub use state::{AreaState, area_step};
+pub use table::{KeptArea, KeptList, Published, PublishedList, Root, Table, WordTable};
