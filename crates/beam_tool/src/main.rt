@@ -5,15 +5,9 @@ mod answer;
 mod check_form;
 #[cfg(test)]
 mod check_tests;
-#[cfg(test)]
-mod export_tests;
 mod fault;
 mod form;
 mod gate;
-#[cfg(test)]
-mod lap_tests;
-#[cfg(test)]
-mod legality_tests;
 mod memory;
 #[cfg(test)]
 mod outside_tests;
@@ -24,8 +18,6 @@ mod refusal;
 mod run_form;
 #[cfg(test)]
 mod run_tests;
-#[cfg(test)]
-mod shape_tests;
 mod sink;
 mod source;
 mod standard;

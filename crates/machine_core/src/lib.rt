@@ -25,8 +25,6 @@ mod serials;
 mod sources;
 mod step;
 mod storing;
-#[cfg(test)]
-mod tests;
 mod view;
 
 pub use machine::turn;

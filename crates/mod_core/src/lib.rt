@@ -8,8 +8,6 @@ mod image;
 mod instr_reading;
 mod laws;
 mod layout;
-#[cfg(test)]
-mod tests;
 mod validity;
 mod words;
 

@@ -12,8 +12,6 @@ mod reader;
 mod reading;
 mod settling;
 mod targets;
-#[cfg(test)]
-mod text_tests;
 mod values;
 mod words;
 mod written;

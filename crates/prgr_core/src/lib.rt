@@ -23,8 +23,3 @@ pub use progress::Progress;
 pub use reading::read_events;
 pub use state::{PrgrState, replay, step};
 pub use watcher::{Delay, MOST_WATCHERS, Phase, Watcher};
-
-#[cfg(test)]
-mod tests;
-#[cfg(test)]
-mod watcher_tests;

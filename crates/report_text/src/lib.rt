@@ -10,8 +10,6 @@ mod reading;
 mod reply;
 mod state;
 mod terms;
-#[cfg(test)]
-mod tests;
 mod words;
 
 pub use fault::ReportFault;

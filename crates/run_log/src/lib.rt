@@ -5,8 +5,6 @@ mod exports;
 mod journal;
 mod logs;
 mod rendering;
-#[cfg(test)]
-mod tests;
 mod underway;
 
 pub use exports::{MfaList, exported_functions, exports_are_one, exports_of, snapshot_of};

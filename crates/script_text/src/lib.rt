@@ -4,11 +4,7 @@
 mod fault;
 mod fault_text;
 mod printing;
-#[cfg(test)]
-mod printing_tests;
 mod reading;
-#[cfg(test)]
-mod tests;
 
 pub use fault::{PrintFault, ScriptFault, Which};
 pub use fault_text::print_fault;

@@ -16,8 +16,6 @@ mod serials;
 mod server;
 mod stored_term;
 mod terms;
-#[cfg(test)]
-mod tests;
 mod texts;
 mod traces;
 mod versions;

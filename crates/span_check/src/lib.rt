@@ -18,8 +18,6 @@ mod named;
 mod spans;
 mod standing;
 mod steps;
-#[cfg(test)]
-mod tests;
 mod watch;
 
 pub use laws::{standings_are_last, standings_end, standings_stay};

@@ -28,8 +28,6 @@ mod term;
 mod term_fault;
 mod term_image;
 mod term_text;
-#[cfg(test)]
-mod tests;
 
 pub use area::{AreaRef, CodeRef, Found};
 pub use atom::{AtomId, Mfa};

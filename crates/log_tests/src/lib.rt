@@ -1,0 +1,15 @@
+//! Tests of runs, of their logs and of the judge of logs.
+#![tactic(auto)]
+
+#[cfg(test)]
+mod exports;
+#[cfg(test)]
+mod judgements;
+#[cfg(test)]
+mod logs;
+#[cfg(test)]
+mod runs;
+#[cfg(test)]
+mod shapes;
+#[cfg(test)]
+mod spans;

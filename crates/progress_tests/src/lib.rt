@@ -1,0 +1,7 @@
+//! Tests of the thread progress machine and of what stands on it.
+#![tactic(auto)]
+
+#[cfg(test)]
+mod event_lists;
+#[cfg(test)]
+mod watchers;

@@ -1,0 +1,399 @@
+ghost use Rattle.std.specs.Prelude.{◌≡◌, ◌<◌, ◌≤◌, IfOk};
+ghost use Rattle.term_core.specs.Plain.{plain};
+ghost use Rattle.mod_core.specs.Module.{IsModule};
+ghost use Rattle.server_core.specs.CommandTable.{AreTexts, IsOfText};
+ghost use Rattle.server_core.specs.ServerState.{IsShortTerm};
+
+use mod_core::{Function, FunctionList, Instr, InstrList, Module, ModuleList, Operand};
+use server_core::*;
+use std::alloc::Global;
+use std::process::Abort;
+use std::test::Fail;
+use term_core::{AreaRef, AtomId, CodeRef, Found, Mfa, NoMemory, Term, TermList};
+
+const MAIN: AtomId = AtomId(900);
+
+// A module of one function, `main/1`.
+fn text(alloc: Global, name: u32, version: u32, exported: bool) -> Result<Module, NoMemory>
+    requires numbered { name < 4096 }
+    requires least { 1 ≤ version }
+    requires greatest { version ≤ 999999 }
+    ensures sound { IfOk result IsModule }
+    ensures named { IfOk result (λ m. m.name.0 ≡ name) }
+    ensures version { IfOk result (λ m. m.version ≡ version) }
+{
+    let mut code = InstrList::new(alloc);
+    code.push(Instr::Print {
+        value: Operand::Reg(0),
+    })?;
+    let mut functions = FunctionList::new(alloc);
+    functions.push(Function {
+        name: MAIN,
+        arity: 1,
+        exported,
+        code,
+    })?;
+    Ok(Module {
+        name: AtomId(name),
+        version,
+        functions,
+    })
+}
+
+// The versions 1, 2 and 3 of the modules whose atoms have the numbers 3, 4, 5 and so on. `main/1` is
+// local in version 3, and exported in the others.
+fn texts(alloc: Global, count: u32) -> Result<ModuleList, NoMemory>
+    requires { count < 1000 }
+    ensures { IfOk result AreTexts }
+{
+    let mut texts = ModuleList::new(alloc);
+    for k in 0..count {
+        texts.push(text(alloc, 3 + k / 3, 1 + k % 3, k % 3 != 2)?)?;
+    }
+    Ok(texts)
+}
+
+// A term to put.
+#[derive(Clone, Copy, Debug)]
+enum Value {
+    Seven,
+    EmptyTuple,
+    EmptyList,
+    // a tuple of 7 alone
+    TupleOfSeven,
+}
+
+// A command on the module or the key whose atom has the number, short enough for a row of a table.
+#[derive(Clone, Copy, Debug)]
+enum Step {
+    Load(u32, u32),
+    // a load of the versions 1 and 2 of a module
+    LoadBoth(u32),
+    Delete(u32),
+    SoftPurge(u32),
+    // the soft purge that found process 7 in its third turn
+    Linger(u32),
+    Doom(u32),
+    Purge(u32),
+    // the purge that killed a process
+    Kill(u32),
+    CheckOld(u32),
+    Put(u32, Value),
+    Erase(u32),
+    // a breakpoint at `main/1`
+    Trace(u32),
+    Untrace(u32),
+    Spawn(u32),
+    Release(u64),
+}
+
+fn term_of(alloc: Global, value: Value) -> Result<Term, NoMemory>
+    ensures { IfOk result (λ term. IsShortTerm (plain term)) }
+{
+    match value {
+        Value::Seven => Ok(Term::Int(7)),
+        Value::EmptyTuple => Ok(Term::Tuple(TermList::new(alloc))),
+        Value::EmptyList => Ok(Term::List(TermList::new(alloc))),
+        Value::TupleOfSeven => tuple_of_seven(alloc),
+    }
+}
+
+fn tuple_of_seven(alloc: Global) -> Result<Term, NoMemory>
+    ensures { IfOk result (λ term. IsShortTerm (plain term)) }
+{
+    let mut terms = TermList::new(alloc);
+    terms.push(Term::Int(7))?;
+    Ok(Term::Tuple(terms))
+}
+
+fn command_of(alloc: Global, step: Step) -> Result<Cmd, NoMemory>
+    ensures { IfOk result IsOfText }
+{
+    let cmd = match step {
+        Step::Load(name, version) => load_of(alloc, &[(name, version)])?,
+        Step::LoadBoth(name) => load_of(alloc, &[(name, 1), (name, 2)])?,
+        Step::Delete(name) => Cmd::Delete(AtomId(name)),
+        Step::SoftPurge(name) => Cmd::SoftPurge {
+            module: AtomId(name),
+            lingers: None,
+        },
+        Step::Linger(name) => Cmd::SoftPurge {
+            module: AtomId(name),
+            lingers: Some(Linger {
+                process: 7,
+                turn: 2,
+            }),
+        },
+        Step::Doom(name) => Cmd::Doom(AtomId(name)),
+        Step::Purge(name) => purge_of(name, false),
+        Step::Kill(name) => purge_of(name, true),
+        Step::CheckOld(name) => Cmd::CheckOld(AtomId(name)),
+        Step::Put(key, value) => Cmd::Put {
+            key: AtomId(key),
+            term: term_of(alloc, value)?,
+        },
+        Step::Erase(key) => Cmd::Erase(AtomId(key)),
+        Step::Trace(name) => trace_of(name, true),
+        Step::Untrace(name) => trace_of(name, false),
+        Step::Spawn(name) => Cmd::Spawn {
+            target: main_of(name),
+            args: TermList::new(alloc),
+        },
+        Step::Release(serial) => Cmd::Release(serial),
+    };
+    Ok(cmd)
+}
+
+fn load_of(alloc: Global, versions: &[(u32, u32)]) -> Result<Cmd, NoMemory>
+    ensures { IfOk result IsOfText }
+{
+    let mut refs = RefList::new(alloc);
+    for (name, version) in versions {
+        refs.push(ModRef {
+            name: AtomId(*name),
+            version: *version,
+        })?;
+    }
+    Ok(Cmd::Load(refs))
+}
+
+fn purge_of(name: u32, killed: bool) -> Cmd
+    ensures { IsOfText result }
+{
+    Cmd::Purge {
+        module: AtomId(name),
+        killed,
+    }
+}
+
+fn trace_of(name: u32, on: bool) -> Cmd
+    ensures { IsOfText result }
+{
+    Cmd::Trace {
+        target: main_of(name),
+        on,
+    }
+}
+
+fn main_of(name: u32) -> Mfa {
+    Mfa {
+        module: AtomId(name),
+        name: MAIN,
+        arity: 1,
+    }
+}
+
+// The first function of an instance.
+fn first_of(serial: u64) -> CodeRef {
+    CodeRef {
+        area: AreaRef { serial, block: 0 },
+        function: 0,
+    }
+}
+
+fn names_text(alloc: Global, word: &str, names: &[AtomId]) -> Result<String, Fail> {
+    let mut text = String::from_str(alloc, word)?;
+    for name in names {
+        let number = format!(in alloc; " {}", name.0)?;
+        text.push_str(number.as_str())?;
+    }
+    Ok(text)
+}
+
+// The reply, and the number of the published generation behind `@`, or `-`.
+fn applied_text(alloc: Global, applied: &Applied) -> Result<String, Fail> {
+    let reply = match &applied.reply {
+        Reply::Ok => names_text(alloc, "ok", &[])?,
+        Reply::True => names_text(alloc, "true", &[])?,
+        Reply::False => names_text(alloc, "false", &[])?,
+        Reply::FalseBy(by) => format!(in alloc; "false by {}.{}", by.process, by.turn)?,
+        Reply::NotPurged(names) => names_text(alloc, "not_purged", names.as_slice())?,
+        Reply::Duplicated(name) => names_text(alloc, "duplicated", &[*name])?,
+        Reply::SystemLimit(limit) => format!(in alloc; "system_limit {limit:?}")?,
+    };
+    let reply = reply.as_str();
+    match applied.published {
+        Some(generation) => Ok(format!(in alloc; "{reply} @{generation}")?),
+        None => Ok(format!(in alloc; "{reply} -")?),
+    }
+}
+
+fn answer_text(alloc: Global, answer: Result<Applied, ApplyFault>) -> Result<String, Fail> {
+    match answer {
+        Ok(applied) => applied_text(alloc, &applied),
+        Err(ApplyFault::NotEnabled) => Ok(String::from_str(alloc, "not enabled")?),
+        Err(ApplyFault::NoMemory) => Ok(String::from_str(alloc, "no memory")?),
+    }
+}
+
+// Makes the commands of the rows in turn, and compares each answer.
+fn make(
+    rt: &(impl AllocGlobal + Abort),
+    server: &mut Server,
+    rows: &[(Step, &str)],
+) -> Result<(), Fail> {
+    let alloc = rt.alloc();
+    let texts = texts(alloc, 9).expect(rt, "texts");
+    for (step, expected) in rows {
+        let cmd = command_of(alloc, *step).expect(rt, "a command");
+        let answer = answer_text(alloc, server.apply(&cmd, &texts))?;
+        assert_eq!(rt; answer.as_str(), *expected, "{step:?}");
+    }
+    Ok(())
+}
+
+// The same on a new server.
+fn answers(rt: &(impl AllocGlobal + Abort), rows: &[(Step, &str)]) -> Result<Server, Fail> {
+    let mut server = Server::new(rt.alloc()).expect(rt, "a server");
+    make(rt, &mut server, rows)?;
+    Ok(server)
+}
+
+#[test]
+fn code_comes_in_and_goes(rt: HostRuntime) -> Result<(), Fail> {
+    let server = answers(
+        &rt,
+        &[
+            (Step::LoadBoth(3), "duplicated 3 -"),
+            (Step::Load(3, 1), "ok @1"),
+            (Step::Load(3, 2), "ok @2"),
+            (Step::Load(3, 3), "not_purged 3 -"),
+            (Step::Delete(3), "false -"),
+            (Step::Linger(3), "false by 7.2 -"),
+            (Step::SoftPurge(3), "true @3"),
+            (Step::SoftPurge(3), "true -"),
+            (Step::Release(1), "ok -"),
+            (Step::Release(1), "not enabled"),
+            (Step::Delete(3), "true @4"),
+            (Step::CheckOld(3), "true -"),
+            (Step::Load(3, 4), "not enabled"),
+        ],
+    )?;
+    assert!(rt; server.current(AtomId(3)).is_none());
+    assert!(rt; server.old(AtomId(3)) == Some(2));
+    assert!(rt; server.dispatch(main_of(3)).is_none());
+    assert!(rt; server.generation() == 4);
+    assert!(rt; server.retired_areas().is_empty());
+    Ok(())
+}
+
+#[test]
+fn few_commands_go_on_while_code_is_doomed(rt: HostRuntime) -> Result<(), Fail> {
+    let mut server = answers(
+        &rt,
+        &[
+            (Step::Load(3, 1), "ok @1"),
+            (Step::Load(3, 2), "ok @2"),
+            (Step::Purge(3), "not enabled"),
+            (Step::Doom(3), "ok @3"),
+            (Step::Put(3, Value::Seven), "not enabled"),
+            (Step::Erase(3), "not enabled"),
+            (Step::Trace(3), "not enabled"),
+            (Step::CheckOld(3), "true -"),
+            (Step::Spawn(3), "ok -"),
+        ],
+    )?;
+    assert!(rt; server.doomed_area() == Some(1));
+    assert!(rt; server.doomed(1) && !server.doomed(2));
+    let rows = [
+        (Step::Kill(3), "true @4"),
+        (Step::Kill(3), "not enabled"),
+        (Step::Purge(3), "false -"),
+    ];
+    make(&rt, &mut server, &rows)?;
+    assert!(rt; server.doomed_area().is_none());
+    assert!(rt; server.retired(1) && !server.retired(2));
+    Ok(())
+}
+
+#[test]
+fn a_breakpoint_goes_with_its_instance(rt: HostRuntime) -> Result<(), Fail> {
+    let mut server = answers(
+        &rt,
+        &[
+            (Step::Trace(3), "false -"),
+            (Step::Load(3, 1), "ok @1"),
+            (Step::Trace(3), "true @2"),
+            (Step::Trace(3), "true -"),
+            (Step::Load(3, 3), "ok @3"),
+            (Step::Untrace(3), "true -"),
+            (Step::Trace(3), "true @4"),
+        ],
+    )?;
+    assert!(rt; server.traced(first_of(1)) && server.traced(first_of(2)));
+    make(&rt, &mut server, &[(Step::SoftPurge(3), "true @5")])?;
+    assert!(rt; !server.traced(first_of(1)) && server.traced(first_of(2)));
+    Ok(())
+}
+
+#[test]
+fn a_key_holds_the_last_term_that_was_put(rt: HostRuntime) -> Result<(), Fail> {
+    let mut server = answers(
+        &rt,
+        &[
+            (Step::Erase(20), "false -"),
+            (Step::Put(20, Value::TupleOfSeven), "ok @1"),
+            (Step::Put(20, Value::TupleOfSeven), "ok -"),
+            (Step::Load(3, 1), "ok @2"),
+            (Step::Put(20, Value::EmptyTuple), "ok @3"),
+            (Step::Put(20, Value::EmptyList), "ok @4"),
+            (Step::Put(20, Value::EmptyList), "ok -"),
+            (Step::Put(21, Value::Seven), "ok @5"),
+            (Step::Put(21, Value::Seven), "ok -"),
+        ],
+    )?;
+    assert!(rt; server.retired_areas() == [1, 3].as_slice());
+    let rows = [
+        (Step::Put(20, Value::Seven), "ok @6"),
+        (Step::Put(20, Value::TupleOfSeven), "ok @7"),
+        (Step::Release(3), "ok -"),
+        (Step::Erase(20), "true @8"),
+        (Step::Erase(20), "false -"),
+        (Step::Put(22, Value::TupleOfSeven), "ok @9"),
+    ];
+    make(&rt, &mut server, &rows)?;
+    assert!(rt; server.retired_areas() == [1, 4, 5].as_slice());
+    assert!(rt; server.term(AtomId(20)) == Found::Absent);
+    assert!(rt; server.term(AtomId(21)) == Found::Word(113));
+    let area = AreaRef {
+        serial: 6,
+        block: 0,
+    };
+    assert!(rt; server.term(AtomId(22)) == Found::Area(area));
+    Ok(())
+}
+
+// The words are worked out by hand: a tuple's counts its terms, tag 3, a list's tag 4, and an integer's tag is 1.
+#[test]
+fn areas_keep_their_words(rt: HostRuntime) -> Result<(), Fail> {
+    let server = answers(
+        &rt,
+        &[
+            (Step::Load(3, 2), "ok @1"),
+            (Step::Put(20, Value::TupleOfSeven), "ok @2"),
+            (Step::Put(20, Value::EmptyTuple), "ok @3"),
+            (Step::Put(20, Value::EmptyList), "ok @4"),
+        ],
+    )?;
+    let words = [
+        (1, 0, Some(1)),
+        (1, 1, Some(3)),
+        (1, 2, Some(2)),
+        (1, 11, Some(34)),
+        (1, 12, None),
+        (2, 0, Some(19)),
+        (2, 1, Some(113)),
+        (2, 2, None),
+        (3, 0, Some(3)),
+        (4, 0, Some(4)),
+        (0, 0, None),
+        (5, 0, None),
+    ];
+    for (serial, at, word) in words {
+        let area = AreaRef { serial, block: 0 };
+        assert!(rt; server.word(area, at) == word, "word {at} of {serial}");
+    }
+    let serial = server.dispatch(main_of(3)).map(|at| at.area.serial);
+    assert!(rt; serial == Some(1));
+    Ok(())
+}
