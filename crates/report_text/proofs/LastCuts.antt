@@ -1,7 +1,7 @@
 -- A text that is gone through from behind: what was passed lacks the byte.
-use Rattle.std.proofs.Common.{◌≡◌, ℕ, ◌+◌, ◌-◌, ◌<◌, true, false, ◌==◌, List, ◌∷◌, ◌++◌, length, get_or, take, drop, Some, None, sym, ap, ◌∙◌, arith, add-one, drop-cons, length-drop}
+use Rattle.std.proofs.Common.{◌≡◌, ℕ, ◌+◌, ◌-◌, ◌<◌, true, List, ◌∷◌, ◌++◌, length, get_or, take, drop, Some, None, sym, ap, ◌∙◌, arith, add-one, drop-cons, length-drop}
 use Rattle.std.proofs.lemmas.List.{take-append-drop, take_all}
-use Rattle.term_core.proofs.Text.Cuts.{lacks, lacks-cons}
+use Rattle.term_core.proofs.Text.Cuts.{lacks}
 use Rattle.report_text.specs.WordReading.{cut_last}
 use Rattle.report_text.proofs.Pairs.{cut_last_here, uncut_last}
 

@@ -14,7 +14,7 @@ use Rattle.term_core.proofs.TermBytes.{is_term_byte, name_bytes-decimal}
 use Rattle.server_core.specs.declared.command.ModRef.{ModRef}
 use Rattle.server_core.specs.declared.command.Cmd.{Cmd}
 use Rattle.server_core.specs.declared.command.Cmd.TheVariants.{Load, Delete, SoftPurge, Doom, Purge, CheckOld, Put, Erase, Trace, Spawn, Release}
-use Rattle.server_core.specs.declared.command.Limit.TheVariants.{Instances, Keys, Areas}
+use Rattle.server_core.specs.declared.command.Limit.TheVariants.{Instances}
 use Rattle.server_core.specs.declared.command.Reply.{Reply}
 use Rattle.server_core.specs.declared.command.Reply.TheVariants as replies
 use Rattle.machine_core.specs.declared.process.Line.{Line}

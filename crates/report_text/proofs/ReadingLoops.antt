@@ -1,5 +1,5 @@
 -- The loops that read the parts of a line: what was read, in front of what is still to be read, is the whole.
-use Rattle.std.proofs.Common.{◌≡◌, ℕ, ◌+◌, ◌<◌, ◌≤◌, true, false, nat_le, IfOk, List, [], ◌∷◌, ◌++◌, length, Option, Some, None, Result, Ok, Err, refl, sym, ap, ◌∙◌, subst, arith, append_assoc, append-nil}
+use Rattle.std.proofs.Common.{◌≡◌, ℕ, ◌+◌, ◌<◌, ◌≤◌, true, false, nat_le, IfOk, List, [], ◌∷◌, ◌++◌, length, Option, Some, None, Result, Ok, Err, refl, sym, ap, ◌∙◌, subst, arith, append_assoc}
 use Rattle.std.proofs.lemmas.Bool.Decides.{nat_tests}
 use Rattle.term_core.specs.PlainTerm.{PlainTerm}
 use Rattle.term_core.specs.TermParts.{parts_of_terms}
@@ -10,6 +10,7 @@ use Rattle.term_core.proofs.Text.Options.{some}
 use Rattle.script_text.specs.LineReading.{parts_of, each_reading}
 use Rattle.script_text.proofs.Parts.{parts-cut_some, parts-cut_none, shorter_rest}
 use Rattle.script_text.proofs.ReadingLoops.{with_read}
+use Rattle.report_text.proofs.TermLaws.{few_is}
 use Rattle.report_text.specs.declared.line_fault.LineFault.{LineFault}
 use Rattle.report_text.specs.declared.line_fault.LineFault.TheVariants as faults
 use Rattle.report_text.specs.TermReading.{plain_reading}
@@ -68,10 +69,7 @@ some_parts text = omega (arith, ap length (parts_by_cut text))
 pub many_parts : (count more all : ℕ) → count + more ≡ all → 0 < more → count ≡ 15 → false ≡ nat_le all 15
 many_parts count more all e h is = grind (arith, nat_tests)
 
-few_there : (n : ℕ) → nat_le n 15 ≡ true → n ≤ 15
-few_there n h = grind (arith, nat_tests)
-
 -- what is read of few parts is few
 pub few_read : (names : List (List ℕ)) (text : List ℕ) (r : Result (List PlainTerm) LineFault) → nat_le (length (parts_of_terms text)) 15 ≡ true → Reads (λ terms. terms) r (each_reading (plain_reading names) (parts_of_terms text)) → IfOk r (λ terms. length terms ≤ 15)
-few_read names text (Ok terms) few read = let count = each_count (plain_reading names) (parts_of_terms text) terms read in let most = few_there (length (parts_of_terms text)) few in omega (arith, count, most)
+few_read names text (Ok terms) few read = let count = each_count (plain_reading names) (parts_of_terms text) terms read in let most = few_is (length (parts_of_terms text)) few in omega (arith, count, most)
 few_read names text (Err fault) few read = tt

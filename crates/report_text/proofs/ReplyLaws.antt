@@ -7,7 +7,7 @@ use Rattle.term_core.specs.declared.atom.AtomId.{AtomId}
 use Rattle.term_core.specs.Names.{IsNames, is_name_byte, is_atom_text}
 use Rattle.term_core.specs.TermText.{atom_text}
 use Rattle.server_core.specs.declared.command.Cmd.{Cmd}
-use Rattle.server_core.specs.declared.command.Cmd.TheVariants.{Load, Delete, SoftPurge, Doom, Purge, CheckOld, Put, Erase, Trace, Spawn, Release}
+use Rattle.server_core.specs.declared.command.Cmd.TheVariants.{Load, SoftPurge, Purge}
 use Rattle.server_core.specs.declared.command.Linger.{Linger}
 use Rattle.server_core.specs.declared.command.Limit.{Limit}
 use Rattle.server_core.specs.declared.command.Limit.TheVariants.{Instances, Keys, Areas}
@@ -182,20 +182,17 @@ not_purged_again names sound atoms h =
 
 limit_again : (l : Limit) → limit_reading (limit_text l) ≡ Some l
 limit_again Instances = refl
-limit_again Keys = refl
-limit_again Areas = refl
+limit_again l = refl
 
 -- the text of a reply is read as it
 pub reply_again : (names : List (List ℕ)) → IsNames names → (r : Reply) → IsReplyOf names r → reply_reading names (reply_text names r) ≡ Some r
-reply_again names sound replies.Ok h = refl
-reply_again names sound replies.True h = refl
-reply_again names sound replies.False h = refl
 reply_again names sound (replies.FalseBy l) h =
     ap (λ (x : List ℕ). reply_reading names x) (append_assoc (codes "false ") (decimal l.process) (32 ∷ decimal l.turn))
     ∙ bind_at (linger_reading (decimal l.process ++ 32 ∷ decimal l.turn)) (λ linger. Some (replies.FalseBy linger)) l (some (replies.FalseBy l)) (linger_again l h) refl
 reply_again names sound (replies.NotPurged atoms) h = not_purged_again names sound atoms h
 reply_again names sound (replies.Duplicated a) h = bind_at (atom_reading names (atom_text names a.0)) (λ name. Some (replies.Duplicated name)) a (some (replies.Duplicated a)) (atom_again names a sound h) refl
 reply_again names sound (replies.SystemLimit l) h = bind_at (limit_reading (limit_text l)) (λ limit. Some (replies.SystemLimit limit)) l (some (replies.SystemLimit l)) (limit_again l) refl
+reply_again names sound r h = refl
 
 -- ---- what was published
 

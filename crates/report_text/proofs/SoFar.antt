@@ -134,9 +134,9 @@ no_state next e = absurd cc
 all_more : {X : Type 0} (P : X → Type 0) (xs : List X) (x : X) → AllByRecursion P xs → P x → AllByRecursion P (xs ++ x ∷ [])
 all_more P xs x h k = each_append P xs (x ∷ []) h (k, tt)
 
-all_front : {X : Type 0} (P : X → Type 0) (xs : List X) (x : X) → AllByRecursion P (xs ++ x ∷ []) → AllByRecursion P xs
-all_front P [] x h = tt
-all_front P (y ∷ xs) x h = (h.0, all_front P xs x h.1)
+pub all_front : {X : Type 0} (P : X → Type 0) (xs ys : List X) → AllByRecursion P (xs ++ ys) → AllByRecursion P xs
+all_front P [] ys h = tt
+all_front P (x ∷ xs) ys h = (h.0, all_front P xs ys h.1)
 
 all_last : {X : Type 0} (P : X → Type 0) (xs : List X) (x : X) → AllByRecursion P (xs ++ x ∷ []) → P x
 all_last P [] x h = h.0
@@ -363,10 +363,10 @@ shown_more names log process span line h fits =
         process_is = record {
           call = h.process_is.call;
           whole = record {
-            turns = all_more (λ s. 0 < s.turns) process.spans (with_line span line) (all_front (λ s. 0 < s.turns) process.spans span h.process_is.whole.turns) (all_last (λ s. 0 < s.turns) process.spans span h.process_is.whole.turns);
+            turns = all_more (λ s. 0 < s.turns) process.spans (with_line span line) (all_front (λ s. 0 < s.turns) process.spans (span ∷ []) h.process_is.whole.turns) (all_last (λ s. 0 < s.turns) process.spans span h.process_is.whole.turns);
             apart = apart_more process.spans (with_line span line) cut.others cut.fresh;
           };
-          spans = all_more (IsSpanOf names) process.spans (with_line span line) (all_front (IsSpanOf names) process.spans span h.process_is.spans) (record { generation = was.generation; turns = was.turns; lines_are = all_more (IsLineOf names) span.lines line was.lines_are fits });
+          spans = all_more (IsSpanOf names) process.spans (with_line span line) (all_front (IsSpanOf names) process.spans (span ∷ []) h.process_is.spans) (record { generation = was.generation; turns = was.turns; lines_are = all_more (IsLineOf names) span.lines line was.lines_are fits });
           fin = h.process_is.fin;
         };
         room = h.room;
@@ -486,7 +486,7 @@ export_more names log shots shot function serial h f wide =
     record {
       stands = record {
         good = h.good;
-        shots_are = all_more (IsSnapshotOf names) shots (with_export shot function serial) (all_front (IsSnapshotOf names) shots shot h.shots_are) (record { generation = was.generation; exports = all_more (IsExportOf names) shot.exports (function, serial) was.exports (record { function = f; serial = wide }) });
+        shots_are = all_more (IsSnapshotOf names) shots (with_export shot function serial) (all_front (IsSnapshotOf names) shots (shot ∷ []) h.shots_are) (record { generation = was.generation; exports = all_more (IsExportOf names) shot.exports (function, serial) was.exports (record { function = f; serial = wide }) });
         room = h.room;
       };
       lines_are = ap (λ ls. with_observers log (lines.Observer (length log.observers) ∷ ls)) (flat_last snapshot_lines shots shot (with_export shot function serial) (lines.Export function serial) (snapshot_lines-more shot function serial))

@@ -203,7 +203,7 @@ joined_texts : (names : List (List ℕ)) (text : List ℕ) (ps : List PlainTerm)
 joined_texts names text [] e = sym (joined_parts_of_terms text) ∙ ap joined e
 joined_texts names text (p ∷ ps) e = sym (joined_parts_of_terms text) ∙ ap joined e ∙ joined-join (plain_text names p) (map (plain_text names) ps)
 
-few_is : (n : ℕ) → nat_le n 15 ≡ true → n ≤ 15
+pub few_is : (n : ℕ) → nat_le n 15 ≡ true → n ≤ 15
 few_is n h = grind (arith, nat_tests)
 
 some_terms_are : (names : List (List ℕ)) → IsNames names → (text : List ℕ) (ps : List PlainTerm) → some_terms names text ≡ Some ps → AreTermsOf names text ps

@@ -4,11 +4,9 @@ use Rattle.std.specs.Prelude.{map}
 use Rattle.std.specs.List.{AllByRecursion, flat_map}
 use Rattle.std.proofs.lemmas.Bool.{and_from}
 use Rattle.std.proofs.lemmas.Bool.Decides.{nat_tests, Decides-eqb}
-use Rattle.std.proofs.lemmas.List.Sums.{sum-map, sum_by-cons}
 use Rattle.term_core.specs.declared.atom.Mfa.{Mfa}
 use Rattle.machine_core.specs.declared.process.Line.{Line}
 use Rattle.machine_core.specs.declared.process.End.{End}
-use Rattle.term_core.specs.Text.Steps.{◌>>=◌}
 use Rattle.term_core.proofs.Text.Options.{some, bind_at, passed, failed}
 use Rattle.run_log.specs.declared.logs.Entry.{Entry}
 use Rattle.run_log.specs.declared.logs.Span.{Span}
@@ -17,18 +15,16 @@ use Rattle.run_log.specs.declared.logs.Snapshot.{Snapshot}
 use Rattle.run_log.specs.declared.logs.RunLog.{RunLog}
 use Rattle.run_log.specs.Journal.{publishes, published_count}
 use Rattle.run_log.specs.WholeSpans.{AreApart, AreWhole}
+use Rattle.run_log.proofs.Journals.{count-cons}
 use Rattle.report_text.specs.declared.line.ReportLine.{ReportLine}
 use Rattle.report_text.specs.declared.line.ReportLine.TheVariants as lines
 use Rattle.report_text.specs.declared.state.Stage.{Stage}
-use Rattle.report_text.specs.declared.state.Stage.TheVariants.{Head, Count, Entries, Processes, Process, Observer, Done}
+use Rattle.report_text.specs.declared.state.Stage.TheVariants.{Entries, Processes, Process, Observer, Done}
 use Rattle.report_text.specs.declared.state.ReportState.{ReportState}
 use Rattle.report_text.specs.ReportLine.{span_lines, process_lines, processes_lines, export_line, snapshot_lines, observers_lines, log_lines}
 use Rattle.report_text.specs.Taking.{at, empty_log, opening, count_after, with_entry, may_begin, begun, spans_with, spans_closed, may_follow, with_line, with_process, shots_with, with_observer, observers_closed, with_export, taken, all_taken}
 
 -- ---- entries
-
-pub count-cons : (e : Entry) (es : List Entry) → published_count (e ∷ es) ≡ publishes e + published_count es
-count-cons e es = sum-map publishes (e ∷ es) ∙ sum_by-cons publishes e es ∙ ap (λ n. publishes e + n) (sym (sum-map publishes es))
 
 -- how many generations an entry with this publishes
 abbrev if_published : Option ℕ → ℕ

@@ -22,12 +22,13 @@ use Rattle.run_log.specs.Journal.{published_count}
 use Rattle.run_log.specs.Report.{rendering_of}
 use Rattle.run_log.specs.WholeSpans.{AreWhole}
 use Rattle.run_log.specs.WellFormed.{IsWide, IsEntryOf, IsProcessOf, IsSnapshotOf, IsSpanOf, IsLineOf, IsExportOf, IsWellFormed}
+use Rattle.run_log.proofs.Journals.{count-cons}
 use Rattle.report_text.specs.declared.fault.ReportFault.{ReportFault}
 use Rattle.report_text.specs.declared.fault.ReportFault.TheVariants as faults
 use Rattle.report_text.specs.declared.line.ReportLine.{ReportLine}
 use Rattle.report_text.specs.declared.line.ReportLine.TheVariants as rows
 use Rattle.report_text.specs.declared.state.Stage.{Stage}
-use Rattle.report_text.specs.declared.state.Stage.TheVariants.{Head, Count, Entries, Processes, Process, Observer, Done}
+use Rattle.report_text.specs.declared.state.Stage.TheVariants.{Done}
 use Rattle.report_text.specs.declared.state.ReportState.{ReportState}
 use Rattle.report_text.specs.LineReading.{line_reading}
 use Rattle.report_text.specs.ReportLine.{line_text, IsReportLine, span_lines, process_lines, processes_lines, export_line, snapshot_lines, observer_lines, observers_lines, log_lines, lines_text}
@@ -36,8 +37,8 @@ use Rattle.report_text.specs.Taking.{at, opening, taken, all_taken}
 use Rattle.report_text.specs.Reading.{Gives, line_taken, ended_log, last_number, text_ended, on_from, lines_on, bytes_on}
 use Rattle.report_text.proofs.LineLaws.{line_is, line_again, line_lacks}
 use Rattle.report_text.proofs.RenderedLines.{lines_text-append, rendered}
-use Rattle.report_text.proofs.WholeLogs.{count-cons, log_taken}
-use Rattle.report_text.proofs.SoFar.{IsGood, Stands, so_far, line_is as step_is, opening_stands, completed}
+use Rattle.report_text.proofs.WholeLogs.{log_taken}
+use Rattle.report_text.proofs.SoFar.{IsGood, Stands, so_far, line_is as step_is, opening_stands, completed, all_front}
 
 -- ---- each line of a log can be written
 
@@ -357,10 +358,6 @@ taken_on names sound texts lack g =
     let all : map (line_text names) (log_lines g.log) ≡ texts ++ (lines_of g.rest).ended = ap (λ (w : Lines). w.ended) (sym (report_lines names g.log sound good) ∙ ap lines_of g.whole ∙ lines_in texts g.rest lack) in
     let f = front_taken names opening (at g.log Done) texts (lines_of g.rest).ended (ap (texts_taken names opening) (sym all) ∙ report_taken names g.log sound good) in
     (f.0, f.1)
-
-all_front : {X : Type 0} (P : X → Type 0) (xs ys : List X) → AllByRecursion P (xs ++ ys) → AllByRecursion P xs
-all_front P [] ys h = tt
-all_front P (x ∷ xs) ys h = (h.0, all_front P xs ys h.1)
 
 take_front : {X : Type 0} (xs ys : List X) (n : ℕ) → n ≡ length xs → take n (xs ++ ys) ≡ xs
 take_front xs ys n e = ap (λ k. take k (xs ++ ys)) e ∙ take_first xs ys

@@ -7,7 +7,7 @@ use Rattle.run_log.specs.declared.logs.RunLog.{RunLog}
 use Rattle.report_text.specs.declared.fault.ReportFault.{ReportFault}
 use Rattle.report_text.specs.declared.fault.ReportFault.TheVariants.{Syntax, NoMemory}
 use Rattle.report_text.specs.declared.state.Stage.{Stage}
-use Rattle.report_text.specs.declared.state.Stage.TheVariants.{Head, Count, Entries, Processes, Process, Observer, Done}
+use Rattle.report_text.specs.declared.state.Stage.TheVariants.{Done}
 use Rattle.report_text.specs.declared.state.ReportState.{ReportState}
 use Rattle.report_text.specs.LineReading.{line_reading}
 use Rattle.report_text.specs.Taking.{taken}
