@@ -4,4 +4,6 @@
 #[cfg(test)]
 mod event_lists;
 #[cfg(test)]
+mod tables;
+#[cfg(test)]
 mod watchers;
