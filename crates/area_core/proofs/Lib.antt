@@ -1,3 +1,4 @@
 pub mod Counted
 pub mod Joined
 pub mod Made
+pub mod Places
