@@ -2,3 +2,4 @@ pub mod Counted
 pub mod Joined
 pub mod Made
 pub mod Places
+pub mod Tests
