@@ -114,7 +114,7 @@ pub looked_none : (block : ℕ → ℕ) (key : ℕ) → looked block key 0 ≡ N
 unfolding looked
 looked_none block key = refl
 
-looked_suc : (block : ℕ → ℕ) (key n : ℕ) → looked block key (suc n) ≡ look_at block key ((key % BUCKETS + n) % BUCKETS) (looked block key n)
+pub looked_suc : (block : ℕ → ℕ) (key n : ℕ) → looked block key (suc n) ≡ look_at block key ((key % BUCKETS + n) % BUCKETS) (looked block key n)
 unfolding looked
 looked_suc block key n = refl
 

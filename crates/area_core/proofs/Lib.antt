@@ -3,3 +3,4 @@ pub mod Joined
 pub mod Made
 pub mod Places
 pub mod Tests
+pub mod Frames
