@@ -4,3 +4,4 @@ pub mod Made
 pub mod Places
 pub mod Tests
 pub mod Frames
+pub mod BlockStores
