@@ -2,7 +2,7 @@
 use Rattle.std.proofs.Common.{◌≡◌, ◌≢◌, ℕ, zero, suc, ◌+◌, ◌-◌, ◌*◌, ◌/◌, ◌%◌, ◌<◌, ◌≤◌, Bool, true, false, not, ◌&&◌, ◌||◌, List, length, length-set, Option, Some, None, ◌⊎◌, inl, inr, refl, sym, ap, ◌∙◌, subst, arith}
 use Rattle.std.specs.Prelude.{◌==◌, slice_get, slice_set, IsTrue, if◌then◌else◌, nat_lt, nat_le}
 use Rattle.std.specs.List.{list_any, list_all}
-use Rattle.std.proofs.lemmas.Bool.{and_parts, and_from, or_cases, or_left, lt-ltb, le-ltb, le-leb, eq-eqb, eqb-true, not-true, cases_eq, true≢false}
+use Rattle.std.proofs.lemmas.Bool.{and_parts, and_from, or_cases, or_left, lt-ltb, le-ltb, le-leb, eq-eqb, eqb-true, not-true, cases_eq, true≢false, cond-true, cond-false}
 use Rattle.std.proofs.lemmas.Bool.Decides.{nat_tests}
 use Rattle.prgr_core.specs.declared.progress.Progress.{Progress}
 use Rattle.prgr_core.specs.Machine.{machine_of, Readable}
@@ -137,3 +137,56 @@ untraced_after s value serial function g p may none among at =
       | inl other ↦ absurd (true≢false (sym (eq-eqb value 0 none) ∙ not-true (value == 0) other))
       | inr untraced ↦ not-true (is_traced p serial function) (generation_passes s.published (readable_generations s.progress) (λ g p. not (is_traced p serial function)) g p untraced among at)
     ]
+
+-- the test of the entry word of a function
+abbrev may_be_entry_of : Table → ℕ → KeptArea → ℕ → Bool
+may_be_entry_of s value k function = may_be_entry s (readable_generations s.progress) k.area.serial function value
+
+-- a word of a block is stored where the test lets it through
+module _ (s : Table) (sound : IsSound s) (held : ReadableHeld) (word value block at : ℕ) (is : kind_at word ≡ InBlock block at) (may : IsTrue (may_store_in_block s (readable_generations s.progress) block at value)) where
+  both : (is_read s (readable_generations s.progress) (InBlock block at) ≡ false) × (holds_in_block s.kept block (may_be_in_image s (readable_generations s.progress) at value) ≡ true)
+  both =
+      let parts = and_parts (not (is_read s (readable_generations s.progress) (InBlock block at))) (holds_in_block s.kept block (may_be_in_image s (readable_generations s.progress) at value)) may in
+      (not-true (is_read s (readable_generations s.progress) (InBlock block at)) parts.0, parts.1)
+
+  -- a generation that a thread may read does not read the word
+  unread : (g : ℕ) (p : Published) → IsReadable s g → slice_get s.published g ≡ Some p → reads_in_block p block at ≡ true → ⊥
+  unread g p counts here reads =
+      let under = number_found (λ g. is_read_under (InBlock block at) (slice_get s.published g)) (readable_generations s.progress) g (held s.progress sound.progress g counts) (ap (is_read_under (InBlock block at)) here ∙ reads) in
+      true≢false (sym (or_left (list_any (λ g. is_read_under (InBlock block at) (slice_get s.published g)) (readable_generations s.progress)) (slots_read All s (InBlock block at)) under) ∙ both.0)
+
+  -- the word is one of a kept area only where it may become the value
+  in_image : (k : KeptArea) → Among s.kept k → (place : ℕ) → InBlock block at ≡ InBlock k.area.block place → may_be_in_image s (readable_generations s.progress) place value k ≡ true
+  in_image k among place same =
+      let parts = same_block block at k.area.block place same in
+      ap (λ x. may_be_in_image s (readable_generations s.progress) x value k) (sym parts.1) ∙ in_block_passes s.kept block (may_be_in_image s (readable_generations s.progress) at value) k both.1 among (sym parts.0)
+
+  pub block_stored : IsSound (with_word s word value)
+  block_stored = block_word_kept s sound word value block at is
+      (λ g p counts here root entry within same.
+          let parts = same_block block at p.root.code entry same in
+          let code = root.code in
+          unread g p counts here (reads_code p block at parts.0 (omega (arith, parts.0, code))))
+      (λ g p counts here root a among instance fits function few same.
+          let parts = same_block block at (BREAKPOINTS_START + p.root.bp) (breakpoint_at a.block function) same in
+          let bp = root.bp in
+          unread g p counts here (reads_breakpoint p block at parts.0 (omega (arith, parts.0, bp)) (has_instance_at p a function at among instance fits.first few parts.1)))
+      (λ g p counts here root place within same.
+          let parts = same_block block at (TERMS_START + p.root.term) place same in
+          let term = root.term in
+          unread g p counts here (reads_term p block at parts.0 (omega (arith, parts.0, term))))
+      (λ g p counts here k among function has same none.
+          untraced_after s value k.area.serial function g p (may_entry k function has (in_image k among (entry_at function) same)) none (held s.progress sound.progress g counts) here)
+      (λ k among place old has plain same. plain_word k place old has plain (in_image k among place same))
+      where
+    may_entry : (k : KeptArea) (function : ℕ) → IsTrue (has_function k function) → may_be_in_image s (readable_generations s.progress) (entry_at function) value k ≡ true → may_be_entry s (readable_generations s.progress) k.area.serial function value ≡ true
+    may_entry k function has passes =
+        let back : (function * 4 + 6) / 4 - 1 ≡ function = omega (arith) in
+        ap (may_be_entry_of s value k) (sym back)
+        ∙ sym (cond-true (is_entry_word k (entry_at function)) (may_be_entry s (readable_generations s.progress) k.area.serial (entry_at function / 4 - 1) value) (is_image_word (slice_get k.words (entry_at function)) value) (entry_is k function has))
+        ∙ passes
+
+    plain_word : (k : KeptArea) (place old : ℕ) → slice_get k.words place ≡ Some old → is_entry_word k place ≡ false → may_be_in_image s (readable_generations s.progress) place value k ≡ true → value ≡ old
+    plain_word k place old has plain passes =
+        let image : is_image_word (slice_get k.words place) value ≡ true = sym (cond-false (is_entry_word k place) (may_be_entry s (readable_generations s.progress) k.area.serial (place / 4 - 1) value) (is_image_word (slice_get k.words place) value) plain) ∙ passes in
+        sym (eqb-true old value (ap (λ (o : Option ℕ). is_image_word o value) (sym has) ∙ image))
