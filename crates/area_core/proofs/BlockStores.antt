@@ -100,7 +100,7 @@ block_word_kept s sound word value block at is code breakpoints terms entries im
 -- ---- a store that the test lets through
 
 -- the block and place of a word
-same_block : (block at other place : ℕ) → InBlock block at ≡ InBlock other place → (block ≡ other) × (at ≡ place)
+pub same_block : (block at other place : ℕ) → InBlock block at ≡ InBlock other place → (block ≡ other) × (at ≡ place)
 same_block block at other place same = (cc, cc)
 
 reads_code : (p : Published) (block at : ℕ) → block ≡ p.root.code → block < 3 → reads_in_block p block at ≡ true

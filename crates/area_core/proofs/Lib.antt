@@ -5,3 +5,4 @@ pub mod Places
 pub mod Tests
 pub mod Frames
 pub mod BlockStores
+pub mod EntryStores

@@ -4,6 +4,7 @@ use Rattle.std.specs.Prelude.{◌==◌, slice_get, IsTrue}
 use Rattle.std.specs.List.{list_any, list_all, filter}
 use Rattle.std.proofs.lemmas.Bool.{and_parts, and_from, or_cases, or_left, or_right, eqb-true, eq-eqb, cases_Bool, not-true}
 use Rattle.area_core.specs.declared.table.Published.{Published}
+use Rattle.area_core.specs.Generations.{agrees}
 use Rattle.area_core.specs.Blocks.{Among}
 use Rattle.area_core.specs.Readers.{holds_of, holds_at, holds_of_each}
 
@@ -80,3 +81,57 @@ filter_keeps test also (z ∷ zs) (suc i) x at passes too =
       | inl first ↦ ap (λ c. list_any also (cond c (z ∷ filter test zs) (filter test zs))) first ∙ or_right (also z) (list_any also (filter test zs)) (filter_keeps test also zs i x at passes too)
       | inr other ↦ ap (λ c. list_any also (cond c (z ∷ filter test zs) (filter test zs))) other ∙ filter_keeps test also zs i x at passes too
     ]
+
+-- ---- chains of tests
+
+-- all of three
+pub three_hold : (a b c : Bool) → (a && b && c) ≡ true → (a ≡ true) × (b ≡ true) × (c ≡ true)
+three_hold true true true e = (refl, refl, refl)
+three_hold a b c e = absurd (cc)
+
+-- all of four
+pub four_hold : (a b c d : Bool) → (a && b && c && d) ≡ true → (a ≡ true) × (b ≡ true) × (c ≡ true) × (d ≡ true)
+four_hold true true true true e = (refl, refl, refl, refl)
+four_hold a b c d e = absurd (cc)
+
+-- where the first holds, one of two others
+pub one_of_two : (a b c : Bool) → (not a || b || c) ≡ true → a ≡ true → (b ≡ true) ⊎ (c ≡ true)
+one_of_two true true c e is = inl refl
+one_of_two true false true e is = inr refl
+one_of_two a b c e is = absurd (cc)
+
+-- where the first holds, one of three others
+pub one_of_three : (a b c d : Bool) → (not a || b || c || d) ≡ true → a ≡ true → (b ≡ true) ⊎ ((c ≡ true) ⊎ (d ≡ true))
+one_of_three true true c d e is = inl refl
+one_of_three true false true d e is = inr (inl refl)
+one_of_three true false false true e is = inr (inr refl)
+one_of_three a b c d e is = absurd (cc)
+
+-- two tests that agree
+pub agrees_same : (a b : Bool) → agrees a b ≡ true → a ≡ b
+agrees_same true b e = sym e
+agrees_same false b e = sym (not-true b e)
+
+-- two of a filtered list stand apart in the list
+pub filter_apart : {X : Type 0} (test : X → Bool) (xs : List X) (i j : ℕ) (a b : X) → i ≢ j → slice_get (filter test xs) i ≡ Some a → slice_get (filter test xs) j ≡ Some b → (k : ℕ) × (l : ℕ) × (k ≢ l) × (slice_get xs k ≡ Some a) × (slice_get xs l ≡ Some b)
+filter_apart test [] i j a b differ is_a is_b = absurd (cc)
+filter_apart {X = X} test (z ∷ zs) i j a b differ is_a is_b =
+    elim (cases_Bool (test z)) as (λ _. (k : ℕ) × (l : ℕ) × (k ≢ l) × (slice_get (z ∷ zs) k ≡ Some a) × (slice_get (z ∷ zs) l ≡ Some b)) [
+      | inl passes ↦ first i j differ (kept i a passes is_a) (kept j b passes is_b) (λ m n. filter_apart test zs m n a b)
+      | inr fails ↦ let found = filter_apart test zs i j a b differ (left i a fails is_a) (left j b fails is_b) in (suc found.0, suc found.1, (λ same. found.2 (suc_same found.0 found.1 same)), found.3, found.4)
+    ]
+    where
+  suc_same : (m n : ℕ) → suc m ≡ suc n → m ≡ n
+  suc_same m n e = omega (arith)
+
+  kept : (n : ℕ) (x : X) → test z ≡ true → slice_get (filter test (z ∷ zs)) n ≡ Some x → slice_get (z ∷ filter test zs) n ≡ Some x
+  kept n x passes at = ap (λ c. slice_get (cond c (z ∷ filter test zs) (filter test zs)) n) (sym passes) ∙ at
+
+  left : (n : ℕ) (x : X) → test z ≡ false → slice_get (filter test (z ∷ zs)) n ≡ Some x → slice_get (filter test zs) n ≡ Some x
+  left n x fails at = ap (λ c. slice_get (cond c (z ∷ filter test zs) (filter test zs)) n) (sym fails) ∙ at
+
+  first : (i j : ℕ) → i ≢ j → slice_get (z ∷ filter test zs) i ≡ Some a → slice_get (z ∷ filter test zs) j ≡ Some b → ((m n : ℕ) → m ≢ n → slice_get (filter test zs) m ≡ Some a → slice_get (filter test zs) n ≡ Some b → (k : ℕ) × (l : ℕ) × (k ≢ l) × (slice_get zs k ≡ Some a) × (slice_get zs l ≡ Some b)) → (k : ℕ) × (l : ℕ) × (k ≢ l) × (slice_get (z ∷ zs) k ≡ Some a) × (slice_get (z ∷ zs) l ≡ Some b)
+  first zero zero differ is_a is_b behind = absurd (differ refl)
+  first zero (suc j) differ is_a is_b behind = let found = filter_gives test zs j b is_b in (0, suc found.0.0, (λ same. absurd (cc)), is_a, found.0.1)
+  first (suc i) zero differ is_a is_b behind = let found = filter_gives test zs i a is_a in (suc found.0.0, 0, (λ same. absurd (cc)), found.0.1, is_b)
+  first (suc i) (suc j) differ is_a is_b behind = let found = behind i j (λ same. differ (ap suc same)) is_a is_b in (suc found.0, suc found.1, (λ same. found.2 (suc_same found.0 found.1 same)), found.3, found.4)
