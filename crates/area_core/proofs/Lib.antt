@@ -6,3 +6,5 @@ pub mod Tests
 pub mod Frames
 pub mod BlockStores
 pub mod EntryStores
+pub mod AreaStores
+pub mod Releases
