@@ -8,3 +8,8 @@ pub mod BlockStores
 pub mod EntryStores
 pub mod AreaStores
 pub mod Releases
+pub mod SlotStores
+pub mod Anchors
+pub mod TermTests
+pub mod UnreadStores
+pub mod StoreLaws
