@@ -13,3 +13,5 @@ pub mod Anchors
 pub mod TermTests
 pub mod UnreadStores
 pub mod StoreLaws
+pub mod RootTests
+pub mod RootStores
