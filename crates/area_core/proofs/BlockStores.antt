@@ -1,24 +1,23 @@
 -- A store into a word of a block keeps the block invariant.
-use Rattle.std.proofs.Common.{◌≡◌, ◌≢◌, ℕ, zero, suc, ◌+◌, ◌-◌, ◌*◌, ◌/◌, ◌%◌, ◌<◌, ◌≤◌, Bool, true, false, not, ◌&&◌, ◌||◌, List, length, length-set, Option, Some, None, ◌⊎◌, inl, inr, refl, sym, ap, ◌∙◌, subst, arith}
-use Rattle.std.specs.Prelude.{◌==◌, slice_get, slice_set, IsTrue, if◌then◌else◌, nat_lt, nat_le}
-use Rattle.std.specs.List.{list_any, list_all}
+use Rattle.std.proofs.Common.{◌≡◌, ℕ, ◌+◌, ◌-◌, ◌*◌, ◌/◌, ◌%◌, ◌<◌, ◌≤◌, Bool, true, false, not, ◌&&◌, ◌||◌, List, length-set, Option, Some, ◌⊎◌, inl, inr, sym, ap, ◌∙◌, subst, arith}
+use Rattle.std.specs.Prelude.{◌==◌, slice_get, slice_set, IsTrue}
+use Rattle.std.specs.List.{list_any}
 use Rattle.std.proofs.lemmas.Bool.{and_parts, and_from, or_cases, or_left, lt-ltb, le-ltb, le-leb, eq-eqb, eqb-true, not-true, cases_eq, true≢false, cond-true, cond-false}
 use Rattle.std.proofs.lemmas.Bool.Decides.{nat_tests}
 use Rattle.prgr_core.specs.declared.progress.Progress.{Progress}
 use Rattle.prgr_core.specs.Machine.{machine_of, Readable}
 use Rattle.prgr_core.specs.Step.{IsSound as IsProgressSound}
 use Rattle.term_core.specs.declared.area.AreaRef.{AreaRef}
-use Rattle.term_core.specs.declared.area.CodeRef.{CodeRef}
-use Rattle.area_core.specs.declared.map.TheConstants.{TABLE_WORDS, BLOCKS, BIG_BLOCKS, BIG_WORDS, AREAS_START, BREAKPOINTS_START, TERMS_START, EXPORT_ENTRIES, FUNCTIONS}
+use Rattle.area_core.specs.declared.map.TheConstants.{TABLE_WORDS, BIG_WORDS, BREAKPOINTS_START, TERMS_START, EXPORT_ENTRIES, FUNCTIONS}
 use Rattle.area_core.specs.declared.map.WordKind.{WordKind}
-use Rattle.area_core.specs.declared.map.WordKind.TheVariants.{Machine, Slot, Retire, Doom, InBlock, Nowhere}
+use Rattle.area_core.specs.declared.map.WordKind.TheVariants.{InBlock}
 use Rattle.area_core.specs.declared.readers.Slots.TheVariants.{All}
 use Rattle.area_core.specs.declared.table.Published.{Published}
 use Rattle.area_core.specs.declared.table.KeptArea.{KeptArea}
 use Rattle.area_core.specs.declared.table.Table.{Table}
-use Rattle.area_core.specs.Map.{word_at, kind_at, block_place, room_of, breakpoint_at, entry_at}
+use Rattle.area_core.specs.Map.{word_at, kind_at, block_place, breakpoint_at, entry_at}
 use Rattle.area_core.specs.Generations.{is_instance, is_traced, has_function, is_entry_word}
-use Rattle.area_core.specs.Blocks.{Blocks, Among, RootFits, IsForInstances, BlockInvariant}
+use Rattle.area_core.specs.Blocks.{Among, RootFits, IsForInstances}
 use Rattle.area_core.specs.Readers.{readable_generations, is_read, is_read_under, reads_in_block, has_instance_in, slots_read}
 use Rattle.area_core.specs.Stores.{with_word, holds_in_block, is_untraced, may_be_entry, is_image_word, may_be_in_image, may_store_in_block}
 use Rattle.area_core.specs.Step.{IsReadable, IsSound, blocks_of}
@@ -56,13 +55,13 @@ block_within word block at is = grind (arith, nat_tests)
 
 -- a word of a block is stored that no root reads; what is said of entry words and images holds of it
 pub block_word_kept :
-  (s : Table) → IsSound s → (word value block at : ℕ) → kind_at word ≡ InBlock block at
-  → ((g : ℕ) (p : Published) → IsReadable s g → slice_get s.published g ≡ Some p → RootFits p.root → (entry : ℕ) → entry < EXPORT_ENTRIES → InBlock block at ≡ InBlock p.root.code entry → ⊥)
-  → ((g : ℕ) (p : Published) → IsReadable s g → slice_get s.published g ≡ Some p → RootFits p.root → (a : AreaRef) → Among p.areas a → IsTrue (is_instance p a.serial) → IsForInstances a.block → (function : ℕ) → function < FUNCTIONS → InBlock block at ≡ InBlock (BREAKPOINTS_START + p.root.bp) (breakpoint_at a.block function) → ⊥)
-  → ((g : ℕ) (p : Published) → IsReadable s g → slice_get s.published g ≡ Some p → RootFits p.root → (place : ℕ) → place < BIG_WORDS → InBlock block at ≡ InBlock (TERMS_START + p.root.term) place → ⊥)
-  → ((g : ℕ) (p : Published) → IsReadable s g → slice_get s.published g ≡ Some p → (k : KeptArea) → Among s.kept k → (function : ℕ) → IsTrue (has_function k function) → InBlock block at ≡ InBlock k.area.block (entry_at function) → value ≡ 0 → is_traced p k.area.serial function ≡ false)
-  → ((k : KeptArea) → Among s.kept k → (place old : ℕ) → slice_get k.words place ≡ Some old → is_entry_word k place ≡ false → InBlock block at ≡ InBlock k.area.block place → value ≡ old)
-  → IsSound (with_word s word value)
+    (s : Table) → IsSound s → (word value block at : ℕ) → kind_at word ≡ InBlock block at
+    → ((g : ℕ) (p : Published) → IsReadable s g → slice_get s.published g ≡ Some p → RootFits p.root → (entry : ℕ) → entry < EXPORT_ENTRIES → InBlock block at ≡ InBlock p.root.code entry → ⊥)
+    → ((g : ℕ) (p : Published) → IsReadable s g → slice_get s.published g ≡ Some p → RootFits p.root → (a : AreaRef) → Among p.areas a → IsTrue (is_instance p a.serial) → IsForInstances a.block → (function : ℕ) → function < FUNCTIONS → InBlock block at ≡ InBlock (BREAKPOINTS_START + p.root.bp) (breakpoint_at a.block function) → ⊥)
+    → ((g : ℕ) (p : Published) → IsReadable s g → slice_get s.published g ≡ Some p → RootFits p.root → (place : ℕ) → place < BIG_WORDS → InBlock block at ≡ InBlock (TERMS_START + p.root.term) place → ⊥)
+    → ((g : ℕ) (p : Published) → IsReadable s g → slice_get s.published g ≡ Some p → (k : KeptArea) → Among s.kept k → (function : ℕ) → IsTrue (has_function k function) → InBlock block at ≡ InBlock k.area.block (entry_at function) → value ≡ 0 → is_traced p k.area.serial function ≡ false)
+    → ((k : KeptArea) → Among s.kept k → (place old : ℕ) → slice_get k.words place ≡ Some old → is_entry_word k place ≡ false → InBlock block at ≡ InBlock k.area.block place → value ≡ old)
+    → IsSound (with_word s word value)
 block_word_kept s sound word value block at is code breakpoints terms entries images = record {
   progress = sound.progress;
   blocks = record {
@@ -86,16 +85,16 @@ block_word_kept s sound word value block at is code breakpoints terms entries im
   published = sound.published;
 }
   where
-  new : ℕ → ℕ
-  new = word_at (slice_set s.words word value)
+    new : ℕ → ℕ
+    new = word_at (slice_set s.words word value)
 
-  off : (x : ℕ) → (kind_at x ≡ InBlock block at) ⊎ (word_at (slice_set s.words word value) x ≡ word_at s.words x)
-  off = stored_off s.words word value (InBlock block at) is
+    off : (x : ℕ) → (kind_at x ≡ InBlock block at) ⊎ (word_at (slice_set s.words word value) x ≡ word_at s.words x)
+    off = stored_off s.words word value (InBlock block at) is
 
-  stored : (other place : ℕ) → InBlock block at ≡ InBlock other place → word_at (slice_set s.words word value) (block_place other place) ≡ value
-  stored other place same =
-      let here : block_place other place ≡ word = sym (kind_place word other place (is ∙ same)).0 in
-      ap (word_at (slice_set s.words word value)) here ∙ word_here s.words word value (subst (λ n. word < n) (sym sound.words) (block_within word block at is))
+    stored : (other place : ℕ) → InBlock block at ≡ InBlock other place → word_at (slice_set s.words word value) (block_place other place) ≡ value
+    stored other place same =
+        let here : block_place other place ≡ word = sym (kind_place word other place (is ∙ same)).0 in
+        ap (word_at (slice_set s.words word value)) here ∙ word_here s.words word value (subst (λ n. word < n) (sym sound.words) (block_within word block at is))
 
 -- ---- a store that the test lets through
 
@@ -164,29 +163,29 @@ module _ (s : Table) (sound : IsSound s) (held : ReadableHeld) (word value block
   pub block_stored : IsSound (with_word s word value)
   block_stored = block_word_kept s sound word value block at is
       (λ g p counts here root entry within same.
-          let parts = same_block block at p.root.code entry same in
-          let code = root.code in
-          unread g p counts here (reads_code p block at parts.0 (omega (arith, parts.0, code))))
+      let parts = same_block block at p.root.code entry same in
+      let code = root.code in
+      unread g p counts here (reads_code p block at parts.0 (omega (arith, parts.0, code))))
       (λ g p counts here root a among instance fits function few same.
-          let parts = same_block block at (BREAKPOINTS_START + p.root.bp) (breakpoint_at a.block function) same in
-          let bp = root.bp in
-          unread g p counts here (reads_breakpoint p block at parts.0 (omega (arith, parts.0, bp)) (has_instance_at p a function at among instance fits.first few parts.1)))
+      let parts = same_block block at (BREAKPOINTS_START + p.root.bp) (breakpoint_at a.block function) same in
+      let bp = root.bp in
+      unread g p counts here (reads_breakpoint p block at parts.0 (omega (arith, parts.0, bp)) (has_instance_at p a function at among instance fits.first few parts.1)))
       (λ g p counts here root place within same.
-          let parts = same_block block at (TERMS_START + p.root.term) place same in
-          let term = root.term in
-          unread g p counts here (reads_term p block at parts.0 (omega (arith, parts.0, term))))
+      let parts = same_block block at (TERMS_START + p.root.term) place same in
+      let term = root.term in
+      unread g p counts here (reads_term p block at parts.0 (omega (arith, parts.0, term))))
       (λ g p counts here k among function has same none.
-          untraced_after s value k.area.serial function g p (may_entry k function has (in_image k among (entry_at function) same)) none (held s.progress sound.progress g counts) here)
+      untraced_after s value k.area.serial function g p (may_entry k function has (in_image k among (entry_at function) same)) none (held s.progress sound.progress g counts) here)
       (λ k among place old has plain same. plain_word k place old has plain (in_image k among place same))
-      where
-    may_entry : (k : KeptArea) (function : ℕ) → IsTrue (has_function k function) → may_be_in_image s (readable_generations s.progress) (entry_at function) value k ≡ true → may_be_entry s (readable_generations s.progress) k.area.serial function value ≡ true
-    may_entry k function has passes =
-        let back : (function * 4 + 6) / 4 - 1 ≡ function = omega (arith) in
-        ap (may_be_entry_of s value k) (sym back)
-        ∙ sym (cond-true (is_entry_word k (entry_at function)) (may_be_entry s (readable_generations s.progress) k.area.serial (entry_at function / 4 - 1) value) (is_image_word (slice_get k.words (entry_at function)) value) (entry_is k function has))
-        ∙ passes
+    where
+      may_entry : (k : KeptArea) (function : ℕ) → IsTrue (has_function k function) → may_be_in_image s (readable_generations s.progress) (entry_at function) value k ≡ true → may_be_entry s (readable_generations s.progress) k.area.serial function value ≡ true
+      may_entry k function has passes =
+          let back : (function * 4 + 6) / 4 - 1 ≡ function = omega (arith) in
+          ap (may_be_entry_of s value k) (sym back)
+          ∙ sym (cond-true (is_entry_word k (entry_at function)) (may_be_entry s (readable_generations s.progress) k.area.serial (entry_at function / 4 - 1) value) (is_image_word (slice_get k.words (entry_at function)) value) (entry_is k function has))
+          ∙ passes
 
-    plain_word : (k : KeptArea) (place old : ℕ) → slice_get k.words place ≡ Some old → is_entry_word k place ≡ false → may_be_in_image s (readable_generations s.progress) place value k ≡ true → value ≡ old
-    plain_word k place old has plain passes =
-        let image : is_image_word (slice_get k.words place) value ≡ true = sym (cond-false (is_entry_word k place) (may_be_entry s (readable_generations s.progress) k.area.serial (place / 4 - 1) value) (is_image_word (slice_get k.words place) value) plain) ∙ passes in
-        sym (eqb-true old value (ap (λ (o : Option ℕ). is_image_word o value) (sym has) ∙ image))
+      plain_word : (k : KeptArea) (place old : ℕ) → slice_get k.words place ≡ Some old → is_entry_word k place ≡ false → may_be_in_image s (readable_generations s.progress) place value k ≡ true → value ≡ old
+      plain_word k place old has plain passes =
+          let image : is_image_word (slice_get k.words place) value ≡ true = sym (cond-false (is_entry_word k place) (may_be_entry s (readable_generations s.progress) k.area.serial (place / 4 - 1) value) (is_image_word (slice_get k.words place) value) plain) ∙ passes in
+          sym (eqb-true old value (ap (λ (o : Option ℕ). is_image_word o value) (sym has) ∙ image))

@@ -1,22 +1,19 @@
 -- A store of an entry word keeps the block invariant.
-use Rattle.std.proofs.Common.{◌≡◌, ◌≢◌, ℕ, zero, suc, ◌+◌, ◌-◌, ◌*◌, ◌/◌, ◌%◌, ◌<◌, ◌≤◌, Bool, true, false, not, ◌&&◌, ◌||◌, List, length, Option, Some, None, ◌⊎◌, inl, inr, refl, sym, ap, ◌∙◌, subst, arith}
+use Rattle.std.proofs.Common.{◌≡◌, ℕ, ◌+◌, ◌<◌, ◌≤◌, Bool, true, false, List, Some, inl, inr, sym, ap, ◌∙◌, subst, arith}
 use Rattle.std.specs.Prelude.{◌==◌, slice_get, IsTrue}
 use Rattle.std.specs.List.{list_any}
 use Rattle.std.proofs.lemmas.Bool.{and_parts, eqb-true, cases_eq, true≢false}
-use Rattle.term_core.specs.declared.area.AreaRef.{AreaRef}
 use Rattle.term_core.specs.declared.area.CodeRef.{CodeRef}
-use Rattle.area_core.specs.declared.map.TheConstants.{BLOCKS, BIG_BLOCKS, BIG_WORDS, AREAS_START, BREAKPOINTS_START, TERMS_START}
-use Rattle.area_core.specs.declared.map.WordKind.{WordKind}
+use Rattle.area_core.specs.declared.map.TheConstants.{BIG_BLOCKS, AREAS_START, BREAKPOINTS_START, TERMS_START}
 use Rattle.area_core.specs.declared.map.WordKind.TheVariants.{InBlock}
-use Rattle.area_core.specs.declared.table.Published.{Published}
 use Rattle.area_core.specs.declared.table.KeptArea.{KeptArea}
 use Rattle.area_core.specs.declared.table.Table.{Table}
-use Rattle.area_core.specs.Map.{kind_at, block_place, room_of, breakpoint_at, entry_at}
+use Rattle.area_core.specs.Map.{kind_at, block_place, breakpoint_at, entry_at}
 use Rattle.area_core.specs.Generations.{is_traced, has_function, is_entry_word}
-use Rattle.area_core.specs.Blocks.{Among, KeptApart, RootFits}
+use Rattle.area_core.specs.Blocks.{Among, KeptApart}
 use Rattle.area_core.specs.Readers.{readable_generations}
 use Rattle.area_core.specs.Stores.{with_word, is_function_of, entry_word, may_be_entry, may_store_entry}
-use Rattle.area_core.specs.Step.{IsReadable, IsSound}
+use Rattle.area_core.specs.Step.{IsSound}
 use Rattle.area_core.proofs.Places.{kind_block}
 use Rattle.area_core.proofs.Tests.{passed_by, three_hold}
 use Rattle.area_core.proofs.Frames.{function_fits, big_room}
@@ -29,9 +26,9 @@ same_area kept apart a b is_a is_b same =
       | inl one ↦ some_one a b (sym is_a.1 ∙ ap (slice_get kept) one ∙ is_b.1)
       | inr two ↦ absurd ((apart is_a.0 is_b.0 a b two is_a.1 is_b.1).1 same)
     ]
-    where
-  some_one : (a b : KeptArea) → Some a ≡ Some b → a ≡ b
-  some_one a b e = cc
+  where
+    some_one : (a b : KeptArea) → Some a ≡ Some b → a ≡ b
+    some_one a b e = cc
 
 module _ (s : Table) (sound : IsSound s) (held : ReadableHeld) (at : CodeRef) (on : Bool) (may : IsTrue (may_store_entry s (readable_generations s.progress) at on)) where
   tests : (list_any (is_function_of at) s.kept ≡ true) × (may_be_entry s (readable_generations s.progress) at.area.serial at.function (entry_word on) ≡ true)
@@ -66,28 +63,28 @@ module _ (s : Table) (sound : IsSound s) (held : ReadableHeld) (at : CodeRef) (o
   pub entry_stored_sound : IsSound (with_word s (block_place at.area.block (entry_at at.function)) (entry_word on))
   entry_stored_sound = block_word_kept s sound (block_place at.area.block (entry_at at.function)) (entry_word on) at.area.block (entry_at at.function) stored_kind
       (λ g p counts here root entry within same.
-          let parts = same_block at.area.block (entry_at at.function) p.root.code entry same in
-          let code = root.code in
-          let high = in_areas.0 in
-          absurd (omega (arith, parts.0, code, high)))
+      let parts = same_block at.area.block (entry_at at.function) p.root.code entry same in
+      let code = root.code in
+      let high = in_areas.0 in
+      absurd (omega (arith, parts.0, code, high)))
       (λ g p counts here root a among is fits function few same.
-          let parts = same_block at.area.block (entry_at at.function) (BREAKPOINTS_START + p.root.bp) (breakpoint_at a.block function) same in
-          let bp = root.bp in
-          let high = in_areas.0 in
-          absurd (omega (arith, parts.0, bp, high)))
+      let parts = same_block at.area.block (entry_at at.function) (BREAKPOINTS_START + p.root.bp) (breakpoint_at a.block function) same in
+      let bp = root.bp in
+      let high = in_areas.0 in
+      absurd (omega (arith, parts.0, bp, high)))
       (λ g p counts here root place within same.
-          let parts = same_block at.area.block (entry_at at.function) (TERMS_START + p.root.term) place same in
-          let term = root.term in
-          let high = in_areas.0 in
-          absurd (omega (arith, parts.0, term, high)))
+      let parts = same_block at.area.block (entry_at at.function) (TERMS_START + p.root.term) place same in
+      let term = root.term in
+      let high = in_areas.0 in
+      absurd (omega (arith, parts.0, term, high)))
       (λ g p counts here k among function has same none.
-          let parts = same_block at.area.block (entry_at at.function) k.area.block (entry_at function) same in
-          let one = is_instance_here k among (entry_at function) same in
-          let serial : at.area.serial ≡ k.area.serial = sym instance.2 ∙ ap (λ (x : KeptArea). x.area.serial) (sym one) in
-          let own : at.function ≡ function = omega (arith, parts.1) in
-          subst (λ x. is_traced p x function ≡ false) serial (subst (λ x. is_traced p at.area.serial x ≡ false) own
-              (untraced_after s (entry_word on) at.area.serial at.function g p tests.1 none (held s.progress sound.progress g counts) here)))
+      let parts = same_block at.area.block (entry_at at.function) k.area.block (entry_at function) same in
+      let one = is_instance_here k among (entry_at function) same in
+      let serial : at.area.serial ≡ k.area.serial = sym instance.2 ∙ ap (λ (x : KeptArea). x.area.serial) (sym one) in
+      let own : at.function ≡ function = omega (arith, parts.1) in
+      subst (λ x. is_traced p x function ≡ false) serial (subst (λ x. is_traced p at.area.serial x ≡ false) own
+      (untraced_after s (entry_word on) at.area.serial at.function g p tests.1 none (held s.progress sound.progress g counts) here)))
       (λ k among place old has plain same.
-          let parts = same_block at.area.block (entry_at at.function) k.area.block place same in
-          let one = is_instance_here k among place same in
-          absurd (true≢false (sym (entry_is instance.0 at.function instance.4) ∙ ap (λ x. is_entry_word instance.0 x) parts.1 ∙ ap (λ (x : KeptArea). is_entry_word x place) (sym one) ∙ plain)))
+      let parts = same_block at.area.block (entry_at at.function) k.area.block place same in
+      let one = is_instance_here k among place same in
+      absurd (true≢false (sym (entry_is instance.0 at.function instance.4) ∙ ap (λ x. is_entry_word instance.0 x) parts.1 ∙ ap (λ (x : KeptArea). is_entry_word x place) (sym one) ∙ plain)))

@@ -1,21 +1,20 @@
 -- A word is stored, all others are as before: each clause of the block invariant holds after it where it holds of the
 -- word that was stored. Each lemma takes what the clause says of that word.
-use Rattle.std.proofs.Common.{◌≡◌, ◌≢◌, ℕ, zero, suc, ◌+◌, ◌-◌, ◌*◌, ◌/◌, ◌%◌, ◌<◌, ◌≤◌, Bool, true, false, not, ◌&&◌, ◌||◌, List, length, Option, Some, None, ◌⊎◌, inl, inr, refl, sym, ap, ◌∙◌, subst, arith}
+use Rattle.std.proofs.Common.{◌≡◌, ◌≢◌, ℕ, zero, suc, ◌+◌, ◌*◌, ◌%◌, ◌<◌, ◌≤◌, false, length, Option, Some, None, ◌⊎◌, inl, inr, refl, sym, ap, ◌∙◌, subst, arith}
 use Rattle.std.specs.Prelude.{◌==◌, slice_get, IsTrue, if◌then◌else◌, nat_lt, IsSomeAnd}
-use Rattle.std.specs.List.{list_any}
-use Rattle.std.proofs.lemmas.Bool.{and_parts, ltb-true, cases_lt}
+use Rattle.std.proofs.lemmas.Bool.{and_parts, ltb-true}
 use Rattle.std.proofs.lemmas.Bool.Decides.{nat_tests}
 use Rattle.std.proofs.lemmas.Option.{slice_get_within}
 use Rattle.term_core.specs.declared.area.AreaRef.{AreaRef}
-use Rattle.area_core.specs.declared.map.TheConstants.{PROCESSES, ANCHORS, BLOCKS, BIG_BLOCKS, BIG_WORDS, AREAS_START, BREAKPOINTS_START, TERMS_START, EXPORT_ENTRIES, FUNCTIONS, BUCKETS}
+use Rattle.area_core.specs.declared.map.TheConstants.{BIG_BLOCKS, BIG_WORDS, BREAKPOINTS_START, TERMS_START, EXPORT_ENTRIES, FUNCTIONS, BUCKETS}
 use Rattle.area_core.specs.declared.map.WordKind.{WordKind}
-use Rattle.area_core.specs.declared.map.WordKind.TheVariants.{Machine, Slot, Retire, Doom, InBlock, Nowhere}
+use Rattle.area_core.specs.declared.map.WordKind.TheVariants.{Slot, Retire, Doom, InBlock}
 use Rattle.area_core.specs.declared.table.Published.{Published}
 use Rattle.area_core.specs.declared.table.KeptArea.{KeptArea}
 use Rattle.area_core.specs.Map.{kind_at, block_place, retire_place, doom_place, slot_place, room_of, breakpoint_at, breakpoint_place, term_place, entry_at}
 use Rattle.area_core.specs.Generations.{is_instance, is_retired, is_doomed, is_traced, is_kept, functions_of, has_function, is_entry_word, is_code_word, traced_word, tells, serial_in, is_naming}
-use Rattle.area_core.specs.Terms.{TermsStand, looked, look_at, key_in, value_in, found_in, outcome, is_word_of}
-use Rattle.area_core.specs.Blocks.{Blocks, Among, RootFits, CodeStands, BreakpointsStand, IsForInstances, term_words, FitsBlock, ImageStands, EntriesStand, RetireTells, DoomTells, IsAnchor, NamedAreKept, AnchorsApart, EachCounted, BlockInvariant}
+use Rattle.area_core.specs.Terms.{TermsStand, looked, look_at, key_in, value_in, found_in, outcome}
+use Rattle.area_core.specs.Blocks.{Blocks, Among, RootFits, CodeStands, BreakpointsStand, IsForInstances, term_words, FitsBlock, ImageStands, EntriesStand, RetireTells, DoomTells, NamedAreKept, AnchorsApart, EachCounted, BlockInvariant}
 use Rattle.area_core.specs.Generations.{is_term_word}
 use Rattle.area_core.proofs.Places.{kind_block, kind_retire, kind_doom, kind_slot}
 use Rattle.area_core.proofs.Counted.{looked_suc, looked_none}
@@ -46,12 +45,12 @@ looked_same : (block new : ℕ → ℕ) → ((at : ℕ) → at < BIG_WORDS → n
 looked_same block new same key zero = looked_none new key ∙ sym (looked_none block key)
 looked_same block new same key (suc n) =
     looked_suc new key n ∙ step ((key % 512 + n) % 512) (omega (arith)) (looked new key n) ∙ ap (look_at block key ((key % 512 + n) % 512)) (looked_same block new same key n) ∙ sym (looked_suc block key n)
-    where
-  step : (bucket : ℕ) → bucket < 512 → (known : Option (Option ℕ)) → look_at new key bucket known ≡ look_at block key bucket known
-  step bucket within (Some known) = refl
-  step bucket within None =
-      ap (λ (x : ℕ). if x == 0 then Some None else if x == key + 1 then Some (Some (value_in new bucket)) else None) (same (bucket * 2) (omega (arith)))
-      ∙ ap (λ (x : ℕ). if key_in block bucket == 0 then Some None else if key_in block bucket == key + 1 then Some (Some x) else None) (same (bucket * 2 + 1) (omega (arith)))
+  where
+    step : (bucket : ℕ) → bucket < 512 → (known : Option (Option ℕ)) → look_at new key bucket known ≡ look_at block key bucket known
+    step bucket within (Some known) = refl
+    step bucket within None =
+        ap (λ (x : ℕ). if x == 0 then Some None else if x == key + 1 then Some (Some (value_in new bucket)) else None) (same (bucket * 2) (omega (arith)))
+        ∙ ap (λ (x : ℕ). if key_in block bucket == 0 then Some None else if key_in block bucket == key + 1 then Some (Some x) else None) (same (bucket * 2 + 1) (omega (arith)))
 
 pub found_same : (block new : ℕ → ℕ) → ((at : ℕ) → at < BIG_WORDS → new at ≡ block at) → (key : ℕ) → found_in new key ≡ found_in block key
 found_same block new same key = ap outcome (looked_same block new same key BUCKETS)
@@ -100,10 +99,10 @@ module _ (b : Blocks) (Counts : ℕ → Type 0) (word : ℕ → ℕ) (kind : Wor
       let big : TERMS_START + p.root.term < BIG_BLOCKS = omega (arith, term) in
       terms_same (term_words b.word p.root) (term_words word p.root) p
       (λ place within.
-          at_word (term_place p.root.term place) (InBlock (TERMS_START + p.root.term) place) (λ x. x ≡ b.word (term_place p.root.term place))
-          (kind_block (TERMS_START + p.root.term) place (omega (arith)) (big_room (TERMS_START + p.root.term) place big within))
-          (λ same. absurd (unread g p counts at root place within same))
-          refl)
+      at_word (term_place p.root.term place) (InBlock (TERMS_START + p.root.term) place) (λ x. x ≡ b.word (term_place p.root.term place))
+      (kind_block (TERMS_START + p.root.term) place (omega (arith)) (big_room (TERMS_START + p.root.term) place big within))
+      (λ same. absurd (unread g p counts at root place within same))
+      refl)
       (sound.terms_stand g p counts at)
 
   -- an entry word that is stored is 0 only where the generation does not trace the function
@@ -143,9 +142,9 @@ module _ (b : Blocks) (Counts : ℕ → Type 0) (word : ℕ → ℕ) (kind : Wor
       (kind_block k.area.block at fits.last (fits_room at (length k.words) (room_of k.area.block) within room))
       (stored at value is plain)
       (sound.images_stand k among at value is plain)
-      where
-    fits_room : (a b c : ℕ) → a < b → b ≤ c → a < c
-    fits_room a b c below most = omega (arith)
+    where
+      fits_room : (a b c : ℕ) → a < b → b ≤ c → a < c
+      fits_room a b c below most = omega (arith)
 
   -- no word of a slot is stored: what slots name is kept
   pub named_after : (kind ≡ Slot → ⊥) → NamedAreKept word b.kept
@@ -162,6 +161,6 @@ module _ (b : Blocks) (Counts : ℕ → Type 0) (word : ℕ → ℕ) (kind : Wor
       (kind_slot process one is_one.slot is_one.last)
       (λ same. absurd (other same))
       (at_word (slot_place process two) Slot (λ x. b.word (slot_place process one) ≢ 0 → x ≢ 0 → serial_in (b.word (slot_place process one)) ≢ serial_in x)
-          (kind_slot process two is_two.slot is_two.last)
-          (λ same. absurd (other same))
-          (sound.anchors_apart process one two is_one is_two differ))
+      (kind_slot process two is_two.slot is_two.last)
+      (λ same. absurd (other same))
+      (sound.anchors_apart process one two is_one is_two differ))

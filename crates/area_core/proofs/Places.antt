@@ -1,9 +1,9 @@
 -- The map of words parts the table: each word is of one kind, and its kind tells its place.
-use Rattle.std.proofs.Common.{◌≡◌, ◌≢◌, ℕ, zero, suc, ◌+◌, ◌-◌, ◌*◌, ◌/◌, ◌%◌, ◌<◌, ◌≤◌, List, [], ◌∷◌, length, ◌⊎◌, inl, inr, refl, ap, ◌∙◌, sym, arith}
+use Rattle.std.proofs.Common.{◌≡◌, ℕ, zero, suc, ◌+◌, ◌-◌, ◌*◌, ◌/◌, ◌%◌, ◌<◌, ◌≤◌, List, [], ◌∷◌, length, inl, inr, refl, ap, ◌∙◌, sym, arith}
 use Rattle.std.specs.Prelude.{slice_set}
 use Rattle.std.proofs.lemmas.Bool.{cases_lt}
 use Rattle.std.proofs.lemmas.Bool.Decides.{nat_tests}
-use Rattle.area_core.specs.declared.map.TheConstants.{BLOCKS, BIG_BLOCKS, PROCESSES, ANCHORS, TABLE_WORDS}
+use Rattle.area_core.specs.declared.map.TheConstants.{BLOCKS, BIG_BLOCKS, PROCESSES, ANCHORS}
 use Rattle.area_core.specs.declared.map.WordKind.{WordKind}
 use Rattle.area_core.specs.declared.map.WordKind.TheVariants.{Machine, Slot, Retire, Doom, InBlock, Nowhere}
 use Rattle.area_core.specs.Map.{word_at, kind_at, block_place, retire_place, doom_place, slot_place, room_of}
@@ -45,11 +45,11 @@ pub kind_block : (block at : ℕ) → block < BLOCKS → at < room_of block → 
 kind_block block at fits room =
     elim (cases_lt block 64) as (λ _. kind_at (block_place block at) ≡ InBlock block at) [
       | inl big ↦
-        let small = room_big block at big room in
-        ap kind_at (place_big block at big) ∙ kind_big (1493 + block * 1024 + at) block at (omega (arith)) (omega (arith)) (big_row block at small) (big_column block at small)
+          let small = room_big block at big room in
+          ap kind_at (place_big block at big) ∙ kind_big (1493 + block * 1024 + at) block at (omega (arith)) (omega (arith)) (big_row block at small) (big_column block at small)
       | inr after ↦
-        let small = room_small block at after room in
-        ap kind_at (place_small block at after) ∙ kind_small (67029 + (block - 64) * 64 + at) block at (omega (arith)) (omega (arith)) (small_row block at after small) (small_column block at after small)
+          let small = room_small block at after room in
+          ap kind_at (place_small block at after) ∙ kind_small (67029 + (block - 64) * 64 + at) block at (omega (arith)) (omega (arith)) (small_row block at after small) (small_column block at after small)
     ]
 
 -- a retire word is that of its block
@@ -77,44 +77,44 @@ pub kind_place : (word block at : ℕ) → kind_at word ≡ InBlock block at →
 kind_place word block at is =
     elim (cases_lt word 67029) as (λ _. (word ≡ block_place block at) × (block < BLOCKS) × (at < room_of block)) [
       | inl below ↦
-        let low : 1493 ≤ word = grind (arith, nat_tests) in
-        let kind = sym is ∙ kind_big word ((word - 1493) / 1024) ((word - 1493) % 1024) low below refl refl in
-        of_big word block at low below (ap block_in kind) (ap at_in kind)
+          let low : 1493 ≤ word = grind (arith, nat_tests) in
+          let kind = sym is ∙ kind_big word ((word - 1493) / 1024) ((word - 1493) % 1024) low below refl refl in
+          of_big word block at low below (ap block_in kind) (ap at_in kind)
       | inr behind ↦
-        let high : word < 83413 = grind (arith, nat_tests) in
-        let kind = sym is ∙ kind_small word (64 + (word - 67029) / 64) ((word - 67029) % 64) behind high refl refl in
-        of_small word block at behind high (ap block_in kind) (ap at_in kind)
+          let high : word < 83413 = grind (arith, nat_tests) in
+          let kind = sym is ∙ kind_small word (64 + (word - 67029) / 64) ((word - 67029) % 64) behind high refl refl in
+          of_small word block at behind high (ap block_in kind) (ap at_in kind)
     ]
-    where
-  block_in : WordKind → ℕ
-  block_in Machine = 0
-  block_in Slot = 0
-  block_in (Retire block) = block
-  block_in (Doom block) = block
-  block_in (InBlock block at) = block
-  block_in Nowhere = 0
+  where
+    block_in : WordKind → ℕ
+    block_in Machine = 0
+    block_in Slot = 0
+    block_in (Retire block) = block
+    block_in (Doom block) = block
+    block_in (InBlock block at) = block
+    block_in Nowhere = 0
 
-  at_in : WordKind → ℕ
-  at_in Machine = 0
-  at_in Slot = 0
-  at_in (Retire block) = 0
-  at_in (Doom block) = 0
-  at_in (InBlock block at) = at
-  at_in Nowhere = 0
+    at_in : WordKind → ℕ
+    at_in Machine = 0
+    at_in Slot = 0
+    at_in (Retire block) = 0
+    at_in (Doom block) = 0
+    at_in (InBlock block at) = at
+    at_in Nowhere = 0
 
-  of_big : (word block at : ℕ) → 1493 ≤ word → word < 67029 → block ≡ (word - 1493) / 1024 → at ≡ (word - 1493) % 1024 → (word ≡ block_place block at) × (block < 320) × (at < room_of block)
-  of_big word block at low high row column =
-      let big : block < 64 = omega (arith) in
-      let small : at < 1024 = omega (arith) in
-      let same : word ≡ 1493 + block * 1024 + at = omega (arith) in
-      (same ∙ sym (place_big block at big), omega (arith), grind (arith, nat_tests))
+    of_big : (word block at : ℕ) → 1493 ≤ word → word < 67029 → block ≡ (word - 1493) / 1024 → at ≡ (word - 1493) % 1024 → (word ≡ block_place block at) × (block < 320) × (at < room_of block)
+    of_big word block at low high row column =
+        let big : block < 64 = omega (arith) in
+        let small : at < 1024 = omega (arith) in
+        let same : word ≡ 1493 + block * 1024 + at = omega (arith) in
+        (same ∙ sym (place_big block at big), omega (arith), grind (arith, nat_tests))
 
-  of_small : (word block at : ℕ) → 67029 ≤ word → word < 83413 → block ≡ 64 + (word - 67029) / 64 → at ≡ (word - 67029) % 64 → (word ≡ block_place block at) × (block < 320) × (at < room_of block)
-  of_small word block at low high row column =
-      let after : 64 ≤ block = omega (arith) in
-      let small : at < 64 = omega (arith) in
-      let same : word ≡ 67029 + (block - 64) * 64 + at = omega (arith) in
-      (same ∙ sym (place_small block at after), omega (arith), grind (arith, nat_tests))
+    of_small : (word block at : ℕ) → 67029 ≤ word → word < 83413 → block ≡ 64 + (word - 67029) / 64 → at ≡ (word - 67029) % 64 → (word ≡ block_place block at) × (block < 320) × (at < room_of block)
+    of_small word block at low high row column =
+        let after : 64 ≤ block = omega (arith) in
+        let small : at < 64 = omega (arith) in
+        let same : word ≡ 67029 + (block - 64) * 64 + at = omega (arith) in
+        (same ∙ sym (place_small block at after), omega (arith), grind (arith, nat_tests))
 
 -- a retire word stands at its block's place
 pub kind_retire_place : (word block : ℕ) → kind_at word ≡ Retire block → (word ≡ retire_place block) × (block < BLOCKS)

@@ -1,12 +1,11 @@
 -- A store of the root keeps a state sound.
-use Rattle.std.proofs.Common.{◌≡◌, ◌≢◌, ℕ, zero, suc, ◌+◌, ◌<◌, ◌≤◌, Bool, true, false, not, ◌&&◌, ◌||◌, List, [], ◌∷◌, ◌++◌, length, length-append, Option, Some, None, ◌⊎◌, inl, inr, refl, sym, ap, ◌∙◌, subst, arith}
+use Rattle.std.proofs.Common.{◌≡◌, ℕ, ◌+◌, ◌<◌, Bool, true, false, ◌&&◌, List, [], ◌∷◌, ◌++◌, length-append, Option, Some, None, ◌⊎◌, inl, inr, refl, sym, ap, ◌∙◌, subst, arith}
 use Rattle.std.specs.Prelude.{◌==◌, slice_get, IsTrue, if◌then◌else◌}
 use Rattle.std.specs.List.{list_any, list_all}
-use Rattle.std.proofs.lemmas.Bool.{and_parts, or_cases, or_left, eqb-true}
+use Rattle.std.proofs.lemmas.Bool.{or_cases, or_left, eqb-true}
 use Rattle.std.proofs.lemmas.Option.{slice_get_within}
 use Rattle.prgr_core.specs.declared.progress.Progress.{Progress}
 use Rattle.prgr_core.specs.declared.event.PrgrEvent.TheVariants as prgr
-use Rattle.prgr_core.specs.Machine.{machine_of, Readable}
 use Rattle.prgr_core.specs.Step.{IsSound as IsProgressSound}
 use Rattle.prgr_core.proofs.Parts.{slice_get-push_at}
 use Rattle.prgr_core.proofs.Sound.{keeps_sound}
@@ -18,11 +17,11 @@ use Rattle.area_core.specs.declared.table.Published.{Published}
 use Rattle.area_core.specs.declared.table.KeptArea.{KeptArea}
 use Rattle.area_core.specs.declared.table.Table.{Table}
 use Rattle.area_core.specs.Map.{word_at, slot_place}
-use Rattle.area_core.specs.Generations.{is_used, is_kept, is_kept_as, serial_in, is_naming}
+use Rattle.area_core.specs.Generations.{is_kept_as, serial_in}
 use Rattle.area_core.specs.Terms.{TermsStand, terms_stand}
-use Rattle.area_core.specs.Blocks.{Blocks, Among, RootFits, CodeStands, BreakpointsStand, term_words, UsedAreKept, FitsBlock, ImageStands, AreaStands, EachCounted, BlockInvariant}
+use Rattle.area_core.specs.Blocks.{Among, RootFits, CodeStands, BreakpointsStand, term_words, UsedAreKept, FitsBlock, ImageStands, AreaStands, EachCounted}
 use Rattle.area_core.specs.Readers.{held_generations, holds_of_each}
-use Rattle.area_core.specs.Roots.{root_fits, blocks_stand, code_stands, breakpoints_stand, fresh_areas, fits_block, image_stands, area_stands, is_fresh_sound, are_apart, used_are_kept, may_publish}
+use Rattle.area_core.specs.Roots.{root_fits, blocks_stand, code_stands, breakpoints_stand, fresh_areas, fits_block, image_stands, area_stands, is_fresh_sound, are_apart, used_are_kept}
 use Rattle.area_core.specs.Step.{after, to_publish, may_publish_in, published_in, appended, IsReadable, IsSound, blocks_of}
 use Rattle.area_core.proofs.Joined.{any_joined}
 use Rattle.area_core.proofs.Tests.{each_passes, generation_passes, three_hold}
@@ -55,23 +54,23 @@ module _ (s : Table) (sound : IsSound s) (held : ReadableHeld) (p : Published) (
   each_after Holds new old g q counts at =
       elim (slice_get-push_at s.published p g q at) as (λ _. Holds g q) [
         | inl before ↦
-          let count = sound.published in
-          let within = slice_get_within s.published g q before in
-          let below : g < s.progress.generation + 1 = subst (λ (n : ℕ). g < n) count within in
-          elim counts as (λ _. Holds g q) [
-            | inl newest ↦ absurd (omega (arith, newest, below))
-            | inr others ↦ elim (or_cases (s.progress.generation + 1 == g) (list_any (λ x. x == g) (held_generations s.progress)) (held (next_progress s.progress) next_sound g counts)) as (λ _. Holds g q) [
-              | inl same ↦ let newest = eqb-true (s.progress.generation + 1) g same in absurd (omega (arith, newest, below))
-              | inr among ↦ old g q (inr others) among before
+            let count = sound.published in
+            let within = slice_get_within s.published g q before in
+            let below : g < s.progress.generation + 1 = subst (λ (n : ℕ). g < n) count within in
+            elim counts as (λ _. Holds g q) [
+              | inl newest ↦ absurd (omega (arith, newest, below))
+              | inr others ↦ elim (or_cases (s.progress.generation + 1 == g) (list_any (λ x. x == g) (held_generations s.progress)) (held (next_progress s.progress) next_sound g counts)) as (λ _. Holds g q) [
+                | inl same ↦ let newest = eqb-true (s.progress.generation + 1) g same in absurd (omega (arith, newest, below))
+                | inr among ↦ old g q (inr others) among before
+              ]
             ]
-          ]
         | inr last ↦ subst (λ (n : ℕ). Holds n q) (sym (last.0 ∙ sound.published)) (subst (λ (x : Published). Holds (s.progress.generation + 1) x) (sym last.1) new)
       ]
 
   -- what is published stands in the words, and its areas are kept
   pub published_sound :
-    root_fits p.root ≡ true → blocks_stand s.words p ≡ true → list_all (is_fresh_sound s.words s.published (held_generations s.progress)) fresh ≡ true → are_apart s.kept fresh ≡ true → used_are_kept (s.kept ++ fresh) p ≡ true → list_all (λ (k : KeptArea). area_stands s.words k (s.progress.generation + 1) p) (s.kept ++ fresh) ≡ true
-    → IsSound (published_in s p fresh (next_progress s.progress))
+      root_fits p.root ≡ true → blocks_stand s.words p ≡ true → list_all (is_fresh_sound s.words s.published (held_generations s.progress)) fresh ≡ true → are_apart s.kept fresh ≡ true → used_are_kept (s.kept ++ fresh) p ≡ true → list_all (λ (k : KeptArea). area_stands s.words k (s.progress.generation + 1) p) (s.kept ++ fresh) ≡ true
+      → IsSound (published_in s p fresh (next_progress s.progress))
   published_sound fits stands fresh_stand apart used areas = record {
     progress = next_sound;
     blocks = record {
@@ -93,29 +92,29 @@ module _ (s : Table) (sound : IsSound s) (held : ReadableHeld) (p : Published) (
     published = length-append s.published (p ∷ []) ∙ ap (λ (n : ℕ). n + 1) sound.published;
   }
     where
-    parts : (code_stands s.words p EXPORT_ENTRIES ≡ true) × (breakpoints_stand s.words p ≡ true) × (terms_stand (term_words (word_at s.words) p.root) p ≡ true)
-    parts = three_hold (code_stands s.words p EXPORT_ENTRIES) (breakpoints_stand s.words p) (terms_stand (term_words (word_at s.words) p.root) p) stands
+      parts : (code_stands s.words p EXPORT_ENTRIES ≡ true) × (breakpoints_stand s.words p ≡ true) × (terms_stand (term_words (word_at s.words) p.root) p ≡ true)
+      parts = three_hold (code_stands s.words p EXPORT_ENTRIES) (breakpoints_stand s.words p) (terms_stand (term_words (word_at s.words) p.root) p) stands
 
-    more : (test : KeptArea → Bool) → list_any test s.kept ≡ true → list_any test (s.kept ++ fresh) ≡ true
-    more test passes = any_joined test s.kept fresh ∙ or_left (list_any test s.kept) (list_any test fresh) passes
+      more : (test : KeptArea → Bool) → list_any test s.kept ≡ true → list_any test (s.kept ++ fresh) ≡ true
+      more test passes = any_joined test s.kept fresh ∙ or_left (list_any test s.kept) (list_any test fresh) passes
 
-    fresh_says : (k : KeptArea) → Among fresh k → (fits_block k ≡ true) × (image_stands s.words k BIG_WORDS ≡ true) × (holds_of_each s.published (held_generations s.progress) (λ g q. area_stands s.words k g q) ≡ true)
-    fresh_says k is = three_hold (fits_block k) (image_stands s.words k BIG_WORDS) (holds_of_each s.published (held_generations s.progress) (λ g q. area_stands s.words k g q)) (each_passes (is_fresh_sound s.words s.published (held_generations s.progress)) fresh is.0 k fresh_stand is.1)
+      fresh_says : (k : KeptArea) → Among fresh k → (fits_block k ≡ true) × (image_stands s.words k BIG_WORDS ≡ true) × (holds_of_each s.published (held_generations s.progress) (λ g q. area_stands s.words k g q) ≡ true)
+      fresh_says k is = three_hold (fits_block k) (image_stands s.words k BIG_WORDS) (holds_of_each s.published (held_generations s.progress) (λ g q. area_stands s.words k g q)) (each_passes (is_fresh_sound s.words s.published (held_generations s.progress)) fresh is.0 k fresh_stand is.1)
 
-    fit : (k : KeptArea) → (Among s.kept k) ⊎ (Among fresh k) → FitsBlock k
-    fit k (inl was) = sound.blocks.kept_fit k was
-    fit k (inr new) = fits_says k (fresh_says k new).0
+      fit : (k : KeptArea) → (Among s.kept k) ⊎ (Among fresh k) → FitsBlock k
+      fit k (inl was) = sound.blocks.kept_fit k was
+      fit k (inr new) = fits_says k (fresh_says k new).0
 
-    all_fit : (k : KeptArea) → Among (s.kept ++ fresh) k → FitsBlock k
-    all_fit k is = fit k (either_kept s.kept fresh k is)
+      all_fit : (k : KeptArea) → Among (s.kept ++ fresh) k → FitsBlock k
+      all_fit k is = fit k (either_kept s.kept fresh k is)
 
-    image : (k : KeptArea) → (Among s.kept k) ⊎ (Among fresh k) → ImageStands (word_at s.words) k
-    image k (inl was) = sound.blocks.images_stand k was
-    image k (inr new) = image_says s.words k (fits_says k (fresh_says k new).0) (fresh_says k new).1
+      image : (k : KeptArea) → (Among s.kept k) ⊎ (Among fresh k) → ImageStands (word_at s.words) k
+      image k (inl was) = sound.blocks.images_stand k was
+      image k (inr new) = image_says s.words k (fits_says k (fresh_says k new).0) (fresh_says k new).1
 
-    old_area : (g : ℕ) (q : Published) → IsReadable s g → IsTrue (list_any (λ x. x == g) (held_generations s.progress)) → slice_get s.published g ≡ Some q → (k : KeptArea) → Among (s.kept ++ fresh) k → (Among s.kept k) ⊎ (Among fresh k) → AreaStands (word_at s.words) k g q
-    old_area g q counts among at k is (inl was) = sound.blocks.areas_stand g q counts at k was
-    old_area g q counts among at k is (inr new) = area_says s.words k g q (fits_says k (fresh_says k new).0) (generation_passes s.published (held_generations s.progress) (λ g q. area_stands s.words k g q) g q (fresh_says k new).2 among at)
+      old_area : (g : ℕ) (q : Published) → IsReadable s g → IsTrue (list_any (λ x. x == g) (held_generations s.progress)) → slice_get s.published g ≡ Some q → (k : KeptArea) → Among (s.kept ++ fresh) k → (Among s.kept k) ⊎ (Among fresh k) → AreaStands (word_at s.words) k g q
+      old_area g q counts among at k is (inl was) = sound.blocks.areas_stand g q counts at k was
+      old_area g q counts among at k is (inr new) = area_says s.words k g q (fits_says k (fresh_says k new).0) (generation_passes s.published (held_generations s.progress) (λ g q. area_stands s.words k g q) g q (fresh_says k new).2 among at)
 
 chosen : (b : Bool) (o : Option Table) (t : Table) → (if b then o else None) ≡ Some t → (b ≡ true) × (o ≡ Some t)
 chosen true o t e = (refl, e)

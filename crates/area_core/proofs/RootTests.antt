@@ -1,6 +1,6 @@
 -- What the test of a store of the root says of the words, the areas and the keys.
-use Rattle.std.proofs.Common.{◌≡◌, ◌≢◌, ℕ, zero, suc, ◌+◌, ◌-◌, ◌*◌, ◌/◌, ◌%◌, ◌<◌, ◌≤◌, Bool, true, false, not, ◌&&◌, ◌||◌, List, [], ◌∷◌, ◌++◌, length, Option, Some, None, ◌⊎◌, inl, inr, refl, sym, ap, ◌∙◌, subst, arith}
-use Rattle.std.specs.Prelude.{◌==◌, slice_get, IsTrue, nat_lt, nat_le, if◌then◌else◌}
+use Rattle.std.proofs.Common.{◌≡◌, ◌≢◌, ℕ, zero, suc, ◌+◌, ◌<◌, ◌≤◌, Bool, true, false, not, ◌&&◌, ◌||◌, List, [], ◌∷◌, ◌++◌, length, Option, Some, ◌⊎◌, inl, inr, refl, sym, ap, ◌∙◌, subst, arith}
+use Rattle.std.specs.Prelude.{◌==◌, slice_get, IsTrue, nat_lt, nat_le}
 use Rattle.std.specs.List.{list_any, list_all}
 use Rattle.std.proofs.lemmas.Bool.{and_parts, or_cases, lt-ltb, ltb-true, leb-true, eq-eqb, eqb-true, eqb-false, not-true, cases_lt, true≢false}
 use Rattle.std.proofs.lemmas.Bool.Decides.{nat_tests}
@@ -14,9 +14,9 @@ use Rattle.area_core.specs.declared.table.Root.{Root}
 use Rattle.area_core.specs.declared.table.Published.{Published}
 use Rattle.area_core.specs.declared.table.KeptArea.{KeptArea}
 use Rattle.area_core.specs.Map.{word_at, block_place, breakpoint_place, retire_place, doom_place, entry_at, room_of}
-use Rattle.area_core.specs.Generations.{is_instance, is_retired, is_doomed, is_traced, is_used, is_key_area, holds_area, has_serial, is_kept_as, functions_of, has_function, is_entry_word, is_code_word, traced_word, tells, agrees}
+use Rattle.area_core.specs.Generations.{is_instance, is_retired, is_doomed, is_traced, is_key_area, holds_area, has_serial, is_kept_as, functions_of, has_function, is_entry_word, is_code_word, traced_word, tells, agrees}
 use Rattle.area_core.specs.Stores.{is_image_word}
-use Rattle.area_core.specs.Blocks.{Among, RootFits, CodeStands, BreakpointsStand, IsForInstances, UsedAreKept, FitsBlock, ImageStands, AreaStands, KeptApart}
+use Rattle.area_core.specs.Blocks.{RootFits, CodeStands, BreakpointsStand, UsedAreKept, FitsBlock, ImageStands, AreaStands, KeptApart}
 use Rattle.area_core.specs.Roots.{root_fits, code_stands, traces_stand, breakpoints_stand, fits_block, is_apart, are_apart, image_stands, entries_stand, retire_tells, doom_tells, area_stands, is_holding_kept, used_are_kept}
 use Rattle.area_core.proofs.Counted.{code_suc, traces_suc, entries_suc, image_suc}
 use Rattle.area_core.proofs.Tests.{each_passes, passed_by, number_passes, three_hold, four_hold, one_of_two, agrees_same}
@@ -64,13 +64,13 @@ fits_says k e =
       room = leb-true (length k.words) (room_of k.area.block) parts.2;
       functions = λ big. few big parts.3;
     }
-    where
-  few : k.area.block < BIG_BLOCKS → (not (nat_lt k.area.block BIG_BLOCKS) || nat_le (functions_of k.words) FUNCTIONS) ≡ true → functions_of k.words ≤ FUNCTIONS
-  few big may =
-      elim (or_cases (not (nat_lt k.area.block BIG_BLOCKS)) (nat_le (functions_of k.words) FUNCTIONS) may) as (λ _. functions_of k.words ≤ FUNCTIONS) [
-        | inl other ↦ absurd (true≢false (sym (lt-ltb k.area.block BIG_BLOCKS big) ∙ not-true (nat_lt k.area.block BIG_BLOCKS) other))
-        | inr within ↦ leb-true (functions_of k.words) FUNCTIONS within
-      ]
+  where
+    few : k.area.block < BIG_BLOCKS → (not (nat_lt k.area.block BIG_BLOCKS) || nat_le (functions_of k.words) FUNCTIONS) ≡ true → functions_of k.words ≤ FUNCTIONS
+    few big may =
+        elim (or_cases (not (nat_lt k.area.block BIG_BLOCKS)) (nat_le (functions_of k.words) FUNCTIONS) may) as (λ _. functions_of k.words ≤ FUNCTIONS) [
+          | inl other ↦ absurd (true≢false (sym (lt-ltb k.area.block BIG_BLOCKS big) ∙ not-true (nat_lt k.area.block BIG_BLOCKS) other))
+          | inr within ↦ leb-true (functions_of k.words) FUNCTIONS within
+        ]
 
 most_room : (block : ℕ) → room_of block ≤ 1024
 most_room block = grind (arith, nat_tests)
@@ -81,9 +81,9 @@ image_says words k fits e at value has plain =
       | inl entry ↦ absurd (true≢false (sym entry ∙ plain))
       | inr image ↦ sym (eqb-true value (word_at words (block_place k.area.block at)) (ap (λ (o : Option ℕ). is_image_word o (word_at words (block_place k.area.block at))) (sym has) ∙ image))
     ]
-    where
-  within : (len room : ℕ) → at < len → len ≤ room → room ≤ 1024 → at < 1024
-  within len room a b c = omega (arith)
+  where
+    within : (len room : ℕ) → at < len → len ≤ room → room ≤ 1024 → at < 1024
+    within len room a b c = omega (arith)
 
 none_of_three : (a b c : Bool) → (not a || not b || not c) ≡ true → a ≡ true → b ≡ true → c ≡ false
 none_of_three true true false e f g = refl
@@ -97,19 +97,19 @@ area_says words k g p fits e =
       retired = agrees_same (tells (word_at words (retire_place k.area.block)) g) (is_retired p k.area.serial) parts.1;
       doomed = λ big unretired. doom big unretired parts.2;
     }
-    where
-  entry : (function : ℕ) → IsTrue (has_function k function) → word_at words (block_place k.area.block (entry_at function)) ≡ 0 → entries_stand words k p FUNCTIONS ≡ true → is_traced p k.area.serial function ≡ false
-  entry function has none all =
-      none_of_three (has_function k function) (word_at words (block_place k.area.block (entry_at function)) == 0) (is_traced p k.area.serial function)
-      (count_each (entries_stand words k p) (λ (n : ℕ). not (has_function k n) || not (word_at words (block_place k.area.block (entry_at n)) == 0) || not (is_traced p k.area.serial n)) (entries_suc words k p) FUNCTIONS function all (function_fits k function fits has).1)
-      has (eq-eqb (word_at words (block_place k.area.block (entry_at function))) 0 none)
+  where
+    entry : (function : ℕ) → IsTrue (has_function k function) → word_at words (block_place k.area.block (entry_at function)) ≡ 0 → entries_stand words k p FUNCTIONS ≡ true → is_traced p k.area.serial function ≡ false
+    entry function has none all =
+        none_of_three (has_function k function) (word_at words (block_place k.area.block (entry_at function)) == 0) (is_traced p k.area.serial function)
+        (count_each (entries_stand words k p) (λ (n : ℕ). not (has_function k n) || not (word_at words (block_place k.area.block (entry_at n)) == 0) || not (is_traced p k.area.serial n)) (entries_suc words k p) FUNCTIONS function all (function_fits k function fits has).1)
+        has (eq-eqb (word_at words (block_place k.area.block (entry_at function))) 0 none)
 
-  doom : k.area.block < BIG_BLOCKS → is_retired p k.area.serial ≡ false → doom_tells words k g p ≡ true → tells (word_at words (doom_place k.area.block)) g ≡ is_doomed p k.area.serial
-  doom big unretired all =
-      elim (one_of_two (nat_lt k.area.block BIG_BLOCKS) (is_retired p k.area.serial) (agrees (tells (word_at words (doom_place k.area.block)) g) (is_doomed p k.area.serial)) all (lt-ltb k.area.block BIG_BLOCKS big)) as (λ _. tells (word_at words (doom_place k.area.block)) g ≡ is_doomed p k.area.serial) [
-        | inl retired ↦ absurd (true≢false (sym retired ∙ unretired))
-        | inr agree ↦ agrees_same (tells (word_at words (doom_place k.area.block)) g) (is_doomed p k.area.serial) agree
-      ]
+    doom : k.area.block < BIG_BLOCKS → is_retired p k.area.serial ≡ false → doom_tells words k g p ≡ true → tells (word_at words (doom_place k.area.block)) g ≡ is_doomed p k.area.serial
+    doom big unretired all =
+        elim (one_of_two (nat_lt k.area.block BIG_BLOCKS) (is_retired p k.area.serial) (agrees (tells (word_at words (doom_place k.area.block)) g) (is_doomed p k.area.serial)) all (lt-ltb k.area.block BIG_BLOCKS big)) as (λ _. tells (word_at words (doom_place k.area.block)) g ≡ is_doomed p k.area.serial) [
+          | inl retired ↦ absurd (true≢false (sym retired ∙ unretired))
+          | inr agree ↦ agrees_same (tells (word_at words (doom_place k.area.block)) g) (is_doomed p k.area.serial) agree
+        ]
 
 -- ---- what is used
 
@@ -126,8 +126,8 @@ used_say kept p e serial uses =
         | inr old ↦ number_passes (λ (serial : ℕ). list_any (is_kept_as p serial) kept) p.state.old serial parts.1 old
       ]
       | inr key ↦
-        let found = passed_by (λ (k : KeyTerm). holds_area serial k.holding) p.state.keys key in
-        holding_says kept p serial found.0.holding found.3 (each_passes (λ (k : KeyTerm). is_holding_kept kept p k.holding) p.state.keys found.1 found.0 parts.2 found.2)
+          let found = passed_by (λ (k : KeyTerm). holds_area serial k.holding) p.state.keys key in
+          holding_says kept p serial found.0.holding found.3 (each_passes (λ (k : KeyTerm). is_holding_kept kept p k.holding) p.state.keys found.1 found.0 parts.2 found.2)
     ]
 
 -- ---- areas apart

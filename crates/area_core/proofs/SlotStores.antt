@@ -1,28 +1,16 @@
 -- A store of a word of a slot keeps the block invariant.
-use Rattle.std.proofs.Common.{◌≡◌, ◌≢◌, ℕ, zero, suc, ◌+◌, ◌-◌, ◌*◌, ◌/◌, ◌%◌, ◌<◌, ◌≤◌, Bool, true, false, not, ◌&&◌, ◌||◌, List, length, length-set, Option, Some, None, ◌⊎◌, inl, inr, refl, sym, ap, ◌∙◌, subst, arith}
-use Rattle.std.specs.Prelude.{◌==◌, slice_get, slice_set, IsTrue, nat_le, nat_lt}
-use Rattle.std.specs.List.{list_any, list_all}
-use Rattle.std.proofs.lemmas.Bool.{and_parts, and_from, or_cases, or_parts, or_left, or_right, eq-eqb, eqb-true, eqb-false, ne_eqb, le-leb, leb-true, ltb-true, not-true, not_from_false, cases_Bool, cases_eq, cases_lt, true≢false}
-use Rattle.std.proofs.lemmas.Bool.Decides.{nat_tests}
-use Rattle.prgr_core.specs.declared.member.Member.{Member}
-use Rattle.prgr_core.specs.Members.{is_value}
-use Rattle.prgr_core.specs.Machine.{machine_of}
-use Rattle.prgr_core.proofs.SoundParts.{is_member}
-use Rattle.prgr_core.proofs.SoundMembers.{is_value_true}
+use Rattle.std.proofs.Common.{◌≡◌, ◌≢◌, ℕ, ◌<◌, ◌≤◌, length-set, ◌⊎◌, inl, inr, sym, ap, ◌∙◌, subst, arith}
+use Rattle.std.specs.Prelude.{slice_set, IsTrue}
+use Rattle.std.proofs.lemmas.Bool.{cases_eq}
 use Rattle.area_core.specs.declared.map.TheConstants.{TABLE_WORDS, PROCESSES, ANCHORS}
-use Rattle.area_core.specs.declared.map.WordKind.{WordKind}
-use Rattle.area_core.specs.declared.map.WordKind.TheVariants.{Machine, Slot, Retire, Doom, InBlock, Nowhere}
-use Rattle.area_core.specs.declared.table.Published.{Published}
-use Rattle.area_core.specs.declared.table.KeptArea.{KeptArea}
+use Rattle.area_core.specs.declared.map.WordKind.TheVariants.{Slot}
 use Rattle.area_core.specs.declared.table.Table.{Table}
 use Rattle.area_core.specs.Map.{word_at, kind_at, slot_place}
-use Rattle.area_core.specs.Generations.{is_current, is_instance, is_key_area, is_used, is_kept, is_kept_as, has_area, has_image, has_serial, serial_in, is_naming, names_frame, names_literal}
-use Rattle.area_core.specs.Blocks.{Among, IsAnchor}
-use Rattle.area_core.specs.Stores.{with_word, stands_elsewhere, is_framed, may_name_frame, may_name_literal, may_store_anchor, may_store_slot}
+use Rattle.area_core.specs.Generations.{is_kept, serial_in, is_naming}
+use Rattle.area_core.specs.Blocks.{IsAnchor}
+use Rattle.area_core.specs.Stores.{with_word}
 use Rattle.area_core.specs.Step.{IsReadable, IsSound, blocks_of}
-use Rattle.area_core.proofs.Counted.{elsewhere_suc, elsewhere_none, framed_suc, framed_none}
 use Rattle.area_core.proofs.Places.{kind_slot, slots_differ, word_here, word_there}
-use Rattle.area_core.proofs.Tests.{some_passes, passed_by, three_hold, one_of_two, one_of_three}
 use Rattle.area_core.proofs.Frames.{code_after, breakpoints_after, terms_after, entries_after, retired_after, doomed_after, images_after}
 use Rattle.area_core.proofs.BlockStores.{stored_off}
 
@@ -45,9 +33,9 @@ module _ (s : Table) (sound : IsSound s) (process place value : ℕ) (slot : pro
   anchor_off other anchor is =
       elim (cases_eq (slot_place other anchor) (slot_place process place)) as (λ _. ((other ≡ process) × (anchor ≡ place) × (word_at (slice_set s.words (slot_place process place) value) (slot_place other anchor) ≡ value)) ⊎ (word_at (slice_set s.words (slot_place process place) value) (slot_place other anchor) ≡ word_at s.words (slot_place other anchor))) [
         | inl same ↦
-          let parts = slots_differ other anchor process place is.last last same in
-          let within : slot_place process place < TABLE_WORDS = omega (arith) in
-          inl (parts.0, parts.1, ap (word_at (slice_set s.words (slot_place process place) value)) same ∙ word_here s.words (slot_place process place) value (subst (λ (n : ℕ). slot_place process place < n) (sym sound.words) within))
+            let parts = slots_differ other anchor process place is.last last same in
+            let within : slot_place process place < TABLE_WORDS = omega (arith) in
+            inl (parts.0, parts.1, ap (word_at (slice_set s.words (slot_place process place) value)) same ∙ word_here s.words (slot_place process place) value (subst (λ (n : ℕ). slot_place process place < n) (sym sound.words) within))
         | inr differ ↦ inr (word_there s.words (slot_place process place) value (slot_place other anchor) differ)
       ]
 
@@ -62,19 +50,19 @@ module _ (s : Table) (sound : IsSound s) (process place value : ℕ) (slot : pro
   apart_after_slot other one two is_one is_two differ =
       elim (anchor_off other one is_one) as (λ _. Apart (word_at (slice_set s.words (slot_place process place) value) (slot_place other one)) (word_at (slice_set s.words (slot_place process place) value) (slot_place other two))) [
         | inl first ↦
-          elim (anchor_off other two is_two) as (λ _. Apart (word_at (slice_set s.words (slot_place process place) value) (slot_place other one)) (word_at (slice_set s.words (slot_place process place) value) (slot_place other two))) [
-            | inl second ↦ absurd (differ (first.1 ∙ sym second.1))
-            | inr second ↦ both_words _ _ _ _ first.2 second (λ some_one some_two same. beside other two first.0 is_two (subst (λ (n : ℕ). 1 ≤ n) first.1 is_one.first) (λ e. differ (first.1 ∙ sym e)) some_one some_two (sym same))
-          ]
+            elim (anchor_off other two is_two) as (λ _. Apart (word_at (slice_set s.words (slot_place process place) value) (slot_place other one)) (word_at (slice_set s.words (slot_place process place) value) (slot_place other two))) [
+              | inl second ↦ absurd (differ (first.1 ∙ sym second.1))
+              | inr second ↦ both_words _ _ _ _ first.2 second (λ some_one some_two same. beside other two first.0 is_two (subst (λ (n : ℕ). 1 ≤ n) first.1 is_one.first) (λ e. differ (first.1 ∙ sym e)) some_one some_two (sym same))
+            ]
         | inr first ↦
-          elim (anchor_off other two is_two) as (λ _. Apart (word_at (slice_set s.words (slot_place process place) value) (slot_place other one)) (word_at (slice_set s.words (slot_place process place) value) (slot_place other two))) [
-            | inl second ↦ both_words _ _ _ _ first second.2 (λ some_one some_two same. beside other one second.0 is_one (subst (λ (n : ℕ). 1 ≤ n) second.1 is_two.first) (λ e. differ (e ∙ sym second.1)) some_two some_one same)
-            | inr second ↦ both_words _ _ _ _ first second (sound.blocks.anchors_apart other one two is_one is_two differ)
-          ]
+            elim (anchor_off other two is_two) as (λ _. Apart (word_at (slice_set s.words (slot_place process place) value) (slot_place other one)) (word_at (slice_set s.words (slot_place process place) value) (slot_place other two))) [
+              | inl second ↦ both_words _ _ _ _ first second.2 (λ some_one some_two same. beside other one second.0 is_one (subst (λ (n : ℕ). 1 ≤ n) second.1 is_two.first) (λ e. differ (e ∙ sym second.1)) some_two some_one same)
+              | inr second ↦ both_words _ _ _ _ first second (sound.blocks.anchors_apart other one two is_one is_two differ)
+            ]
       ]
-      where
-    beside : (other anchor : ℕ) → other ≡ process → IsAnchor other anchor → 1 ≤ place → anchor ≢ place → value ≢ 0 → word_at s.words (slot_place other anchor) ≢ 0 → serial_in (word_at s.words (slot_place other anchor)) ≢ serial_in value
-    beside other anchor same = subst (λ (x : ℕ). IsAnchor x anchor → 1 ≤ place → anchor ≢ place → value ≢ 0 → word_at s.words (slot_place x anchor) ≢ 0 → serial_in (word_at s.words (slot_place x anchor)) ≢ serial_in value) (sym same) (apart anchor)
+    where
+      beside : (other anchor : ℕ) → other ≡ process → IsAnchor other anchor → 1 ≤ place → anchor ≢ place → value ≢ 0 → word_at s.words (slot_place other anchor) ≢ 0 → serial_in (word_at s.words (slot_place other anchor)) ≢ serial_in value
+      beside other anchor same = subst (λ (x : ℕ). IsAnchor x anchor → 1 ≤ place → anchor ≢ place → value ≢ 0 → word_at s.words (slot_place x anchor) ≢ 0 → serial_in (word_at s.words (slot_place x anchor)) ≢ serial_in value) (sym same) (apart anchor)
 
   pub slot_word_kept : IsSound (with_word s (slot_place process place) value)
   slot_word_kept = record {

@@ -1,8 +1,7 @@
 -- The stores of single words keep a state sound.
-use Rattle.std.proofs.Common.{◌≡◌, ℕ, ◌<◌, ◌≤◌, Bool, true, false, ◌&&◌, List, length, Option, Some, None, refl, sym, ap, ◌∙◌, subst}
-use Rattle.std.specs.Prelude.{◌==◌, slice_get, IsTrue, nat_lt, nat_le}
+use Rattle.std.proofs.Common.{◌≡◌, ℕ, Bool, ◌&&◌, length, Some, refl, subst}
+use Rattle.std.specs.Prelude.{slice_get, nat_lt, nat_le}
 use Rattle.std.proofs.lemmas.Bool.{and_parts, ltb-true, leb-true}
-use Rattle.prgr_core.specs.declared.member.Member.{Member}
 use Rattle.prgr_core.specs.Members.{is_value}
 use Rattle.prgr_core.proofs.Parts.{and_then_some}
 use Rattle.term_core.specs.declared.area.CodeRef.{CodeRef}
@@ -27,20 +26,20 @@ use Rattle.area_core.proofs.UnreadStores.{enabled}
 -- a store of the writer
 pub word_store_keeps : (s t : Table) (word value : ℕ) → IsSound s → ReadableHeld → after s (StoreWord word value) ≡ Some t → IsSound t
 word_store_keeps s t word value sound held e = by_kind (kind_at word) refl e
-    where
-  by_kind : (kind : WordKind) → kind_at word ≡ kind → word_stored s word value kind ≡ Some t → IsSound t
-  by_kind (InBlock block at) is made =
-      let stored = enabled (may_store_in_block s (readable_generations s.progress) block at value) (with_word s word value) t made in
-      subst IsSound stored.1 (block_stored s sound held word value block at is stored.0)
-  by_kind (Retire block) is made =
-      let stored = enabled (holds_in_block s.kept block (may_be_retire s (readable_generations s.progress) value)) (record (with_word s word value) { kept = kept_after s block value }) t made in
-      subst IsSound stored.1 (retire_stored s sound held word value block is stored.0)
-  by_kind (Doom block) is made =
-      let stored = enabled (holds_in_block s.kept block (may_be_doom s (readable_generations s.progress) value)) (with_word s word value) t made in
-      subst IsSound stored.1 (doom_stored s sound held word value block is stored.0)
-  by_kind Machine is made = absurd (cc)
-  by_kind Slot is made = absurd (cc)
-  by_kind Nowhere is made = absurd (cc)
+  where
+    by_kind : (kind : WordKind) → kind_at word ≡ kind → word_stored s word value kind ≡ Some t → IsSound t
+    by_kind (InBlock block at) is made =
+        let stored = enabled (may_store_in_block s (readable_generations s.progress) block at value) (with_word s word value) t made in
+        subst IsSound stored.1 (block_stored s sound held word value block at is stored.0)
+    by_kind (Retire block) is made =
+        let stored = enabled (holds_in_block s.kept block (may_be_retire s (readable_generations s.progress) value)) (record (with_word s word value) { kept = kept_after s block value }) t made in
+        subst IsSound stored.1 (retire_stored s sound held word value block is stored.0)
+    by_kind (Doom block) is made =
+        let stored = enabled (holds_in_block s.kept block (may_be_doom s (readable_generations s.progress) value)) (with_word s word value) t made in
+        subst IsSound stored.1 (doom_stored s sound held word value block is stored.0)
+    by_kind Machine is made = absurd (cc)
+    by_kind Slot is made = absurd (cc)
+    by_kind Nowhere is made = absurd (cc)
 
 -- a store of an entry word
 pub entry_store_keeps : (s t : Table) (at : CodeRef) (on : Bool) → IsSound s → ReadableHeld → after s (StoreEntry at on) ≡ Some t → IsSound t

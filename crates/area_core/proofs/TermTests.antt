@@ -1,13 +1,13 @@
 -- The test of a term table, by one look at each key and each bucket, says that the table stands for the keys.
-use Rattle.std.proofs.Common.{◌≡◌, ◌≢◌, ℕ, zero, suc, ◌+◌, ◌-◌, ◌*◌, ◌/◌, ◌%◌, ◌<◌, ◌≤◌, Bool, true, false, not, ◌&&◌, ◌||◌, List, Option, Some, None, ◌⊎◌, inl, inr, refl, sym, ap, ◌∙◌, subst, arith}
-use Rattle.std.specs.Prelude.{◌==◌, slice_get, IsTrue, IsSomeAnd, if◌then◌else◌}
+use Rattle.std.proofs.Common.{◌≡◌, ℕ, zero, suc, ◌+◌, ◌-◌, ◌%◌, ◌<◌, true, false, Option, Some, None, inl, inr, refl, sym, ap, ◌∙◌, subst, arith}
+use Rattle.std.specs.Prelude.{◌==◌, IsTrue, IsSomeAnd}
 use Rattle.std.specs.List.{list_any, list_all}
-use Rattle.std.proofs.lemmas.Bool.{and_parts, and_from, or_cases, or_left, or_right, eqb-true, ne_eqb, cases_Bool, cases_lt, true≢false}
+use Rattle.std.proofs.lemmas.Bool.{and_parts, and_from, or_cases, or_right, eqb-true, cases_Bool, cases_lt}
 use Rattle.term_core.specs.declared.generation.KeyTerm.{KeyTerm}
 use Rattle.area_core.specs.declared.map.TheConstants.{BUCKETS}
 use Rattle.area_core.specs.declared.table.Published.{Published}
 use Rattle.area_core.specs.Generations.{is_term_word}
-use Rattle.area_core.specs.Terms.{key_in, value_in, look_at, looked, outcome, found_in, is_word_of, TermsStand, is_found, is_known, is_bucket_known, are_buckets_known, terms_stand}
+use Rattle.area_core.specs.Terms.{key_in, look_at, looked, outcome, found_in, is_word_of, TermsStand, is_found, is_known, is_bucket_known, are_buckets_known, terms_stand}
 use Rattle.area_core.proofs.Counted.{looked_none, looked_suc, known_none, known_suc}
 use Rattle.area_core.proofs.Tests.{each_passes, all_pass}
 
@@ -34,27 +34,27 @@ look_found block key bucket value within e =
     elim (cases_Bool (key_in block bucket == 0)) as (λ _. IsInBucket block key) [
       | inl empty ↦ absurd (no_value (look_at block key bucket None) value (look_empty block key bucket empty) e)
       | inr held ↦
-        elim (cases_Bool (key_in block bucket == key + 1)) as (λ _. IsInBucket block key) [
-          | inl own ↦ (bucket, within, eqb-true (key_in block bucket) (key + 1) own)
-          | inr other ↦ absurd (not_known (look_at block key bucket None) value (look_other block key bucket held other) e)
-        ]
+          elim (cases_Bool (key_in block bucket == key + 1)) as (λ _. IsInBucket block key) [
+            | inl own ↦ (bucket, within, eqb-true (key_in block bucket) (key + 1) own)
+            | inr other ↦ absurd (not_known (look_at block key bucket None) value (look_other block key bucket held other) e)
+          ]
     ]
 
 looked_found : (block : ℕ → ℕ) (key value n : ℕ) → looked block key n ≡ Some (Some value) → IsInBucket block key
 looked_found block key value zero e = absurd (not_known (looked block key 0) value (looked_none block key) e)
 looked_found block key value (suc n) e = by_known (looked block key n) refl (sym (looked_suc block key n) ∙ e) (looked_found block key value n)
-    where
-  by_known : (known : Option (Option ℕ)) → looked block key n ≡ known → look_at block key ((key % 512 + n) % 512) (looked block key n) ≡ Some (Some value) → (looked block key n ≡ Some (Some value) → IsInBucket block key) → IsInBucket block key
-  by_known None is e before = look_found block key ((key % 512 + n) % 512) value (omega (arith)) (ap (look_at block key ((key % 512 + n) % 512)) (sym is) ∙ e)
-  by_known (Some known) is e before = before (is ∙ sym (ap (look_at block key ((key % 512 + n) % 512)) is) ∙ e)
+  where
+    by_known : (known : Option (Option ℕ)) → looked block key n ≡ known → look_at block key ((key % 512 + n) % 512) (looked block key n) ≡ Some (Some value) → (looked block key n ≡ Some (Some value) → IsInBucket block key) → IsInBucket block key
+    by_known None is e before = look_found block key ((key % 512 + n) % 512) value (omega (arith)) (ap (look_at block key ((key % 512 + n) % 512)) (sym is) ∙ e)
+    by_known (Some known) is e before = before (is ∙ sym (ap (look_at block key ((key % 512 + n) % 512)) is) ∙ e)
 
 -- what is found under a key stands in a bucket
 found_bucket : (block : ℕ → ℕ) (key word : ℕ) → found_in block key ≡ Some word → IsInBucket block key
 found_bucket block key word e = looked_found block key word BUCKETS (known_word (looked block key BUCKETS) e)
-    where
-  known_word : (known : Option (Option ℕ)) → outcome known ≡ Some word → known ≡ Some (Some word)
-  known_word None e = absurd (cc)
-  known_word (Some found) e = ap Some e
+  where
+    known_word : (known : Option (Option ℕ)) → outcome known ≡ Some word → known ≡ Some (Some word)
+    known_word None e = absurd (cc)
+    known_word (Some found) e = ap Some e
 
 -- ---- each bucket
 
@@ -65,9 +65,9 @@ buckets_each block p (suc n) bucket e below =
       | inl before ↦ buckets_each block p n bucket parts.0 before
       | inr last ↦ let same : n ≡ bucket = omega (arith) in subst (λ (b : ℕ). is_bucket_known block p b ≡ true) same parts.1
     ]
-    where
-  parts : (are_buckets_known block p n ≡ true) × (is_bucket_known block p n ≡ true)
-  parts = and_parts (are_buckets_known block p n) (is_bucket_known block p n) (sym (known_suc block p n) ∙ e)
+  where
+    parts : (are_buckets_known block p n ≡ true) × (is_bucket_known block p n ≡ true)
+    parts = and_parts (are_buckets_known block p n) (is_bucket_known block p n) (sym (known_suc block p n) ∙ e)
 
 buckets_from : (block : ℕ → ℕ) (p : Published) (n : ℕ) → ((bucket : ℕ) → is_bucket_known block p bucket ≡ true) → are_buckets_known block p n ≡ true
 buckets_from block p zero each = known_none block p
@@ -93,9 +93,9 @@ module _ (block : ℕ → ℕ) (p : Published) where
         | inl none ↦ absurd (no_key (key_in block here.0) key (eqb-true (key_in block here.0) 0 none) here.2)
         | inr says ↦ ap (is_known p key) (sym found) ∙ subst (λ (x : ℕ). is_known p x (found_in block x) ≡ true) (ap (λ (x : ℕ). x - 1) here.2 ∙ back) says
       ]
-      where
-    no_key : (n key : ℕ) → n ≡ 0 → n ≡ key + 1 → ⊥
-    no_key n key none some = absurd (omega (arith))
+    where
+      no_key : (n key : ℕ) → n ≡ 0 → n ≡ key + 1 → ⊥
+      no_key n key none some = absurd (omega (arith))
 
   -- a table that passes stands for the keys
   pub terms_stand_true : IsTrue (terms_stand block p) → TermsStand block p
@@ -112,7 +112,7 @@ module _ (block : ℕ → ℕ) (p : Published) where
       and_from (list_all (λ (k : KeyTerm). is_found p k (found_in block k.key.0)) p.state.keys) (are_buckets_known block p BUCKETS)
       (all_pass (λ (k : KeyTerm). is_found p k (found_in block k.key.0)) p.state.keys (λ i k at. passes_found k (found_in block k.key.0) (stands.found i k at)))
       (buckets_from block p BUCKETS (λ bucket. or_right (key_in block bucket == 0) (is_known p (key_in block bucket - 1) (found_in block (key_in block bucket - 1))) (known_word (key_in block bucket - 1) (found_in block (key_in block bucket - 1)) refl)))
-      where
-    known_word : (key : ℕ) (found : Option ℕ) → found_in block key ≡ found → is_known p key (found_in block key) ≡ true
-    known_word key None is = ap (is_known p key) is
-    known_word key (Some word) is = ap (is_known p key) is ∙ stands.only key word is
+    where
+      known_word : (key : ℕ) (found : Option ℕ) → found_in block key ≡ found → is_known p key (found_in block key) ≡ true
+      known_word key None is = ap (is_known p key) is
+      known_word key (Some word) is = ap (is_known p key) is ∙ stands.only key word is

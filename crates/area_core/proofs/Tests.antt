@@ -1,8 +1,8 @@
 -- What tests of lists say of their elements, and what elements say of the tests.
-use Rattle.std.proofs.Common.{◌≡◌, ◌≢◌, ℕ, zero, suc, ◌+◌, Bool, true, false, cond, not, ◌&&◌, ◌||◌, List, [], ◌∷◌, ◌++◌, Option, Some, None, ◌⊎◌, inl, inr, refl, sym, ap, ◌∙◌, subst, arith}
-use Rattle.std.specs.Prelude.{◌==◌, slice_get, IsTrue}
+use Rattle.std.proofs.Common.{◌≡◌, ◌≢◌, ℕ, zero, suc, Bool, true, false, cond, not, ◌&&◌, ◌||◌, List, [], ◌∷◌, Some, ◌⊎◌, inl, inr, refl, sym, ap, ◌∙◌, arith}
+use Rattle.std.specs.Prelude.{◌==◌, slice_get}
 use Rattle.std.specs.List.{list_any, list_all, filter}
-use Rattle.std.proofs.lemmas.Bool.{and_parts, and_from, or_cases, or_left, or_right, eqb-true, eq-eqb, cases_Bool, not-true}
+use Rattle.std.proofs.lemmas.Bool.{and_parts, and_from, or_cases, or_left, or_right, eqb-true, cases_Bool, not-true}
 use Rattle.area_core.specs.declared.table.Published.{Published}
 use Rattle.area_core.specs.Generations.{agrees}
 use Rattle.area_core.specs.Blocks.{Among}
@@ -62,13 +62,13 @@ filter_gives {X = X} test (z ∷ zs) i x at =
     elim (cases_Bool (test z)) as (λ _. Among (z ∷ zs) x × (test x ≡ true)) [
       | inl passes ↦ first z zs i x passes (filter_gives test zs) (ap (λ c. slice_get (cond c (z ∷ filter test zs) (filter test zs)) i) (sym passes) ∙ at)
       | inr fails ↦
-        let found = filter_gives test zs i x (ap (λ c. slice_get (cond c (z ∷ filter test zs) (filter test zs)) i) (sym fails) ∙ at) in
-        ((suc found.0.0, found.0.1), found.1)
+          let found = filter_gives test zs i x (ap (λ c. slice_get (cond c (z ∷ filter test zs) (filter test zs)) i) (sym fails) ∙ at) in
+          ((suc found.0.0, found.0.1), found.1)
     ]
-    where
-  first : (z : X) (zs : List X) (i : ℕ) (x : X) → test z ≡ true → ((j : ℕ) (y : X) → slice_get (filter test zs) j ≡ Some y → Among zs y × (test y ≡ true)) → slice_get (z ∷ filter test zs) i ≡ Some x → Among (z ∷ zs) x × (test x ≡ true)
-  first z zs zero x passes behind at = let same : x ≡ z = cc in ((0, ap Some (sym same)), ap test same ∙ passes)
-  first z zs (suc i) x passes behind at = let found = behind i x at in ((suc found.0.0, found.0.1), found.1)
+  where
+    first : (z : X) (zs : List X) (i : ℕ) (x : X) → test z ≡ true → ((j : ℕ) (y : X) → slice_get (filter test zs) j ≡ Some y → Among zs y × (test y ≡ true)) → slice_get (z ∷ filter test zs) i ≡ Some x → Among (z ∷ zs) x × (test x ≡ true)
+    first z zs zero x passes behind at = let same : x ≡ z = cc in ((0, ap Some (sym same)), ap test same ∙ passes)
+    first z zs (suc i) x passes behind at = let found = behind i x at in ((suc found.0.0, found.0.1), found.1)
 
 -- a test that one of the list passes together with the filter is passed by one that is left
 pub filter_keeps : {X : Type 0} (test also : X → Bool) (xs : List X) (i : ℕ) (x : X) → slice_get xs i ≡ Some x → test x ≡ true → also x ≡ true → list_any also (filter test xs) ≡ true
@@ -120,18 +120,18 @@ filter_apart {X = X} test (z ∷ zs) i j a b differ is_a is_b =
       | inl passes ↦ first i j differ (kept i a passes is_a) (kept j b passes is_b) (λ m n. filter_apart test zs m n a b)
       | inr fails ↦ let found = filter_apart test zs i j a b differ (left i a fails is_a) (left j b fails is_b) in (suc found.0, suc found.1, (λ same. found.2 (suc_same found.0 found.1 same)), found.3, found.4)
     ]
-    where
-  suc_same : (m n : ℕ) → suc m ≡ suc n → m ≡ n
-  suc_same m n e = omega (arith)
+  where
+    suc_same : (m n : ℕ) → suc m ≡ suc n → m ≡ n
+    suc_same m n e = omega (arith)
 
-  kept : (n : ℕ) (x : X) → test z ≡ true → slice_get (filter test (z ∷ zs)) n ≡ Some x → slice_get (z ∷ filter test zs) n ≡ Some x
-  kept n x passes at = ap (λ c. slice_get (cond c (z ∷ filter test zs) (filter test zs)) n) (sym passes) ∙ at
+    kept : (n : ℕ) (x : X) → test z ≡ true → slice_get (filter test (z ∷ zs)) n ≡ Some x → slice_get (z ∷ filter test zs) n ≡ Some x
+    kept n x passes at = ap (λ c. slice_get (cond c (z ∷ filter test zs) (filter test zs)) n) (sym passes) ∙ at
 
-  left : (n : ℕ) (x : X) → test z ≡ false → slice_get (filter test (z ∷ zs)) n ≡ Some x → slice_get (filter test zs) n ≡ Some x
-  left n x fails at = ap (λ c. slice_get (cond c (z ∷ filter test zs) (filter test zs)) n) (sym fails) ∙ at
+    left : (n : ℕ) (x : X) → test z ≡ false → slice_get (filter test (z ∷ zs)) n ≡ Some x → slice_get (filter test zs) n ≡ Some x
+    left n x fails at = ap (λ c. slice_get (cond c (z ∷ filter test zs) (filter test zs)) n) (sym fails) ∙ at
 
-  first : (i j : ℕ) → i ≢ j → slice_get (z ∷ filter test zs) i ≡ Some a → slice_get (z ∷ filter test zs) j ≡ Some b → ((m n : ℕ) → m ≢ n → slice_get (filter test zs) m ≡ Some a → slice_get (filter test zs) n ≡ Some b → (k : ℕ) × (l : ℕ) × (k ≢ l) × (slice_get zs k ≡ Some a) × (slice_get zs l ≡ Some b)) → (k : ℕ) × (l : ℕ) × (k ≢ l) × (slice_get (z ∷ zs) k ≡ Some a) × (slice_get (z ∷ zs) l ≡ Some b)
-  first zero zero differ is_a is_b behind = absurd (differ refl)
-  first zero (suc j) differ is_a is_b behind = let found = filter_gives test zs j b is_b in (0, suc found.0.0, (λ same. absurd (cc)), is_a, found.0.1)
-  first (suc i) zero differ is_a is_b behind = let found = filter_gives test zs i a is_a in (suc found.0.0, 0, (λ same. absurd (cc)), found.0.1, is_b)
-  first (suc i) (suc j) differ is_a is_b behind = let found = behind i j (λ same. differ (ap suc same)) is_a is_b in (suc found.0, suc found.1, (λ same. found.2 (suc_same found.0 found.1 same)), found.3, found.4)
+    first : (i j : ℕ) → i ≢ j → slice_get (z ∷ filter test zs) i ≡ Some a → slice_get (z ∷ filter test zs) j ≡ Some b → ((m n : ℕ) → m ≢ n → slice_get (filter test zs) m ≡ Some a → slice_get (filter test zs) n ≡ Some b → (k : ℕ) × (l : ℕ) × (k ≢ l) × (slice_get zs k ≡ Some a) × (slice_get zs l ≡ Some b)) → (k : ℕ) × (l : ℕ) × (k ≢ l) × (slice_get (z ∷ zs) k ≡ Some a) × (slice_get (z ∷ zs) l ≡ Some b)
+    first zero zero differ is_a is_b behind = absurd (differ refl)
+    first zero (suc j) differ is_a is_b behind = let found = filter_gives test zs j b is_b in (0, suc found.0.0, (λ same. absurd (cc)), is_a, found.0.1)
+    first (suc i) zero differ is_a is_b behind = let found = filter_gives test zs i a is_a in (suc found.0.0, 0, (λ same. absurd (cc)), found.0.1, is_b)
+    first (suc i) (suc j) differ is_a is_b behind = let found = behind i j (λ same. differ (ap suc same)) is_a is_b in (suc found.0, suc found.1, (λ same. found.2 (suc_same found.0 found.1 same)), found.3, found.4)

@@ -1,11 +1,9 @@
 -- A word of a block that a seat may read is not stored.
-use Rattle.std.proofs.Common.{◌≡◌, ℕ, zero, suc, ◌+◌, ◌/◌, ◌%◌, ◌<◌, Bool, true, false, not, ◌&&◌, ◌||◌, List, [], ◌∷◌, ◌++◌, length, Option, Some, None, ◌⊎◌, inl, inr, refl, sym, ap, ◌∙◌, subst, arith}
-use Rattle.std.specs.Prelude.{◌==◌, slice_get, IsTrue, if◌then◌else◌}
-use Rattle.std.specs.List.{list_any, list_all, flat_map}
-use Rattle.std.specs.Option.{option_and_then, option_to_list}
-use Rattle.std.proofs.lemmas.Bool.{and_parts, and_from, or_cases, or_left, or_right, eq-eqb, eqb-true, not-true, true≢false}
-use Rattle.prgr_core.specs.declared.member.Member.{Member}
-use Rattle.prgr_core.specs.declared.watcher.Watcher.{Watcher}
+use Rattle.std.proofs.Common.{◌≡◌, ℕ, zero, suc, ◌/◌, Bool, true, false, not, ◌&&◌, ◌||◌, List, [], ◌∷◌, length, Option, Some, None, inl, inr, refl, sym, ap, ◌∙◌}
+use Rattle.std.specs.Prelude.{◌==◌, slice_get}
+use Rattle.std.specs.List.{list_any, flat_map}
+use Rattle.std.specs.Option.{option_to_list}
+use Rattle.std.proofs.lemmas.Bool.{and_parts, and_from, or_cases, or_left, or_right, eq-eqb, not-true, true≢false}
 use Rattle.prgr_core.specs.declared.progress.Progress.{Progress}
 use Rattle.prgr_core.proofs.Parts.{and_then_some}
 use Rattle.area_core.specs.declared.map.TheConstants.{ANCHORS}
@@ -16,12 +14,11 @@ use Rattle.area_core.specs.declared.readers.Slots.TheVariants.{All, OfMember}
 use Rattle.area_core.specs.declared.event.SeatName.{SeatName}
 use Rattle.area_core.specs.declared.event.SeatName.TheVariants as seats
 use Rattle.area_core.specs.declared.event.AreaEvent.TheVariants.{StoreWord}
-use Rattle.area_core.specs.declared.table.Published.{Published}
 use Rattle.area_core.specs.declared.table.KeptArea.{KeptArea}
 use Rattle.area_core.specs.declared.table.Table.{Table}
 use Rattle.area_core.specs.Map.{word_at, anchor_place, kind_at}
 use Rattle.area_core.specs.Generations.{names}
-use Rattle.area_core.specs.Readers.{held_by, held_by_member, held_by_watcher, in_member, in_watcher, held_generations, readable_generations, is_of, is_named_before, is_named, all_anchors, is_block_named, slots_read, own_slots_read, is_read_under, may_read_holding, MayRead, is_read}
+use Rattle.area_core.specs.Readers.{held_by, held_by_member, held_by_watcher, in_member, in_watcher, held_generations, readable_generations, is_of, is_named_before, is_named, all_anchors, slots_read, own_slots_read, is_read_under, may_read_holding, MayRead, is_read}
 use Rattle.area_core.specs.Stores.{with_word, holds_in_block, may_be_in_image, may_store_in_block}
 use Rattle.area_core.specs.Step.{after, word_stored, if_enabled, IsSound}
 use Rattle.area_core.proofs.Counted.{named_none, named_suc}
@@ -58,12 +55,12 @@ seat_held s (seats.Member k) g is =
     let found = and_then_some held_by_member (slice_get s.members k) g is in
     or_right (s.generation == g) (list_any (λ x. x == g) (held_generations s))
     (any_joined (λ x. x == g) (flat_map in_member s.members) (flat_map in_watcher s.watchers)
-        ∙ or_left (list_any (λ x. x == g) (flat_map in_member s.members)) (list_any (λ x. x == g) (flat_map in_watcher s.watchers)) (given_by in_member (λ x. x == g) s.members k found.0 found.1 (alone (held_by_member found.0) g found.2)))
+    ∙ or_left (list_any (λ x. x == g) (flat_map in_member s.members)) (list_any (λ x. x == g) (flat_map in_watcher s.watchers)) (given_by in_member (λ x. x == g) s.members k found.0 found.1 (alone (held_by_member found.0) g found.2)))
 seat_held s (seats.Watcher k) g is =
     let found = and_then_some held_by_watcher (slice_get s.watchers k) g is in
     or_right (s.generation == g) (list_any (λ x. x == g) (held_generations s))
     (any_joined (λ x. x == g) (flat_map in_member s.members) (flat_map in_watcher s.watchers)
-        ∙ or_right (list_any (λ x. x == g) (flat_map in_member s.members)) (list_any (λ x. x == g) (flat_map in_watcher s.watchers)) (given_by in_watcher (λ x. x == g) s.watchers k found.0 found.1 (alone (held_by_watcher found.0) g found.2)))
+    ∙ or_right (list_any (λ x. x == g) (flat_map in_member s.members)) (list_any (λ x. x == g) (flat_map in_watcher s.watchers)) (given_by in_watcher (λ x. x == g) s.watchers k found.0 found.1 (alone (held_by_watcher found.0) g found.2)))
 
 -- ---- the slots of a seat
 
