@@ -1,5 +1,5 @@
 -- A store of a retire or doom word keeps the block invariant, and so does the release of an area.
-use Rattle.std.proofs.Common.{◌≡◌, ℕ, ◌<◌, false, ◌||◌, length-set, Some, ◌⊎◌, inl, inr, sym, ap, ◌∙◌, subst, arith}
+use Rattle.std.proofs.Common.{◌≡◌, ℕ, ◌<◌, false, ◌||◌, Some, ◌⊎◌, inl, inr, sym, ap, ◌∙◌, subst, arith}
 use Rattle.std.specs.Prelude.{slice_get, slice_set, IsTrue}
 use Rattle.std.proofs.lemmas.Bool.{or_cases, true≢false}
 use Rattle.std.proofs.lemmas.Bool.Decides.{nat_tests}
@@ -16,7 +16,8 @@ use Rattle.area_core.specs.Stores.{with_word, holds_in_block, may_be_doom}
 use Rattle.area_core.specs.Step.{IsReadable, IsSound, blocks_of}
 use Rattle.area_core.proofs.Places.{kind_retire_place, kind_doom_place, word_here}
 use Rattle.area_core.proofs.Tests.{generation_passes, agrees_same}
-use Rattle.area_core.proofs.Frames.{code_after, breakpoints_after, terms_after, entries_after, retired_after, doomed_after, images_after, named_after, apart_after}
+use Rattle.area_core.proofs.Frames.{named_after, apart_after}
+use Rattle.area_core.proofs.OutsideBlocks.{outside_kept}
 use Rattle.area_core.proofs.BlockStores.{ReadableHeld, stored_off, in_block_passes}
 
 -- ---- a retire or doom word
@@ -42,32 +43,13 @@ pub retire_word_kept :
     (s : Table) → IsSound s → (word value block : ℕ) → kind_at word ≡ Retire block
     → ((g : ℕ) (p : Published) → IsReadable s g → slice_get s.published g ≡ Some p → (k : KeptArea) → Among s.kept k → k.area.block ≡ block → tells value g ≡ is_retired p k.area.serial)
     → IsSound (with_word s word value)
-retire_word_kept s sound word value block is tell = record {
-  progress = sound.progress;
-  blocks = record {
-    roots_fit = sound.blocks.roots_fit;
-    code_stands = code_after (blocks_of s) (IsReadable s) new (Retire block) off sound.blocks (λ g p counts here root entry within same. absurd (cc));
-    breakpoints_stand = breakpoints_after (blocks_of s) (IsReadable s) new (Retire block) off sound.blocks (λ g p counts here root a among instance fits function few same. absurd (cc));
-    terms_stand = terms_after (blocks_of s) (IsReadable s) new (Retire block) off sound.blocks (λ g p counts here root place within same. absurd (cc));
-    used_kept = sound.blocks.used_kept;
-    areas_stand = λ g p counts here k among. record {
-      entries = entries_after (blocks_of s) (IsReadable s) new (Retire block) off sound.blocks g p counts here k among (λ function has same none. absurd (cc));
-      retired = retired_after (blocks_of s) (IsReadable s) new (Retire block) off sound.blocks g p counts here k among (λ same. ap (λ x. tells x g) (stored k.area.block same) ∙ tell g p counts here k among (block_same block k.area.block same));
-      doomed = doomed_after (blocks_of s) (IsReadable s) new (Retire block) off sound.blocks g p counts here k among (λ same. absurd (cc));
-    };
-    images_stand = λ k among. images_after (blocks_of s) (IsReadable s) new (Retire block) off sound.blocks k among (λ place old has plain same. absurd (cc));
-    kept_fit = sound.blocks.kept_fit;
-    kept_apart = sound.blocks.kept_apart;
-    named_kept = named_after (blocks_of s) (IsReadable s) new (Retire block) off sound.blocks (λ same. absurd (cc));
-    anchors_apart = apart_after (blocks_of s) (IsReadable s) new (Retire block) off sound.blocks (λ same. absurd (cc));
-  };
-  words = length-set s.words word value ∙ sound.words;
-  published = sound.published;
-}
+retire_word_kept s sound word value block is tell =
+    outside_kept s sound word value (Retire block) is (λ other at same. absurd (cc))
+    (λ g p counts here k among same. ap (λ (x : ℕ). tells x g) (stored k.area.block same) ∙ tell g p counts here k among (block_same block k.area.block same))
+    (λ g p counts here k among same. absurd (cc))
+    (named_after (blocks_of s) (IsReadable s) (word_at (slice_set s.words word value)) (Retire block) off sound.blocks (λ same. absurd (cc)))
+    (apart_after (blocks_of s) (IsReadable s) (word_at (slice_set s.words word value)) (Retire block) off sound.blocks (λ same. absurd (cc)))
   where
-    new : ℕ → ℕ
-    new = word_at (slice_set s.words word value)
-
     off : (x : ℕ) → (kind_at x ≡ Retire block) ⊎ (word_at (slice_set s.words word value) x ≡ word_at s.words x)
     off = stored_off s.words word value (Retire block) is
 
@@ -82,32 +64,13 @@ pub doom_word_kept :
     (s : Table) → IsSound s → (word value block : ℕ) → kind_at word ≡ Doom block
     → ((g : ℕ) (p : Published) → IsReadable s g → slice_get s.published g ≡ Some p → (k : KeptArea) → Among s.kept k → k.area.block ≡ block → is_retired p k.area.serial ≡ false → tells value g ≡ is_doomed p k.area.serial)
     → IsSound (with_word s word value)
-doom_word_kept s sound word value block is tell = record {
-  progress = sound.progress;
-  blocks = record {
-    roots_fit = sound.blocks.roots_fit;
-    code_stands = code_after (blocks_of s) (IsReadable s) new (Doom block) off sound.blocks (λ g p counts here root entry within same. absurd (cc));
-    breakpoints_stand = breakpoints_after (blocks_of s) (IsReadable s) new (Doom block) off sound.blocks (λ g p counts here root a among instance fits function few same. absurd (cc));
-    terms_stand = terms_after (blocks_of s) (IsReadable s) new (Doom block) off sound.blocks (λ g p counts here root place within same. absurd (cc));
-    used_kept = sound.blocks.used_kept;
-    areas_stand = λ g p counts here k among. record {
-      entries = entries_after (blocks_of s) (IsReadable s) new (Doom block) off sound.blocks g p counts here k among (λ function has same none. absurd (cc));
-      retired = retired_after (blocks_of s) (IsReadable s) new (Doom block) off sound.blocks g p counts here k among (λ same. absurd (cc));
-      doomed = doomed_after (blocks_of s) (IsReadable s) new (Doom block) off sound.blocks g p counts here k among (λ same big unretired. ap (λ x. tells x g) (stored k.area.block same) ∙ tell g p counts here k among (block_same block k.area.block same) unretired);
-    };
-    images_stand = λ k among. images_after (blocks_of s) (IsReadable s) new (Doom block) off sound.blocks k among (λ place old has plain same. absurd (cc));
-    kept_fit = sound.blocks.kept_fit;
-    kept_apart = sound.blocks.kept_apart;
-    named_kept = named_after (blocks_of s) (IsReadable s) new (Doom block) off sound.blocks (λ same. absurd (cc));
-    anchors_apart = apart_after (blocks_of s) (IsReadable s) new (Doom block) off sound.blocks (λ same. absurd (cc));
-  };
-  words = length-set s.words word value ∙ sound.words;
-  published = sound.published;
-}
+doom_word_kept s sound word value block is tell =
+    outside_kept s sound word value (Doom block) is (λ other at same. absurd (cc))
+    (λ g p counts here k among same. absurd (cc))
+    (λ g p counts here k among same big unretired. ap (λ (x : ℕ). tells x g) (stored k.area.block same) ∙ tell g p counts here k among (block_same block k.area.block same) unretired)
+    (named_after (blocks_of s) (IsReadable s) (word_at (slice_set s.words word value)) (Doom block) off sound.blocks (λ same. absurd (cc)))
+    (apart_after (blocks_of s) (IsReadable s) (word_at (slice_set s.words word value)) (Doom block) off sound.blocks (λ same. absurd (cc)))
   where
-    new : ℕ → ℕ
-    new = word_at (slice_set s.words word value)
-
     off : (x : ℕ) → (kind_at x ≡ Doom block) ⊎ (word_at (slice_set s.words word value) x ≡ word_at s.words x)
     off = stored_off s.words word value (Doom block) is
 

@@ -15,3 +15,4 @@ pub mod UnreadStores
 pub mod StoreLaws
 pub mod RootTests
 pub mod RootStores
+pub mod OutsideBlocks

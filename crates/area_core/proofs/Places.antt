@@ -5,7 +5,7 @@ use Rattle.std.proofs.lemmas.Bool.{cases_lt}
 use Rattle.std.proofs.lemmas.Bool.Decides.{nat_tests}
 use Rattle.area_core.specs.declared.map.TheConstants.{BLOCKS, BIG_BLOCKS, PROCESSES, ANCHORS}
 use Rattle.area_core.specs.declared.map.WordKind.{WordKind}
-use Rattle.area_core.specs.declared.map.WordKind.TheVariants.{Machine, Slot, Retire, Doom, InBlock, Nowhere}
+use Rattle.area_core.specs.declared.map.WordKind.TheVariants.{Slot, Retire, Doom, InBlock}
 use Rattle.area_core.specs.Map.{word_at, kind_at, block_place, retire_place, doom_place, slot_place, room_of}
 
 -- ---- the kind of a place
@@ -87,20 +87,12 @@ kind_place word block at is =
     ]
   where
     block_in : WordKind → ℕ
-    block_in Machine = 0
-    block_in Slot = 0
-    block_in (Retire block) = block
-    block_in (Doom block) = block
     block_in (InBlock block at) = block
-    block_in Nowhere = 0
+    block_in _ = 0
 
     at_in : WordKind → ℕ
-    at_in Machine = 0
-    at_in Slot = 0
-    at_in (Retire block) = 0
-    at_in (Doom block) = 0
     at_in (InBlock block at) = at
-    at_in Nowhere = 0
+    at_in _ = 0
 
     of_big : (word block at : ℕ) → 1493 ≤ word → word < 67029 → block ≡ (word - 1493) / 1024 → at ≡ (word - 1493) % 1024 → (word ≡ block_place block at) × (block < 320) × (at < room_of block)
     of_big word block at low high row column =

@@ -1,18 +1,17 @@
 -- A store of a word of a slot keeps the block invariant.
-use Rattle.std.proofs.Common.{◌≡◌, ◌≢◌, ℕ, ◌<◌, ◌≤◌, length-set, ◌⊎◌, inl, inr, sym, ap, ◌∙◌, subst, arith}
+use Rattle.std.proofs.Common.{◌≡◌, ◌≢◌, ℕ, ◌<◌, ◌≤◌, ◌⊎◌, inl, inr, sym, ap, ◌∙◌, subst, arith}
 use Rattle.std.specs.Prelude.{slice_set, IsTrue}
 use Rattle.std.proofs.lemmas.Bool.{cases_eq}
 use Rattle.area_core.specs.declared.map.TheConstants.{TABLE_WORDS, PROCESSES, ANCHORS}
 use Rattle.area_core.specs.declared.map.WordKind.TheVariants.{Slot}
 use Rattle.area_core.specs.declared.table.Table.{Table}
-use Rattle.area_core.specs.Map.{word_at, kind_at, slot_place}
+use Rattle.area_core.specs.Map.{word_at, slot_place}
 use Rattle.area_core.specs.Generations.{is_kept, serial_in, is_naming}
 use Rattle.area_core.specs.Blocks.{IsAnchor}
 use Rattle.area_core.specs.Stores.{with_word}
-use Rattle.area_core.specs.Step.{IsReadable, IsSound, blocks_of}
+use Rattle.area_core.specs.Step.{IsSound}
 use Rattle.area_core.proofs.Places.{kind_slot, slots_differ, word_here, word_there}
-use Rattle.area_core.proofs.Frames.{code_after, breakpoints_after, terms_after, entries_after, retired_after, doomed_after, images_after}
-use Rattle.area_core.proofs.BlockStores.{stored_off}
+use Rattle.area_core.proofs.OutsideBlocks.{outside_kept}
 
 -- ---- a word of a slot
 
@@ -25,9 +24,6 @@ both_words x y u v same also is = subst (λ (z : ℕ). Apart z y) (sym same) (su
 
 -- a word of a slot is stored; what is said of anchors holds of it
 module _ (s : Table) (sound : IsSound s) (process place value : ℕ) (slot : process < PROCESSES) (last : place ≤ ANCHORS) (kept : 1 ≤ place → IsTrue (is_naming value) → IsTrue (is_kept s.kept (serial_in value))) (apart : (anchor : ℕ) → IsAnchor process anchor → 1 ≤ place → anchor ≢ place → value ≢ 0 → word_at s.words (slot_place process anchor) ≢ 0 → serial_in (word_at s.words (slot_place process anchor)) ≢ serial_in value) where
-  slot_off : (x : ℕ) → (kind_at x ≡ Slot) ⊎ (word_at (slice_set s.words (slot_place process place) value) x ≡ word_at s.words x)
-  slot_off = stored_off s.words (slot_place process place) value Slot (kind_slot process place slot last)
-
   -- an anchor is the one that was stored, or as before
   anchor_off : (other anchor : ℕ) → IsAnchor other anchor → ((other ≡ process) × (anchor ≡ place) × (word_at (slice_set s.words (slot_place process place) value) (slot_place other anchor) ≡ value)) ⊎ (word_at (slice_set s.words (slot_place process place) value) (slot_place other anchor) ≡ word_at s.words (slot_place other anchor))
   anchor_off other anchor is =
@@ -65,25 +61,9 @@ module _ (s : Table) (sound : IsSound s) (process place value : ℕ) (slot : pro
       beside other anchor same = subst (λ (x : ℕ). IsAnchor x anchor → 1 ≤ place → anchor ≢ place → value ≢ 0 → word_at s.words (slot_place x anchor) ≢ 0 → serial_in (word_at s.words (slot_place x anchor)) ≢ serial_in value) (sym same) (apart anchor)
 
   pub slot_word_kept : IsSound (with_word s (slot_place process place) value)
-  slot_word_kept = record {
-    progress = sound.progress;
-    blocks = record {
-      roots_fit = sound.blocks.roots_fit;
-      code_stands = code_after (blocks_of s) (IsReadable s) (word_at (slice_set s.words (slot_place process place) value)) Slot slot_off sound.blocks (λ g p counts here root entry within same. absurd (cc));
-      breakpoints_stand = breakpoints_after (blocks_of s) (IsReadable s) (word_at (slice_set s.words (slot_place process place) value)) Slot slot_off sound.blocks (λ g p counts here root a among instance fits function few same. absurd (cc));
-      terms_stand = terms_after (blocks_of s) (IsReadable s) (word_at (slice_set s.words (slot_place process place) value)) Slot slot_off sound.blocks (λ g p counts here root at within same. absurd (cc));
-      used_kept = sound.blocks.used_kept;
-      areas_stand = λ g p counts here k among. record {
-        entries = entries_after (blocks_of s) (IsReadable s) (word_at (slice_set s.words (slot_place process place) value)) Slot slot_off sound.blocks g p counts here k among (λ function has same none. absurd (cc));
-        retired = retired_after (blocks_of s) (IsReadable s) (word_at (slice_set s.words (slot_place process place) value)) Slot slot_off sound.blocks g p counts here k among (λ same. absurd (cc));
-        doomed = doomed_after (blocks_of s) (IsReadable s) (word_at (slice_set s.words (slot_place process place) value)) Slot slot_off sound.blocks g p counts here k among (λ same. absurd (cc));
-      };
-      images_stand = λ k among. images_after (blocks_of s) (IsReadable s) (word_at (slice_set s.words (slot_place process place) value)) Slot slot_off sound.blocks k among (λ at old has plain same. absurd (cc));
-      kept_fit = sound.blocks.kept_fit;
-      kept_apart = sound.blocks.kept_apart;
-      named_kept = named_after_slot;
-      anchors_apart = apart_after_slot;
-    };
-    words = length-set s.words (slot_place process place) value ∙ sound.words;
-    published = sound.published;
-  }
+  slot_word_kept =
+      outside_kept s sound (slot_place process place) value Slot (kind_slot process place slot last) (λ block at same. absurd (cc))
+      (λ g p counts here k among same. absurd (cc))
+      (λ g p counts here k among same. absurd (cc))
+      named_after_slot
+      apart_after_slot
