@@ -1,3 +1,5 @@
 pub mod Counted
+pub mod Fewer
+pub mod Held
 pub mod Joined
 pub mod Made
