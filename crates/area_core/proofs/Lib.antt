@@ -3,3 +3,4 @@ pub mod Fewer
 pub mod Held
 pub mod Joined
 pub mod Made
+pub mod Opened
