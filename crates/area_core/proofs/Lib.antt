@@ -4,3 +4,5 @@ pub mod Held
 pub mod Joined
 pub mod Made
 pub mod Opened
+pub mod ReadsNoMore
+pub mod SoundLoads

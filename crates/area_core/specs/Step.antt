@@ -168,6 +168,14 @@ after s (AddDelay w which) = after_progress s (prgr.WatchAdd w which)
 after s (SubDelay w which) = after_progress s (prgr.WatchSub w which)
 after s (LoadDelay k which) = delay_loaded s k which
 
+-- the event stores no word of a slot, block or area and publishes nothing: it changes the progress machine at most
+abbrev pub IsOfMachine : AreaEvent → Type 0
+IsOfMachine (StoreWord word value) = ⊥
+IsOfMachine (StoreRoot code bp term next areas) = ⊥
+IsOfMachine (StoreSlot k process place value) = ⊥
+IsOfMachine (StoreEntry at on) = ⊥
+IsOfMachine event = Unit {0}
+
 -- ---- states
 
 -- generation 0, in which nothing is loaded and no key is held

@@ -3,6 +3,7 @@
 
 mod event;
 mod generations;
+mod laws;
 mod map;
 mod readers;
 mod roots;
@@ -12,6 +13,7 @@ mod table;
 mod terms;
 
 pub use event::{AreaEvent, SeatName};
+pub use laws::machine_events_keep_soundness;
 pub use map::{TABLE_WORDS, WordKind, kind_of};
 pub use readers::Slots;
 pub use state::{AreaState, area_step};
