@@ -1,5 +1,5 @@
 -- The generations in the list of those that may be read are just those that some thread may read.
-use Rattle.std.proofs.Common.{◌≡◌, inl, inr, ℕ, zero, suc, Bool, true, false, ◌&&◌, ◌||◌, List, [], ◌∷◌, Option, Some, None, refl, sym, ap, ◌∙◌, nat_lt, flat_map, option_to_list, lt-ltb, eqb-true, eq-eqb}
+use Rattle.std.proofs.Common.{◌≡◌, ◌⊎◌, inl, inr, ℕ, zero, suc, ◌+◌, Bool, true, false, ◌&&◌, ◌||◌, List, [], ◌∷◌, Option, Some, None, refl, sym, ap, ◌∙◌, nat_lt, flat_map, option_to_list, lt-ltb, eqb-true, eq-eqb}
 use Rattle.std.proofs.lemmas.Bool.{and_from, and_parts, or_cases}
 use Rattle.std.specs.Prelude.{◌==◌, if◌then◌else◌, slice_get, IsTrue}
 use Rattle.std.specs.List.{list_any}
@@ -129,12 +129,23 @@ module _ (s : Progress) (sound : IsProgressSound s) (g : ℕ) where
       any_joined (λ x. x == g) (flat_map in_member s.members) (flat_map in_watcher s.watchers)
       ∙ or_right (list_any (λ x. x == g) (flat_map in_member s.members)) (list_any (λ x. x == g) (flat_map in_watcher s.watchers)) (in_all (λ x. x == g) in_watcher s.watchers read.1.0 read.0 read.1.1 (watcher_held read.0 g read.2 read.3))
 
+  held_by : IsReadByMember (machine_of s) g ⊎ IsReadByWatcher (machine_of s) g → IsTrue (list_any (λ x. x == g) (held_generations s))
+  held_by read = elim read as (λ _. IsTrue (list_any (λ x. x == g) (held_generations s))) [ inl member ↦ by_member member | inr watcher ↦ by_watcher watcher ]
+
   -- what some thread may read is in the list
   pub readable_held : Readable (machine_of s) g → IsTrue (list_any (λ x. x == g) (readable_generations s))
   readable_held may =
       elim may as (λ _. IsTrue (list_any (λ x. x == g) (readable_generations s))) [
         | inl newest ↦ or_left (s.generation == g) (list_any (λ x. x == g) (held_generations s)) (eq-eqb s.generation g (sym newest))
-        | inr others ↦ or_right (s.generation == g) (list_any (λ x. x == g) (held_generations s)) (elim others as (λ _. list_any (λ x. x == g) (held_generations s) ≡ true) [ inl read ↦ by_member read | inr read ↦ by_watcher read ])
+        | inr others ↦ or_right (s.generation == g) (list_any (λ x. x == g) (held_generations s)) (held_by others)
+      ]
+
+  -- after a publication that is the new generation, and what is held
+  pub readable_next : Readable (machine_of (record s { generation = s.generation + 1 })) g → (g ≡ s.generation + 1) ⊎ IsTrue (list_any (λ x. x == g) (held_generations s))
+  readable_next may =
+      elim may as (λ _. (g ≡ s.generation + 1) ⊎ IsTrue (list_any (λ x. x == g) (held_generations s))) [
+        | inl newest ↦ inl newest
+        | inr others ↦ inr (held_by others)
       ]
 
   in_members : list_any (λ x. x == g) (flat_map in_member s.members) ≡ true → Readable (machine_of s) g
@@ -149,13 +160,18 @@ module _ (s : Progress) (sound : IsProgressSound s) (g : ℕ) where
       let holds = held_watcher found.1 g found.3 in
       inr (inr (found.1, (found.0, found.2), holds.0, holds.1))
 
+  -- what is held some thread may read
+  pub held_may : IsTrue (list_any (λ x. x == g) (held_generations s)) → Readable (machine_of s) g
+  held_may held =
+      elim (or_cases (list_any (λ x. x == g) (flat_map in_member s.members)) (list_any (λ x. x == g) (flat_map in_watcher s.watchers)) (sym (any_joined (λ x. x == g) (flat_map in_member s.members) (flat_map in_watcher s.watchers)) ∙ held)) as (λ _. Readable (machine_of s) g) [
+        | inl read ↦ in_members read
+        | inr read ↦ in_watchers read
+      ]
+
   -- what is in the list some thread may read
   pub held_readable : IsTrue (list_any (λ x. x == g) (readable_generations s)) → Readable (machine_of s) g
   held_readable e =
       elim (or_cases (s.generation == g) (list_any (λ x. x == g) (held_generations s)) e) as (λ _. Readable (machine_of s) g) [
         | inl newest ↦ inl (sym (eqb-true s.generation g newest))
-        | inr held ↦ elim (or_cases (list_any (λ x. x == g) (flat_map in_member s.members)) (list_any (λ x. x == g) (flat_map in_watcher s.watchers)) (sym (any_joined (λ x. x == g) (flat_map in_member s.members) (flat_map in_watcher s.watchers)) ∙ held)) as (λ _. Readable (machine_of s) g) [
-          | inl read ↦ in_members read
-          | inr read ↦ in_watchers read
-        ]
+        | inr held ↦ held_may held
       ]
