@@ -1,6 +1,6 @@
 -- The generations in the list of those that may be read are just those that some thread may read.
 use Rattle.std.proofs.Common.{◌≡◌, ◌⊎◌, inl, inr, ℕ, zero, suc, ◌+◌, Bool, true, false, ◌&&◌, ◌||◌, List, [], ◌∷◌, Option, Some, None, refl, sym, ap, ◌∙◌, nat_lt, flat_map, option_to_list, lt-ltb, eqb-true, eq-eqb}
-use Rattle.std.proofs.lemmas.Bool.{and_from, and_parts, or_cases}
+use Rattle.std.proofs.lemmas.Bool.{and_from, and_parts, or_cases, or_left, or_right}
 use Rattle.std.specs.Prelude.{◌==◌, if◌then◌else◌, slice_get, IsTrue}
 use Rattle.std.specs.List.{list_any}
 use Rattle.prgr_core.specs.declared.member.TheConstants.{WAITING, ENTERING}
@@ -22,13 +22,6 @@ use Rattle.area_core.specs.Readers.{has_root, in_member, in_watcher, held_genera
 use Rattle.area_core.proofs.Joined.{any_joined}
 
 -- ---- lists of lists
-
-or_left : (a b : Bool) → a ≡ true → (a || b) ≡ true
-or_left a b e = ap (λ c. c || b) e
-
-or_right : (a b : Bool) → b ≡ true → (a || b) ≡ true
-or_right true b e = refl
-or_right false b e = e
 
 -- what is in the list of one of them is in that of all
 in_all : {X : Type 0} (test : ℕ → Bool) (f : X → List ℕ) (xs : List X) (k : ℕ) (x : X) → slice_get xs k ≡ Some x → list_any test (f x) ≡ true → list_any test (flat_map f xs) ≡ true
