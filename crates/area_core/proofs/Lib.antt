@@ -15,6 +15,7 @@ pub mod Releases
 pub mod RootStores
 pub mod RootTests
 pub mod SlotStores
+pub mod Sound
 pub mod SoundLoads
 pub mod StoreLaws
 pub mod TermTests

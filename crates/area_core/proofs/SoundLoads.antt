@@ -1,5 +1,5 @@
 -- The events that store no word and publish nothing keep a state sound.
-use Rattle.std.proofs.Common.{◌≡◌, ℕ, ◌+◌, ◌%◌, Bool, true, false, ◌&&◌, Option, Some, None, length, option_map, refl, sym, ap, subst, ◌∙◌, nat_lt, nat_le}
+use Rattle.std.proofs.Common.{◌≡◌, ℕ, ◌+◌, ◌%◌, Bool, true, false, ◌&&◌, Option, Some, None, option_map, refl, sym, ap, subst, ◌∙◌}
 use Rattle.std.proofs.lemmas.Option.{cond_some}
 use Rattle.std.specs.Prelude.{◌==◌, slice_get, if◌then◌else◌}
 use Rattle.prgr_core.specs.declared.member.Member.{Member}
@@ -9,14 +9,10 @@ use Rattle.prgr_core.specs.declared.event.PrgrEvent.TheVariants as prgr
 use Rattle.prgr_core.specs.Step.{after as progress_after, with_pair, IsSound as IsProgressSound}
 use Rattle.prgr_core.proofs.Parts.{and_then_some}
 use Rattle.prgr_core.proofs.Sound.{keeps_sound, pair_sound}
-use Rattle.area_core.specs.declared.map.TheConstants.{PROCESSES, ANCHORS}
-use Rattle.area_core.specs.declared.event.AreaEvent.{AreaEvent}
-use Rattle.area_core.specs.declared.event.AreaEvent.TheVariants.{LoadCounter, LoadRoot, Confirm, LoadConfirmed, StoreCounter, TakeLead, DropLead, LoadWord, StoreWord, StoreRoot, StoreWaiting, StoreEntering, SplitNote, JoinNote, StoreSlot, LoadSlot, StoreEntry, AddDelay, SubDelay, LoadDelay}
 use Rattle.area_core.specs.declared.event.SeatName.{SeatName}
 use Rattle.area_core.specs.declared.event.SeatName.TheVariants as seats
 use Rattle.area_core.specs.declared.table.Table.{Table}
-use Rattle.area_core.specs.Readers.{may_read}
-use Rattle.area_core.specs.Step.{after, IsOfMachine, with_progress, after_progress, if_enabled, progress_if, has_seat, counter_loaded, root_event, root_loaded, confirms, confirmed, delay_loaded, blocks_of, IsReadable, IsSound}
+use Rattle.area_core.specs.Step.{with_progress, after_progress, if_enabled, progress_if, has_seat, counter_loaded, root_event, root_loaded, confirms, confirmed, delay_loaded, blocks_of, IsReadable, IsSound}
 use Rattle.area_core.proofs.Fewer.{fewer_count}
 use Rattle.area_core.proofs.ReadsNoMore.{ReadsNoMore, reads_no_more, pair_reads, same_reads}
 
@@ -88,27 +84,3 @@ module _ (s : Table) (sound : IsSound s) where
 
   pub unchanged_keeps : (enabled : Bool) (t : Table) → if_enabled enabled s ≡ Some t → IsSound t
   unchanged_keeps enabled t e = subst IsSound (cond_some enabled s t e).1 sound
-
-  -- ---- each event
-
-  pub machine_event_keeps : (event : AreaEvent) (t : Table) → IsOfMachine event → after s event ≡ Some t → IsSound t
-  machine_event_keeps (LoadCounter seat) t is e = load_counter_keeps seat t e
-  machine_event_keeps (LoadRoot seat) t is e = load_root_keeps seat t e
-  machine_event_keeps (Confirm k value) t is e = confirm_keeps k value t e
-  machine_event_keeps (LoadConfirmed k j) t is e = progress_keeps (prgr.Scan k j) t (λ same. absurd (cc)) e
-  machine_event_keeps (StoreCounter k) t is e = progress_keeps (prgr.Advance k) t (λ same. absurd (cc)) e
-  machine_event_keeps (TakeLead k) t is e = progress_keeps (prgr.Lead k) t (λ same. absurd (cc)) e
-  machine_event_keeps (DropLead k) t is e = progress_keeps (prgr.GiveUp k) t (λ same. absurd (cc)) e
-  machine_event_keeps (LoadWord seat word) t is e = unchanged_keeps (may_read s seat word) t e
-  machine_event_keeps (StoreWord word value) t is e = absurd is
-  machine_event_keeps (StoreRoot code bp term next areas) t is e = absurd is
-  machine_event_keeps (StoreWaiting k) t is e = progress_keeps (prgr.Wait k) t (λ same. absurd (cc)) e
-  machine_event_keeps (StoreEntering k) t is e = progress_keeps (prgr.Enter k) t (λ same. absurd (cc)) e
-  machine_event_keeps (SplitNote process) t is e = unchanged_keeps (nat_lt process PROCESSES) t e
-  machine_event_keeps (JoinNote k) t is e = unchanged_keeps (nat_lt k (length s.progress.members)) t e
-  machine_event_keeps (StoreSlot k process place value) t is e = absurd is
-  machine_event_keeps (LoadSlot process place) t is e = unchanged_keeps (nat_lt process PROCESSES && nat_le place ANCHORS) t e
-  machine_event_keeps (StoreEntry at on) t is e = absurd is
-  machine_event_keeps (AddDelay w which) t is e = progress_keeps (prgr.WatchAdd w which) t (λ same. absurd (cc)) e
-  machine_event_keeps (SubDelay w which) t is e = progress_keeps (prgr.WatchSub w which) t (λ same. absurd (cc)) e
-  machine_event_keeps (LoadDelay k which) t is e = load_delay_keeps k which t e

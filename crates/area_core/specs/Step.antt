@@ -168,14 +168,6 @@ after s (AddDelay w which) = after_progress s (prgr.WatchAdd w which)
 after s (SubDelay w which) = after_progress s (prgr.WatchSub w which)
 after s (LoadDelay k which) = delay_loaded s k which
 
--- the event stores no word of a slot, block or area and publishes nothing: it changes the progress machine at most
-abbrev pub IsOfMachine : AreaEvent → Type 0
-IsOfMachine (StoreWord word value) = ⊥
-IsOfMachine (StoreRoot code bp term next areas) = ⊥
-IsOfMachine (StoreSlot k process place value) = ⊥
-IsOfMachine (StoreEntry at on) = ⊥
-IsOfMachine event = Unit {0}
-
 -- ---- states
 
 -- generation 0, in which nothing is loaded and no key is held
@@ -209,3 +201,7 @@ pub record IsSound (s : Table) : Type 0 where
   pub blocks : BlockInvariant (blocks_of s) (IsReadable s)
   pub words : length s.words ≡ TABLE_WORDS
   pub published : length s.published ≡ s.progress.generation + 1
+
+-- each enabled event keeps a sound state sound
+abbrev pub KeepsSound : Type 0
+KeepsSound = (s t : Table) (event : AreaEvent) → IsSound s → after s event ≡ Some t → IsSound t

@@ -13,7 +13,7 @@ mod table;
 mod terms;
 
 pub use event::{AreaEvent, SeatName};
-pub use laws::machine_events_keep_soundness;
+pub use laws::events_keep_both_invariants;
 pub use map::{TABLE_WORDS, WordKind, kind_of};
 pub use readers::Slots;
 pub use state::{AreaState, area_step};
