@@ -201,3 +201,7 @@ pub record IsSound (s : Table) : Type 0 where
   pub blocks : BlockInvariant (blocks_of s) (IsReadable s)
   pub words : length s.words ≡ TABLE_WORDS
   pub published : length s.published ≡ s.progress.generation + 1
+
+-- each enabled event keeps a sound state sound
+abbrev pub KeepsSound : Type 0
+KeepsSound = (s t : Table) (event : AreaEvent) → IsSound s → after s event ≡ Some t → IsSound t

@@ -1,0 +1,9 @@
+//! What holds of every state, not only of those that a run reaches.
+
+ghost use Rattle.area_core.specs.Step.{KeepsSound};
+
+/// Every enabled event keeps the progress invariant and the block invariant, from every state that
+/// meets both.
+pub fn events_keep_both_invariants()
+    ensures { KeepsSound }
+{}
