@@ -15,10 +15,11 @@ use Rattle.area_core.specs.Readers.{readable_generations}
 use Rattle.area_core.specs.Stores.{with_word, holds_in_block, may_be_doom}
 use Rattle.area_core.specs.Step.{IsReadable, IsSound, blocks_of}
 use Rattle.area_core.proofs.Places.{kind_retire_place, kind_doom_place, word_here}
+use Rattle.area_core.proofs.Held.{readable_held}
 use Rattle.area_core.proofs.Tests.{generation_passes, agrees_same}
 use Rattle.area_core.proofs.Frames.{named_after, apart_after}
 use Rattle.area_core.proofs.OutsideBlocks.{outside_kept}
-use Rattle.area_core.proofs.BlockStores.{ReadableHeld, stored_off, in_block_passes}
+use Rattle.area_core.proofs.BlockStores.{stored_off, in_block_passes}
 
 -- ---- a retire or doom word
 
@@ -81,11 +82,11 @@ doom_word_kept s sound word value block is tell =
     block_same block other same = cc
 
 -- a doom word is stored where the test lets it through
-pub doom_stored : (s : Table) → IsSound s → ReadableHeld → (word value block : ℕ) → kind_at word ≡ Doom block → IsTrue (holds_in_block s.kept block (may_be_doom s (readable_generations s.progress) value)) → IsSound (with_word s word value)
-doom_stored s sound held word value block is may = doom_word_kept s sound word value block is
+pub doom_stored : (s : Table) → IsSound s → (word value block : ℕ) → kind_at word ≡ Doom block → IsTrue (holds_in_block s.kept block (may_be_doom s (readable_generations s.progress) value)) → IsSound (with_word s word value)
+doom_stored s sound word value block is may = doom_word_kept s sound word value block is
     (λ g p counts here k among same unretired.
     let passes = in_block_passes s.kept block (may_be_doom s (readable_generations s.progress) value) k may among same in
-    let says = generation_passes s.published (readable_generations s.progress) (λ g p. is_retired p k.area.serial || agrees (tells value g) (is_doomed p k.area.serial)) g p passes (held s.progress sound.progress g counts) here in
+    let says = generation_passes s.published (readable_generations s.progress) (λ g p. is_retired p k.area.serial || agrees (tells value g) (is_doomed p k.area.serial)) g p passes (readable_held s.progress sound.progress g counts) here in
     elim (or_cases (is_retired p k.area.serial) (agrees (tells value g) (is_doomed p k.area.serial)) says) as (λ _. tells value g ≡ is_doomed p k.area.serial) [
       | inl retired ↦ absurd (true≢false (sym retired ∙ unretired))
       | inr agree ↦ agrees_same (tells value g) (is_doomed p k.area.serial) agree

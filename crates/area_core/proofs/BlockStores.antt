@@ -22,14 +22,11 @@ use Rattle.area_core.specs.Readers.{readable_generations, is_read, is_read_under
 use Rattle.area_core.specs.Stores.{with_word, holds_in_block, is_untraced, may_be_entry, is_image_word, may_be_in_image, may_store_in_block}
 use Rattle.area_core.specs.Step.{IsReadable, IsSound, blocks_of}
 use Rattle.area_core.proofs.Places.{kind_place, word_here, word_there}
+use Rattle.area_core.proofs.Held.{readable_held}
 use Rattle.area_core.proofs.Tests.{some_passes, each_passes, number_found, generation_passes}
 use Rattle.area_core.proofs.Frames.{code_after, breakpoints_after, terms_after, entries_after, retired_after, doomed_after, images_after, named_after, apart_after}
 
 -- ---- what each store shares
-
--- what a thread may read is among the generations that the tests go through
-abbrev pub ReadableHeld : Type 0
-ReadableHeld = (s : Progress) → IsProgressSound s → (g : ℕ) → Readable (machine_of s) g → IsTrue (list_any (λ x. x == g) (readable_generations s))
 
 -- a word has the kind of the one that was stored, or is as before
 pub stored_off : (words : List ℕ) (place value : ℕ) (kind : WordKind) → kind_at place ≡ kind → (x : ℕ) → (kind_at x ≡ kind) ⊎ (word_at (slice_set words place value) x ≡ word_at words x)
@@ -142,7 +139,7 @@ abbrev may_be_entry_of : Table → ℕ → KeptArea → ℕ → Bool
 may_be_entry_of s value k function = may_be_entry s (readable_generations s.progress) k.area.serial function value
 
 -- a word of a block is stored where the test lets it through
-module _ (s : Table) (sound : IsSound s) (held : ReadableHeld) (word value block at : ℕ) (is : kind_at word ≡ InBlock block at) (may : IsTrue (may_store_in_block s (readable_generations s.progress) block at value)) where
+module _ (s : Table) (sound : IsSound s) (word value block at : ℕ) (is : kind_at word ≡ InBlock block at) (may : IsTrue (may_store_in_block s (readable_generations s.progress) block at value)) where
   both : (is_read s (readable_generations s.progress) (InBlock block at) ≡ false) × (holds_in_block s.kept block (may_be_in_image s (readable_generations s.progress) at value) ≡ true)
   both =
       let parts = and_parts (not (is_read s (readable_generations s.progress) (InBlock block at))) (holds_in_block s.kept block (may_be_in_image s (readable_generations s.progress) at value)) may in
@@ -151,7 +148,7 @@ module _ (s : Table) (sound : IsSound s) (held : ReadableHeld) (word value block
   -- a generation that a thread may read does not read the word
   unread : (g : ℕ) (p : Published) → IsReadable s g → slice_get s.published g ≡ Some p → reads_in_block p block at ≡ true → ⊥
   unread g p counts here reads =
-      let under = number_found (λ g. is_read_under (InBlock block at) (slice_get s.published g)) (readable_generations s.progress) g (held s.progress sound.progress g counts) (ap (is_read_under (InBlock block at)) here ∙ reads) in
+      let under = number_found (λ g. is_read_under (InBlock block at) (slice_get s.published g)) (readable_generations s.progress) g (readable_held s.progress sound.progress g counts) (ap (is_read_under (InBlock block at)) here ∙ reads) in
       true≢false (sym (or_left (list_any (λ g. is_read_under (InBlock block at) (slice_get s.published g)) (readable_generations s.progress)) (slots_read All s (InBlock block at)) under) ∙ both.0)
 
   -- the word is one of a kept area only where it may become the value
@@ -175,7 +172,7 @@ module _ (s : Table) (sound : IsSound s) (held : ReadableHeld) (word value block
       let term = root.term in
       unread g p counts here (reads_term p block at parts.0 (omega (arith, parts.0, term))))
       (λ g p counts here k among function has same none.
-      untraced_after s value k.area.serial function g p (may_entry k function has (in_image k among (entry_at function) same)) none (held s.progress sound.progress g counts) here)
+      untraced_after s value k.area.serial function g p (may_entry k function has (in_image k among (entry_at function) same)) none (readable_held s.progress sound.progress g counts) here)
       (λ k among place old has plain same. plain_word k place old has plain (in_image k among place same))
     where
       may_entry : (k : KeptArea) (function : ℕ) → IsTrue (has_function k function) → may_be_in_image s (readable_generations s.progress) (entry_at function) value k ≡ true → may_be_entry s (readable_generations s.progress) k.area.serial function value ≡ true

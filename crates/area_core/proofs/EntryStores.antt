@@ -3,6 +3,7 @@ use Rattle.std.proofs.Common.{◌≡◌, ℕ, ◌+◌, ◌<◌, ◌≤◌, Bool,
 use Rattle.std.specs.Prelude.{◌==◌, slice_get, IsTrue}
 use Rattle.std.specs.List.{list_any}
 use Rattle.std.proofs.lemmas.Bool.{and_parts, eqb-true, cases_eq, true≢false}
+use Rattle.prgr_core.proofs.Parts.{some_same}
 use Rattle.term_core.specs.declared.area.CodeRef.{CodeRef}
 use Rattle.area_core.specs.declared.map.TheConstants.{BIG_BLOCKS, AREAS_START, BREAKPOINTS_START, TERMS_START}
 use Rattle.area_core.specs.declared.map.WordKind.TheVariants.{InBlock}
@@ -15,22 +16,20 @@ use Rattle.area_core.specs.Readers.{readable_generations}
 use Rattle.area_core.specs.Stores.{with_word, is_function_of, entry_word, may_be_entry, may_store_entry}
 use Rattle.area_core.specs.Step.{IsSound}
 use Rattle.area_core.proofs.Places.{kind_block}
+use Rattle.area_core.proofs.Held.{readable_held}
 use Rattle.area_core.proofs.Tests.{passed_by, three_hold}
 use Rattle.area_core.proofs.Frames.{function_fits, big_room}
-use Rattle.area_core.proofs.BlockStores.{ReadableHeld, block_word_kept, same_block, entry_is, untraced_after}
+use Rattle.area_core.proofs.BlockStores.{block_word_kept, same_block, entry_is, untraced_after}
 
 -- kept areas in one block are one
 pub same_area : (kept : List KeptArea) → KeptApart kept → (a b : KeptArea) → Among kept a → Among kept b → a.area.block ≡ b.area.block → a ≡ b
 same_area kept apart a b is_a is_b same =
     elim (cases_eq is_a.0 is_b.0) as (λ _. a ≡ b) [
-      | inl one ↦ some_one a b (sym is_a.1 ∙ ap (slice_get kept) one ∙ is_b.1)
+      | inl one ↦ some_same a b (sym is_a.1 ∙ ap (slice_get kept) one ∙ is_b.1)
       | inr two ↦ absurd ((apart is_a.0 is_b.0 a b two is_a.1 is_b.1).1 same)
     ]
-  where
-    some_one : (a b : KeptArea) → Some a ≡ Some b → a ≡ b
-    some_one a b e = cc
 
-module _ (s : Table) (sound : IsSound s) (held : ReadableHeld) (at : CodeRef) (on : Bool) (may : IsTrue (may_store_entry s (readable_generations s.progress) at on)) where
+module _ (s : Table) (sound : IsSound s) (at : CodeRef) (on : Bool) (may : IsTrue (may_store_entry s (readable_generations s.progress) at on)) where
   tests : (list_any (is_function_of at) s.kept ≡ true) × (may_be_entry s (readable_generations s.progress) at.area.serial at.function (entry_word on) ≡ true)
   tests = and_parts (list_any (is_function_of at) s.kept) (may_be_entry s (readable_generations s.progress) at.area.serial at.function (entry_word on)) may
 
@@ -83,7 +82,7 @@ module _ (s : Table) (sound : IsSound s) (held : ReadableHeld) (at : CodeRef) (o
       let serial : at.area.serial ≡ k.area.serial = sym instance.2 ∙ ap (λ (x : KeptArea). x.area.serial) (sym one) in
       let own : at.function ≡ function = omega (arith, parts.1) in
       subst (λ x. is_traced p x function ≡ false) serial (subst (λ x. is_traced p at.area.serial x ≡ false) own
-      (untraced_after s (entry_word on) at.area.serial at.function g p tests.1 none (held s.progress sound.progress g counts) here)))
+      (untraced_after s (entry_word on) at.area.serial at.function g p tests.1 none (readable_held s.progress sound.progress g counts) here)))
       (λ k among place old has plain same.
       let parts = same_block at.area.block (entry_at at.function) k.area.block place same in
       let one = is_instance_here k among place same in

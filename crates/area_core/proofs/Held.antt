@@ -24,7 +24,7 @@ use Rattle.area_core.proofs.Joined.{any_joined}
 -- ---- lists of lists
 
 -- what is in the list of one of them is in that of all
-in_all : {X : Type 0} (test : ℕ → Bool) (f : X → List ℕ) (xs : List X) (k : ℕ) (x : X) → slice_get xs k ≡ Some x → list_any test (f x) ≡ true → list_any test (flat_map f xs) ≡ true
+pub in_all : {X : Type 0} (test : ℕ → Bool) (f : X → List ℕ) (xs : List X) (k : ℕ) (x : X) → slice_get xs k ≡ Some x → list_any test (f x) ≡ true → list_any test (flat_map f xs) ≡ true
 in_all test f [] k x at e = absurd (cc)
 in_all test f (y ∷ ys) zero x at e = any_joined test (f y) (flat_map f ys) ∙ or_left (list_any test (f y)) (list_any test (flat_map f ys)) (ap (λ z. list_any test (f z)) (some_same y x at) ∙ e)
 in_all test f (y ∷ ys) (suc k) x at e = any_joined test (f y) (flat_map f ys) ∙ or_right (list_any test (f y)) (list_any test (flat_map f ys)) (in_all test f ys k x at e)

@@ -17,8 +17,9 @@ use Rattle.area_core.specs.Readers.{readable_generations, is_of, is_named, is_na
 use Rattle.area_core.specs.Stores.{with_word, holds_in_block, is_released_by, may_release, may_be_retire, kept_after}
 use Rattle.area_core.specs.Step.{IsReadable, IsSound}
 use Rattle.area_core.proofs.Counted.{named_suc}
+use Rattle.area_core.proofs.Held.{readable_held}
 use Rattle.area_core.proofs.Tests.{passed_by, generation_passes, filter_gives, filter_keeps, filter_apart, three_hold, agrees_same}
-use Rattle.area_core.proofs.BlockStores.{ReadableHeld, in_block_passes}
+use Rattle.area_core.proofs.BlockStores.{in_block_passes}
 use Rattle.area_core.proofs.AreaStores.{retire_word_kept}
 
 -- ---- what slots name
@@ -97,7 +98,7 @@ release_kept s sound stays used named = record {
 
 -- ---- a store that the test lets through
 
-module _ (s : Table) (sound : IsSound s) (held : ReadableHeld) (word value block : ℕ) (is : kind_at word ≡ Retire block) (may : IsTrue (holds_in_block s.kept block (may_be_retire s (readable_generations s.progress) value))) where
+module _ (s : Table) (sound : IsSound s) (word value block : ℕ) (is : kind_at word ≡ Retire block) (may : IsTrue (holds_in_block s.kept block (may_be_retire s (readable_generations s.progress) value))) where
   -- an area that is released may be
   released : (k : KeptArea) → Among s.kept k → k.area.block ≡ block → is_released_by s value k ≡ true → (is_named All s.words k.area.serial ≡ false) × (holds_of_each s.published (readable_generations s.progress) (λ g p. not (is_used p k.area.serial)) ≡ true)
   released k among same goes =
@@ -114,7 +115,7 @@ module _ (s : Table) (sound : IsSound s) (held : ReadableHeld) (word value block
       let unreleased = not_both (k.area.block == block) (is_released_by s value k) was.1 (eq-eqb k.area.block block same) in
       let passes = in_block_passes s.kept block (may_be_retire s (readable_generations s.progress) value) k may was.0 same in
       let chosen = sym (cond-false (is_released_by s value k) (may_release s (readable_generations s.progress) k) (holds_of_each s.published (readable_generations s.progress) (λ g p. agrees (tells value g) (is_retired p k.area.serial))) unreleased) ∙ passes in
-      agrees_same (tells value g) (is_retired p k.area.serial) (generation_passes s.published (readable_generations s.progress) (λ g p. agrees (tells value g) (is_retired p k.area.serial)) g p chosen (held s.progress sound.progress g counts) here))
+      agrees_same (tells value g) (is_retired p k.area.serial) (generation_passes s.published (readable_generations s.progress) (λ g p. agrees (tells value g) (is_retired p k.area.serial)) g p chosen (readable_held s.progress sound.progress g counts) here))
     where
       not_both : (a b : Bool) → not (a && b) ≡ true → a ≡ true → b ≡ false
       not_both true b e both = not-true b e
@@ -130,7 +131,7 @@ module _ (s : Table) (sound : IsSound s) (held : ReadableHeld) (word value block
           (λ g p counts here k among uses. unless (k.area.block == block) (is_released_by s value k)
           (λ same goes.
           let may_go = released k among (eqb-true k.area.block block same) goes in
-          let unused = generation_passes s.published (readable_generations s.progress) (λ g p. not (is_used p k.area.serial)) g p may_go.1 (held s.progress sound.progress g counts) here in
+          let unused = generation_passes s.published (readable_generations s.progress) (λ g p. not (is_used p k.area.serial)) g p may_go.1 (readable_held s.progress sound.progress g counts) here in
           true≢false (sym uses ∙ not-true (is_used p k.area.serial) unused)))
           (λ k among named. unless (k.area.block == block) (is_released_by s value k)
           (λ same goes. true≢false (sym named ∙ (released k among (eqb-true k.area.block block same) goes).0)))

@@ -7,7 +7,7 @@ use Rattle.std.proofs.lemmas.Option.{slice_get_within}
 use Rattle.prgr_core.specs.declared.progress.Progress.{Progress}
 use Rattle.prgr_core.specs.declared.event.PrgrEvent.TheVariants as prgr
 use Rattle.prgr_core.specs.Step.{IsSound as IsProgressSound}
-use Rattle.prgr_core.proofs.Parts.{slice_get-push_at}
+use Rattle.prgr_core.proofs.Parts.{some_same, slice_get-push_at}
 use Rattle.prgr_core.proofs.Sound.{keeps_sound}
 use Rattle.term_core.specs.declared.area.AreaRef.{AreaRef}
 use Rattle.term_core.specs.declared.generation.Generation.{Generation}
@@ -24,10 +24,10 @@ use Rattle.area_core.specs.Readers.{held_generations, holds_of_each}
 use Rattle.area_core.specs.Roots.{root_fits, blocks_stand, code_stands, breakpoints_stand, fresh_areas, fits_block, image_stands, area_stands, is_fresh_sound, are_apart, used_are_kept}
 use Rattle.area_core.specs.Step.{after, to_publish, may_publish_in, published_in, appended, IsReadable, IsSound, blocks_of}
 use Rattle.area_core.proofs.Joined.{any_joined}
+use Rattle.area_core.proofs.Held.{readable_held}
 use Rattle.area_core.proofs.Tests.{each_passes, generation_passes, three_hold}
 use Rattle.area_core.proofs.TermTests.{terms_stand_true}
 use Rattle.area_core.proofs.RootTests.{root_says, code_says, breakpoints_say, fits_says, image_says, area_says, used_say, in_either, apart_together}
-use Rattle.area_core.proofs.BlockStores.{ReadableHeld}
 
 six_hold : (a b c d e f : Bool) → (a && b && c && d && e && f) ≡ true → (a ≡ true) × (b ≡ true) × (c ≡ true) × (d ≡ true) × (e ≡ true) × (f ≡ true)
 six_hold true true true true true true is = (refl, refl, refl, refl, refl, refl)
@@ -45,7 +45,7 @@ either_kept kept fresh k among =
       | inr new ↦ inr (new.0, new.2)
     ]
 
-module _ (s : Table) (sound : IsSound s) (held : ReadableHeld) (p : Published) (fresh : List KeptArea) where
+module _ (s : Table) (sound : IsSound s) (p : Published) (fresh : List KeptArea) where
   next_sound : IsProgressSound (next_progress s.progress)
   next_sound = keeps_sound s.progress prgr.Publish (next_progress s.progress) sound.progress refl
 
@@ -59,7 +59,7 @@ module _ (s : Table) (sound : IsSound s) (held : ReadableHeld) (p : Published) (
             let below : g < s.progress.generation + 1 = subst (λ (n : ℕ). g < n) count within in
             elim counts as (λ _. Holds g q) [
               | inl newest ↦ absurd (omega (arith, newest, below))
-              | inr others ↦ elim (or_cases (s.progress.generation + 1 == g) (list_any (λ x. x == g) (held_generations s.progress)) (held (next_progress s.progress) next_sound g counts)) as (λ _. Holds g q) [
+              | inr others ↦ elim (or_cases (s.progress.generation + 1 == g) (list_any (λ x. x == g) (held_generations s.progress)) (readable_held (next_progress s.progress) next_sound g counts)) as (λ _. Holds g q) [
                 | inl same ↦ let newest = eqb-true (s.progress.generation + 1) g same in absurd (omega (arith, newest, below))
                 | inr among ↦ old g q (inr others) among before
               ]
@@ -120,13 +120,10 @@ chosen : (b : Bool) (o : Option Table) (t : Table) → (if b then o else None) �
 chosen true o t e = (refl, e)
 chosen false o t e = absurd (cc)
 
-some_table : (t u : Table) → Some t ≡ Some u → t ≡ u
-some_table t u e = cc
-
 -- a store of the root
-pub root_store_keeps : (s t : Table) (code bp term : ℕ) (next : Generation) (areas : List AreaRef) → IsSound s → ReadableHeld → after s (StoreRoot code bp term next areas) ≡ Some t → IsSound t
-root_store_keeps s t code bp term next areas sound held e =
+pub root_store_keeps : (s t : Table) (code bp term : ℕ) (next : Generation) (areas : List AreaRef) → IsSound s → after s (StoreRoot code bp term next areas) ≡ Some t → IsSound t
+root_store_keeps s t code bp term next areas sound e =
     let made = chosen (may_publish_in s (to_publish code bp term next areas)) (appended s (to_publish code bp term next areas) (fresh_areas s.kept (to_publish code bp term next areas))) t e in
     let six = six_hold (root_fits (to_publish code bp term next areas).root) (blocks_stand s.words (to_publish code bp term next areas)) (list_all (is_fresh_sound s.words s.published (held_generations s.progress)) (fresh_areas s.kept (to_publish code bp term next areas))) (are_apart s.kept (fresh_areas s.kept (to_publish code bp term next areas))) (used_are_kept (s.kept ++ fresh_areas s.kept (to_publish code bp term next areas)) (to_publish code bp term next areas)) (list_all (λ (k : KeptArea). area_stands s.words k (s.progress.generation + 1) (to_publish code bp term next areas)) (s.kept ++ fresh_areas s.kept (to_publish code bp term next areas))) made.0 in
-    subst IsSound (some_table (published_in s (to_publish code bp term next areas) (fresh_areas s.kept (to_publish code bp term next areas)) (next_progress s.progress)) t made.1)
-    (published_sound s sound held (to_publish code bp term next areas) (fresh_areas s.kept (to_publish code bp term next areas)) six.0 six.1 six.2 six.3 six.4 six.5)
+    subst IsSound (some_same (published_in s (to_publish code bp term next areas) (fresh_areas s.kept (to_publish code bp term next areas)) (next_progress s.progress)) t made.1)
+    (published_sound s sound (to_publish code bp term next areas) (fresh_areas s.kept (to_publish code bp term next areas)) six.0 six.1 six.2 six.3 six.4 six.5)

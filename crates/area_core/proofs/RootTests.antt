@@ -5,6 +5,7 @@ use Rattle.std.specs.List.{list_any, list_all}
 use Rattle.std.proofs.lemmas.Bool.{and_parts, or_cases, lt-ltb, ltb-true, leb-true, eq-eqb, eqb-true, eqb-false, not-true, cases_lt, true≢false}
 use Rattle.std.proofs.lemmas.Bool.Decides.{nat_tests}
 use Rattle.std.proofs.lemmas.Option.{slice_get_within}
+use Rattle.prgr_core.proofs.Parts.{some_same}
 use Rattle.term_core.specs.declared.area.AreaRef.{AreaRef}
 use Rattle.term_core.specs.declared.generation.KeyTerm.{KeyTerm}
 use Rattle.term_core.specs.declared.generation.Holding.{Holding}
@@ -144,15 +145,12 @@ apart_says a b e =
 turned : (a b : KeptArea) → AreApart a b → AreApart b a
 turned a b apart = ((λ same. apart.0 (sym same)), (λ same. apart.1 (sym same)))
 
-some_is : (a b : KeptArea) → Some a ≡ Some b → a ≡ b
-some_is a b e = cc
-
 -- each fresh area is apart from what was kept
 from_kept : (kept fresh : List KeptArea) → are_apart kept fresh ≡ true → (i j : ℕ) (a b : KeptArea) → slice_get fresh i ≡ Some a → slice_get kept j ≡ Some b → AreApart a b
 from_kept kept [] e i j a b is_a is_b = absurd (cc)
 from_kept kept (k ∷ fresh) e zero j a b is_a is_b =
     let parts = three_hold (list_all (is_apart k) kept) (list_all (is_apart k) fresh) (are_apart kept fresh) e in
-    subst (λ (x : KeptArea). AreApart x b) (some_is k a is_a) (apart_says k b (each_passes (is_apart k) kept j b parts.0 is_b))
+    subst (λ (x : KeptArea). AreApart x b) (some_same k a is_a) (apart_says k b (each_passes (is_apart k) kept j b parts.0 is_b))
 from_kept kept (k ∷ fresh) e (suc i) j a b is_a is_b =
     let parts = three_hold (list_all (is_apart k) kept) (list_all (is_apart k) fresh) (are_apart kept fresh) e in
     from_kept kept fresh parts.2 i j a b is_a is_b
@@ -163,10 +161,10 @@ from_fresh kept [] e i j a b differ is_a is_b = absurd (cc)
 from_fresh kept (k ∷ fresh) e zero zero a b differ is_a is_b = absurd (differ refl)
 from_fresh kept (k ∷ fresh) e zero (suc j) a b differ is_a is_b =
     let parts = three_hold (list_all (is_apart k) kept) (list_all (is_apart k) fresh) (are_apart kept fresh) e in
-    subst (λ (x : KeptArea). AreApart x b) (some_is k a is_a) (apart_says k b (each_passes (is_apart k) fresh j b parts.1 is_b))
+    subst (λ (x : KeptArea). AreApart x b) (some_same k a is_a) (apart_says k b (each_passes (is_apart k) fresh j b parts.1 is_b))
 from_fresh kept (k ∷ fresh) e (suc i) zero a b differ is_a is_b =
     let parts = three_hold (list_all (is_apart k) kept) (list_all (is_apart k) fresh) (are_apart kept fresh) e in
-    subst (λ (x : KeptArea). AreApart a x) (some_is k b is_b) (turned k a (apart_says k a (each_passes (is_apart k) fresh i a parts.1 is_a)))
+    subst (λ (x : KeptArea). AreApart a x) (some_same k b is_b) (turned k a (apart_says k a (each_passes (is_apart k) fresh i a parts.1 is_a)))
 from_fresh kept (k ∷ fresh) e (suc i) (suc j) a b differ is_a is_b =
     let parts = three_hold (list_all (is_apart k) kept) (list_all (is_apart k) fresh) (are_apart kept fresh) e in
     from_fresh kept fresh parts.2 i j a b (λ same. differ (ap suc same)) is_a is_b

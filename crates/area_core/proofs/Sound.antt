@@ -7,7 +7,6 @@ use Rattle.area_core.specs.declared.event.AreaEvent.TheVariants.{LoadCounter, Lo
 use Rattle.area_core.specs.declared.table.Table.{Table}
 use Rattle.area_core.specs.Readers.{may_read}
 use Rattle.area_core.specs.Step.{after, IsSound}
-use Rattle.area_core.proofs.Held.{readable_held}
 use Rattle.area_core.proofs.SoundLoads.{progress_keeps, load_counter_keeps, load_root_keeps, confirm_keeps, load_delay_keeps, unchanged_keeps}
 use Rattle.area_core.proofs.StoreLaws.{word_store_keeps, entry_store_keeps, slot_store_keeps}
 use Rattle.area_core.proofs.RootStores.{root_store_keeps}
@@ -21,15 +20,15 @@ keeps_sound s t (StoreCounter k) sound e = progress_keeps s sound (prgr.Advance 
 keeps_sound s t (TakeLead k) sound e = progress_keeps s sound (prgr.Lead k) t (λ same. absurd (cc)) e
 keeps_sound s t (DropLead k) sound e = progress_keeps s sound (prgr.GiveUp k) t (λ same. absurd (cc)) e
 keeps_sound s t (LoadWord seat word) sound e = unchanged_keeps s sound (may_read s seat word) t e
-keeps_sound s t (StoreWord word value) sound e = word_store_keeps s t word value sound readable_held e
-keeps_sound s t (StoreRoot code bp term next areas) sound e = root_store_keeps s t code bp term next areas sound readable_held e
+keeps_sound s t (StoreWord word value) sound e = word_store_keeps s t word value sound e
+keeps_sound s t (StoreRoot code bp term next areas) sound e = root_store_keeps s t code bp term next areas sound e
 keeps_sound s t (StoreWaiting k) sound e = progress_keeps s sound (prgr.Wait k) t (λ same. absurd (cc)) e
 keeps_sound s t (StoreEntering k) sound e = progress_keeps s sound (prgr.Enter k) t (λ same. absurd (cc)) e
 keeps_sound s t (SplitNote process) sound e = unchanged_keeps s sound (nat_lt process PROCESSES) t e
 keeps_sound s t (JoinNote k) sound e = unchanged_keeps s sound (nat_lt k (length s.progress.members)) t e
 keeps_sound s t (StoreSlot k process place value) sound e = slot_store_keeps s t k process place value sound e
 keeps_sound s t (LoadSlot process place) sound e = unchanged_keeps s sound (nat_lt process PROCESSES && nat_le place ANCHORS) t e
-keeps_sound s t (StoreEntry at on) sound e = entry_store_keeps s t at on sound readable_held e
+keeps_sound s t (StoreEntry at on) sound e = entry_store_keeps s t at on sound e
 keeps_sound s t (AddDelay w which) sound e = progress_keeps s sound (prgr.WatchAdd w which) t (λ same. absurd (cc)) e
 keeps_sound s t (SubDelay w which) sound e = progress_keeps s sound (prgr.WatchSub w which) t (λ same. absurd (cc)) e
 keeps_sound s t (LoadDelay k which) sound e = load_delay_keeps s sound k which t e

@@ -16,7 +16,7 @@ use Rattle.area_core.specs.Readers.{readable_generations, is_of}
 use Rattle.area_core.specs.Stores.{with_word, holds_in_block, may_store_in_block, may_be_retire, kept_after, may_be_doom, may_store_entry, entry_word, may_store_slot}
 use Rattle.area_core.specs.Step.{after, word_stored, slot_stored_by, may_write_slot, IsSound}
 use Rattle.area_core.proofs.Tests.{four_hold}
-use Rattle.area_core.proofs.BlockStores.{ReadableHeld, block_stored}
+use Rattle.area_core.proofs.BlockStores.{block_stored}
 use Rattle.area_core.proofs.EntryStores.{entry_stored_sound}
 use Rattle.area_core.proofs.AreaStores.{doom_stored}
 use Rattle.area_core.proofs.Releases.{retire_stored}
@@ -24,28 +24,28 @@ use Rattle.area_core.proofs.Anchors.{slot_stored_sound}
 use Rattle.area_core.proofs.UnreadStores.{enabled}
 
 -- a store of the writer
-pub word_store_keeps : (s t : Table) (word value : ℕ) → IsSound s → ReadableHeld → after s (StoreWord word value) ≡ Some t → IsSound t
-word_store_keeps s t word value sound held e = by_kind (kind_at word) refl e
+pub word_store_keeps : (s t : Table) (word value : ℕ) → IsSound s → after s (StoreWord word value) ≡ Some t → IsSound t
+word_store_keeps s t word value sound e = by_kind (kind_at word) refl e
   where
     by_kind : (kind : WordKind) → kind_at word ≡ kind → word_stored s word value kind ≡ Some t → IsSound t
     by_kind (InBlock block at) is made =
         let stored = enabled (may_store_in_block s (readable_generations s.progress) block at value) (with_word s word value) t made in
-        subst IsSound stored.1 (block_stored s sound held word value block at is stored.0)
+        subst IsSound stored.1 (block_stored s sound word value block at is stored.0)
     by_kind (Retire block) is made =
         let stored = enabled (holds_in_block s.kept block (may_be_retire s (readable_generations s.progress) value)) (record (with_word s word value) { kept = kept_after s block value }) t made in
-        subst IsSound stored.1 (retire_stored s sound held word value block is stored.0)
+        subst IsSound stored.1 (retire_stored s sound word value block is stored.0)
     by_kind (Doom block) is made =
         let stored = enabled (holds_in_block s.kept block (may_be_doom s (readable_generations s.progress) value)) (with_word s word value) t made in
-        subst IsSound stored.1 (doom_stored s sound held word value block is stored.0)
+        subst IsSound stored.1 (doom_stored s sound word value block is stored.0)
     by_kind Machine is made = absurd (cc)
     by_kind Slot is made = absurd (cc)
     by_kind Nowhere is made = absurd (cc)
 
 -- a store of an entry word
-pub entry_store_keeps : (s t : Table) (at : CodeRef) (on : Bool) → IsSound s → ReadableHeld → after s (StoreEntry at on) ≡ Some t → IsSound t
-entry_store_keeps s t at on sound held e =
+pub entry_store_keeps : (s t : Table) (at : CodeRef) (on : Bool) → IsSound s → after s (StoreEntry at on) ≡ Some t → IsSound t
+entry_store_keeps s t at on sound e =
     let stored = enabled (may_store_entry s (readable_generations s.progress) at on) (with_word s (block_place at.area.block (entry_at at.function)) (entry_word on)) t e in
-    subst IsSound stored.1 (entry_stored_sound s sound held at on stored.0)
+    subst IsSound stored.1 (entry_stored_sound s sound at on stored.0)
 
 -- a store into a slot
 pub slot_store_keeps : (s t : Table) (k process place value : ℕ) → IsSound s → after s (StoreSlot k process place value) ≡ Some t → IsSound t

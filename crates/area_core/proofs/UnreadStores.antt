@@ -5,7 +5,7 @@ use Rattle.std.specs.List.{list_any, flat_map}
 use Rattle.std.specs.Option.{option_to_list}
 use Rattle.std.proofs.lemmas.Bool.{and_parts, and_from, or_cases, or_left, or_right, eq-eqb, not-true, true≢false}
 use Rattle.prgr_core.specs.declared.progress.Progress.{Progress}
-use Rattle.prgr_core.proofs.Parts.{and_then_some}
+use Rattle.prgr_core.proofs.Parts.{and_then_some, some_same}
 use Rattle.area_core.specs.declared.map.TheConstants.{ANCHORS}
 use Rattle.area_core.specs.declared.map.WordKind.{WordKind}
 use Rattle.area_core.specs.declared.map.WordKind.TheVariants.{InBlock}
@@ -23,6 +23,7 @@ use Rattle.area_core.specs.Stores.{with_word, holds_in_block, may_be_in_image, m
 use Rattle.area_core.specs.Step.{after, word_stored, if_enabled, IsSound}
 use Rattle.area_core.proofs.Counted.{named_none, named_suc}
 use Rattle.area_core.proofs.Joined.{any_joined}
+use Rattle.area_core.proofs.Held.{in_all}
 use Rattle.area_core.proofs.Tests.{some_passes, passed_by, number_found}
 
 -- what is left where something was enabled
@@ -32,35 +33,23 @@ enabled false t left e = absurd (cc)
 
 -- ---- the generation of a seat
 
--- what one of a list gives is given by the list
-given_by : {X : Type 0} (give : X → List ℕ) (test : ℕ → Bool) (xs : List X) (k : ℕ) (x : X) → slice_get xs k ≡ Some x → list_any test (give x) ≡ true → list_any test (flat_map give xs) ≡ true
-given_by give test [] k x at e = absurd (cc)
-given_by give test (y ∷ ys) zero x at e =
-    let same : y ≡ x = cc in
-    any_joined test (give y) (flat_map give ys) ∙ or_left (list_any test (give y)) (list_any test (flat_map give ys)) (ap (λ z. list_any test (give z)) same ∙ e)
-given_by give test (y ∷ ys) (suc k) x at e =
-    any_joined test (give y) (flat_map give ys) ∙ or_right (list_any test (give y)) (list_any test (flat_map give ys)) (given_by give test ys k x at e)
-
 -- a number stands in the list of at most that one
 alone : (held : Option ℕ) (g : ℕ) → held ≡ Some g → list_any (λ x. x == g) (option_to_list held) ≡ true
 alone held g is = ap (λ (o : Option ℕ). list_any (λ x. x == g) (option_to_list o)) is ∙ or_left (g == g) false (eq-eqb g g refl)
 
-same_number : (n g : ℕ) → Some n ≡ Some g → n ≡ g
-same_number n g e = cc
-
 -- the generation that a seat holds is among those that the tests go through
 pub seat_held : (s : Progress) (seat : SeatName) (g : ℕ) → held_by s seat ≡ Some g → list_any (λ x. x == g) (readable_generations s) ≡ true
-seat_held s seats.Writer g is = or_left (s.generation == g) (list_any (λ x. x == g) (held_generations s)) (eq-eqb s.generation g (same_number s.generation g is))
+seat_held s seats.Writer g is = or_left (s.generation == g) (list_any (λ x. x == g) (held_generations s)) (eq-eqb s.generation g (some_same s.generation g is))
 seat_held s (seats.Member k) g is =
     let found = and_then_some held_by_member (slice_get s.members k) g is in
     or_right (s.generation == g) (list_any (λ x. x == g) (held_generations s))
     (any_joined (λ x. x == g) (flat_map in_member s.members) (flat_map in_watcher s.watchers)
-    ∙ or_left (list_any (λ x. x == g) (flat_map in_member s.members)) (list_any (λ x. x == g) (flat_map in_watcher s.watchers)) (given_by in_member (λ x. x == g) s.members k found.0 found.1 (alone (held_by_member found.0) g found.2)))
+    ∙ or_left (list_any (λ x. x == g) (flat_map in_member s.members)) (list_any (λ x. x == g) (flat_map in_watcher s.watchers)) (in_all (λ x. x == g) in_member s.members k found.0 found.1 (alone (held_by_member found.0) g found.2)))
 seat_held s (seats.Watcher k) g is =
     let found = and_then_some held_by_watcher (slice_get s.watchers k) g is in
     or_right (s.generation == g) (list_any (λ x. x == g) (held_generations s))
     (any_joined (λ x. x == g) (flat_map in_member s.members) (flat_map in_watcher s.watchers)
-    ∙ or_right (list_any (λ x. x == g) (flat_map in_member s.members)) (list_any (λ x. x == g) (flat_map in_watcher s.watchers)) (given_by in_watcher (λ x. x == g) s.watchers k found.0 found.1 (alone (held_by_watcher found.0) g found.2)))
+    ∙ or_right (list_any (λ x. x == g) (flat_map in_member s.members)) (list_any (λ x. x == g) (flat_map in_watcher s.watchers)) (in_all (λ x. x == g) in_watcher s.watchers k found.0 found.1 (alone (held_by_watcher found.0) g found.2)))
 
 -- ---- the slots of a seat
 
