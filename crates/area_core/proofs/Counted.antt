@@ -26,7 +26,7 @@ pub named_none : (slots : Slots) (words : List ℕ) (serial : ℕ) → is_named_
 unfolding is_named_before
 named_none slots words serial = refl
 
-named_suc : (slots : Slots) (words : List ℕ) (serial : ℕ) (n : ℕ) → is_named_before slots words serial (suc n) ≡ (is_named_before slots words serial n || (is_of slots (n / ANCHORS) && names (word_at words (anchor_place n)) serial))
+pub named_suc : (slots : Slots) (words : List ℕ) (serial : ℕ) (n : ℕ) → is_named_before slots words serial (suc n) ≡ (is_named_before slots words serial n || (is_of slots (n / ANCHORS) && names (word_at words (anchor_place n)) serial))
 unfolding is_named_before
 named_suc slots words serial n = refl
 
@@ -37,7 +37,7 @@ pub known_none : (block : ℕ → ℕ) (p : Published) → are_buckets_known blo
 unfolding are_buckets_known
 known_none block p = refl
 
-known_suc : (block : ℕ → ℕ) (p : Published) (n : ℕ) → are_buckets_known block p (suc n) ≡ (are_buckets_known block p n && is_bucket_known block p n)
+pub known_suc : (block : ℕ → ℕ) (p : Published) (n : ℕ) → are_buckets_known block p (suc n) ≡ (are_buckets_known block p n && is_bucket_known block p n)
 unfolding are_buckets_known
 known_suc block p n = refl
 
@@ -48,7 +48,7 @@ pub elsewhere_none : (words : List ℕ) (process place serial : ℕ) → stands_
 unfolding stands_elsewhere
 elsewhere_none words process place serial = refl
 
-elsewhere_suc : (words : List ℕ) (process place serial : ℕ) (n : ℕ) → stands_elsewhere words process place serial (suc n) ≡ (stands_elsewhere words process place serial n || (not (n + 1 == place) && not (word_at words (slot_place process (n + 1)) == 0) && (serial_in (word_at words (slot_place process (n + 1))) == serial)))
+pub elsewhere_suc : (words : List ℕ) (process place serial : ℕ) (n : ℕ) → stands_elsewhere words process place serial (suc n) ≡ (stands_elsewhere words process place serial n || (not (n + 1 == place) && not (word_at words (slot_place process (n + 1)) == 0) && (serial_in (word_at words (slot_place process (n + 1))) == serial)))
 unfolding stands_elsewhere
 elsewhere_suc words process place serial n = refl
 
@@ -59,7 +59,7 @@ pub framed_none : (words : List ℕ) (process serial : ℕ) → is_framed words 
 unfolding is_framed
 framed_none words process serial = refl
 
-framed_suc : (words : List ℕ) (process serial : ℕ) (n : ℕ) → is_framed words process serial (suc n) ≡ (is_framed words process serial n || names_frame (word_at words (slot_place process (n + 1))) serial)
+pub framed_suc : (words : List ℕ) (process serial : ℕ) (n : ℕ) → is_framed words process serial (suc n) ≡ (is_framed words process serial n || names_frame (word_at words (slot_place process (n + 1))) serial)
 unfolding is_framed
 framed_suc words process serial n = refl
 
@@ -70,7 +70,7 @@ pub code_none : (words : List ℕ) (p : Published) → code_stands words p 0 ≡
 unfolding code_stands
 code_none words p = refl
 
-code_suc : (words : List ℕ) (p : Published) (n : ℕ) → code_stands words p (suc n) ≡ (code_stands words p n && is_code_word p (slice_get p.state.exports n) (word_at words (block_place p.root.code n)))
+pub code_suc : (words : List ℕ) (p : Published) (n : ℕ) → code_stands words p (suc n) ≡ (code_stands words p n && is_code_word p (slice_get p.state.exports n) (word_at words (block_place p.root.code n)))
 unfolding code_stands
 code_suc words p n = refl
 
@@ -81,7 +81,7 @@ pub traces_none : (words : List ℕ) (p : Published) (a : AreaRef) → traces_st
 unfolding traces_stand
 traces_none words p a = refl
 
-traces_suc : (words : List ℕ) (p : Published) (a : AreaRef) (n : ℕ) → traces_stand words p a (suc n) ≡ (traces_stand words p a n && (word_at words (breakpoint_place p.root.bp a.block n) == traced_word p a.serial n))
+pub traces_suc : (words : List ℕ) (p : Published) (a : AreaRef) (n : ℕ) → traces_stand words p a (suc n) ≡ (traces_stand words p a n && (word_at words (breakpoint_place p.root.bp a.block n) == traced_word p a.serial n))
 unfolding traces_stand
 traces_suc words p a n = refl
 
@@ -92,7 +92,7 @@ pub entries_none : (words : List ℕ) (k : KeptArea) (p : Published) → entries
 unfolding entries_stand
 entries_none words k p = refl
 
-entries_suc : (words : List ℕ) (k : KeptArea) (p : Published) (n : ℕ) → entries_stand words k p (suc n) ≡ (entries_stand words k p n && (not (has_function k n) || not (word_at words (block_place k.area.block (entry_at n)) == 0) || not (is_traced p k.area.serial n)))
+pub entries_suc : (words : List ℕ) (k : KeptArea) (p : Published) (n : ℕ) → entries_stand words k p (suc n) ≡ (entries_stand words k p n && (not (has_function k n) || not (word_at words (block_place k.area.block (entry_at n)) == 0) || not (is_traced p k.area.serial n)))
 unfolding entries_stand
 entries_suc words k p n = refl
 
@@ -103,7 +103,7 @@ pub image_none : (words : List ℕ) (k : KeptArea) → image_stands words k 0 �
 unfolding image_stands
 image_none words k = refl
 
-image_suc : (words : List ℕ) (k : KeptArea) (n : ℕ) → image_stands words k (suc n) ≡ (image_stands words k n && (is_entry_word k n || is_image_word (slice_get k.words n) (word_at words (block_place k.area.block n))))
+pub image_suc : (words : List ℕ) (k : KeptArea) (n : ℕ) → image_stands words k (suc n) ≡ (image_stands words k n && (is_entry_word k n || is_image_word (slice_get k.words n) (word_at words (block_place k.area.block n))))
 unfolding image_stands
 image_suc words k n = refl
 
@@ -114,7 +114,7 @@ pub looked_none : (block : ℕ → ℕ) (key : ℕ) → looked block key 0 ≡ N
 unfolding looked
 looked_none block key = refl
 
-looked_suc : (block : ℕ → ℕ) (key n : ℕ) → looked block key (suc n) ≡ look_at block key ((key % BUCKETS + n) % BUCKETS) (looked block key n)
+pub looked_suc : (block : ℕ → ℕ) (key n : ℕ) → looked block key (suc n) ≡ look_at block key ((key % BUCKETS + n) % BUCKETS) (looked block key n)
 unfolding looked
 looked_suc block key n = refl
 

@@ -39,10 +39,15 @@ abbrev pub CodeStands : (ℕ → ℕ) → Published → Type 0
 CodeStands word p =
     (entry : ℕ) → entry < EXPORT_ENTRIES → IsTrue (is_code_word p (slice_get p.state.exports entry) (word (block_place p.root.code entry)))
 
+-- the block is one for instances
+pub record IsForInstances (block : ℕ) : Type 0 where
+  pub first : AREAS_START ≤ block
+  pub last : block < BIG_BLOCKS
+
 -- the breakpoint index of the root says which functions of current and old instances are traced
 abbrev pub BreakpointsStand : (ℕ → ℕ) → Published → Type 0
 BreakpointsStand word p =
-    (a : AreaRef) → Among p.areas a → IsTrue (is_instance p a.serial) → (function : ℕ) → function < FUNCTIONS → word (breakpoint_place p.root.bp a.block function) ≡ traced_word p a.serial function
+    (a : AreaRef) → Among p.areas a → IsTrue (is_instance p a.serial) → IsForInstances a.block → (function : ℕ) → function < FUNCTIONS → word (breakpoint_place p.root.bp a.block function) ≡ traced_word p a.serial function
 
 -- the words of the term table of a root
 abbrev pub term_words : (ℕ → ℕ) → Root → ℕ → ℕ

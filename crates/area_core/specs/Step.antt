@@ -30,7 +30,7 @@ use Rattle.area_core.specs.declared.table.KeptArea.{KeptArea}
 use Rattle.area_core.specs.declared.table.Table.{Table}
 use Rattle.area_core.specs.Map.{word_at, opening_words, slot_place, block_place, entry_at, kind_at}
 use Rattle.area_core.specs.Blocks.{Blocks, BlockInvariant}
-use Rattle.area_core.specs.Readers.{is_of, held_generations, readable_generations, may_read}
+use Rattle.area_core.specs.Readers.{is_of, held_generations, readable_generations, may_read, MayRead}
 use Rattle.area_core.specs.Stores.{with_word, holds_in_block, may_store_in_block, may_be_retire, kept_after, may_be_doom, may_store_entry, entry_word, may_store_slot}
 use Rattle.area_core.specs.Roots.{fresh_areas, may_publish}
 
@@ -201,3 +201,11 @@ pub record IsSound (s : Table) : Type 0 where
   pub blocks : BlockInvariant (blocks_of s) (IsReadable s)
   pub words : length s.words ≡ TABLE_WORDS
   pub published : length s.published ≡ s.progress.generation + 1
+
+-- each enabled event keeps a sound state sound
+abbrev pub KeepsSound : Type 0
+KeepsSound = (s t : Table) (event : AreaEvent) → IsSound s → after s event ≡ Some t → IsSound t
+
+-- where a seat may read a word of a block, no store into that word is enabled
+abbrev pub KeepsWhatIsRead : Type 0
+KeepsWhatIsRead = (s t : Table) (word value : ℕ) (seat : SeatName) (block at : ℕ) → IsSound s → kind_at word ≡ InBlock block at → after s (StoreWord word value) ≡ Some t → MayRead s seat word → ⊥

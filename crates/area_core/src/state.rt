@@ -7,7 +7,7 @@ ghost use Rattle.std.specs.Prelude.{◌≡◌, ◌≤◌, [], ◌∷◌, IsErrOf
 ghost use Rattle.prgr_core.specs.declared.fault.StepFault.TheVariants.{NotEnabled};
 ghost use Rattle.area_core.specs.declared.map.TheConstants.{TABLE_WORDS as ALL_WORDS};
 ghost use Rattle.area_core.specs.Map.{opening_words};
-ghost use Rattle.area_core.specs.Step.{after, after_progress, empty_generation, opening_of, opening_published};
+ghost use Rattle.area_core.specs.Step.{after, after_progress, empty_generation, opening_of, opening_published, IsSound};
 
 use crate::event::AreaEvent;
 use crate::map::TABLE_WORDS;
@@ -45,6 +45,7 @@ impl AreaState {
         requires few { members ≤ 16 }
         requires watched { watchers ≤ 4 }
         ensures ok { IfOk result (λ state. state ≡ opening_of members watchers ALL_WORDS) }
+        ensures sound { IfOk result (λ state. IsSound state) }
     {
         let progress = PrgrState::new(alloc, members, watchers)?;
         match opening_table(alloc, progress, TABLE_WORDS as usize) {
