@@ -63,6 +63,7 @@ block_word_kept s sound word value block at is code breakpoints terms entries im
   progress = sound.progress;
   blocks = record {
     roots_fit = sound.blocks.roots_fit;
+    instances_placed = sound.blocks.instances_placed;
     code_stands = code_after (blocks_of s) (IsReadable s) new (InBlock block at) off sound.blocks code;
     breakpoints_stand = breakpoints_after (blocks_of s) (IsReadable s) new (InBlock block at) off sound.blocks breakpoints;
     terms_stand = terms_after (blocks_of s) (IsReadable s) new (InBlock block at) off sound.blocks terms;

@@ -6,6 +6,7 @@ use Rattle.area_core.specs.Blocks.{Blocks, BlockInvariant}
 pub fewer_count : (b : Blocks) (Counts Fewer : ℕ → Type 0) → BlockInvariant b Counts → ((g : ℕ) → Fewer g → Counts g) → BlockInvariant b Fewer
 fewer_count b Counts Fewer h fewer = record {
   roots_fit = λ g p counts at. h.roots_fit g p (fewer g counts) at;
+  instances_placed = λ g p counts at. h.instances_placed g p (fewer g counts) at;
   code_stands = λ g p counts at. h.code_stands g p (fewer g counts) at;
   breakpoints_stand = λ g p counts at. h.breakpoints_stand g p (fewer g counts) at;
   terms_stand = λ g p counts at. h.terms_stand g p (fewer g counts) at;

@@ -82,14 +82,15 @@ module _ (b : Blocks) (Counts : ℕ → Type 0) (word : ℕ → ℕ) (kind : Wor
 
   -- no word of a breakpoint index that tells of an instance is stored
   pub breakpoints_after : ((g : ℕ) (p : Published) → Counts g → slice_get b.published g ≡ Some p → RootFits p.root → (a : AreaRef) → Among p.areas a → IsTrue (is_instance p a.serial) → IsForInstances a.block → (function : ℕ) → function < FUNCTIONS → kind ≡ InBlock (BREAKPOINTS_START + p.root.bp) (breakpoint_at a.block function) → ⊥) → EachCounted b Counts (λ g p. BreakpointsStand word p)
-  breakpoints_after unread g p counts at a among instance fits function few =
+  breakpoints_after unread g p counts at a among instance function few =
+      let fits = sound.instances_placed g p counts at a among instance in
       let root = sound.roots_fit g p counts at in
       let bp = root.bp in
       let big : BREAKPOINTS_START + p.root.bp < BIG_BLOCKS = omega (arith, bp) in
       at_word (breakpoint_place p.root.bp a.block function) (InBlock (BREAKPOINTS_START + p.root.bp) (breakpoint_at a.block function)) (λ x. x ≡ traced_word p a.serial function)
       (kind_block (BREAKPOINTS_START + p.root.bp) (breakpoint_at a.block function) (omega (arith)) (big_room (BREAKPOINTS_START + p.root.bp) (breakpoint_at a.block function) big (breakpoint_fits a.block function fits few)))
       (λ same. absurd (unread g p counts at root a among instance fits function few same))
-      (sound.breakpoints_stand g p counts at a among instance fits function few)
+      (sound.breakpoints_stand g p counts at a among instance function few)
 
   -- no word of a term table is stored
   pub terms_after : ((g : ℕ) (p : Published) → Counts g → slice_get b.published g ≡ Some p → RootFits p.root → (at : ℕ) → at < BIG_WORDS → kind ≡ InBlock (TERMS_START + p.root.term) at → ⊥) → EachCounted b Counts (λ g p. TermsStand (term_words word p.root) p)

@@ -10,7 +10,7 @@ use Rattle.area_core.specs.declared.table.Table.{Table}
 use Rattle.area_core.specs.Map.{word_at, opening_words, slot_place}
 use Rattle.area_core.specs.Generations.{is_naming}
 use Rattle.area_core.specs.Terms.{looked, look_at, outcome, key_in, TermsStand}
-use Rattle.area_core.specs.Blocks.{BlockInvariant, RootFits, CodeStands, BreakpointsStand, term_words, UsedAreKept, Among}
+use Rattle.area_core.specs.Blocks.{BlockInvariant, RootFits, InstancesPlaced, CodeStands, BreakpointsStand, term_words, UsedAreKept, Among}
 use Rattle.area_core.specs.Step.{with_progress, opening_of, opening_published, blocks_of, IsReadable, IsSound}
 use Rattle.area_core.proofs.Counted.{opened}
 
@@ -75,6 +75,7 @@ module _ (word : ℕ → ℕ) (empty : (place : ℕ) → word place ≡ 0) where
   pub blocks_opened : (Counts : ℕ → Type 0) → BlockInvariant (record { word = word; published = opening_published ∷ []; kept = [] }) Counts
   blocks_opened Counts = record {
     roots_fit = each_published Counts (λ p. RootFits p.root) (record { code = omega arith; bp = omega arith; term = omega arith });
+    instances_placed = each_published Counts InstancesPlaced (λ a is. absurd (none_among a is));
     code_stands = each_published Counts (CodeStands word) code_opened;
     breakpoints_stand = each_published Counts (BreakpointsStand word) (λ a is. absurd (none_among a is));
     terms_stand = each_published Counts (λ p. TermsStand (term_words word p.root) p) terms_opened;

@@ -27,6 +27,7 @@ module _ (s : Table) (sound : IsSound s) (place value : ℕ) (kind : WordKind) (
     progress = sound.progress;
     blocks = record {
       roots_fit = sound.blocks.roots_fit;
+      instances_placed = sound.blocks.instances_placed;
       code_stands = code_after (blocks_of s) (IsReadable s) (word_at (slice_set s.words place value)) kind off sound.blocks (λ g p counts here root entry within same. outside p.root.code entry same);
       breakpoints_stand = breakpoints_after (blocks_of s) (IsReadable s) (word_at (slice_set s.words place value)) kind off sound.blocks (λ g p counts here root a among instance fits function few same. outside _ _ same);
       terms_stand = terms_after (blocks_of s) (IsReadable s) (word_at (slice_set s.words place value)) kind off sound.blocks (λ g p counts here root at within same. outside _ at same);

@@ -62,6 +62,7 @@ release_kept s sound stays used named = record {
   progress = sound.progress;
   blocks = record {
     roots_fit = sound.blocks.roots_fit;
+    instances_placed = sound.blocks.instances_placed;
     code_stands = sound.blocks.code_stands;
     breakpoints_stand = sound.blocks.breakpoints_stand;
     terms_stand = sound.blocks.terms_stand;

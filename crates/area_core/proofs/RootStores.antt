@@ -19,19 +19,19 @@ use Rattle.area_core.specs.declared.table.Table.{Table}
 use Rattle.area_core.specs.Map.{word_at, slot_place}
 use Rattle.area_core.specs.Generations.{is_kept_as, serial_in}
 use Rattle.area_core.specs.Terms.{TermsStand, terms_stand}
-use Rattle.area_core.specs.Blocks.{Among, RootFits, CodeStands, BreakpointsStand, term_words, UsedAreKept, FitsBlock, ImageStands, AreaStands, EachCounted}
+use Rattle.area_core.specs.Blocks.{Among, RootFits, InstancesPlaced, CodeStands, BreakpointsStand, term_words, UsedAreKept, FitsBlock, ImageStands, AreaStands, EachCounted}
 use Rattle.area_core.specs.Readers.{held_generations, holds_of_each}
-use Rattle.area_core.specs.Roots.{root_fits, blocks_stand, code_stands, breakpoints_stand, fresh_areas, fits_block, image_stands, area_stands, is_fresh_sound, are_apart, used_are_kept}
+use Rattle.area_core.specs.Roots.{root_fits, instances_placed, blocks_stand, code_stands, breakpoints_stand, fresh_areas, fits_block, image_stands, area_stands, is_fresh_sound, are_apart, used_are_kept}
 use Rattle.area_core.specs.Step.{after, to_publish, may_publish_in, published_in, appended, IsReadable, IsSound, blocks_of}
 use Rattle.area_core.proofs.Joined.{any_joined}
 use Rattle.area_core.proofs.Held.{readable_held}
 use Rattle.area_core.proofs.Tests.{each_passes, generation_passes, three_hold}
 use Rattle.area_core.proofs.TermTests.{terms_stand_true}
-use Rattle.area_core.proofs.RootTests.{root_says, code_says, breakpoints_say, fits_says, image_says, area_says, used_say, in_either, apart_together}
+use Rattle.area_core.proofs.RootTests.{root_says, instances_say, code_says, breakpoints_say, fits_says, image_says, area_says, used_say, in_either, apart_together}
 
-six_hold : (a b c d e f : Bool) → (a && b && c && d && e && f) ≡ true → (a ≡ true) × (b ≡ true) × (c ≡ true) × (d ≡ true) × (e ≡ true) × (f ≡ true)
-six_hold true true true true true true is = (refl, refl, refl, refl, refl, refl)
-six_hold a b c d e f is = absurd (cc)
+seven_hold : (a b c d e f g : Bool) → (a && b && c && d && e && f && g) ≡ true → (a ≡ true) × (b ≡ true) × (c ≡ true) × (d ≡ true) × (e ≡ true) × (f ≡ true) × (g ≡ true)
+seven_hold true true true true true true true is = (refl, refl, refl, refl, refl, refl, refl)
+seven_hold a b c d e f g is = absurd (cc)
 
 -- the progress machine once a generation is published
 abbrev next_progress : Progress → Progress
@@ -69,12 +69,13 @@ module _ (s : Table) (sound : IsSound s) (p : Published) (fresh : List KeptArea)
 
   -- what is published stands in the words, and its areas are kept
   pub published_sound :
-      root_fits p.root ≡ true → blocks_stand s.words p ≡ true → list_all (is_fresh_sound s.words s.published (held_generations s.progress)) fresh ≡ true → are_apart s.kept fresh ≡ true → used_are_kept (s.kept ++ fresh) p ≡ true → list_all (λ (k : KeptArea). area_stands s.words k (s.progress.generation + 1) p) (s.kept ++ fresh) ≡ true
+      root_fits p.root ≡ true → instances_placed p ≡ true → blocks_stand s.words p ≡ true → list_all (is_fresh_sound s.words s.published (held_generations s.progress)) fresh ≡ true → are_apart s.kept fresh ≡ true → used_are_kept (s.kept ++ fresh) p ≡ true → list_all (λ (k : KeptArea). area_stands s.words k (s.progress.generation + 1) p) (s.kept ++ fresh) ≡ true
       → IsSound (published_in s p fresh (next_progress s.progress))
-  published_sound fits stands fresh_stand apart used areas = record {
+  published_sound fits placed stands fresh_stand apart used areas = record {
     progress = next_sound;
     blocks = record {
       roots_fit = each_after (λ (g : ℕ) (q : Published). RootFits q.root) (root_says p.root fits) (λ g q counts among at. sound.blocks.roots_fit g q counts at);
+      instances_placed = each_after (λ (g : ℕ) (q : Published). InstancesPlaced q) (instances_say p placed) (λ g q counts among at. sound.blocks.instances_placed g q counts at);
       code_stands = each_after (λ (g : ℕ) (q : Published). CodeStands (word_at s.words) q) (code_says s.words p parts.0) (λ g q counts among at. sound.blocks.code_stands g q counts at);
       breakpoints_stand = each_after (λ (g : ℕ) (q : Published). BreakpointsStand (word_at s.words) q) (breakpoints_say s.words p parts.1) (λ g q counts among at. sound.blocks.breakpoints_stand g q counts at);
       terms_stand = each_after (λ (g : ℕ) (q : Published). TermsStand (term_words (word_at s.words) q.root) q) (terms_stand_true (term_words (word_at s.words) p.root) p parts.2) (λ g q counts among at. sound.blocks.terms_stand g q counts at);
@@ -124,6 +125,6 @@ chosen false o t e = absurd (cc)
 pub root_store_keeps : (s t : Table) (code bp term : ℕ) (next : Generation) (areas : List AreaRef) → IsSound s → after s (StoreRoot code bp term next areas) ≡ Some t → IsSound t
 root_store_keeps s t code bp term next areas sound e =
     let made = chosen (may_publish_in s (to_publish code bp term next areas)) (appended s (to_publish code bp term next areas) (fresh_areas s.kept (to_publish code bp term next areas))) t e in
-    let six = six_hold (root_fits (to_publish code bp term next areas).root) (blocks_stand s.words (to_publish code bp term next areas)) (list_all (is_fresh_sound s.words s.published (held_generations s.progress)) (fresh_areas s.kept (to_publish code bp term next areas))) (are_apart s.kept (fresh_areas s.kept (to_publish code bp term next areas))) (used_are_kept (s.kept ++ fresh_areas s.kept (to_publish code bp term next areas)) (to_publish code bp term next areas)) (list_all (λ (k : KeptArea). area_stands s.words k (s.progress.generation + 1) (to_publish code bp term next areas)) (s.kept ++ fresh_areas s.kept (to_publish code bp term next areas))) made.0 in
+    let seven = seven_hold (root_fits (to_publish code bp term next areas).root) (instances_placed (to_publish code bp term next areas)) (blocks_stand s.words (to_publish code bp term next areas)) (list_all (is_fresh_sound s.words s.published (held_generations s.progress)) (fresh_areas s.kept (to_publish code bp term next areas))) (are_apart s.kept (fresh_areas s.kept (to_publish code bp term next areas))) (used_are_kept (s.kept ++ fresh_areas s.kept (to_publish code bp term next areas)) (to_publish code bp term next areas)) (list_all (λ (k : KeptArea). area_stands s.words k (s.progress.generation + 1) (to_publish code bp term next areas)) (s.kept ++ fresh_areas s.kept (to_publish code bp term next areas))) made.0 in
     subst IsSound (some_same (published_in s (to_publish code bp term next areas) (fresh_areas s.kept (to_publish code bp term next areas)) (next_progress s.progress)) t made.1)
-    (published_sound s sound (to_publish code bp term next areas) (fresh_areas s.kept (to_publish code bp term next areas)) six.0 six.1 six.2 six.3 six.4 six.5)
+    (published_sound s sound (to_publish code bp term next areas) (fresh_areas s.kept (to_publish code bp term next areas)) seven.0 seven.1 seven.2 seven.3 seven.4 seven.5 seven.6)

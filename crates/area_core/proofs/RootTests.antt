@@ -17,8 +17,8 @@ use Rattle.area_core.specs.declared.table.KeptArea.{KeptArea}
 use Rattle.area_core.specs.Map.{word_at, block_place, breakpoint_place, retire_place, doom_place, entry_at, room_of}
 use Rattle.area_core.specs.Generations.{is_instance, is_retired, is_doomed, is_traced, is_key_area, holds_area, has_serial, is_kept_as, functions_of, has_function, is_entry_word, is_code_word, traced_word, tells, agrees}
 use Rattle.area_core.specs.Stores.{is_image_word}
-use Rattle.area_core.specs.Blocks.{RootFits, CodeStands, BreakpointsStand, UsedAreKept, FitsBlock, ImageStands, AreaStands, KeptApart}
-use Rattle.area_core.specs.Roots.{root_fits, code_stands, traces_stand, breakpoints_stand, fits_block, is_apart, are_apart, image_stands, entries_stand, retire_tells, doom_tells, area_stands, is_holding_kept, used_are_kept}
+use Rattle.area_core.specs.Blocks.{RootFits, IsForInstances, InstancesPlaced, CodeStands, BreakpointsStand, UsedAreKept, FitsBlock, ImageStands, AreaStands, KeptApart}
+use Rattle.area_core.specs.Roots.{root_fits, is_for_instances, instances_placed, code_stands, traces_stand, breakpoints_stand, fits_block, is_apart, are_apart, image_stands, entries_stand, retire_tells, doom_tells, area_stands, is_holding_kept, used_are_kept}
 use Rattle.area_core.proofs.Counted.{code_suc, traces_suc, entries_suc, image_suc}
 use Rattle.area_core.proofs.Tests.{each_passes, passed_by, number_passes, three_hold, four_hold, one_of_two, agrees_same}
 use Rattle.area_core.proofs.Frames.{function_fits}
@@ -44,11 +44,23 @@ root_says root e =
       term = ltb-true root.term TERM_TABLES parts.2;
     }
 
+for_instances_says : (block : ℕ) → is_for_instances block ≡ true → IsForInstances block
+for_instances_says block e =
+    let parts = and_parts (nat_le AREAS_START block) (nat_lt block BIG_BLOCKS) e in
+    record { first = leb-true AREAS_START block parts.0; last = ltb-true block BIG_BLOCKS parts.1 }
+
+pub instances_say : (p : Published) → instances_placed p ≡ true → InstancesPlaced p
+instances_say p e a among instance =
+    elim (or_cases (not (is_instance p a.serial)) (is_for_instances a.block) (each_passes (λ (a : AreaRef). not (is_instance p a.serial) || is_for_instances a.block) p.areas among.0 a e among.1)) as (λ _. IsForInstances a.block) [
+      | inl other ↦ absurd (true≢false (sym instance ∙ not-true (is_instance p a.serial) other))
+      | inr placed ↦ for_instances_says a.block placed
+    ]
+
 pub code_says : (words : List ℕ) (p : Published) → code_stands words p EXPORT_ENTRIES ≡ true → CodeStands (word_at words) p
 code_says words p e entry within = count_each (code_stands words p) (λ (n : ℕ). is_code_word p (slice_get p.state.exports n) (word_at words (block_place p.root.code n))) (code_suc words p) EXPORT_ENTRIES entry e within
 
 pub breakpoints_say : (words : List ℕ) (p : Published) → breakpoints_stand words p ≡ true → BreakpointsStand (word_at words) p
-breakpoints_say words p e a among instance fits function few =
+breakpoints_say words p e a among instance function few =
     elim (or_cases (not (is_instance p a.serial)) (traces_stand words p a FUNCTIONS) (each_passes (λ (a : AreaRef). not (is_instance p a.serial) || traces_stand words p a FUNCTIONS) p.areas among.0 a e among.1)) as (λ _. word_at words (breakpoint_place p.root.bp a.block function) ≡ traced_word p a.serial function) [
       | inl other ↦ absurd (true≢false (sym instance ∙ not-true (is_instance p a.serial) other))
       | inr traces ↦ eqb-true (word_at words (breakpoint_place p.root.bp a.block function)) (traced_word p a.serial function) (count_each (traces_stand words p a) (λ (n : ℕ). word_at words (breakpoint_place p.root.bp a.block n) == traced_word p a.serial n) (traces_suc words p a) FUNCTIONS function traces few)

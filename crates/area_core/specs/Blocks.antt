@@ -44,10 +44,14 @@ pub record IsForInstances (block : ℕ) : Type 0 where
   pub first : AREAS_START ≤ block
   pub last : block < BIG_BLOCKS
 
+-- each current or old instance stands in a block for instances
+abbrev pub InstancesPlaced : Published → Type 0
+InstancesPlaced p = (a : AreaRef) → Among p.areas a → IsTrue (is_instance p a.serial) → IsForInstances a.block
+
 -- the breakpoint index of the root says which functions of current and old instances are traced
 abbrev pub BreakpointsStand : (ℕ → ℕ) → Published → Type 0
 BreakpointsStand word p =
-    (a : AreaRef) → Among p.areas a → IsTrue (is_instance p a.serial) → IsForInstances a.block → (function : ℕ) → function < FUNCTIONS → word (breakpoint_place p.root.bp a.block function) ≡ traced_word p a.serial function
+    (a : AreaRef) → Among p.areas a → IsTrue (is_instance p a.serial) → (function : ℕ) → function < FUNCTIONS → word (breakpoint_place p.root.bp a.block function) ≡ traced_word p a.serial function
 
 -- the words of the term table of a root
 abbrev pub term_words : (ℕ → ℕ) → Root → ℕ → ℕ
@@ -127,6 +131,8 @@ EachCounted b Counts Holds = (g : ℕ) (p : Published) → Counts g → slice_ge
 pub record BlockInvariant (b : Blocks) (Counts : ℕ → Type 0) : Type 0 where
   -- roots name blocks that there are
   pub roots_fit : EachCounted b Counts (λ g p. RootFits p.root)
+  -- instances stand in blocks for which breakpoint indices have words
+  pub instances_placed : EachCounted b Counts (λ g p. InstancesPlaced p)
   -- external calls reach what the generation exports
   pub code_stands : EachCounted b Counts (λ g p. CodeStands b.word p)
   -- trace decisions are those of the generation

@@ -22,6 +22,14 @@ use Rattle.area_core.specs.Stores.{is_image_word}
 abbrev pub root_fits : Root → Bool
 root_fits root = nat_lt root.code CODE_INDICES && nat_lt root.bp BREAKPOINT_INDICES && nat_lt root.term TERM_TABLES
 
+-- the block is one for instances
+abbrev pub is_for_instances : ℕ → Bool
+is_for_instances block = nat_le AREAS_START block && nat_lt block BIG_BLOCKS
+
+-- each current or old instance stands in a block for instances
+abbrev pub instances_placed : Published → Bool
+instances_placed p = list_all (λ a. not (is_instance p a.serial) || is_for_instances a.block) p.areas
+
 -- ---- its blocks
 
 -- the first so many words of the code index lead function names to what they reach
@@ -124,4 +132,4 @@ used_are_kept kept p =
 -- kept, the new generation's number, and what it publishes
 abbrev pub may_publish : List ℕ → List Published → List ℕ → List KeptArea → ℕ → Published → Bool
 may_publish words published generations kept g p =
-    root_fits p.root && blocks_stand words p && list_all (is_fresh_sound words published generations) (fresh_areas kept p) && are_apart kept (fresh_areas kept p) && used_are_kept (kept ++ fresh_areas kept p) p && list_all (λ k. area_stands words k g p) (kept ++ fresh_areas kept p)
+    root_fits p.root && instances_placed p && blocks_stand words p && list_all (is_fresh_sound words published generations) (fresh_areas kept p) && are_apart kept (fresh_areas kept p) && used_are_kept (kept ++ fresh_areas kept p) p && list_all (λ k. area_stands words k g p) (kept ++ fresh_areas kept p)

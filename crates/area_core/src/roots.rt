@@ -6,7 +6,7 @@ ghost use Rattle.area_core.specs.Readers.{holds_at, holds_of_each};
 ghost use Rattle.area_core.specs.Map.{block_place, word_at};
 ghost use Rattle.area_core.specs.Generations.{is_code_word, is_kept_as};
 ghost use Rattle.area_core.specs.Stores.{is_image_word};
-ghost use Rattle.area_core.specs.Roots.{are_apart, area_stands, blocks_stand, breakpoints_stand, code_stands, doom_tells, entries_stand, fits_block, fresh_areas, fresh_in, image_of, image_stands, is_apart, is_fresh_sound, is_holding_kept, may_publish, retire_tells, root_fits, traces_stand, used_are_kept};
+ghost use Rattle.area_core.specs.Roots.{are_apart, area_stands, blocks_stand, breakpoints_stand, code_stands, doom_tells, entries_stand, fits_block, fresh_areas, fresh_in, image_of, image_stands, instances_placed, is_apart, is_for_instances, is_fresh_sound, is_holding_kept, may_publish, retire_tells, root_fits, traces_stand, used_are_kept};
 
 use crate::generations::{agrees, functions_of, is_code_word, is_kept, tells, traced_word};
 use crate::map::{
@@ -25,6 +25,24 @@ fn root_fits(root: Root) -> bool
     ensures { result ≡ root_fits root }
 {
     root.code < CODE_INDICES && root.bp < BREAKPOINT_INDICES && root.term < TERM_TABLES
+}
+
+/// Whether the block is one for instances.
+fn is_for_instances(block: u32) -> bool
+    ensures { result ≡ is_for_instances block }
+{
+    AREAS_START <= block && block < BIG_BLOCKS
+}
+
+/// Whether each current or old instance stands in a block for instances.
+fn instances_placed(published: &Published) -> bool
+    ensures { result ≡ instances_placed published.now }
+{
+    published
+        .areas
+        .as_slice()
+        .iter()
+        .all(|area| !published.is_instance(area.serial) || is_for_instances(area.block))
 }
 
 /// Whether the first so many words of the code index lead function names to what they reach.
@@ -390,6 +408,7 @@ impl Table {
         let kept = self.kept.as_slice();
         let before = self.published.as_slice();
         root_fits(published.root)
+            && instances_placed(published)
             && blocks_stand(words, published)
             && are_fresh_sound(words, before, held, fresh)
             && are_apart(kept, fresh)
