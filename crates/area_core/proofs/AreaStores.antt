@@ -35,7 +35,7 @@ area_word_within word block is =
     doom_within word block is = grind (arith, nat_tests)
 
 -- what is stored at a place stands there
-stored_at : (s : Table) → IsSound s → (word value place : ℕ) → word < TABLE_WORDS → word ≡ place → word_at (slice_set s.words word value) place ≡ value
+pub stored_at : (s : Table) → IsSound s → (word value place : ℕ) → word < TABLE_WORDS → word ≡ place → word_at (slice_set s.words word value) place ≡ value
 stored_at s sound word value place within same =
     ap (word_at (slice_set s.words word value)) (sym same) ∙ word_here s.words word value (subst (λ n. word < n) (sym sound.words) within)
 

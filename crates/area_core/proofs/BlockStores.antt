@@ -47,7 +47,7 @@ in_block_passes kept block test k all among same =
 -- ---- a word of a block
 
 -- a word of a block is one of the table
-block_within : (word block at : ℕ) → kind_at word ≡ InBlock block at → word < TABLE_WORDS
+pub block_within : (word block at : ℕ) → kind_at word ≡ InBlock block at → word < TABLE_WORDS
 block_within word block at is = grind (arith, nat_tests)
 
 -- a word of a block is stored that no root reads; what is said of entry words and images holds of it
@@ -147,7 +147,7 @@ module _ (s : Table) (sound : IsSound s) (word value block at : ℕ) (is : kind_
       (not-true (is_read s (readable_generations s.progress) (InBlock block at)) parts.0, parts.1)
 
   -- a generation that a thread may read does not read the word
-  unread : (g : ℕ) (p : Published) → IsReadable s g → slice_get s.published g ≡ Some p → reads_in_block p block at ≡ true → ⊥
+  pub unread : (g : ℕ) (p : Published) → IsReadable s g → slice_get s.published g ≡ Some p → reads_in_block p block at ≡ true → ⊥
   unread g p counts here reads =
       let under = number_found (λ g. is_read_under (InBlock block at) (slice_get s.published g)) (readable_generations s.progress) g (readable_held s.progress sound.progress g counts) (ap (is_read_under (InBlock block at)) here ∙ reads) in
       true≢false (sym (or_left (list_any (λ g. is_read_under (InBlock block at) (slice_get s.published g)) (readable_generations s.progress)) (slots_read All s (InBlock block at)) under) ∙ both.0)

@@ -2,9 +2,11 @@ pub mod Anchors
 pub mod AreaStores
 pub mod BlockStores
 pub mod Counted
+pub mod EnabledWords
 pub mod EntryStores
 pub mod Fewer
 pub mod Frames
+pub mod FromFacts
 pub mod Held
 pub mod Joined
 pub mod Made

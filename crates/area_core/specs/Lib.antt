@@ -6,3 +6,4 @@ pub mod Readers
 pub mod Stores
 pub mod Roots
 pub mod Step
+pub mod Enabled

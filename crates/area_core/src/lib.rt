@@ -13,7 +13,7 @@ mod table;
 mod terms;
 
 pub use event::{AreaEvent, SeatName};
-pub use laws::{events_keep_both_invariants, what_is_read_is_not_stored};
+pub use laws::{block_stores_are_decided, events_keep_both_invariants, what_is_read_is_not_stored};
 pub use map::{TABLE_WORDS, WordKind, kind_of};
 pub use readers::Slots;
 pub use state::{AreaState, area_step};
