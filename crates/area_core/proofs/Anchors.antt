@@ -121,7 +121,7 @@ module _ (s : Table) (sound : IsSound s) (process : ℕ) (slot : process < PROCE
 -- ---- a store that the test lets through
 
 -- what the test of a slot asks was published, and for an anchor its own test holds
-slot_test : (s : Table) (process place value : ℕ) (newest : Option Published) → may_store_slot s process place value newest ≡ true → (p : Published) × (newest ≡ Some p) × ((1 ≤ place) → may_store_anchor s process place value p ≡ true)
+pub slot_test : (s : Table) (process place value : ℕ) (newest : Option Published) → may_store_slot s process place value newest ≡ true → (p : Published) × (newest ≡ Some p) × ((1 ≤ place) → may_store_anchor s process place value p ≡ true)
 slot_test s process place value None e = absurd (cc)
 slot_test s process place value (Some p) e = (p, refl, λ first. anchor first)
   where

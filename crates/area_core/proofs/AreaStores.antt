@@ -24,7 +24,7 @@ use Rattle.area_core.proofs.BlockStores.{stored_off, in_block_passes}
 -- ---- a retire or doom word
 
 -- a retire or doom word is one of the table
-area_word_within : (word block : ℕ) → (kind_at word ≡ Retire block) ⊎ (kind_at word ≡ Doom block) → word < TABLE_WORDS
+pub area_word_within : (word block : ℕ) → (kind_at word ≡ Retire block) ⊎ (kind_at word ≡ Doom block) → word < TABLE_WORDS
 area_word_within word block is =
     elim is as (λ _. word < TABLE_WORDS) [ inl retire ↦ retire_within word block retire | inr doom ↦ doom_within word block doom ]
   where

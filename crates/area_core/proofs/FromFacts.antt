@@ -22,6 +22,11 @@ pub never : (b : Bool) → (b ≡ true → ⊥) → b ≡ false
 never true refuted = absurd (refuted refl)
 never false refuted = refl
 
+-- three tests that hold
+pub three_from : (a b c : Bool) → a ≡ true → b ≡ true → c ≡ true → (a && b && c) ≡ true
+three_from true true true e f g = refl
+three_from a b c e f g = absurd (cc)
+
 -- what is enabled is left
 pub is_enabled : (b : Bool) (t : Table) → b ≡ true → if_enabled b t ≡ Some t
 is_enabled b t e = ap (λ (x : Bool). if_enabled x t) e

@@ -60,7 +60,7 @@ held_has g false held e = absurd (cc)
 
 -- ---- members
 
-value_is : (word : ℕ) → IsValue word → is_value word ≡ true
+pub value_is : (word : ℕ) → IsValue word → is_value word ≡ true
 value_is word value = and_from (nat_lt ENTERING word) (nat_lt word WAITING) (lt-ltb ENTERING word value.0) (lt-ltb word WAITING value.1)
 
 root_is : (loaded : Loaded) (c : ℕ) → HasLoadedRoot loaded c → has_root loaded ≡ true

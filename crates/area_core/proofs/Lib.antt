@@ -2,6 +2,8 @@ pub mod Anchors
 pub mod AreaStores
 pub mod BlockStores
 pub mod Counted
+pub mod EnabledAreas
+pub mod EnabledSlots
 pub mod EnabledWords
 pub mod EntryStores
 pub mod Fewer

@@ -1,6 +1,6 @@
 //! What holds of every state, not only of those that a run reaches.
 
-ghost use Rattle.area_core.specs.Enabled.{DecidesBlockStores};
+ghost use Rattle.area_core.specs.Enabled.{DecidesBlockStores, DecidesDoomStores, DecidesEntryStores, DecidesRetireStores, DecidesSlotStores};
 ghost use Rattle.area_core.specs.Step.{KeepsSound, KeepsWhatIsRead};
 
 /// Every enabled event keeps the progress invariant and the block invariant, from every state that
@@ -18,4 +18,27 @@ pub fn what_is_read_is_not_stored()
 /// after it.
 pub fn block_stores_are_decided()
     ensures { DecidesBlockStores }
+{}
+
+/// A retire word may be stored exactly where the block invariant holds after it, of the areas that are
+/// kept then.
+pub fn retire_stores_are_decided()
+    ensures { DecidesRetireStores }
+{}
+
+/// A doom word may be stored exactly where the block invariant holds after it.
+pub fn doom_stores_are_decided()
+    ensures { DecidesDoomStores }
+{}
+
+/// An entry word may be stored exactly where it is that of a kept instance and the block invariant
+/// holds after it.
+pub fn entry_stores_are_decided()
+    ensures { DecidesEntryStores }
+{}
+
+/// A word of a slot may be stored exactly where its line is met and the block invariant holds after
+/// it.
+pub fn slot_stores_are_decided()
+    ensures { DecidesSlotStores }
 {}
