@@ -24,14 +24,10 @@ use Rattle.area_core.proofs.Counted.{elsewhere_none, elsewhere_suc}
 use Rattle.area_core.proofs.Held.{value_is}
 use Rattle.area_core.proofs.Places.{slots_differ, word_here, word_there}
 use Rattle.area_core.proofs.Tests.{three_hold, four_hold}
-use Rattle.area_core.proofs.FromFacts.{never, three_from, is_enabled}
+use Rattle.area_core.proofs.FromFacts.{never, three_from, four_from, is_enabled}
 use Rattle.area_core.proofs.Anchors.{slot_test}
 use Rattle.area_core.proofs.UnreadStores.{enabled}
 use Rattle.area_core.proofs.StoreLaws.{slot_store_keeps}
-
-four_from : (a b c d : Bool) → a ≡ true → b ≡ true → c ≡ true → d ≡ true → (a && b && c && d) ≡ true
-four_from true true true true e f g h = refl
-four_from a b c d e f g h = absurd (cc)
 
 -- another anchor with the serial stands in the slot
 pub elsewhere_by : (words : List ℕ) (process place serial n : ℕ) → stands_elsewhere words process place serial n ≡ true → (anchor : ℕ) × (1 ≤ anchor) × (anchor ≤ n) × (anchor ≢ place) × (word_at words (slot_place process anchor) ≢ 0) × (serial_in (word_at words (slot_place process anchor)) ≡ serial)

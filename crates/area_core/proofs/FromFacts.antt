@@ -27,6 +27,11 @@ pub three_from : (a b c : Bool) → a ≡ true → b ≡ true → c ≡ true →
 three_from true true true e f g = refl
 three_from a b c e f g = absurd (cc)
 
+-- four tests that hold
+pub four_from : (a b c d : Bool) → a ≡ true → b ≡ true → c ≡ true → d ≡ true → (a && b && c && d) ≡ true
+four_from true true true true e f g h = refl
+four_from a b c d e f g h = absurd (cc)
+
 -- what is enabled is left
 pub is_enabled : (b : Bool) (t : Table) → b ≡ true → if_enabled b t ≡ Some t
 is_enabled b t e = ap (λ (x : Bool). if_enabled x t) e

@@ -3,6 +3,7 @@ pub mod AreaStores
 pub mod BlockStores
 pub mod Counted
 pub mod EnabledAreas
+pub mod EnabledRoots
 pub mod EnabledSlots
 pub mod EnabledWords
 pub mod EntryStores

@@ -46,7 +46,7 @@ either_kept kept fresh k among =
     ]
 
 module _ (s : Table) (sound : IsSound s) (p : Published) (fresh : List KeptArea) where
-  next_sound : IsProgressSound (next_progress s.progress)
+  pub next_sound : IsProgressSound (next_progress s.progress)
   next_sound = keeps_sound s.progress prgr.Publish (next_progress s.progress) sound.progress refl
 
   -- what holds of the new generation, and of those that are held, holds of each that some thread may read

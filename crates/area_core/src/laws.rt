@@ -1,6 +1,6 @@
 //! What holds of every state, not only of those that a run reaches.
 
-ghost use Rattle.area_core.specs.Enabled.{DecidesBlockStores, DecidesDoomStores, DecidesEntryStores, DecidesRetireStores, DecidesSlotStores};
+ghost use Rattle.area_core.specs.Enabled.{DecidesBlockStores, DecidesDoomStores, DecidesEntryStores, DecidesRetireStores, DecidesRootStores, DecidesSlotStores};
 ghost use Rattle.area_core.specs.Step.{KeepsSound, KeepsWhatIsRead};
 
 /// Every enabled event keeps the progress invariant and the block invariant, from every state that
@@ -41,4 +41,9 @@ pub fn entry_stores_are_decided()
 /// it.
 pub fn slot_stores_are_decided()
     ensures { DecidesSlotStores }
+{}
+
+/// The root may be stored exactly where the block invariant holds after it.
+pub fn root_stores_are_decided()
+    ensures { DecidesRootStores }
 {}
