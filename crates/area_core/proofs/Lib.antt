@@ -9,6 +9,7 @@ pub mod EnabledWords
 pub mod EntryStores
 pub mod Fewer
 pub mod Frames
+pub mod Freed
 pub mod FromFacts
 pub mod Held
 pub mod Joined
@@ -16,6 +17,7 @@ pub mod Made
 pub mod Opened
 pub mod OutsideBlocks
 pub mod Places
+pub mod ReadWords
 pub mod ReadsNoMore
 pub mod Releases
 pub mod RootStores

@@ -18,11 +18,11 @@ use Rattle.area_core.proofs.ReadsNoMore.{ReadsNoMore, reads_no_more, pair_reads,
 
 -- ---- choices
 
-mapped_some : {T U : Type 0} (f : T → U) (o : Option T) (u : U) → option_map f o ≡ Some u → (x : T) × (o ≡ Some x) × (f x ≡ u)
+pub mapped_some : {T U : Type 0} (f : T → U) (o : Option T) (u : U) → option_map f o ≡ Some u → (x : T) × (o ≡ Some x) × (f x ≡ u)
 mapped_some f None u e = absurd (cc)
 mapped_some f (Some x) u e = (x, refl, cc)
 
-chosen_some : {T : Type 0} (b : Bool) (o : Option T) (t : T) → (if b then o else None) ≡ Some t → o ≡ Some t
+pub chosen_some : {T : Type 0} (b : Bool) (o : Option T) (t : T) → (if b then o else None) ≡ Some t → o ≡ Some t
 chosen_some true o t e = e
 chosen_some false o t e = absurd (cc)
 

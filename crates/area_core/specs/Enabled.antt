@@ -1,9 +1,13 @@
 -- Where each kind of store is enabled: exactly where its line is met and the block invariant holds after it. A line says
 -- who may store the word; that the words still stand for the generations is said of the state after the store.
 -- Source: Erlang/OTP erts internal documentation, CodeLoading and Tracing; the words and the lines are this project's own.
-use Rattle.std.specs.Prelude.{◌≡◌, ℕ, ◌+◌, ◌%◌, ◌<◌, ◌≤◌, Bool, false, ◌↔◌, List, length, Some, slice_get, IsTrue}
+use Rattle.std.specs.Prelude.{◌≡◌, ℕ, ◌+◌, ◌%◌, ◌<◌, ◌≤◌, ◌==◌, Bool, false, ◌↔◌, List, length, Some, slice_get, IsTrue}
+use Rattle.std.specs.List.{list_any}
 use Rattle.prgr_core.specs.declared.member.Member.{Member}
+use Rattle.prgr_core.specs.declared.progress.Progress.{Progress}
 use Rattle.prgr_core.specs.Members.{IsValue}
+use Rattle.prgr_core.specs.Machine.{machine_of, Readable}
+use Rattle.prgr_core.specs.Step.{IsSound as IsProgressSound}
 use Rattle.term_core.specs.declared.area.AreaRef.{AreaRef}
 use Rattle.term_core.specs.declared.area.CodeRef.{CodeRef}
 use Rattle.term_core.specs.declared.generation.Generation.{Generation}
@@ -15,8 +19,9 @@ use Rattle.area_core.specs.declared.table.KeptArea.{KeptArea}
 use Rattle.area_core.specs.declared.table.Table.{Table}
 use Rattle.area_core.specs.Map.{word_at, slot_place, block_place, entry_at, kind_at}
 use Rattle.area_core.specs.Generations.{has_function, names}
+use Rattle.area_core.specs.Terms.{TermsStand, terms_stand}
 use Rattle.area_core.specs.Blocks.{Among, IsAnchor, BlockInvariant}
-use Rattle.area_core.specs.Readers.{reads_in_block}
+use Rattle.area_core.specs.Readers.{reads_in_block, readable_generations}
 use Rattle.area_core.specs.Stores.{with_word, kept_after, entry_word, may_name_frame, may_name_literal}
 use Rattle.area_core.specs.Roots.{fresh_areas}
 use Rattle.area_core.specs.Step.{after, to_publish, published_in, IsReadable, IsSound, blocks_of}
@@ -94,3 +99,13 @@ with_root s p = published_in s p (fresh_areas s.kept p) (record s.progress { gen
 -- the root may be stored exactly where the invariant holds after it
 abbrev pub DecidesRootStores : Type 0
 DecidesRootStores = (s : Table) (code bp term : ℕ) (next : Generation) (areas : List AreaRef) → IsSound s → (after s (StoreRoot code bp term next areas) ≡ Some (with_root s (to_publish code bp term next areas))) ↔ BlocksStand (with_root s (to_publish code bp term next areas))
+
+-- ---- what the tests go through
+
+-- the test of a term table says just that the block stands for the keys
+abbrev pub DecidesTables : Type 0
+DecidesTables = (block : ℕ → ℕ) (p : Published) → IsTrue (terms_stand block p) ↔ TermsStand block p
+
+-- the list of readable generations has just those that a thread may read
+abbrev pub ListsReadable : Type 0
+ListsReadable = (s : Progress) (g : ℕ) → IsProgressSound s → IsTrue (list_any (λ x. x == g) (readable_generations s)) ↔ Readable (machine_of s) g

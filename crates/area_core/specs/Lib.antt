@@ -7,3 +7,4 @@ pub mod Stores
 pub mod Roots
 pub mod Step
 pub mod Enabled
+pub mod Grace

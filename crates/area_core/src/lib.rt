@@ -15,8 +15,9 @@ mod terms;
 pub use event::{AreaEvent, SeatName};
 pub use laws::{
     block_stores_are_decided, doom_stores_are_decided, entry_stores_are_decided,
-    events_keep_both_invariants, retire_stores_are_decided, root_stores_are_decided, slot_stores_are_decided,
-    what_is_read_is_not_stored,
+    events_keep_both_invariants, grace_frees_blocks, readable_generations_are_listed,
+    retire_stores_are_decided, root_stores_are_decided, slot_stores_are_decided,
+    term_tables_are_decided, what_is_read_is_not_stored,
 };
 pub use map::{TABLE_WORDS, WordKind, kind_of};
 pub use readers::Slots;
