@@ -2,14 +2,15 @@
 use Rattle.std.proofs.Common.{◌≡◌, ◌∙◌, ◌==◌, ℕ, Bool, true, false, refl, sym, ap, List, [], ◌∷◌, map, Option, Some, None, IfSome, option_and_then, option_map, if◌then◌else◌}
 use Rattle.term_core.specs.declared.atom.Mfa.{Mfa}
 use Rattle.term_core.specs.declared.generation.Holding.{Holding}
-use Rattle.term_core.specs.Image.{image_of, term_at, term_of_word}
+use Rattle.term_core.specs.Image.{image_of, immediate_word, term_at, term_of_word}
 use Rattle.term_core.specs.Plain.{term_of}
 use Rattle.term_core.specs.PlainTerm.{PlainTerm}
 use Rattle.term_core.proofs.ImagePlaces.{first_word-immediate, stands_alone, term_at-is, term_of_word-first_word}
 use Rattle.server_core.specs.Generations.{generation_of, holding_of, key_term}
-use Rattle.server_core.specs.ServerState.{HasItsArea, IsPersistent, IsShortTerm, IsSound, IsTermArea, Persistent, ServerState, key_area, persistent_among, persistent_of, term_of_area}
-use Rattle.machine_core.specs.GenerationReads.{held_value, holding_among, is_term_image, reads_in, shown_in, words_in}
+use Rattle.server_core.specs.ServerState.{HasItsArea, IsPersistent, IsShortTerm, IsSound, IsTermArea, Persistent, ServerState, key_area, one_word, persistent_among, persistent_of, term_of_area}
+use Rattle.machine_core.specs.GenerationReads.{found_held, held_value, holding_among, is_term_image, reads_in, shown_in, words_in}
 use Rattle.machine_core.specs.Process.{literal, owned}
+use Rattle.machine_core.specs.Reads.{found_of}
 use Rattle.machine_core.specs.ServerReads.{key_value, persistent_value}
 use Rattle.machine_core.specs.View.{IsKeyValue}
 use Rattle.machine_core.proofs.GenerationAreas.{key_kept, some_of, term_words_in}
@@ -52,6 +53,23 @@ module _ (names : List Mfa) (s : ServerState) (sound : IsSound s) where
   -- what a key holds
   pub key_is : (key : ℕ) → (reads_in names (generation_of names s)).key key ≡ key_value s key
   key_is key = ap (option_map (held_value (generation_of names s))) (among_keys s.keys key) ∙ value_by key (persistent_of s key) refl (sound.keys key)
+
+  found_is : (key : ℕ) (t : PlainTerm) (area : Option ℕ) → IsShortTerm t → HasItsArea s t area →
+      found_of (Some (held_value (generation_of names s) (holding_of t area))) ≡ found_held (Some (holding_of t area))
+  found_is key t None short has =
+      let word = ap term_of_word (sym (first_word-immediate t has)) ∙ term_of_word-first_word t has short.fits in
+      ap (λ term. one_word (immediate_word term)) word
+  found_is key t (Some serial) short has = refl
+
+  found_by : (key : ℕ) (o : Option Persistent) → IfSome o (IsPersistent s) → found_of (option_map (held_value (generation_of names s)) (option_map holding o)) ≡ found_held (option_map holding o)
+  found_by key None h = refl
+  found_by key (Some p) h = found_is key p.term p.area h.sound h.area
+
+  -- what a reader finds of it
+  pub key_found-is : (key : ℕ) → found_of ((reads_in names (generation_of names s)).key key) ≡ found_held (holding_among (generation_of names s).keys key)
+  key_found-is key =
+      ap (λ o. found_of (option_map (held_value (generation_of names s)) o)) (among_keys s.keys key) ∙ found_by key (persistent_of s key) (sound.keys key)
+      ∙ sym (ap found_held (among_keys s.keys key))
 
   value_holds : (key : ℕ) (t : PlainTerm) (area : Option ℕ) → IsShortTerm t → HasItsArea s t area → ((serial : ℕ) → area ≡ Some serial → key_area s key ≡ Some serial) →
       IsKeyValue (shown_in names (generation_of names s)) (Some (persistent_value t area))

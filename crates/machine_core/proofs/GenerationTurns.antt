@@ -26,9 +26,12 @@ use Rattle.machine_core.proofs.SameReads.{AgreesWith, IsSameFunction, same_ran}
 use Rattle.machine_core.proofs.Viewing.{is_lawful, is_of_module}
 
 -- a function is traced in plain numbers where it is
+same_test : (e x : Entry) → is_function e (function_ref x) ≡ is_same_entry e x
+same_test e x = grind (arith, nat_tests)
+
 traced_is : (e : Entry) (es : List Entry) → list_any (is_function e) (map function_ref es) ≡ list_any (is_same_entry e) es
 traced_is e [] = refl
-traced_is e (x ∷ es) = ap (λ b. is_same_entry e x || b) (traced_is e es)
+traced_is e (x ∷ es) = ap (λ b. b || list_any (is_function e) (map function_ref es)) (same_test e x) ∙ ap (λ b. is_same_entry e x || b) (traced_is e es)
 
 module _ (names : List Mfa) (s : ServerState) (sound : IsSound s) (numbered : AreNumbered names s) where
   -- the function that a name reaches is one of an instance's

@@ -11,6 +11,7 @@ use Rattle.mod_core.specs.Module.{IsModule}
 use Rattle.server_core.specs.Generations.{generation_of, kept_area, kept_areas, kept_words}
 use Rattle.server_core.specs.ServerState.{IsSound, IsTermArea, ServerState, code_of, first_words, instance_image, is_serial_in, term_of_area, words_of_area}
 use Rattle.machine_core.specs.GenerationReads.{image_among, words_in}
+use Rattle.machine_core.specs.View.{server_words}
 
 found_first : (b : Bool) (words : List ℕ) (x y z : Option (List ℕ)) → x ≡ first_words y z → (if b then Some words else x) ≡ first_words (if b then Some words else y) z
 found_first true words x y z e = refl
@@ -86,3 +87,7 @@ module _ (s : ServerState) where
   -- the words that a generation has of an area
   pub words_kept : (names : List Mfa) (q : ℕ) → IsSound s → words_in (generation_of names s) q ≡ unwrap_or (kept_words s q) []
   words_kept names q sound = ap (λ o. unwrap_or o []) (by_serial q (nat_lt q s.next_serial) refl sound)
+
+  -- which are those of the area, unless it is released
+  pub words_agree : (names : List Mfa) (q : ℕ) → IsSound s → is_serial_in s.released q ≡ false → words_in (generation_of names s) q ≡ server_words s q
+  words_agree names q sound kept = words_kept names q sound ∙ rw kept refl

@@ -50,3 +50,4 @@ pub mod GenerationCalls
 pub mod GenerationExports
 pub mod GenerationKeys
 pub mod GenerationTurns
+pub mod GenerationLiterals

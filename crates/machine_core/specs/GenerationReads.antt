@@ -14,7 +14,7 @@ use Rattle.term_core.specs.ImageWords.{found_len}
 use Rattle.term_core.specs.Plain.{term_of}
 use Rattle.mod_core.specs.declared.code.Instr.{Instr}
 use Rattle.server_core.specs.Generations.{is_serial, number_of_name}
-use Rattle.server_core.specs.ServerState.{Entry, is_serial_in}
+use Rattle.server_core.specs.ServerState.{Entry, KeyFound, absent, is_serial_in, one_word, whole_area}
 use Rattle.machine_core.specs.Decode.{instr_shown, op_at}
 use Rattle.machine_core.specs.Process.{PlainValue, literal, owned}
 use Rattle.machine_core.specs.Reads.{Reads}
@@ -51,7 +51,7 @@ instr_in g e place = instr_shown (words_in g e.serial) (op_at (words_in g e.seri
 
 -- whether the plain numbers are those of a function
 abbrev pub is_function : Entry → FunctionRef → Bool
-is_function e f = e.serial == f.serial && e.function == f.function
+is_function e f = f.serial == e.serial && f.function == e.function
 
 -- what the export table has at the number of a name; nothing where the name has none
 abbrev pub exported : List Mfa → Generation → Mfa → Option FunctionRef
@@ -67,6 +67,12 @@ place_within serial f = if f.serial == serial then Some f.function else None
 abbrev pub holding_among : List KeyTerm → ℕ → Option Holding
 holding_among [] key = None
 holding_among (k ∷ ks) key = if k.key.0 == key then Some k.holding else holding_among ks key
+
+-- what a reader finds of what a key holds in plain numbers: nothing, the word of an integer or an atom, or the area of another term
+abbrev pub found_held : Option Holding → KeyFound
+found_held None = absent
+found_held (Some (Word word)) = one_word word
+found_held (Some (Area serial)) = whole_area serial
 
 -- what a key holds, as a value: the term whose image is the area is a literal there
 abbrev pub held_value : Generation → Holding → PlainValue
