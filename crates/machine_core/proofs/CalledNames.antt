@@ -78,7 +78,7 @@ pub record IsNamed (shown : Shown) (e : Entry) : Type 0 where
   pub name_few : (shown.reads.function_name e).0 < 4096
   pub arity_few : shown.reads.arity e ≤ 15
 
-named_from : (shown : Shown) (e : Entry) (m : Module) (f : Function) → IsOfModule shown e.serial m → slice_get m.functions e.function ≡ Some f → e.function < length m.functions → IsNamed shown e
+pub named_from : (shown : Shown) (e : Entry) (m : Module) (f : Function) → IsOfModule shown e.serial m → slice_get m.functions e.function ≡ Some f → e.function < length m.functions → IsNamed shown e
 named_from shown e m f is found h =
     let head = head_in_image m e.function f found in
     let sound = sound_function m.functions m.functions e.function f is.sound.functions found in

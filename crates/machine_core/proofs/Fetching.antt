@@ -153,7 +153,7 @@ pub record IsFetched (shown : Shown) (area : AreaRef) (f : PlainFrame) : Type 0 
   pub constants : ℕ
   pub back : IsInstrBack shown area constants (instr_at shown.reads f) (op_at (shown.words area.serial) f.place)
 
-fetched_next : (shown : Shown) (area : AreaRef) (f : PlainFrame) → f.serial ≡ area.serial → (n : IsNext shown f) → InstrAt n.m f.place (instr_at shown.reads f) → IsFetched shown area f
+pub fetched_next : (shown : Shown) (area : AreaRef) (f : PlainFrame) → f.serial ≡ area.serial → (n : IsNext shown f) → InstrAt n.m f.place (instr_at shown.reads f) → IsFetched shown area f
 fetched_next shown area f same n a =
     let first = first_word shown f n a in
     let heads = code_behind_heads n.m in

@@ -41,3 +41,13 @@ pub mod DoomedFrames
 pub mod SameReads
 pub mod Steps
 pub mod TurnAnswers
+pub mod KeptAreas
+pub mod ImageKinds
+pub mod GenerationCode
+pub mod GenerationAreas
+pub mod GenerationPlaces
+pub mod GenerationCalls
+pub mod GenerationExports
+pub mod GenerationKeys
+pub mod GenerationTurns
+pub mod GenerationLiterals

@@ -34,10 +34,10 @@ sound_numbered fs len (i ∷ is) zero h = h 0 i (omega arith)
 sound_numbered fs len (i ∷ is) (suc number) h = sound_numbered fs len is number (λ k d l. h (suc k) d (omega arith))
 
 -- the place of the instruction with a number, or of the return past the last one
-record IsNumbered (start : ℕ) (code : List Instr) (place : ℕ) : Type 0 where
-  number : ℕ
-  within : number ≤ length code
-  is : place ≡ place_in start code number
+pub record IsNumbered (start : ℕ) (code : List Instr) (place : ℕ) : Type 0 where
+  pub number : ℕ
+  pub within : number ≤ length code
+  pub is : place ≡ place_in start code number
 
 -- an instruction behind which a frame stands is one of the code, not the return past its end
 going_inside : (code : List Instr) (number : ℕ) → goes_past (numbered code number) ≡ true → number < length code
@@ -73,7 +73,7 @@ placed_target fs len place target i h e = absurd (cc)
 
 module _ (shown : Shown) (e : Entry) (m : Module) (g : Function) (loaded : IsOfModule shown e.serial m) (found : slice_get m.functions e.function ≡ Some g) where
   -- what is read at the place of a number is the instruction with it, its target a place
-  instr_is : (number : ℕ) → number ≤ length g.code → shown.reads.instr e (place_in (function_place m e.function) g.code number) ≡ placed (place_in (function_place m e.function) g.code) (numbered g.code number)
+  pub instr_is : (number : ℕ) → number ≤ length g.code → shown.reads.instr e (place_in (function_place m e.function) g.code number) ≡ placed (place_in (function_place m e.function) g.code) (numbered g.code number)
   instr_is number within =
       let code = code_is m e.function g found in
       (loaded.functions e.function g found).instrs number within
@@ -83,7 +83,7 @@ module _ (shown : Shown) (e : Entry) (m : Module) (g : Function) (loaded : IsOfM
   sound_at : (number : ℕ) → IsInstr m.functions (length g.code) (numbered g.code number)
   sound_at number = sound_numbered m.functions (length g.code) g.code number (sound_function m.functions m.functions e.function g loaded.sound.functions found).code
 
-  there : (place : ℕ) (n : IsNumbered (function_place m e.function) g.code place) → shown.reads.instr e place ≡ placed (place_in (function_place m e.function) g.code) (numbered g.code n.number)
+  pub there : (place : ℕ) (n : IsNumbered (function_place m e.function) g.code place) → shown.reads.instr e place ≡ placed (place_in (function_place m e.function) g.code) (numbered g.code n.number)
   there place n = ap (shown.reads.instr e) n.is ∙ instr_is n.number n.within
 
   behind : (place : ℕ) → IsNumbered (function_place m e.function) g.code place → goes_past (shown.reads.instr e place) ≡ true → IsNumbered (function_place m e.function) g.code (place + instr_len (shown.reads.instr e place))
@@ -99,7 +99,7 @@ module _ (shown : Shown) (e : Entry) (m : Module) (g : Function) (loaded : IsOfM
       let t = placed_target m.functions (length g.code) (place_in (function_place m e.function) g.code) to (numbered g.code n.number) (sound_at n.number) (sym (ap target_of (there place n)) ∙ goes) in
       record { number = t.number; within = t.within; is = t.is }
 
-  numbered_place : (place : ℕ) → IsPlaceIn (shown.reads.first e) (shown.reads.instr e) place → IsNumbered (function_place m e.function) g.code place
+  pub numbered_place : (place : ℕ) → IsPlaceIn (shown.reads.first e) (shown.reads.instr e) place → IsNumbered (function_place m e.function) g.code place
   numbered_place place stands_first = record { number = 0; within = omega arith; is = omega (arith, (loaded.functions e.function g found).first) }
   numbered_place place (stands_behind before p goes) = behind before (numbered_place before p) goes
   numbered_place place (stands_at before to p goes) = target before place (numbered_place before p) goes

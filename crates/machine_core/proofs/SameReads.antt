@@ -12,7 +12,7 @@ use Rattle.machine_core.specs.Holds.{Holds, is_full}
 use Rattle.machine_core.specs.Process.{PlainFrame, PlainProcess, PlainValue, arguments_at, first_registers, frame_names, literal, owned, owned_values}
 use Rattle.machine_core.specs.Reads.{HasFunction, Reads, dispatched, entry_at, instr_at, mfa_of}
 use Rattle.machine_core.specs.Stand.{AreStanding}
-use Rattle.machine_core.specs.Turn.{ArePlaced, IsPlaceIn, IsPlaced, Step, after_step, begun, called, called_by_name, called_out, copied, copied_frame, copied_value, counted, doomed_serial, ends, entered, executed, goes_on, moved_past, put_found, put_value, ran_copied, ran_of, ran_unless_doomed, run_of, stacked, step_of, terms_of, trace_of, turn_by, turn_from, yields}
+use Rattle.machine_core.specs.Turn.{ArePlaced, IsPlaceIn, IsPlaced, Step, after_step, begun, called, called_by_name, called_out, copied, copied_frame, copied_value, doomed_serial, ends, entered, executed, goes_on, moved_past, put_found, put_value, ran_copied, ran_of, ran_unless_doomed, run_of, stacked, step_of, terms_of, trace_of, yields}
 use Rattle.machine_core.specs.Values.{value_of}
 use Rattle.machine_core.specs.View.{IsLawful, Shown}
 use Rattle.machine_core.proofs.Calling.{reached_known}
@@ -121,10 +121,7 @@ module _ (r q : Reads) (same : AgreesWith r q) where
     limit_same p true e h = rw e refl
     limit_same p false e h = rw e (ap (ran_unless_doomed q p) (doomed_same (map (λ f. f.serial) p.frames)) ∙ unless_same p (doomed_serial r p.frames) h)
 
-    turn_is_same : (p : PlainProcess) → ArePlaced r p.frames → turn_by q p ≡ turn_by r p
-    turn_is_same p h = ap (turn_from (counted p)) (limit_same p (p.turns == MOST_TURNS) refl h)
-
--- what a lawful view shows, and any record that agrees with it where a process at its places asks, give the same turn
-pub same_turn : (shown : Shown) (q : Reads) (p : PlainProcess) → IsLawful shown → AgreesWith shown.reads q → ArePlaced shown.reads p.frames → turn_by q p ≡ turn_by shown.reads p
-same_turn shown q p lawful same h =
-    turn_is_same shown.reads q same (λ to e d. reached_known shown to e lawful d) (λ f placed. next_calls shown f lawful placed) (keeps_standing shown lawful) p h
+-- what a lawful view shows, and any record that agrees with it where a process at its places asks, let a turn do the same
+pub same_ran : (shown : Shown) (q : Reads) (p : PlainProcess) → IsLawful shown → AgreesWith shown.reads q → ArePlaced shown.reads p.frames → ran_of q p ≡ ran_of shown.reads p
+same_ran shown q p lawful same h =
+    limit_same shown.reads q same (λ to e d. reached_known shown to e lawful d) (λ f placed. next_calls shown f lawful placed) (keeps_standing shown lawful) p (p.turns == MOST_TURNS) refl h

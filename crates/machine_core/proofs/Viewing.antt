@@ -21,7 +21,7 @@ use Rattle.machine_core.specs.View.{IsFunctionOf, IsImageOf, IsKeyValue, IsLawfu
 -- ---- what is read of a state
 
 -- the words of an instance
-module_words : (s : ServerState) (serial : ℕ) (m : Module) → code_of s serial ≡ Some m → server_words s serial ≡ instance_image serial m
+pub module_words : (s : ServerState) (serial : ℕ) (m : Module) → code_of s serial ≡ Some m → server_words s serial ≡ instance_image serial m
 module_words s serial m c = rw c refl
 
 image_len : (serial : ℕ) (m : Module) → length (instance_image serial m) ≡ length (module_image m)
@@ -37,7 +37,7 @@ instance_is serial m = record { whole = image_len serial m; same = λ at place h
 function_is : (s : ServerState) (serial : ℕ) (m : Module) (i : ℕ) (f : Function) → code_of s serial ≡ Some m → slice_get m.functions i ≡ Some f → IsFunctionOf (reads_of s) (record { serial = serial; function = i }) m f
 function_is s serial m i f c found = record { name = rw (c, found) refl; arity = rw (c, found) refl; first = rw c refl; instrs = λ number within. rw c refl }
 
-is_of_module : (s : ServerState) (serial : ℕ) (m : Module) → IsModule m → code_of s serial ≡ Some m → IsOfModule (shown_of s) serial m
+pub is_of_module : (s : ServerState) (serial : ℕ) (m : Module) → IsModule m → code_of s serial ≡ Some m → IsOfModule (shown_of s) serial m
 is_of_module s serial m sound c = record {
   sound = sound;
   name = rw c refl;
@@ -58,7 +58,7 @@ exported_in to i (Some m) e = (position-Some (is_export to) m.functions i (recor
 term_words_are : (s : ServerState) (serial : ℕ) (t : PlainTerm) → code_of s serial ≡ None → term_of_area s serial ≡ Some t → server_words s serial ≡ image_of t
 term_words_are s serial t c e = rw (c, e) refl
 
-held_term : (s : ServerState) (serial : ℕ) (t : PlainTerm) (o : Option PlainTerm) → term_of_area s serial ≡ o → IfSome o (IsTermArea s serial) → o ≡ Some t → IsTermIn (shown_of s) serial (term_of t)
+pub held_term : (s : ServerState) (serial : ℕ) (t : PlainTerm) (o : Option PlainTerm) → term_of_area s serial ≡ o → IfSome o (IsTermArea s serial) → o ≡ Some t → IsTermIn (shown_of s) serial (term_of t)
 held_term s serial t None e sound h = absurd (cc)
 held_term s serial t (Some u) e sound h =
     let k : u ≡ t = cc in
@@ -106,7 +106,7 @@ place_within m i f found =
     let at = function_stands m i f found in
     omega (arith, ap length at.whole_is, at.place_is, length-append at.before (function_words (function_place m i) (constants_place m i) f ++ at.rest))
 
-entry_at : (shown : Shown) (e : Entry) (m : Module) (f : Function) → IsOfModule shown e.serial m → e.function < length m.functions → slice_get m.functions e.function ≡ Some f → IsEntry shown e
+pub entry_at : (shown : Shown) (e : Entry) (m : Module) (f : Function) → IsOfModule shown e.serial m → e.function < length m.functions → slice_get m.functions e.function ≡ Some f → IsEntry shown e
 entry_at shown e m f is h found =
     let first = (is.functions e.function f found).first in
     let word = place_word m e.function h in

@@ -9,3 +9,5 @@ pub mod Decode
 pub mod Values
 pub mod Turn
 pub mod Stand
+pub mod GenerationReads
+pub mod GenerationLaws

@@ -12,6 +12,7 @@ mod dropping;
 mod elements;
 mod fetch;
 mod integers;
+mod laws;
 mod layout;
 mod literals;
 mod machine;
@@ -27,6 +28,11 @@ mod step;
 mod storing;
 mod view;
 
+pub use laws::{
+    generations_are_lawful, generations_have_the_areas, generations_hold_the_same,
+    generations_reach_the_same, literals_are_those_of_states, places_are_those_of_states,
+    turns_are_those_of_states,
+};
 pub use machine::turn;
 pub use plain::PlainView;
 pub use process::{End, Frame, FrameList, Line, LineList, LitRef, Process, TurnEnd, Value};

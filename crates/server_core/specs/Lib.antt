@@ -1,4 +1,5 @@
 pub mod ServerState
+pub mod Generations
 pub mod CommandTable
 pub mod Rooms
 pub mod VersionTable
