@@ -25,7 +25,8 @@ pub named_there : (areas : List AreaRef) (serial : ℕ) → list_any (λ a. a.se
 named_there areas serial h =
     sym (with-there (serials_of (area_serials areas)) serial (increasing-serials_of (area_serials areas)) (among-serials_of (area_serials areas) serial ∙ among-areas areas serial ∙ h))
 
-swapped : (a b : Bool) → (a || (b || false)) ≡ (b || a)
+-- one in front of others, or behind them
+pub swapped : (a b : Bool) → (a || (b || false)) ≡ (b || a)
 swapped true true = refl
 swapped true false = refl
 swapped false true = refl

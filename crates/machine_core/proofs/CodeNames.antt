@@ -1,9 +1,10 @@
 -- That what the code's frames name is what the frames name that they stand for.
-use Rattle.std.proofs.Common.{◌≡◌, ◌∙◌, ℕ, refl, sym, ap, Bool, true, false, ◌||◌, ◌==◌, List, [], ◌∷◌, ◌++◌, map}
+use Rattle.std.proofs.Common.{◌≡◌, ◌∙◌, ℕ, refl, sym, ap, false, ◌||◌, ◌==◌, List, [], ◌∷◌, ◌++◌, map}
 use Rattle.std.proofs.lemmas.List.{append-nil, map-append, reverse-append}
 use Rattle.std.proofs.lemmas.List.Folds.{list_any-append}
 use Rattle.std.proofs.lemmas.Grind.{flat_map-append}
 use Rattle.std.specs.List.{flat_map, list_any}
+use Rattle.std.proofs.Math.Bool.{or-false}
 use Rattle.machine_core.specs.declared.process.Frame.{Frame}
 use Rattle.machine_core.specs.declared.areas.HeldAreas.{HeldAreas}
 use Rattle.machine_core.specs.declared.process.Process.{Process}
@@ -11,18 +12,8 @@ use Rattle.machine_core.specs.declared.process.Value.{Value}
 use Rattle.machine_core.specs.declared.process.Value.TheVariants.{Owned, Literal}
 use Rattle.machine_core.specs.Holds.{is_among}
 use Rattle.machine_core.specs.Process.{Words, area_holds, code_names, frame_names, frame_of, frames_of, literal_serials, names_of, process_of, register_serials, value_areas, values_shown}
-use Rattle.machine_core.proofs.AreaLists.{same_holds}
+use Rattle.machine_core.proofs.AreaLists.{same_holds, swapped}
 use Rattle.machine_core.proofs.SerialLists.{serials_of-same}
-
-swapped : (a b : Bool) → (a || (b || false)) ≡ (b || a)
-swapped true true = refl
-swapped true false = refl
-swapped false true = refl
-swapped false false = refl
-
-or_nothing : (b : Bool) → (b || false) ≡ b
-or_nothing true = refl
-or_nothing false = refl
 
 -- what is among the serials that elements have
 pub among-flat_map : {X : Type 0} (g : X → List ℕ) (xs : List X) (q : ℕ) → is_among (flat_map g xs) q ≡ list_any (λ x. is_among (g x) q) xs
@@ -53,7 +44,7 @@ among-frames words (f ∷ fs) q =
     ∙ ap (λ b. b || (f.code.area.serial == q || false)) (among-frames words fs q)
     ∙ swapped (list_any (λ f. f.code.area.serial == q) fs) (f.code.area.serial == q)
 
-among_serials : (fs : List Frame) (q : ℕ) → is_among (map (λ f. f.code.area.serial) fs) q ≡ list_any (λ f. f.code.area.serial == q) fs
+pub among_serials : (fs : List Frame) (q : ℕ) → is_among (map (λ f. f.code.area.serial) fs) q ≡ list_any (λ f. f.code.area.serial == q) fs
 among_serials [] q = refl
 among_serials (f ∷ fs) q = ap (λ b. f.code.area.serial == q || b) (among_serials fs q)
 
@@ -66,7 +57,7 @@ among-literals words (f ∷ fs) q =
     ∙ list_any-append (λ n. n == q) (literal_serials (frames_of words fs)) (register_serials (values_shown words f.registers) ++ [])
     ∙ ap (λ b. b || is_among (register_serials (values_shown words f.registers) ++ []) q) (among-literals words fs q)
     ∙ ap (λ ns. list_any (λ g. is_among (value_areas g.registers) q) fs || is_among ns q) (append-nil (register_serials (values_shown words f.registers)) ∙ areas_shown words f.registers)
-    ∙ ap (λ b. list_any (λ g. is_among (value_areas g.registers) q) fs || b) (sym (or_nothing (is_among (value_areas f.registers) q)))
+    ∙ ap (λ b. list_any (λ g. is_among (value_areas g.registers) q) fs || b) (sym (or-false (is_among (value_areas f.registers) q)))
     ∙ swapped (list_any (λ g. is_among (value_areas g.registers) q) fs) (is_among (value_areas f.registers) q)
 
 -- whatever the words of the areas are

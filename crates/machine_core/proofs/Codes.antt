@@ -6,8 +6,8 @@ use Rattle.mod_core.specs.declared.code.Instr.{Instr}
 use Rattle.mod_core.specs.declared.code.Module.{Module}
 use Rattle.mod_core.specs.ModuleImage.{function_place, instr_len, place_in, placed, placed_code, return_ok}
 use Rattle.mod_core.proofs.Places.{numbered}
-use Rattle.machine_core.proofs.Decoding.{len_least}
 use Rattle.machine_core.specs.ServerReads.{code_at, instr_from, module_instr}
+use Rattle.mod_core.proofs.Lengths.{some_words}
 
 -- the place of what stands behind the first instruction
 pub place_in-cons : (start number : ℕ) (i : Instr) (is : List Instr) → place_in start (i ∷ is) (suc number) ≡ place_in (start + instr_len i) is number
@@ -26,7 +26,7 @@ instr_from-place start [] (suc number) = refl
 instr_from-place start (i ∷ is) zero = first_at start i is
 instr_from-place start (i ∷ is) (suc number) =
     rw (place_in-cons start number i is)
-    (past_first start (place_in (start + instr_len i) is number) i is (len_least i) (omega arith) ∙ instr_from-place (start + instr_len i) is number)
+    (past_first start (place_in (start + instr_len i) is number) i is (some_words i) (omega arith) ∙ instr_from-place (start + instr_len i) is number)
 
 numbered_placed : (place : ℕ → ℕ) (o : Option Instr) → unwrap_or (option_map (placed place) o) return_ok ≡ placed place (unwrap_or o return_ok)
 numbered_placed place None = refl

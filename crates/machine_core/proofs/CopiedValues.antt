@@ -5,6 +5,7 @@ use Rattle.std.proofs.Common.{length-append}
 use Rattle.std.proofs.Math.ListN.{get_or-append}
 use Rattle.std.proofs.lemmas.List.Elements.{All-head, All-map, All-tail}
 use Rattle.std.specs.List.{list_any}
+use Rattle.std.proofs.lemmas.Bool.{or_right}
 use Rattle.term_core.specs.declared.area.AreaRef.{AreaRef}
 use Rattle.term_core.specs.declared.hold.Kind.TheVariants.{Literal as for_literals}
 use Rattle.machine_core.specs.declared.areas.HeldAreas.{HeldAreas}
@@ -19,27 +20,20 @@ use Rattle.machine_core.specs.View.{AreValues, HasValues, Shown}
 use Rattle.machine_core.proofs.AreaLists.{same_holds}
 use Rattle.machine_core.proofs.CodeNames.{code_names-shown, frames_of-push}
 use Rattle.machine_core.proofs.NamedAreas.{literals_held, names_held}
-use Rattle.machine_core.proofs.SerialLists.{among-serials_of}
+use Rattle.machine_core.proofs.SerialLists.{among-serials_of, same_first}
 use Rattle.machine_core.specs.Reads.{Reads}
 
 -- ---- one of the areas that are held for literals
 
-or_last : (a b : Bool) → b ≡ true → (a || b) ≡ true
-or_last true b h = refl
-or_last false b h = h
-
-same_first : (n : ℕ) (b : Bool) → (n == n || b) ≡ true
-same_first n b = grind (arith, nat_tests)
-
 among_at : (areas : List AreaRef) (n : ℕ) (d : AreaRef) → n < length areas → is_among (area_serials areas) (get_or areas n d).serial ≡ true
 among_at [] n d h = absurd (omega arith)
 among_at (a ∷ areas) zero d h = same_first a.serial (is_among (area_serials areas) a.serial)
-among_at (a ∷ areas) (suc n) d h = or_last (a.serial == (get_or areas n d).serial) (is_among (area_serials areas) (get_or areas n d).serial) (among_at areas n d (omega arith))
+among_at (a ∷ areas) (suc n) d h = or_right (a.serial == (get_or areas n d).serial) (is_among (area_serials areas) (get_or areas n d).serial) (among_at areas n d (omega arith))
 
 -- each area of a list of them is held
 pub listed_held : (first held : Holds) (areas : List AreaRef) (n : ℕ) (d : AreaRef) → n < length areas → held ≡ first → first.literals ≡ serials_of (area_serials areas) → IsTrue (is_area_held held (get_or areas n d).serial)
 listed_held first held areas n d below same e =
-    or_last (is_among held.frames (get_or areas n d).serial) (is_among held.literals (get_or areas n d).serial)
+    or_right (is_among held.frames (get_or areas n d).serial) (is_among held.literals (get_or areas n d).serial)
     (ap (λ (x : Holds). is_among x.literals (get_or areas n d).serial) same ∙ ap (λ ns. is_among ns (get_or areas n d).serial) e ∙ among-serials_of (area_serials areas) (get_or areas n d).serial ∙ among_at areas n d below)
 
 -- ---- the values of a frame

@@ -1,5 +1,5 @@
 -- That what an instruction is written as reads back as it, where its constants stand at their places.
-use Rattle.std.proofs.Common.{◌≡◌, ◌<◌, ◌≤◌, ◌%◌, ◌/◌, ◌+◌, ◌*◌, ◌∙◌, ℕ, true, false, refl, sym, arith, ap, subst, List, [], ◌∷◌, ◌++◌, slice_index}
+use Rattle.std.proofs.Common.{◌≡◌, ◌<◌, ◌%◌, ◌/◌, ◌+◌, ◌*◌, ◌∙◌, ℕ, true, false, refl, sym, arith, ap, subst, List, [], ◌∷◌, ◌++◌, slice_index}
 use Rattle.std.proofs.lemmas.Bool.Decides.{nat_tests}
 use Rattle.term_core.specs.declared.area.AreaRef.{AreaRef}
 use Rattle.term_core.specs.declared.atom.AtomId.{AtomId}
@@ -61,7 +61,7 @@ pub literals_behind : (shown : Shown) (area : AreaRef) (place : ℕ) (ts us : Li
 literals_behind shown area place [] us h = subst (λ p. LiteralsStand shown area p us) (omega arith) h
 literals_behind shown area place (t ∷ ts) us h = subst (λ p. LiteralsStand shown area p us) (omega arith) (literals_behind shown area (place + term_words t) ts us h.1)
 
-tag_of : (n t : ℕ) → t < 16 → (n * 16 + t) % 16 ≡ t
+pub tag_of : (n t : ℕ) → t < 16 → (n * 16 + t) % 16 ≡ t
 tag_of n t h = omega arith
 
 bits_of : (n t : ℕ) → t < 16 → (n * 16 + t) / 16 ≡ n
@@ -186,8 +186,3 @@ module _ (shown : Shown) (area : AreaRef) (place : ℕ) where
 pub len_back : (place : ℕ) (i : Instr) → len_of_number (slice_index (instr_words place i) 0) ≡ instr_len i
 len_back place (Move from to) = refl
 len_back place i = refl
-
--- an instruction has a number
-pub len_least : (i : Instr) → 1 ≤ instr_len i
-len_least (Move from to) = omega arith
-len_least i = omega arith

@@ -11,14 +11,11 @@ use Rattle.machine_core.specs.declared.process.Frame.{Frame}
 use Rattle.machine_core.specs.HoldKinds.{held_for, holding}
 use Rattle.machine_core.specs.Holds.{Holds, is_among, is_held, serials_of, without_hold, without_serial}
 use Rattle.machine_core.specs.Process.{area_serials, code_names, value_area, value_areas}
-use Rattle.machine_core.proofs.CodeNames.{among-flat_map}
+use Rattle.machine_core.proofs.CodeNames.{among-flat_map, among_serials}
 use Rattle.machine_core.proofs.SerialLists.{among-serials_of, among-without, increasing-serials_of, increasing-without, same_serials, serials_of-same}
+use Rattle.machine_core.proofs.AreaLists.{swapped}
 
 -- ---- what frames name
-
-among_instances : (fs : List Frame) (q : ℕ) → is_among (map (λ f. f.code.area.serial) fs) q ≡ list_any (λ f. f.code.area.serial == q) fs
-among_instances [] q = refl
-among_instances (f ∷ fs) q = ap (λ b. f.code.area.serial == q || b) (among_instances fs q)
 
 any_quoted : (fs : List Frame) (q : ℕ) → list_any (λ f. is_among (value_areas f.registers) q) fs ≡ list_any (λ f. list_any (λ v. is_among (value_area v) q) f.registers) fs
 any_quoted [] q = refl
@@ -29,7 +26,7 @@ any_quoted (f ∷ fs) q =
 -- the instances that frames name are those whose code they run
 pub named_instance : (kind : Kind) (fs : List Frame) (q : ℕ) → kind ≡ for_frames → list_any (λ f. f.code.area.serial == q) fs ≡ is_among (held_for (code_names fs) kind) q
 named_instance kind fs q e =
-    sym (ap (λ k. is_among (held_for (code_names fs) k) q) e ∙ among-serials_of (map (λ f. f.code.area.serial) fs) q ∙ among_instances fs q)
+    sym (ap (λ k. is_among (held_for (code_names fs) k) q) e ∙ among-serials_of (map (λ f. f.code.area.serial) fs) q ∙ among_serials fs q)
 
 -- and the areas that they name for literals are those of their literals
 pub named_literal : (kind : Kind) (fs : List Frame) (q : ℕ) → kind ≡ for_literals → list_any (λ f. list_any (λ v. is_among (value_area v) q) f.registers) fs ≡ is_among (held_for (code_names fs) kind) q
@@ -63,12 +60,6 @@ without-holding held for_literals ns n = refl
 
 among_last : (ns : List ℕ) (k q : ℕ) → is_among (ns ++ k ∷ []) q ≡ (k == q || is_among ns q)
 among_last ns k q = list_any-append (λ n. n == q) ns (k ∷ []) ∙ swapped (is_among ns q) (k == q)
-  where
-    swapped : (a b : Bool) → (a || (b || false)) ≡ (b || a)
-    swapped true true = refl
-    swapped true false = refl
-    swapped false true = refl
-    swapped false false = refl
 
 -- a serial that stands before again changes nothing
 last_there : (ns : List ℕ) (k : ℕ) → is_among ns k ≡ true → serials_of (ns ++ k ∷ []) ≡ serials_of ns

@@ -13,14 +13,14 @@ use Rattle.mod_core.specs.declared.code.Module.{Module}
 use Rattle.mod_core.specs.Module.{IsCallPlace, IsInstr}
 use Rattle.mod_core.specs.ModuleImage.{code_start, constants_len, function_place, instr_constants, instr_words, instr_len, module_image, place_in, placed, placed_code}
 use Rattle.mod_core.proofs.Places.{ConstantsStand, InstrAt, StandsAt, code_behind_heads, numbered, place_least, target_at}
-use Rattle.mod_core.proofs.Lengths.{instr_words_len}
+use Rattle.mod_core.proofs.Lengths.{instr_words_len, some_words}
 use Rattle.machine_core.specs.declared.op.Op.{Op}
 use Rattle.machine_core.specs.Process.{PlainFrame}
 use Rattle.machine_core.specs.View.{Shown, IsLawful, IsOfModule, IsReadable, IsImagePlace}
 use Rattle.machine_core.specs.Turn.{IsPlaced}
 use Rattle.machine_core.proofs.NextInstr.{IsNext, instr_stands, is_instr, is_next}
 use Rattle.machine_core.specs.Decode.{instr_word, len_of_number, op_at, op_of_words}
-use Rattle.machine_core.proofs.Decoding.{HasWords, IsInstrBack, LiteralsStand, instr_back, len_back, len_least, op_of_instr}
+use Rattle.machine_core.proofs.Decoding.{HasWords, IsInstrBack, LiteralsStand, instr_back, len_back, op_of_instr}
 use Rattle.machine_core.proofs.LiteralPlaces.{image_moved}
 use Rattle.machine_core.specs.Reads.{instr_at}
 
@@ -117,7 +117,7 @@ next_word shown f k n a h =
 first_word : (shown : Shown) (f : PlainFrame) → (n : IsNext shown f) (a : InstrAt n.m f.place (instr_at shown.reads f)) →
     IsWordAt shown f.serial f.place (slice_index (instr_words a.constants (instr_at shown.reads f)) 0)
 first_word shown f n a =
-    subst (λ p. IsWordAt shown f.serial p (slice_index (instr_words a.constants (instr_at shown.reads f)) 0)) (add-zero f.place) (next_word shown f 0 n a (omega (arith, len_least (instr_at shown.reads f))))
+    subst (λ p. IsWordAt shown f.serial p (slice_index (instr_words a.constants (instr_at shown.reads f)) 0)) (add-zero f.place) (next_word shown f 0 n a (omega (arith, some_words (instr_at shown.reads f))))
 
 word_by : (shown : Shown) (f : PlainFrame) (k : ℕ) → (n : IsNext shown f) (a : InstrAt n.m f.place (instr_at shown.reads f)) (b : Bool) → nat_lt k (instr_len (instr_at shown.reads f)) ≡ b →
     (if b then slice_index (shown.words f.serial) (f.place + k) else 0) ≡ slice_index (instr_words a.constants (instr_at shown.reads f)) k

@@ -1,9 +1,10 @@
 -- That a process that names at most 16 areas does so after its turn.
 use Rattle.std.proofs.Common.{◌≡◌, ◌<◌, ◌≤◌, ◌+◌, ◌==◌, ◌||◌, ◌&&◌, ◌∙◌, ℕ, refl, sym, ap, arith, subst, not, Bool, cond, true, false, List, [], ◌∷◌, ◌++◌, filter, length, length-append, Some, None, if◌then◌else◌}
 use Rattle.std.proofs.lemmas.Bool.Decides.{nat_tests}
+use Rattle.std.proofs.lemmas.Bool.{or_right}
 use Rattle.term_core.specs.declared.hold.Kind.TheVariants.{Frame, Literal}
 use Rattle.server_core.specs.ServerState.{Entry, ServerState}
-use Rattle.machine_core.specs.Holds.{AllAbove, Holds, IsIncreasing, area_count, is_among, is_full, other_areas, with_hold, without_serial}
+use Rattle.machine_core.specs.Holds.{Holds, IsIncreasing, area_count, is_among, is_full, other_areas, with_hold, without_serial}
 use Rattle.machine_core.specs.Process.{PlainFrame, PlainProcess, PlainValue, first_registers, frame_names, literal, literal_serials, names_of, owned, owned_values}
 use Rattle.machine_core.specs.Stand.{AreHeld}
 use Rattle.machine_core.specs.Turn.{Ran, Step, begun, copied, ends, executed, goes_on, held_with, step_of, turn_by, turn_of, yields}
@@ -11,7 +12,7 @@ use Rattle.machine_core.proofs.CopiedFrames.{IsKeptArea, copied_within}
 use Rattle.machine_core.proofs.HeldSteps.{KeepsHeld, begun_held, step_held}
 use Rattle.machine_core.proofs.NamedAreas.{IsFrameHeld, IsLiteralHeld, among_append, frames_held, held_within, instance_serials, literals_held, names_held, within_held, within_wider}
 use Rattle.machine_core.proofs.RunLaws.{IsKept, KeepsSo, ran_kept}
-use Rattle.machine_core.proofs.SerialLists.{among-filter, among-with, among-without, increasing-serials_of, increasing-with, length-taken}
+use Rattle.machine_core.proofs.SerialLists.{among-filter, among-with, among-without, increasing-serials_of, increasing-with, length-taken, above_among, same_first}
 use Rattle.machine_core.proofs.StepCases.{Came, it_calls, it_calls_out, it_ends, it_moves, it_pauses, it_returns, it_stores, IsCalled, call_refused, call_stacks, IsCalledOut, out_reaches, out_refused, called_out_is, came}
 use Rattle.machine_core.specs.Reads.{Reads, instr_at}
 use Rattle.machine_core.specs.ServerReads.{reads_of}
@@ -23,13 +24,9 @@ abbrev AreApart : List ℕ → Type 0
 AreApart [] = Unit {0}
 AreApart (n ∷ ns) = (is_among ns n ≡ false) × AreApart ns
 
-above_apart : (n q : ℕ) (ns : List ℕ) → AllAbove n ns → q ≤ n → is_among ns q ≡ false
-above_apart n q [] a h = refl
-above_apart n q (m ∷ ms) a h = let b : n < m = a.0 in let e : is_among ms q ≡ false = above_apart n q ms a.1 h in grind (arith, nat_tests)
-
 increasing_apart : (ns : List ℕ) → IsIncreasing ns → AreApart ns
 increasing_apart [] i = tt
-increasing_apart (n ∷ ns) i = (above_apart n n ns i.0 (omega arith), increasing_apart ns i.1)
+increasing_apart (n ∷ ns) i = (above_among n n ns i.0 (omega arith), increasing_apart ns i.1)
 
 filter_apart : (p : ℕ → Bool) (ns : List ℕ) → AreApart ns → AreApart (filter p ns)
 filter_apart p [] a = tt
@@ -41,14 +38,7 @@ filter_apart p (n ∷ ns) a = elim (p n) as (λ b. AreApart (cond b (n ∷ filte
 append_apart : (ms ns : List ℕ) → AreApart ms → AreApart ns → ((q : ℕ) → is_among ms q ≡ true → is_among ns q ≡ false) → AreApart (ms ++ ns)
 append_apart [] ns a b h = b
 append_apart (m ∷ ms) ns a b h =
-    (among_append ms ns m ∙ ap (λ c. c || is_among ns m) a.0 ∙ h m (first_same m (is_among ms m)), append_apart ms ns a.1 b (λ q e. h q (or_later (m == q) (is_among ms q) e)))
-  where
-    first_same : (n : ℕ) (b : Bool) → (n == n || b) ≡ true
-    first_same n b = grind (arith, nat_tests)
-
-    or_later : (a b : Bool) → b ≡ true → (a || b) ≡ true
-    or_later true b e = refl
-    or_later false b e = e
+    (among_append ms ns m ∙ ap (λ c. c || is_among ns m) a.0 ∙ h m (same_first m (is_among ms m)), append_apart ms ns a.1 b (λ q e. h q (or_right (m == q) (is_among ms q) e)))
 
 -- serials apart that are all among others are no more than these
 length_apart : (ms ns : List ℕ) → AreApart ms → ((q : ℕ) → is_among ms q ≡ true → is_among ns q ≡ true) → length ms ≤ length ns

@@ -1,7 +1,7 @@
 -- That a step holds what its frames name: what was held stays so, and what is newly named is held first.
-use Rattle.std.proofs.Common.{◌≡◌, ◌==◌, ◌||◌, ◌∙◌, ℕ, refl, sym, arith, subst, Bool, true, false, IsTrue, All, List, [], ◌∷◌, Some, None, if◌then◌else◌}
-use Rattle.std.proofs.lemmas.Bool.Decides.{nat_tests}
+use Rattle.std.proofs.Common.{◌≡◌, ◌==◌, ◌∙◌, ℕ, sym, subst, Bool, true, false, IsTrue, All, List, [], ◌∷◌, Some, None, if◌then◌else◌}
 use Rattle.std.proofs.lemmas.List.Elements.{All-set}
+use Rattle.std.proofs.lemmas.Bool.{or_right}
 use Rattle.term_core.specs.declared.atom.Mfa.{Mfa}
 use Rattle.term_core.specs.declared.hold.Kind.TheVariants.{Frame, Literal}
 use Rattle.term_core.specs.PlainTerm.{PlainTerm}
@@ -11,16 +11,9 @@ use Rattle.machine_core.specs.Process.{PlainFrame, PlainValue, first_registers, 
 use Rattle.machine_core.specs.Stand.{AreHeld, IsValueHeld}
 use Rattle.machine_core.specs.Turn.{Step, begun, ends, executed, goes_on, held_with, step_of, yields}
 use Rattle.machine_core.proofs.NamedAreas.{HasArea, IsLiteralHeld, area_held, held_area, register_area}
-use Rattle.machine_core.proofs.SerialLists.{among-with}
+use Rattle.machine_core.proofs.SerialLists.{among-with, same_first}
 use Rattle.machine_core.proofs.StepCases.{Came, it_calls, it_calls_out, it_ends, it_moves, it_pauses, it_returns, it_stores, IsCalled, call_refused, call_stacks, IsCalledOut, out_reaches, out_refused, IsRegisterArea, called_out_is, came, owned_area}
 use Rattle.machine_core.specs.Reads.{Reads, instr_at}
-
-or_true : (a b : Bool) → b ≡ true → (a || b) ≡ true
-or_true true b e = refl
-or_true false b e = e
-
-same_first : (n : ℕ) (b : Bool) → (n == n || b) ≡ true
-same_first n b = grind (arith, nat_tests)
 
 -- what is held is held still
 pub record IsMore (held now : Holds) : Type 0 where
@@ -31,10 +24,10 @@ more_same : (held : Holds) → IsMore held held
 more_same held = record { frames = λ n e. e; literals = λ n e. e }
 
 more_frame : (held : Holds) (serial : ℕ) → IsMore held (with_hold held serial Frame)
-more_frame held serial = record { frames = λ n e. among-with held.frames serial n ∙ or_true (serial == n) (is_among held.frames n) e; literals = λ n e. e }
+more_frame held serial = record { frames = λ n e. among-with held.frames serial n ∙ or_right (serial == n) (is_among held.frames n) e; literals = λ n e. e }
 
 more_literal : (held : Holds) (serial : ℕ) → IsMore held (with_hold held serial Literal)
-more_literal held serial = record { frames = λ n e. e; literals = λ n e. among-with held.literals serial n ∙ or_true (serial == n) (is_among held.literals n) e }
+more_literal held serial = record { frames = λ n e. e; literals = λ n e. among-with held.literals serial n ∙ or_right (serial == n) (is_among held.literals n) e }
 
 -- what was just held is
 pub frame_first : (held : Holds) (serial : ℕ) → IsTrue (is_held (with_hold held serial Frame) serial Frame)

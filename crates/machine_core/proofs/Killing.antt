@@ -1,6 +1,7 @@
 -- When a turn ends a process as killed, and that what goes on stands in no doomed code.
-use Rattle.std.proofs.Common.{◌≡◌, ◌==◌, ◌||◌, ◌∙◌, ℕ, refl, ap, arith, subst, Bool, true, false, List, [], ◌∷◌, find, Some, IsTrue, if◌then◌else◌}
+use Rattle.std.proofs.Common.{◌≡◌, ◌==◌, ◌∙◌, ℕ, refl, ap, arith, subst, Bool, true, false, List, [], ◌∷◌, find, Some, IsTrue, if◌then◌else◌}
 use Rattle.std.proofs.lemmas.Bool.Decides.{nat_tests}
+use Rattle.std.proofs.lemmas.Bool.{or_right}
 use Rattle.term_core.specs.declared.hold.Kind.TheVariants.{Frame}
 use Rattle.server_core.specs.ServerState.{Entry, ServerState}
 use Rattle.machine_core.specs.declared.process.End.{End}
@@ -14,25 +15,18 @@ use Rattle.machine_core.specs.Turn.{Ran, Step, begun, copied, doomed_serial, exe
 use Rattle.machine_core.proofs.NamedAreas.{instance_serials}
 use Rattle.machine_core.proofs.OwnEnds.{IsOwnEnd, IsOwnTurnEnd}
 use Rattle.machine_core.proofs.RunLaws.{IsKept, KeepsSo, ran_kept}
-use Rattle.machine_core.proofs.SerialLists.{among-serials_of}
-use Rattle.machine_core.proofs.StepCases.{Came, it_calls, it_calls_out, it_ends, it_moves, it_pauses, it_returns, it_stores, IsCalled, call_refused, call_stacks, IsCalledOut, out_reaches, out_refused, called_out_is, came}
+use Rattle.machine_core.proofs.SerialLists.{among-serials_of, same_first}
+use Rattle.machine_core.proofs.StepCases.{Came, it_calls, it_calls_out, it_ends, IsCalled, call_refused, call_stacks, IsCalledOut, out_reaches, out_refused, called_out_is, came}
 use Rattle.machine_core.specs.Reads.{Reads, instr_at}
 use Rattle.machine_core.specs.ServerReads.{reads_of}
-
-first_same : (n : ℕ) (b : Bool) → (n == n || b) ≡ true
-first_same n b = grind (arith, nat_tests)
-
-or_later : (a b : Bool) → b ≡ true → (a || b) ≡ true
-or_later true b h = refl
-or_later false b h = h
 
 -- a serial that is one of these, and passes
 abbrev Passes : (ℕ → Bool) → List ℕ → ℕ → Type 0
 Passes test serials n = (test n ≡ true) × (is_among serials n ≡ true)
 
 found_or : (test : ℕ → Bool) (k n : ℕ) (ks : List ℕ) (b : Bool) → test k ≡ b → (find test ks ≡ Some n → Passes test ks n) → (if b then Some k else find test ks) ≡ Some n → Passes test (k ∷ ks) n
-found_or test k n ks true t r h = let same : k ≡ n = cc in subst (Passes test (k ∷ ks)) same (t, first_same k (is_among ks k))
-found_or test k n ks false t r h = ((r h).0, or_later (k == n) (is_among ks n) (r h).1)
+found_or test k n ks true t r h = let same : k ≡ n = cc in subst (Passes test (k ∷ ks)) same (t, same_first k (is_among ks k))
+found_or test k n ks false t r h = ((r h).0, or_right (k == n) (is_among ks n) (r h).1)
 
 -- what is found is one of the serials, and passes
 found_is : (test : ℕ → Bool) (serials : List ℕ) (n : ℕ) → find test serials ≡ Some n → Passes test serials n
@@ -67,12 +61,9 @@ module _ (s : Reads) (p : PlainProcess) where
 
   came_own : (f : PlainFrame) (below : List PlainFrame) (held : Holds) (step : Step) → Came s f below held step → StepOwn held step
   came_own f below held step (it_ends end own) = own
-  came_own f below held step (it_pauses place) = tt
-  came_own f below held step (it_moves place line) = tt
-  came_own f below held step (it_stores place to value now fetched) = tt
-  came_own f below held step (it_returns caller rest back value now is fetched) = tt
   came_own f below held step (it_calls place e back registers same is from called) = called_own (record f { place = place } ∷ below) held e back registers step called
   came_own f below held step (it_calls_out place back registers same from called) = called_out_own (record f { place = place } ∷ below) held back registers step called
+  came_own f below held step goes = tt
 
   step_own : (frames : List PlainFrame) (held : Holds) → StepOwn held (step_of s frames held)
   step_own [] held = tt

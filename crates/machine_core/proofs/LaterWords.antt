@@ -1,6 +1,7 @@
 -- That a process is the same under a later state of the server, where each area that was known has its words still.
 use Rattle.std.proofs.Common.{◌≡◌, ◌≢◌, ◌⊎◌, ◌<◌, ◌+◌, ◌*◌, ◌∙◌, ℕ, true, refl, sym, ap, arith, inl, inr, subst, All, List, [], ◌∷◌, length, map, reverse, Option, Some, None, is_some, option_map, unwrap_or}
 use Rattle.std.proofs.lemmas.List.Elements.{All-head, All-tail}
+use Rattle.std.proofs.lemmas.List.{length-map, length-reverse}
 use Rattle.term_core.specs.Image.{IsImageAt, term_at}
 use Rattle.term_core.specs.Plain.{term_of}
 use Rattle.term_core.specs.PlainTerm.{PlainTerm, atom_leaf, integer_leaf, list_of, term_words, tuple_of}
@@ -11,7 +12,7 @@ use Rattle.machine_core.specs.declared.process.LitRef.{LitRef}
 use Rattle.machine_core.specs.declared.process.Process.{Process}
 use Rattle.machine_core.specs.declared.process.Value.{Value}
 use Rattle.machine_core.specs.declared.process.Value.TheVariants.{Literal, Owned}
-use Rattle.machine_core.specs.Process.{frame_of, frames_of, literal, process_of, value_shown, values_shown}
+use Rattle.machine_core.specs.Process.{frame_of, frames_of, literal, process_of, value_shown, values_shown, Words}
 use Rattle.machine_core.specs.View.{AreValues, HasValues, IsLiteral, IsNoEntry, IsReadable, IsValue, server_words, shown_of}
 use Rattle.machine_core.specs.ServerReads.{reads_of}
 
@@ -32,6 +33,17 @@ pub record HasAreas (before after : ServerState) : Type 0 where
   pub instances : HasInstances before after
   pub terms : HasTerms before after
   pub words : HasWords before after
+
+-- no frame stands for none
+no_frames : (words : Words) (fs : List Frame) → frames_of words fs ≡ [] → fs ≡ []
+no_frames words [] h = refl
+no_frames words (f ∷ fs) h = absurd (omega (arith, ap length h, length-reverse (map (frame_of words) (f ∷ fs)), length-map (f ∷ fs) (frame_of words)))
+
+-- a process without frames stands for the same whatever the words are
+pub frameless_same : (words others : Words) (p : Process) → (process_of words p).frames ≡ [] → process_of others p ≡ process_of words p
+frameless_same words others p h =
+    let none = no_frames words p.frames h in
+    ap (λ frames. record { number = p.number; target = p.target; args = p.args; turns = p.turns; frames = frames }) (ap (frames_of others) none ∙ ap (frames_of words) (sym none))
 
 -- an area of these words
 abbrev IsKnown : ServerState → ℕ → Type 0

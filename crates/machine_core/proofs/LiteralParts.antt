@@ -1,5 +1,5 @@
 -- The parts of a literal, and what a key holds, as values.
-use Rattle.std.proofs.Common.{◌≡◌, ◌<◌, ◌≤◌, ◌+◌, ◌*◌, ◌%◌, ◌∙◌, ℕ, zero, suc, refl, sym, ap, subst, arith, Bool, true, false, ℤ, pos, negsuc, List, ◌++◌, length, drop, get_or, slice_get, slice_index, Option, Some, None, option_map, unwrap_or, if◌then◌else◌, inl, inr, cond}
+use Rattle.std.proofs.Common.{◌≡◌, ◌<◌, ◌≤◌, ◌+◌, ◌∙◌, ℕ, zero, suc, refl, sym, ap, subst, arith, Bool, true, false, ℤ, pos, negsuc, List, ◌++◌, length, drop, get_or, slice_get, slice_index, Option, Some, None, option_map, unwrap_or, if◌then◌else◌, inl, inr, cond}
 use Rattle.std.proofs.lemmas.List.{drop-drop}
 use Rattle.std.proofs.lemmas.Option.{slice_get-get_or, slice_get_past}
 use Rattle.std.proofs.Common.{◌⊎◌, Result, Ok, Err, IfOk}
@@ -24,6 +24,7 @@ use Rattle.machine_core.specs.View.{IsLiteral, IsReadable, Shown}
 use Rattle.machine_core.proofs.LiteralPlaces.{part_within}
 use Rattle.machine_core.proofs.OwnedTerms.{term_of-plain}
 use Rattle.machine_core.specs.Reach.{MayHold}
+use Rattle.machine_core.proofs.Decoding.{tag_of}
 
 -- ---- elements by their place
 
@@ -40,14 +41,11 @@ element_placed index value place e = ap (option_map (part_value value)) (element
 -- ---- parts of a literal
 
 -- the first word tells an integer and an atom from the others
-first_tag : (n tag : ℕ) → tag < 16 → (n * 16 + tag) % 16 ≡ tag
-first_tag n tag h = omega arith
-
 pub immediate_first : (t : PlainTerm) → is_immediate_word (first_word t) ≡ is_immediate t
-immediate_first (integer_leaf z) = rw (first_tag (low_bits z) 1 (omega arith)) refl
-immediate_first (atom_leaf a) = rw (first_tag a 2 (omega arith)) refl
-immediate_first (tuple_of row) = rw (first_tag (row_count row) 3 (omega arith)) refl
-immediate_first (list_of row) = rw (first_tag (row_count row) 4 (omega arith)) refl
+immediate_first (integer_leaf z) = rw (tag_of (low_bits z) 1 (omega arith)) refl
+immediate_first (atom_leaf a) = rw (tag_of a 2 (omega arith)) refl
+immediate_first (tuple_of row) = rw (tag_of (row_count row) 3 (omega arith)) refl
+immediate_first (list_of row) = rw (tag_of (row_count row) 4 (omega arith)) refl
 
 parts_row : (t : PlainTerm) → parts_of (term_of t) ≡ terms_of (row_in t)
 parts_row (integer_leaf z) = refl

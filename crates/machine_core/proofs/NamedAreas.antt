@@ -3,6 +3,7 @@ use Rattle.std.proofs.Common.{◌≡◌, ◌==◌, ◌||◌, ◌∙◌, ℕ, ref
 use Rattle.std.proofs.lemmas.Bool.Decides.{nat_tests}
 use Rattle.std.proofs.lemmas.List.Elements.{All-append, All-cons, All-head, All-nil, All-replicate, All-tail, All-take}
 use Rattle.std.proofs.lemmas.List.Folds.{list_any-append}
+use Rattle.std.proofs.lemmas.Bool.{or_left, or_right}
 use Rattle.mod_core.specs.declared.code.TheConstants.{REGISTERS}
 use Rattle.machine_core.specs.Holds.{Holds, is_among}
 use Rattle.machine_core.specs.Process.{PlainFrame, PlainValue, first_registers, frame_names, literal, literal_serials, no_value, owned, register_serials, value_serials}
@@ -20,14 +21,6 @@ HasArea Area (literal serial term) = Area serial
 
 pub among_append : (ms ns : List ℕ) (q : ℕ) → is_among (ms ++ ns) q ≡ (is_among ms q || is_among ns q)
 among_append ms ns q = list_any-append (λ n. n == q) ms ns
-
-or_left : (a b : Bool) → a ≡ true → (a || b) ≡ true
-or_left true b h = refl
-or_left false b h = absurd (cc)
-
-or_right : (a b : Bool) → b ≡ true → (a || b) ≡ true
-or_right true b h = refl
-or_right false b h = h
 
 or_either : (a b : Bool) (P : Type 0) → (a ≡ true → P) → (b ≡ true → P) → (a || b) ≡ true → P
 or_either true b P f g h = f refl

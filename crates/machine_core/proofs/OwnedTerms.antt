@@ -3,13 +3,9 @@ use Rattle.std.proofs.Common.{◌≡◌, refl, ap, List, [], ◌∷◌, map}
 use Rattle.term_core.specs.declared.term.Term.{Term}
 use Rattle.term_core.specs.declared.term.Term.TheVariants.{Int, Atom, Tuple, List as ListOf}
 use Rattle.term_core.specs.Plain.{plain, term_of}
-use Rattle.term_core.specs.PlainTerm.{TermOf, row_of, terms_of}
 use Rattle.machine_core.specs.declared.process.Value.TheVariants.{Owned}
 use Rattle.machine_core.specs.Process.{owned_terms}
-
-terms_of-row_of : {Z A : Type 0} (ts : List (TermOf Z A)) → terms_of (row_of ts) ≡ ts
-terms_of-row_of [] = refl
-terms_of-row_of (t ∷ ts) = ap (λ us. t ∷ us) (terms_of-row_of ts)
+use Rattle.term_core.proofs.TokenLaws.{terms_of-row_of}
 
 -- the term of what a term shows is it
 pub term_of-plain : (t : Term) → term_of (plain t) ≡ t

@@ -48,12 +48,16 @@ increasing-without (n ∷ ns) k i = without_first n k ns (n == k) i (increasing-
     without_first n k ns false i r = (above_without n k ns i.0, r)
 
 -- what is not above a serial is not among those above it
-above_among : (n q : ℕ) (ns : List ℕ) → AllAbove n ns → q ≤ n → is_among ns q ≡ false
+pub above_among : (n q : ℕ) (ns : List ℕ) → AllAbove n ns → q ≤ n → is_among ns q ≡ false
 above_among n q [] a h = refl
 above_among n q (m ∷ ms) a h = let b : n < m = a.0 in let e : is_among ms q ≡ false = above_among n q ms a.1 h in grind (arith, nat_tests)
 
+-- a number is itself, or else
+pub same_first : (n : ℕ) (b : Bool) → (n == n || b) ≡ true
+same_first n b = grind (arith, nat_tests)
+
 first_among : (n : ℕ) (ns : List ℕ) → is_among (n ∷ ns) n ≡ true
-first_among n ns = grind (arith, nat_tests)
+first_among n ns = same_first n (is_among ns n)
 
 later_among : (m n : ℕ) (ns : List ℕ) → IsIncreasing (n ∷ ns) → m < n → is_among (n ∷ ns) m ≡ false
 later_among m n ns i h = let e : is_among ns m ≡ false = above_among n m ns i.0 (omega arith) in grind (arith, nat_tests)

@@ -58,6 +58,16 @@ len_of_number number =
     else if number == 14 then 1
     else 2
 
+-- of the instructions that neither compute, test nor call: one that reads, prints or returns a value, or a yield
+abbrev pub value_op : ℕ → ℕ → ℕ → ℕ → Op
+value_op number first second third =
+    if number == 10 then Pget (atom_of_word first) (register_of_word second)
+    else if number == 11 then PgetOr (atom_of_word first) (source_of_word second) (register_of_word third)
+    else if number == 12 then Elem (source_of_word first) (source_of_word second) (register_of_word third)
+    else if number == 13 then Print (source_of_word first)
+    else if number == 14 then Yield
+    else Ret (source_of_word first)
+
 -- the instruction with this number and these words behind it; a target is a place
 abbrev pub op_of_words : ℕ → ℕ → ℕ → ℕ → Op
 op_of_words number first second third =
@@ -69,12 +79,7 @@ op_of_words number first second third =
     else if number == 6 then Jump (number_of_word first)
     else if number == 7 then Call (number_of_word first) (register_of_word second)
     else if number == 8 then CallExt (name_of_word first) (register_of_word second)
-    else if number == 10 then Pget (atom_of_word first) (register_of_word second)
-    else if number == 11 then PgetOr (atom_of_word first) (source_of_word second) (register_of_word third)
-    else if number == 12 then Elem (source_of_word first) (source_of_word second) (register_of_word third)
-    else if number == 13 then Print (source_of_word first)
-    else if number == 14 then Yield
-    else Ret (source_of_word first)
+    else value_op number first second third
 
 -- a word of the instruction at a place, counted from its number; 0 past its last word
 abbrev pub instr_word : List ℕ → ℕ → ℕ → ℕ

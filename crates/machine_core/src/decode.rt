@@ -1,5 +1,5 @@
 ghost use Rattle.std.specs.Prelude.{◌≡◌, ◌<◌};
-ghost use Rattle.machine_core.specs.Decode.{atom_of_word, len_of_number, name_of_word, number_of_word, op_of_words, register_of_word, source_of_word};
+ghost use Rattle.machine_core.specs.Decode.{atom_of_word, len_of_number, name_of_word, number_of_word, op_of_words, register_of_word, source_of_word, value_op};
 
 use crate::op::{Op, Source};
 use term_core::{AtomId, Mfa, Term};
@@ -102,6 +102,15 @@ pub fn decode(number: u64, first: u64, second: u64, third: u64) -> Op
             to: name_of_word(first),
             at: register_of_word(second),
         },
+        _ => decode_value(number, first, second, third),
+    }
+}
+
+/// Of the instructions that neither compute, test nor call: one that reads, prints or returns a value, or a yield.
+fn decode_value(number: u64, first: u64, second: u64, third: u64) -> Op
+    ensures { result ≡ value_op number first second third }
+{
+    match number {
         PGET => Op::Pget {
             key: atom_of_word(first),
             to: register_of_word(second),

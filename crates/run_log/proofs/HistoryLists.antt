@@ -37,7 +37,7 @@ any_map f g [] = refl
 any_map f g (x ∷ xs) = ap (λ b. f (g x) || b) (any_map f g xs)
 
 -- a value that was made from another
-mapped_some : {X Y : Type 0} (g : X → Y) (o : Option X) (y : Y) → option_map g o ≡ Some y → (x : X) × ((o ≡ Some x) × (g x ≡ y))
+pub mapped_some : {X Y : Type 0} (g : X → Y) (o : Option X) (y : Y) → option_map g o ≡ Some y → (x : X) × ((o ≡ Some x) × (g x ≡ y))
 mapped_some g None y h = absurd (none-some y h)
 mapped_some g (Some x) y h = (x, (refl, same_Some (g x) y h))
 

@@ -8,7 +8,7 @@ use Rattle.std.specs.List.{flat_map}
 use Rattle.std.proofs.lemmas.List.Sums.{sum-map, sum_by-cons}
 use Rattle.mod_core.specs.declared.code.Module.{Module}
 use Rattle.server_core.specs.declared.command.Cmd.{Cmd}
-use Rattle.server_core.specs.declared.command.Cmd.TheVariants.{Load, Delete, SoftPurge, Doom, Purge, CheckOld, Put, Erase, Trace, Spawn, Release}
+use Rattle.server_core.specs.declared.command.Cmd.TheVariants.{Load}
 use Rattle.server_core.specs.ServerState.{ServerState}
 use Rattle.server_core.specs.CommandTable.{Outcome, apply_of}
 use Rattle.run_log.specs.declared.logs.Entry.{Entry}
@@ -129,16 +129,7 @@ commands_other loader journal e other =
 -- a command ends one command of a script, or none
 pub ended_length : (cmd : Cmd) → length (ended_by cmd) ≡ (if ends_one cmd then 1 else 0)
 ended_length (Load refs) = refl
-ended_length (Delete name) = refl
-ended_length (SoftPurge name lingers) = refl
-ended_length (Doom name) = refl
-ended_length (Purge name killed) = refl
-ended_length (CheckOld name) = refl
-ended_length (Put key term) = refl
-ended_length (Erase key) = refl
-ended_length (Trace target on) = refl
-ended_length (Spawn target args) = refl
-ended_length (Release serial) = refl
+ended_length cmd = refl
 
 own_count : (own one : Bool) (x : Entry) (xs : List Entry) → length (ended_by x.cmd) ≡ (if one then 1 else 0) → length (flat_map (λ (e : Entry). ended_by e.cmd) (cond own (x ∷ xs) xs)) ≡ (if own && one then 1 else 0) + length (flat_map (λ (e : Entry). ended_by e.cmd) xs)
 own_count true one x xs h = length-append (ended_by x.cmd) (flat_map (λ (e : Entry). ended_by e.cmd) xs) ∙ ap (λ n. n + length (flat_map (λ (e : Entry). ended_by e.cmd) xs)) h

@@ -53,6 +53,10 @@ module _ {X : Type 0} where
   all_push P [] y h p = (p, tt)
   all_push P (x ∷ xs) y h p = (h.0, all_push P xs y h.1 p)
 
+  pub all_join : (P : X → Type 0) (xs ys : List X) → AllByRecursion P xs → AllByRecursion P ys → AllByRecursion P (xs ++ ys)
+  all_join P [] ys h k = k
+  all_join P (x ∷ xs) ys h k = (h.0, all_join P xs ys h.1 k)
+
   pub all_front : (P : X → Type 0) (xs : List X) (y : X) → AllByRecursion P (xs ++ y ∷ []) → AllByRecursion P xs
   all_front P [] y h = tt
   all_front P (x ∷ xs) y h = (h.0, all_front P xs y h.1)

@@ -14,21 +14,8 @@ use Rattle.machine_core.specs.Turn.{Turn, turn_of}
 use Rattle.machine_core.proofs.TurnLaws.{limit_ends, turn_counts, turn_ended}
 use Rattle.run_log.specs.declared.logs.Span.{Span}
 use Rattle.run_log.specs.Legal.{Mark, SpansFollow, SpansGo, after_turn, after_turns, last_up_to, marks_in, marks_of, process_after, turns_of}
-use Rattle.run_log.proofs.TurnRuns.{ended_again, some_turn}
+use Rattle.run_log.proofs.TurnRuns.{ended_again, some_turn, process_in, end_in, none_some}
 use Rattle.run_log.proofs.SpanRuns.{some_and}
-
--- the process of a run of turns that is there
-abbrev process_in : PlainProcess → Option Turn → PlainProcess
-process_in p None = p
-process_in p (Some t) = t.process
-
-abbrev end_in : TurnEnd → Option Turn → TurnEnd
-end_in e None = e
-end_in e (Some t) = t.end
-
--- nothing is no turn
-none_some : {A : Type 0} (t : Turn) → None ≡ Some t → A
-none_some t h = cc
 
 module _ (s : ServerState) where
   -- no turn leaves the process as it is

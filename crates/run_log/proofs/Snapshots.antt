@@ -9,6 +9,7 @@ use Rattle.term_core.specs.declared.atom.Mfa.{Mfa}
 use Rattle.term_core.specs.TermText.{atom_text}
 use Rattle.server_core.specs.ServerState.{ServerState}
 use Rattle.run_log.specs.Snapshots.{AreExports, IsExport, mfa_cmp}
+use Rattle.run_log.proofs.Members.{contains_first, contains_later}
 
 -- an element of a list is its first or one of the rest
 pub first_or_rest : {X G : Type 0} (x e : X) (xs : List X) → Contains (x ∷ xs) e → (x ≡ e → G) → (Contains xs e → G) → G
@@ -18,14 +19,6 @@ first_or_rest x e xs (suc k, below, is) p q = q (k, omega (arith, below), is)
 -- an empty list has no element
 pub none_in : {X G : Type 0} (e : X) → Contains [] e → G
 none_in e at = absurd (omega (arith, at.1))
-
--- a list has its first
-pub first_in : {X : Type 0} (x : X) (xs : List X) → Contains (x ∷ xs) x
-first_in x xs = (0, omega arith, refl)
-
--- and each of the rest
-pub rest_in : {X : Type 0} (x e : X) (xs : List X) → Contains xs e → Contains (x ∷ xs) e
-rest_in x e xs (k, below, is) = (suc k, omega (arith, below), is)
 
 -- what holds of each holds of an element
 pub each_element : {X : Type 0} (P : X → Type 0) (xs : List X) (e : X) → AllByRecursion P xs → Contains xs e → P e
@@ -60,15 +53,15 @@ module _ {X K : Type 0} (c : K → K → Ordering) (key : X → K) (total : IsTo
   -- an element of the rest of one is one of the rest of the other
   rest_to_rest : (x y : X) (xs ys : List X) → AreSorted (x ∷ xs) → x ≡ y → ((e : X) → Contains (x ∷ xs) e → Contains (y ∷ ys) e) → (e : X) → Contains xs e → Contains ys e
   rest_to_rest x y xs ys s same to e at =
-      first_or_rest y e ys (to e (rest_in x e xs at)) (λ is. let at_x = subst (Contains xs) (sym (same ∙ is)) at in not_both x x (first_below x x xs s at_x) (first_below x x xs s at_x)) (λ rest. rest)
+      first_or_rest y e ys (to e (contains_later x e xs at)) (λ is. let at_x = subst (Contains xs) (sym (same ∙ is)) at in not_both x x (first_below x x xs s at_x) (first_below x x xs s at_x)) (λ rest. rest)
 
   -- two lists in strict order with the same elements are one
   pub same_sorted : (xs ys : List X) → AreSorted xs → AreSorted ys → ((e : X) → Contains xs e → Contains ys e) → ((e : X) → Contains ys e → Contains xs e) → xs ≡ ys
   same_sorted [] [] s t to back = refl
-  same_sorted [] (y ∷ ys) s t to back = none_in y (back y (first_in y ys))
-  same_sorted (x ∷ xs) [] s t to back = none_in x (to x (first_in x xs))
+  same_sorted [] (y ∷ ys) s t to back = none_in y (back y (contains_first y ys))
+  same_sorted (x ∷ xs) [] s t to back = none_in x (to x (contains_first x xs))
   same_sorted (x ∷ xs) (y ∷ ys) s t to back =
-      let same = same_first x y xs ys s t (to x (first_in x xs)) (back y (first_in y ys)) in
+      let same = same_first x y xs ys s t (to x (contains_first x xs)) (back y (contains_first y ys)) in
       let rest = same_sorted xs ys (rest_sorted x xs s) (rest_sorted y ys t) (rest_to_rest x y xs ys s same to) (rest_to_rest y x ys xs t (sym same) back) in
       λ i. same i ∷ rest i
 

@@ -1,6 +1,6 @@
 -- The exported functions of all texts, sorted by their names, each once.
 use Rattle.std.proofs.Common.{◌≡◌, ℕ, ◌<◌, Bool, true, false, ◌&&◌, ◌||◌, List, [], ◌∷◌, ◌++◌, length, map, filter, cond, Contains, All, ◌==◌, get_or, Option, Some, None, IsSome, ◌⊎◌, inl, inr, refl, sym, ap, subst, ◌∙◌}
-use Rattle.std.proofs.lemmas.Bool.{eqb-true, eq-eqb}
+use Rattle.std.proofs.lemmas.Bool.{eqb-true, eq-eqb, and_parts}
 use Rattle.std.proofs.lemmas.Cmp.{eq_by_cmp_equiv, nat_cmp_total, on_total, then_total}
 use Rattle.std.proofs.lemmas.List.Elements.{All-contains, Contains-get_or, Contains-append_left, Contains-append_right, Contains-append_cases}
 use Rattle.std.proofs.lemmas.List.Kept.{Any-dedup, Contains-from_dedup, IsStrictlySortedBy-dedup}
@@ -115,10 +115,6 @@ listed_own module_name (g ∷ fs) f h e = by g.exported refl (contains_cases g f
     by false is (inl same) later = let no : true ≡ false = sym e ∙ ap (λ (x : Function). x.exported) (sym same) ∙ is in absurd (cc)
     by false is (inr k) later = later k
 
-and_both : (a b : Bool) → (a && b) ≡ true → (a ≡ true) × (b ≡ true)
-and_both true b h = (refl, h)
-and_both false b h = absurd (cc)
-
 -- what the look-up finds is an export of the module's own
 own_found : (m : Module) (to : Mfa) → IsExportedBy to m → IsOwnExport m.name m.functions to
 own_found m to by = at (export_of m to) refl by.exported
@@ -128,8 +124,8 @@ own_found m to by = at (export_of m to) refl by.exported
     at (Some i) e h =
         let found = position-Some (is_export to) m.functions i (record { name = to.name; arity = to.arity; exported = false; code = [] }) e in
         let f = get_or m.functions i (record { name = to.name; arity = to.arity; exported = false; code = [] }) in
-        let parts = and_both f.exported (f.name.0 == to.name.0 && f.arity == to.arity) found.1 in
-        let names = and_both (f.name.0 == to.name.0) (f.arity == to.arity) parts.1 in
+        let parts = and_parts f.exported (f.name.0 == to.name.0 && f.arity == to.arity) found.1 in
+        let names = and_parts (f.name.0 == to.name.0) (f.arity == to.arity) parts.1 in
         record {
           function = f;
           known = Contains-get_or m.functions i (record { name = to.name; arity = to.arity; exported = false; code = [] }) found.0;

@@ -132,10 +132,10 @@ module _ (s : ServerState) (cmd : Cmd) where
   mapped_step f None h = tt
   mapped_step f (Some modules) h = h modules
 
-  -- where an instance is doomed a command may have no case
-  none_doomed_step : (b : Bool) (o : Option Outcome) → StepIn s cmd o → StepIn s cmd (if b then None else o)
-  none_doomed_step true o h = tt
-  none_doomed_step false o h = h
+  -- where an instance is doomed, or none and a process was killed, a command may have no case
+  unless_step : (b : Bool) (o : Option Outcome) → StepIn s cmd o → StepIn s cmd (if b then None else o)
+  unless_step true o h = tt
+  unless_step false o h = h
 
   -- a load
   load_step : (texts : List Module) (refs : List ModRef) → StepIn s cmd (load_of texts s refs)
@@ -161,10 +161,6 @@ module _ (s : ServerState) (cmd : Cmd) where
   doom_step None = tt
   doom_step (Some serial) = next_step (record s { doomed = s.doomed ++ serial ∷ [] }) replies.Ok refl refl refl refl
 
-  alone_step : (killed : Bool) (o : Option Outcome) → StepIn s cmd o → StepIn s cmd (if killed then None else o)
-  alone_step true o h = tt
-  alone_step false o h = h
-
   doomed_step : (b : Bool) (o : Outcome) → IsStep s cmd o → StepIn s cmd (if b then Some o else None)
   doomed_step true o h = h
   doomed_step false o h = tt
@@ -173,7 +169,7 @@ module _ (s : ServerState) (cmd : Cmd) where
   purge_step : (name : ℕ) (killed : Bool) (old : Option ℕ) → StepIn s cmd (purge_of s name killed old)
   purge_step name killed None =
       let same = Some (unchanged s replies.False) in
-      alone_step killed (while_none_doomed s same) (none_doomed_step (nat_lt 0 (length s.doomed)) same (stays refl refl))
+      unless_step killed (while_none_doomed s same) (unless_step (nat_lt 0 (length s.doomed)) same (stays refl refl))
   purge_step name killed (Some serial) =
       doomed_step (is_doomed s serial) (published (with_purged s name serial) (answered killed)) (next_step (with_purged s name serial) (answered killed) refl refl refl refl)
 
@@ -216,18 +212,18 @@ release_step : (s : ServerState) (serial : ℕ) → StepIn s (Release serial) (r
 release_step s serial = doomed_step s (Release serial) (is_retired s serial) (unchanged (with_released s serial) replies.Ok) (releases serial refl refl refl)
 
 pub step_in : (texts : List Module) (s : ServerState) (cmd : Cmd) → StepIn s cmd (apply_of texts s cmd)
-step_in texts s (Load refs) = none_doomed_step s (Load refs) (nat_lt 0 (length s.doomed)) (load_of texts s refs) (load_step s (Load refs) texts refs)
-step_in texts s (Delete name) = none_doomed_step s (Delete name) (nat_lt 0 (length s.doomed)) (Some (delete_of s name.0)) (delete_step s (Delete name) name.0)
+step_in texts s (Load refs) = unless_step s (Load refs) (nat_lt 0 (length s.doomed)) (load_of texts s refs) (load_step s (Load refs) texts refs)
+step_in texts s (Delete name) = unless_step s (Delete name) (nat_lt 0 (length s.doomed)) (Some (delete_of s name.0)) (delete_step s (Delete name) name.0)
 step_in texts s (SoftPurge name lingers) =
-    none_doomed_step s (SoftPurge name lingers) (nat_lt 0 (length s.doomed)) (soft_purge_of s name.0 lingers (old_of s name.0)) (soft_purge_step s (SoftPurge name lingers) name.0 lingers (old_of s name.0))
-step_in texts s (Doom name) = none_doomed_step s (Doom name) (nat_lt 0 (length s.doomed)) (doom_of s (old_of s name.0)) (doom_step s (Doom name) (old_of s name.0))
+    unless_step s (SoftPurge name lingers) (nat_lt 0 (length s.doomed)) (soft_purge_of s name.0 lingers (old_of s name.0)) (soft_purge_step s (SoftPurge name lingers) name.0 lingers (old_of s name.0))
+step_in texts s (Doom name) = unless_step s (Doom name) (nat_lt 0 (length s.doomed)) (doom_of s (old_of s name.0)) (doom_step s (Doom name) (old_of s name.0))
 step_in texts s (Purge name killed) = purge_step s (Purge name killed) name.0 killed (old_of s name.0)
 step_in texts s (CheckOld name) = stays refl refl
-step_in texts s (Put key term) = none_doomed_step s (Put key term) (nat_lt 0 (length s.doomed)) (Some (put_of s key.0 (plain term))) (put_step s (Put key term) key.0 (plain term))
+step_in texts s (Put key term) = unless_step s (Put key term) (nat_lt 0 (length s.doomed)) (Some (put_of s key.0 (plain term))) (put_step s (Put key term) key.0 (plain term))
 step_in texts s (Erase key) =
-    none_doomed_step s (Erase key) (nat_lt 0 (length s.doomed)) (Some (erase_of s key.0 (persistent_of s key.0))) (erase_step s (Erase key) key.0 (persistent_of s key.0))
+    unless_step s (Erase key) (nat_lt 0 (length s.doomed)) (Some (erase_of s key.0 (persistent_of s key.0))) (erase_step s (Erase key) key.0 (persistent_of s key.0))
 step_in texts s (Trace target on) =
-    none_doomed_step s (Trace target on) (nat_lt 0 (length s.doomed)) (Some (trace_of s on (traceable_of s target))) (trace_step s (Trace target on) on (traceable_of s target))
+    unless_step s (Trace target on) (nat_lt 0 (length s.doomed)) (Some (trace_of s on (traceable_of s target))) (trace_step s (Trace target on) on (traceable_of s target))
 step_in texts s (Spawn target args) = stays refl refl
 step_in texts s (Release serial) = release_step s serial
 

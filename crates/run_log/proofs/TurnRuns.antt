@@ -9,7 +9,8 @@ use Rattle.machine_core.specs.Process.{PlainProcess}
 use Rattle.machine_core.specs.Turn.{Turn, turn_of}
 use Rattle.run_log.specs.Legal.{after_turn, turns_of}
 
-abbrev process_in : PlainProcess → Option Turn → PlainProcess
+-- what a run of turns that is there came to
+abbrev pub process_in : PlainProcess → Option Turn → PlainProcess
 process_in p None = p
 process_in p (Some t) = t.process
 
@@ -17,7 +18,7 @@ abbrev made_in : List Line → Option Turn → List Line
 made_in made None = made
 made_in made (Some t) = t.made
 
-abbrev end_in : TurnEnd → Option Turn → TurnEnd
+abbrev pub end_in : TurnEnd → Option Turn → TurnEnd
 end_in e None = e
 end_in e (Some t) = t.end
 
@@ -26,7 +27,7 @@ pub ended_again : {A : Type 0} (e : End) → Ended e ≡ Again → A
 ended_again e h = cc
 
 -- nothing is no turn
-none_some : {A : Type 0} (t : Turn) → None ≡ Some t → A
+pub none_some : {A : Type 0} (t : Turn) → None ≡ Some t → A
 none_some t h = cc
 
 -- a run of turns that led to this process, with these lines
