@@ -4,6 +4,8 @@
 #[cfg(test)]
 mod event_lists;
 #[cfg(test)]
+mod later;
+#[cfg(test)]
 mod tables;
 #[cfg(test)]
 mod watchers;
