@@ -87,3 +87,13 @@ texts_of names (t ∷ ts) = ap (λ xs. term_text names t ∷ xs) (texts_of names
 -- the texts of the terms that a list shows
 pub plain_texts : (names : List (List ℕ)) (terms : List Term) (shown : List PlainTerm) → map plain terms ≡ shown → map (plain_text names) shown ≡ map (term_text names) terms
 plain_texts names terms shown e = ap (map (plain_text names)) (sym e) ∙ texts_of names terms
+
+-- four counts with their words, and a line feed
+pub four_counts : {T E : Type 0} (r : Result T E) (o a b c d e w1 n1 w2 n2 w3 n3 w4 n4 : List ℕ) → a ≡ o ++ (w1 ++ n1) → b ≡ a ++ (w2 ++ n2) → c ≡ b ++ (w3 ++ n3) → d ≡ c ++ (w4 ++ n4) → OnOk r (e ≡ d ++ 10 ∷ [])
+    → OnOk r (e ≡ o ++ ((w1 ++ n1 ++ w2 ++ n2 ++ w3 ++ n3 ++ w4 ++ n4) ++ 10 ∷ []))
+four_counts r o a b c d e w1 n1 w2 n2 w3 n3 w4 n4 first second third fourth ended =
+    let one = ap (λ t. t ++ (w2 ++ n2)) first in
+    let two = ap (λ t. t ++ (w3 ++ n3)) (second ∙ one) in
+    let three = ap (λ t. t ++ (w4 ++ n4)) (third ∙ two) in
+    let all = ap (λ t. t ++ 10 ∷ []) (fourth ∙ three) in
+    IfOk-equal r e (d ++ 10 ∷ []) (o ++ ((w1 ++ n1 ++ w2 ++ n2 ++ w3 ++ n3 ++ w4 ++ n4) ++ 10 ∷ [])) ended (all ∙ simp append_assoc)

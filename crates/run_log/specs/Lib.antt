@@ -5,6 +5,7 @@ pub mod ExportedFunctions
 pub mod SeenExports
 pub mod Legal
 pub mod Report
+pub mod Summary
 pub mod WholeSpans
 pub mod WellFormed
 pub mod History

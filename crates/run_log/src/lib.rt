@@ -1,10 +1,11 @@
-//! What a run of a script did: its journal and its processes, when such a log is lawful, and its report.
+//! What a run of a script did: its journal and its processes, when such a log is lawful, and its report and its summary.
 #![tactic(auto)]
 
 mod exports;
 mod journal;
 mod logs;
 mod rendering;
+mod totals;
 mod underway;
 
 pub use exports::{MfaList, exported_functions, exports_are_one, exports_of, snapshot_of};
@@ -13,4 +14,5 @@ pub use logs::{
     SnapshotList, Span, SpanList, Who,
 };
 pub use rendering::render;
+pub use totals::summary;
 pub use underway::HalfPurge;

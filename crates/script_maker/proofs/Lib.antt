@@ -1,0 +1,4 @@
+pub mod Growing
+pub mod MadeCommands
+pub mod MadeModules
+pub mod MadeScripts
