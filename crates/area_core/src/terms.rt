@@ -1,6 +1,6 @@
 //! The block of a term table, and whether it stands for the keys of a generation.
 
-ghost use Rattle.std.specs.Prelude.{◌≡◌, ◌<◌, ◌+◌, ◌^◌, ◌↔◌, IsTrue};
+ghost use Rattle.std.specs.Prelude.{◌≡◌, ◌<◌, ◌+◌, ◌^◌};
 ghost use Rattle.std.specs.List.{list_any, list_all};
 ghost use Rattle.area_core.specs.Map.{word_at};
 ghost use Rattle.area_core.specs.Blocks.{term_words};
