@@ -4,9 +4,6 @@ use Rattle.std.specs.Prelude.{◌==◌, slice_get, slice_set, IsTrue}
 use Rattle.std.specs.List.{list_any}
 use Rattle.std.proofs.lemmas.Bool.{and_parts, and_from, or_cases, or_left, lt-ltb, le-ltb, le-leb, eq-eqb, eqb-true, not-true, cases_eq, true≢false, cond-true, cond-false}
 use Rattle.std.proofs.lemmas.Bool.Decides.{nat_tests}
-use Rattle.prgr_core.specs.declared.progress.Progress.{Progress}
-use Rattle.prgr_core.specs.Machine.{machine_of, Readable}
-use Rattle.prgr_core.specs.Step.{IsSound as IsProgressSound}
 use Rattle.term_core.specs.declared.area.AreaRef.{AreaRef}
 use Rattle.area_core.specs.declared.map.TheConstants.{TABLE_WORDS, BIG_WORDS, BREAKPOINTS_START, TERMS_START, EXPORT_ENTRIES, FUNCTIONS}
 use Rattle.area_core.specs.declared.map.WordKind.{WordKind}

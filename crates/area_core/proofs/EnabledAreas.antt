@@ -1,11 +1,11 @@
 -- A retire, doom or entry word may be stored exactly where its line is met and the block invariant holds after it.
-use Rattle.std.proofs.Common.{◌≡◌, ℕ, ◌+◌, ◌/◌, ◌%◌, ◌<◌, ◌≤◌, Bool, true, false, not, ◌&&◌, ◌||◌, ◌↔◌, List, Some, inl, inr, refl, sym, ap, ◌∙◌, subst, arith, filter}
-use Rattle.std.specs.Prelude.{◌==◌, slice_get, slice_set, IsTrue, if◌then◌else◌}
+use Rattle.std.proofs.Common.{◌≡◌, ℕ, ◌+◌, ◌/◌, ◌%◌, ◌<◌, Bool, true, false, not, ◌&&◌, ◌||◌, ◌↔◌, List, Some, inl, inr, refl, sym, ap, ◌∙◌, subst, arith}
+use Rattle.std.specs.Prelude.{◌==◌, slice_get, slice_set}
 use Rattle.std.specs.List.{list_any}
-use Rattle.std.proofs.lemmas.Bool.{and_parts, and_from, or_left, or_right, eq-eqb, eqb-true, not_from_false, cases_Bool, cases_eq, cond-true, cond-false, true≢false}
+use Rattle.std.proofs.lemmas.Bool.{and_parts, and_from, or_left, or_right, eq-eqb, eqb-true, not_from_false, cases_Bool, cases_eq, cond-true, cond-false}
 use Rattle.prgr_core.proofs.Parts.{some_same}
 use Rattle.term_core.specs.declared.area.CodeRef.{CodeRef}
-use Rattle.area_core.specs.declared.map.WordKind.TheVariants.{Slot, Retire, Doom, InBlock}
+use Rattle.area_core.specs.declared.map.WordKind.TheVariants.{Slot, Retire, Doom}
 use Rattle.area_core.specs.declared.readers.Slots.TheVariants.{All}
 use Rattle.area_core.specs.declared.event.AreaEvent.TheVariants.{StoreWord, StoreEntry}
 use Rattle.area_core.specs.declared.table.Published.{Published}
@@ -170,13 +170,13 @@ module _ (s : Table) (sound : IsSound s) (at : CodeRef) (on : Bool) where
 
       may : may_be_entry s (readable_generations s.progress) at.area.serial at.function (entry_word on) ≡ true
       may = elim (cases_Bool (entry_word on == 0)) as (λ _. may_be_entry s (readable_generations s.progress) at.area.serial at.function (entry_word on) ≡ true) [
-          | inr other ↦ or_left (not (entry_word on == 0)) (is_untraced s (readable_generations s.progress) at.area.serial at.function) (not_from_false (entry_word on == 0) other)
-          | inl none ↦ or_right (not (entry_word on == 0)) (is_untraced s (readable_generations s.progress) at.area.serial at.function)
-              (each_generation s.published (readable_generations s.progress) (λ g p. not (is_traced p at.area.serial at.function)) (λ g p readable published.
-              not_from_false (is_traced p at.area.serial at.function)
-              (subst (λ (x : ℕ). is_traced p x at.function ≡ false) own.serial
-              ((both.1.areas_stand g p (held_readable s.progress sound.progress g readable) published k own.among).entries at.function own.has (stored ∙ eqb-true (entry_word on) 0 none)))))
-        ]
+        | inr other ↦ or_left (not (entry_word on == 0)) (is_untraced s (readable_generations s.progress) at.area.serial at.function) (not_from_false (entry_word on == 0) other)
+        | inl none ↦ or_right (not (entry_word on == 0)) (is_untraced s (readable_generations s.progress) at.area.serial at.function)
+            (each_generation s.published (readable_generations s.progress) (λ g p. not (is_traced p at.area.serial at.function)) (λ g p readable published.
+            not_from_false (is_traced p at.area.serial at.function)
+            (subst (λ (x : ℕ). is_traced p x at.function ≡ false) own.serial
+            ((both.1.areas_stand g p (held_readable s.progress sound.progress g readable) published k own.among).entries at.function own.has (stored ∙ eqb-true (entry_word on) 0 none)))))
+      ]
 
   entry_kept : after s (StoreEntry at on) ≡ Some (with_entry s at on) → ((k : KeptArea) × IsFunctionOf s.kept at k) × BlocksStand (with_entry s at on)
   entry_kept e =

@@ -1,10 +1,9 @@
 -- The root may be stored exactly where the block invariant holds after it.
-use Rattle.std.proofs.Common.{◌≡◌, ◌≢◌, ℕ, zero, suc, ◌+◌, ◌<◌, ◌≤◌, Bool, true, false, not, ◌&&◌, ◌||◌, ◌↔◌, List, [], ◌∷◌, ◌++◌, length, Option, Some, None, inl, inr, refl, sym, ap, ◌∙◌, subst, arith}
+use Rattle.std.proofs.Common.{◌≡◌, ◌≢◌, ℕ, zero, suc, ◌+◌, ◌<◌, Bool, true, false, not, ◌&&◌, ◌||◌, ◌↔◌, List, [], ◌∷◌, ◌++◌, length, Option, Some, None, inl, inr, refl, sym, ap, ◌∙◌, subst, arith}
 use Rattle.std.specs.Prelude.{◌==◌, slice_get, IsTrue, nat_lt, nat_le, if◌then◌else◌}
 use Rattle.std.specs.List.{list_any, list_all}
-use Rattle.std.proofs.lemmas.Bool.{and_from, or_left, or_right, lt-ltb, ltb-true, le-leb, le-ltb, eq-eqb, eqb-true, ne_eqb, not_from_false, cases_Bool, cases_lt}
+use Rattle.std.proofs.lemmas.Bool.{and_from, or_left, or_right, lt-ltb, ltb-true, le-leb, eq-eqb, eqb-true, ne_eqb, not_from_false, cases_Bool}
 use Rattle.std.proofs.lemmas.Option.{slice_get_within}
-use Rattle.prgr_core.specs.declared.progress.Progress.{Progress}
 use Rattle.term_core.specs.declared.area.AreaRef.{AreaRef}
 use Rattle.term_core.specs.declared.generation.Generation.{Generation}
 use Rattle.term_core.specs.declared.generation.KeyTerm.{KeyTerm}
@@ -17,18 +16,18 @@ use Rattle.area_core.specs.declared.table.Published.{Published}
 use Rattle.area_core.specs.declared.table.KeptArea.{KeptArea}
 use Rattle.area_core.specs.declared.table.Table.{Table}
 use Rattle.area_core.specs.Map.{word_at, block_place, breakpoint_place, entry_at, retire_place, doom_place, room_of}
-use Rattle.area_core.specs.Generations.{is_instance, is_used, is_key_area, is_retired, is_doomed, is_traced, holds_area, has_serial, is_kept_as, functions_of, has_function, is_entry_word, is_code_word, traced_word, tells, agrees}
+use Rattle.area_core.specs.Generations.{is_instance, is_key_area, is_retired, is_doomed, is_traced, holds_area, has_serial, is_kept_as, functions_of, has_function, is_entry_word, is_code_word, traced_word, tells, agrees}
 use Rattle.area_core.specs.Stores.{is_image_word}
 use Rattle.area_core.specs.Terms.{terms_stand}
-use Rattle.area_core.specs.Blocks.{Among, RootFits, IsForInstances, InstancesPlaced, CodeStands, BreakpointsStand, term_words, UsedAreKept, FitsBlock, ImageStands, AreaStands, KeptApart}
+use Rattle.area_core.specs.Blocks.{Among, RootFits, InstancesPlaced, CodeStands, BreakpointsStand, term_words, UsedAreKept, FitsBlock, ImageStands, AreaStands, KeptApart}
 use Rattle.area_core.specs.Readers.{held_generations, holds_of_each}
 use Rattle.area_core.specs.Roots.{root_fits, is_for_instances, instances_placed, blocks_stand, code_stands, traces_stand, breakpoints_stand, fresh_areas, fits_block, is_apart, are_apart, image_stands, entries_stand, retire_tells, doom_tells, area_stands, is_fresh_sound, is_holding_kept, used_are_kept}
-use Rattle.area_core.specs.Step.{after, to_publish, may_publish_in, appended, published_in, IsReadable, IsSound}
+use Rattle.area_core.specs.Step.{after, to_publish, may_publish_in, appended, IsReadable, IsSound}
 use Rattle.area_core.specs.Enabled.{BlocksStand, with_root}
 use Rattle.area_core.proofs.Counted.{code_none, code_suc, traces_none, traces_suc, entries_none, entries_suc, image_none, image_suc}
 use Rattle.area_core.proofs.Held.{held_may}
 use Rattle.area_core.proofs.Tests.{some_passes, all_pass}
-use Rattle.area_core.proofs.FromFacts.{never, three_from, four_from, agrees_from, count_from, each_generation}
+use Rattle.area_core.proofs.FromFacts.{three_from, four_from, agrees_from, count_from, each_generation}
 use Rattle.area_core.proofs.TermTests.{terms_stand_back}
 use Rattle.area_core.proofs.RootStores.{next_sound, root_store_keeps}
 
@@ -213,6 +212,7 @@ module _ (s : Table) (sound : IsSound s) (p : Published) (stands : BlocksStand (
       (all_pass (λ (k : KeptArea). area_stands s.words k (s.progress.generation + 1) p) (s.kept ++ fresh_areas s.kept p) (λ i k at. area_back s.words k (s.progress.generation + 1) p (stands.areas_stand (s.progress.generation + 1) p counts newest k (i, at))))
 
 pub root_decided : (s : Table) (code bp term : ℕ) (next : Generation) (areas : List AreaRef) → IsSound s → (after s (StoreRoot code bp term next areas) ≡ Some (with_root s (to_publish code bp term next areas))) ↔ BlocksStand (with_root s (to_publish code bp term next areas))
-root_decided s code bp term next areas sound =
-    ((λ e. (root_store_keeps s (with_root s (to_publish code bp term next areas)) code bp term next areas sound e).blocks),
-    (λ stands. ap (λ (b : Bool). if b then appended s (to_publish code bp term next areas) (fresh_areas s.kept (to_publish code bp term next areas)) else None) (may_publish s sound (to_publish code bp term next areas) stands)))
+root_decided s code bp term next areas sound = (
+  (λ e. (root_store_keeps s (with_root s (to_publish code bp term next areas)) code bp term next areas sound e).blocks),
+  (λ stands. ap (λ (b : Bool). if b then appended s (to_publish code bp term next areas) (fresh_areas s.kept (to_publish code bp term next areas)) else None) (may_publish s sound (to_publish code bp term next areas) stands)),
+)

@@ -1,8 +1,8 @@
 -- A word of a slot may be stored exactly where its line is met and the block invariant holds after it.
-use Rattle.std.proofs.Common.{◌≡◌, ◌≢◌, ℕ, zero, suc, ◌+◌, ◌%◌, ◌<◌, ◌≤◌, Bool, true, false, not, ◌&&◌, ◌||◌, ◌↔◌, List, length, Option, Some, None, inl, inr, refl, sym, ap, ◌∙◌, subst, arith}
-use Rattle.std.specs.Prelude.{◌==◌, slice_get, slice_set, IsTrue, nat_lt, nat_le}
+use Rattle.std.proofs.Common.{◌≡◌, ◌≢◌, ℕ, zero, suc, ◌+◌, ◌%◌, ◌<◌, ◌≤◌, true, false, not, ◌&&◌, ◌||◌, ◌↔◌, List, length, Option, Some, inl, inr, sym, ap, ◌∙◌, subst, arith}
+use Rattle.std.specs.Prelude.{◌==◌, slice_get, slice_set, nat_lt, nat_le}
 use Rattle.std.specs.Option.{option_and_then}
-use Rattle.std.proofs.lemmas.Bool.{and_parts, and_from, or_cases, or_left, or_right, lt-ltb, ltb-true, le-leb, leb-true, eq-eqb, eqb-true, eqb-false, ne_eqb, not-true, not_from_false, cases_Bool, cases_eq, true≢false}
+use Rattle.std.proofs.lemmas.Bool.{and_parts, and_from, or_cases, or_left, or_right, lt-ltb, ltb-true, le-leb, leb-true, eq-eqb, eqb-true, eqb-false, ne_eqb, not-true, not_from_false, cases_Bool, true≢false}
 use Rattle.std.proofs.lemmas.Option.{slice_get_within}
 use Rattle.prgr_core.specs.declared.member.Member.{Member}
 use Rattle.prgr_core.specs.Members.{is_value}
@@ -15,10 +15,9 @@ use Rattle.area_core.specs.declared.table.Published.{Published}
 use Rattle.area_core.specs.declared.table.Table.{Table}
 use Rattle.area_core.specs.Map.{word_at, slot_place}
 use Rattle.area_core.specs.Generations.{serial_in}
-use Rattle.area_core.specs.Blocks.{IsAnchor}
 use Rattle.area_core.specs.Readers.{is_of}
 use Rattle.area_core.specs.Stores.{with_word, stands_elsewhere, may_name_frame, may_name_literal, may_store_anchor, may_store_slot}
-use Rattle.area_core.specs.Step.{after, slot_stored_by, may_write_slot, if_enabled, IsSound}
+use Rattle.area_core.specs.Step.{after, slot_stored_by, may_write_slot, IsSound}
 use Rattle.area_core.specs.Enabled.{BlocksStand, MayNameIn}
 use Rattle.area_core.proofs.Counted.{elsewhere_none, elsewhere_suc}
 use Rattle.area_core.proofs.Held.{value_is}
@@ -118,17 +117,20 @@ module _ (s : Table) (sound : IsSound s) (k process place value : ℕ) where
       let both = and_parts (may_write_slot s member k process place) (may_store_slot s process place value (slice_get s.published member.generation)) made.0 in
       let four = four_hold (is_value member.word) (nat_lt process PROCESSES) (is_of (OfMember k (length s.progress.members)) process) (nat_le place ANCHORS) both.0 in
       let test = slot_test s process place value (slice_get s.published member.generation) both.1 in
-      let anchor = λ (first : 1 ≤ place). three_hold ((value == 0) || not (stands_elsewhere s.words process place (serial_in value) ANCHORS)) (may_name_frame test.0 (word_at s.words (slot_place process place)) value) (may_name_literal test.0 s.words process (word_at s.words (slot_place process place)) value) (test.2 first) in
-      (member, test.0, record {
-        made = at;
-        awake = is_value_true member.word four.0;
-        slot = ltb-true process PROCESSES four.1;
-        own = eqb-true (process % length s.progress.members) k (and_parts (not (length s.progress.members == 0)) (process % length s.progress.members == k) four.2).1;
-        last = leb-true place ANCHORS four.3;
-        reads = test.1;
-        frame = λ first. (anchor first).1;
-        literal = λ first. (anchor first).2;
-      })
+      let anchor = λ (first : 1 ≤ place). three_hold ((value == 0) || not (stands_elsewhere s.words process place (serial_in value) ANCHORS)) (may_name_frame test.0 (word_at s.words (slot_place process place)) value) (may_name_literal test.0 s.words process (word_at s.words (slot_place process place)) value) (test.2 first) in (
+        member,
+        test.0,
+        record {
+          made = at;
+          awake = is_value_true member.word four.0;
+          slot = ltb-true process PROCESSES four.1;
+          own = eqb-true (process % length s.progress.members) k (and_parts (not (length s.progress.members == 0)) (process % length s.progress.members == k) four.2).1;
+          last = leb-true place ANCHORS four.3;
+          reads = test.1;
+          frame = λ first. (anchor first).1;
+          literal = λ first. (anchor first).2;
+        },
+      )
 
   slot_kept : after s (StoreSlot k process place value) ≡ Some (with_word s (slot_place process place) value) → ((member : Member) × (p : Published) × MayNameIn s k process place value member p) × BlocksStand (with_word s (slot_place process place) value)
   slot_kept e =

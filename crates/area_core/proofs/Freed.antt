@@ -1,6 +1,6 @@
 -- Once the counter has reached what a generation needs, words and areas of earlier generations alone are free.
-use Rattle.std.proofs.Common.{◌≡◌, ◌≢◌, ℕ, ◌/◌, ◌%◌, ◌+◌, ◌≤◌, Bool, true, false, not, ◌&&◌, Some, refl, sym, ap, ◌∙◌, subst, arith}
-use Rattle.std.specs.Prelude.{◌==◌, slice_get, IsTrue}
+use Rattle.std.proofs.Common.{◌≡◌, ◌≢◌, ℕ, ◌/◌, ◌%◌, ◌+◌, ◌≤◌, true, false, not, Some, sym, ap, ◌∙◌, subst, arith}
+use Rattle.std.specs.Prelude.{slice_get, IsTrue}
 use Rattle.std.proofs.lemmas.Bool.{and_from, not_from_false, cond-true, true≢false}
 use Rattle.prgr_core.specs.Machine.{machine_of}
 use Rattle.prgr_core.proofs.GraceHolds.{grace_holds}

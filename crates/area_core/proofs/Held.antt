@@ -1,5 +1,5 @@
 -- The generations in the list of those that may be read are just those that some thread may read.
-use Rattle.std.proofs.Common.{◌≡◌, ◌⊎◌, inl, inr, ℕ, zero, suc, ◌+◌, Bool, true, false, ◌&&◌, ◌||◌, List, [], ◌∷◌, Option, Some, None, refl, sym, ap, ◌∙◌, nat_lt, flat_map, option_to_list, lt-ltb, eqb-true, eq-eqb}
+use Rattle.std.proofs.Common.{◌≡◌, ◌⊎◌, inl, inr, ℕ, zero, suc, Bool, true, false, ◌&&◌, ◌||◌, List, [], ◌∷◌, Option, Some, None, refl, sym, ap, ◌∙◌, nat_lt, flat_map, option_to_list, lt-ltb, eqb-true, eq-eqb}
 use Rattle.std.proofs.lemmas.Bool.{and_from, and_parts, or_cases, or_left, or_right}
 use Rattle.std.specs.Prelude.{◌==◌, if◌then◌else◌, slice_get, IsTrue}
 use Rattle.std.specs.List.{list_any}
@@ -131,14 +131,6 @@ module _ (s : Progress) (sound : IsProgressSound s) (g : ℕ) where
       elim may as (λ _. IsTrue (list_any (λ x. x == g) (readable_generations s))) [
         | inl newest ↦ or_left (s.generation == g) (list_any (λ x. x == g) (held_generations s)) (eq-eqb s.generation g (sym newest))
         | inr others ↦ or_right (s.generation == g) (list_any (λ x. x == g) (held_generations s)) (held_by others)
-      ]
-
-  -- after a publication that is the new generation, and what is held
-  pub readable_next : Readable (machine_of (record s { generation = s.generation + 1 })) g → (g ≡ s.generation + 1) ⊎ IsTrue (list_any (λ x. x == g) (held_generations s))
-  readable_next may =
-      elim may as (λ _. (g ≡ s.generation + 1) ⊎ IsTrue (list_any (λ x. x == g) (held_generations s))) [
-        | inl newest ↦ inl newest
-        | inr others ↦ inr (held_by others)
       ]
 
   in_members : list_any (λ x. x == g) (flat_map in_member s.members) ≡ true → Readable (machine_of s) g

@@ -126,16 +126,6 @@ kind_doom_place word block is =
 
 -- ---- places differ
 
--- words of different kinds are different words
-pub kinds_differ : (word other : ℕ) (kind also : WordKind) → kind_at word ≡ kind → kind_at other ≡ also → (kind ≡ also → ⊥) → word ≡ other → ⊥
-kinds_differ word other kind also is are differ same = differ (sym is ∙ ap kind_at same ∙ are)
-
--- words of two blocks, or two words of a block, are different
-pub blocks_differ : (block at other also : ℕ) → block < BLOCKS → at < room_of block → other < BLOCKS → also < room_of other → block_place block at ≡ block_place other also → (block ≡ other) × (at ≡ also)
-blocks_differ block at other also fits room fits_too room_too same =
-    let kinds = sym (kind_block block at fits room) ∙ ap kind_at same ∙ kind_block other also fits_too room_too in
-    (cc, cc)
-
 -- two words of slots are different
 pub slots_differ : (process place other also : ℕ) → place ≤ ANCHORS → also ≤ ANCHORS → slot_place process place ≡ slot_place other also → (process ≡ other) × (place ≡ also)
 slots_differ process place other also last last_too same = (omega (arith), omega (arith))

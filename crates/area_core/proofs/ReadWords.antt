@@ -1,5 +1,5 @@
 -- No event changes a word of a block that a seat may read, unless it stores an entry word.
-use Rattle.std.proofs.Common.{◌≡◌, ℕ, ◌+◌, ◌%◌, Bool, ◌&&◌, ◌⊎◌, inl, inr, length, option_map, Option, Some, None, refl, sym, ap, ◌∙◌}
+use Rattle.std.proofs.Common.{◌≡◌, ℕ, ◌+◌, ◌%◌, Bool, ◌&&◌, ◌⊎◌, inl, inr, length, Some, None, refl, sym, ap, ◌∙◌}
 use Rattle.std.specs.Prelude.{◌==◌, slice_get, slice_set, nat_lt, nat_le, if◌then◌else◌}
 use Rattle.std.proofs.lemmas.Bool.{and_parts, ltb-true, leb-true, cases_eq}
 use Rattle.std.proofs.lemmas.Option.{cond_some}

@@ -4,7 +4,7 @@
 -- ask for less. Each clause is said word by word, so that a store of one word is judged by that word alone.
 -- Source: Erlang/OTP erts internal documentation, CodeLoading and Tracing, and the manual page of persistent_term;
 -- the words are this project's own.
-use Rattle.std.specs.Prelude.{◌≡◌, ◌≢◌, ℕ, ◌+◌, ◌<◌, ◌≤◌, ◌==◌, Bool, true, false, not, List, Option, Some, slice_get, length, IsTrue}
+use Rattle.std.specs.Prelude.{◌≡◌, ◌≢◌, ℕ, ◌<◌, ◌≤◌, false, List, Some, slice_get, length, IsTrue}
 use Rattle.std.specs.List.{list_any}
 use Rattle.term_core.specs.declared.area.AreaRef.{AreaRef}
 use Rattle.area_core.specs.declared.map.TheConstants.{PROCESSES, ANCHORS, BLOCKS, BIG_BLOCKS, CODE_INDICES, BREAKPOINT_INDICES, TERM_TABLES, AREAS_START, EXPORT_ENTRIES, FUNCTIONS}

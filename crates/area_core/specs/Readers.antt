@@ -1,6 +1,6 @@
 -- Which words a thread may read: those of the blocks that the root of its generation names, and those of the areas
 -- that its generation reaches or that the slots of its processes name, with their retire and doom words.
-use Rattle.std.specs.Prelude.{◌≡◌, ℕ, zero, suc, ◌+◌, ◌*◌, ◌/◌, ◌%◌, ◌==◌, Bool, true, false, not, ◌&&◌, ◌||◌, nat_lt, nat_le, if◌then◌else◌, List, ◌∷◌, ◌++◌, length, Option, Some, None, slice_get, IsTrue}
+use Rattle.std.specs.Prelude.{ℕ, zero, suc, ◌+◌, ◌*◌, ◌/◌, ◌%◌, ◌==◌, Bool, true, false, not, ◌&&◌, ◌||◌, nat_lt, if◌then◌else◌, List, ◌∷◌, ◌++◌, length, Option, Some, None, slice_get, IsTrue}
 use Rattle.std.specs.List.{list_any, list_all, flat_map}
 use Rattle.std.specs.Option.{option_and_then, option_to_list}
 use Rattle.prgr_core.specs.declared.member.TheConstants.{ENTERING}
@@ -11,7 +11,6 @@ use Rattle.prgr_core.specs.declared.watcher.Watcher.{Watcher}
 use Rattle.prgr_core.specs.declared.progress.Progress.{Progress}
 use Rattle.prgr_core.specs.Members.{is_value}
 use Rattle.prgr_core.specs.Watchers.{is_claimed}
-use Rattle.term_core.specs.declared.area.AreaRef.{AreaRef}
 use Rattle.area_core.specs.declared.map.TheConstants.{PROCESSES, ANCHORS, BREAKPOINTS_START, TERMS_START, AREAS_START, FUNCTIONS}
 use Rattle.area_core.specs.declared.map.WordKind.{WordKind}
 use Rattle.area_core.specs.declared.map.WordKind.TheVariants.{Machine, Slot, Retire, Doom, InBlock, Nowhere}
@@ -20,7 +19,6 @@ use Rattle.area_core.specs.declared.readers.Slots.TheVariants.{All, OfMember}
 use Rattle.area_core.specs.declared.event.SeatName.{SeatName}
 use Rattle.area_core.specs.declared.event.SeatName.TheVariants as seats
 use Rattle.area_core.specs.declared.table.Published.{Published}
-use Rattle.area_core.specs.declared.table.KeptArea.{KeptArea}
 use Rattle.area_core.specs.declared.table.Table.{Table}
 use Rattle.area_core.specs.Map.{word_at, anchor_place, kind_at}
 use Rattle.area_core.specs.Generations.{is_instance, is_reached, names}

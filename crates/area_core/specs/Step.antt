@@ -2,7 +2,7 @@
 -- Lists and single events; the running program has words and threads.
 -- Source: Erlang/OTP erts internal documentation, ThreadProgress, CodeLoading and Tracing; the words, the rules and
 -- their order are this project's own.
-use Rattle.std.specs.Prelude.{◌≡◌, ℕ, ◌+◌, ◌%◌, ◌^◌, ◌==◌, Bool, true, false, not, ◌&&◌, ◌||◌, nat_lt, nat_le, if◌then◌else◌, List, [], ◌∷◌, ◌++◌, length, Option, Some, None, slice_get, replicate}
+use Rattle.std.specs.Prelude.{◌≡◌, ℕ, ◌+◌, ◌%◌, ◌==◌, Bool, true, false, ◌&&◌, nat_lt, nat_le, if◌then◌else◌, List, [], ◌∷◌, ◌++◌, length, Option, Some, None, slice_get}
 use Rattle.std.specs.Option.{option_and_then, option_map}
 use Rattle.prgr_core.specs.declared.member.Loaded.{Loaded}
 use Rattle.prgr_core.specs.declared.member.Loaded.TheVariants.{Nothing, Counter, CounterAndRoot}
@@ -16,7 +16,7 @@ use Rattle.prgr_core.specs.Step.{after as progress_after, opening as opening_pro
 use Rattle.term_core.specs.declared.area.AreaRef.{AreaRef}
 use Rattle.term_core.specs.declared.area.CodeRef.{CodeRef}
 use Rattle.term_core.specs.declared.generation.Generation.{Generation}
-use Rattle.area_core.specs.declared.map.TheConstants.{TABLE_WORDS, PROCESSES, ANCHORS, BIG_BLOCKS}
+use Rattle.area_core.specs.declared.map.TheConstants.{TABLE_WORDS, PROCESSES, ANCHORS}
 use Rattle.area_core.specs.declared.map.WordKind.{WordKind}
 use Rattle.area_core.specs.declared.map.WordKind.TheVariants.{Machine, Slot, Retire, Doom, InBlock, Nowhere}
 use Rattle.area_core.specs.declared.readers.Slots.TheVariants.{OfMember}
@@ -24,7 +24,6 @@ use Rattle.area_core.specs.declared.event.SeatName.{SeatName}
 use Rattle.area_core.specs.declared.event.SeatName.TheVariants as seats
 use Rattle.area_core.specs.declared.event.AreaEvent.{AreaEvent}
 use Rattle.area_core.specs.declared.event.AreaEvent.TheVariants.{LoadCounter, LoadRoot, Confirm, LoadConfirmed, StoreCounter, TakeLead, DropLead, LoadWord, StoreWord, StoreRoot, StoreWaiting, StoreEntering, SplitNote, JoinNote, StoreSlot, LoadSlot, StoreEntry, AddDelay, SubDelay, LoadDelay}
-use Rattle.area_core.specs.declared.table.Root.{Root}
 use Rattle.area_core.specs.declared.table.Published.{Published}
 use Rattle.area_core.specs.declared.table.KeptArea.{KeptArea}
 use Rattle.area_core.specs.declared.table.Table.{Table}

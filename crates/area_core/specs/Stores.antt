@@ -1,17 +1,16 @@
 -- When a store keeps the block invariant: a test on the stored word alone, over the generations that a thread may read.
-use Rattle.std.specs.Prelude.{◌≡◌, ℕ, zero, suc, ◌+◌, ◌-◌, ◌/◌, ◌%◌, ◌==◌, Bool, true, false, not, ◌&&◌, ◌||◌, nat_lt, nat_le, if◌then◌else◌, List, Option, Some, None, slice_get, slice_set}
+use Rattle.std.specs.Prelude.{ℕ, zero, suc, ◌+◌, ◌-◌, ◌/◌, ◌==◌, Bool, true, false, not, ◌&&◌, ◌||◌, if◌then◌else◌, List, Option, Some, None, slice_get, slice_set}
 use Rattle.std.specs.List.{list_any, list_all, filter}
 use Rattle.term_core.specs.declared.area.CodeRef.{CodeRef}
-use Rattle.area_core.specs.declared.map.TheConstants.{PROCESSES, ANCHORS, AREAS_START, BIG_BLOCKS}
-use Rattle.area_core.specs.declared.map.WordKind.{WordKind}
-use Rattle.area_core.specs.declared.map.WordKind.TheVariants.{Machine, Slot, Retire, Doom, InBlock, Nowhere}
+use Rattle.area_core.specs.declared.map.TheConstants.{ANCHORS}
+use Rattle.area_core.specs.declared.map.WordKind.TheVariants.{InBlock}
 use Rattle.area_core.specs.declared.readers.Slots.TheVariants.{All}
 use Rattle.area_core.specs.declared.table.Published.{Published}
 use Rattle.area_core.specs.declared.table.KeptArea.{KeptArea}
 use Rattle.area_core.specs.declared.table.Table.{Table}
-use Rattle.area_core.specs.Map.{word_at, slot_place, block_place, entry_at}
-use Rattle.area_core.specs.Generations.{is_current, is_key_area, is_used, is_retired, is_doomed, is_traced, has_function, is_entry_word, tells, agrees, serial_in, is_naming, names_frame, names_literal}
-use Rattle.area_core.specs.Readers.{holds_of_each, holds_of, is_named, is_read}
+use Rattle.area_core.specs.Map.{word_at, slot_place}
+use Rattle.area_core.specs.Generations.{is_current, is_key_area, is_used, is_retired, is_doomed, is_traced, has_function, is_entry_word, tells, agrees, serial_in, names_frame, names_literal}
+use Rattle.area_core.specs.Readers.{holds_of_each, is_named, is_read}
 
 -- the table with this word at a place
 abbrev pub with_word : Table → ℕ → ℕ → Table

@@ -1,6 +1,6 @@
 -- The block of a term table: 512 buckets of a key and a value. A key is sought from the bucket of its number on,
 -- going round, until it or an empty bucket is found. The buckets are this project's own.
-use Rattle.std.specs.Prelude.{◌≡◌, ℕ, zero, suc, ◌+◌, ◌-◌, ◌*◌, ◌%◌, ◌==◌, Bool, true, false, ◌&&◌, ◌||◌, if◌then◌else◌, List, Option, Some, None, slice_get, IsTrue, IsSomeAnd}
+use Rattle.std.specs.Prelude.{◌≡◌, ℕ, zero, suc, ◌+◌, ◌-◌, ◌*◌, ◌%◌, ◌==◌, Bool, true, false, ◌&&◌, ◌||◌, if◌then◌else◌, Option, Some, None, slice_get, IsTrue, IsSomeAnd}
 use Rattle.std.specs.List.{list_any, list_all}
 use Rattle.term_core.specs.declared.generation.KeyTerm.{KeyTerm}
 use Rattle.area_core.specs.declared.map.TheConstants.{BUCKETS}

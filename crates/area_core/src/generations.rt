@@ -2,7 +2,7 @@
 
 ghost use Rattle.std.specs.Prelude.{◌≡◌, ◌==◌, ◌&&◌};
 ghost use Rattle.std.specs.List.{list_any};
-ghost use Rattle.area_core.specs.Generations.{agrees, functions_of, has_area, has_function, has_image, has_serial, holds_area, is_area_word, is_code_word, is_current, is_doomed, is_entry_word, is_instance, is_kept, is_kept_as, is_key_area, is_naming, is_reached, is_retired, is_term_word, is_traced, is_used, leads_to, names, names_frame, names_literal, same_words, serial_in, tells, traced_word};
+ghost use Rattle.area_core.specs.Generations.{agrees, functions_of, has_area, has_function, has_image, has_serial, holds_area, is_area_word, is_code_word, is_current, is_doomed, is_entry_word, is_instance, is_kept, is_kept_as, is_key_area, is_reached, is_retired, is_term_word, is_traced, is_used, leads_to, names, names_frame, names_literal, same_words, serial_in, tells, traced_word};
 
 use crate::map::BIG_BLOCKS;
 use crate::table::{KeptArea, Published};

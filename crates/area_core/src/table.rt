@@ -55,6 +55,7 @@ impl Model for KeptList {
 }
 
 impl KeptList {
+    /// No area, in no memory.
     pub fn new(alloc: Global) -> KeptList
         ensures { result ≡ [] }
     {
@@ -63,18 +64,21 @@ impl KeptList {
         }
     }
 
+    /// The areas in their order.
     pub fn as_slice(&self) -> &[KeptArea]
         ensures { result.now ≡ self.now }
     {
         self.areas.as_slice()
     }
 
+    /// How many areas there are.
     pub fn len(&self) -> usize
         ensures { result ≡ length self.now }
     {
         self.areas.len()
     }
 
+    /// Appends one area. Where memory is refused, nothing is appended.
     pub fn push(&mut self, area: KeptArea) -> Result<(), NoMemory>
         ensures ok { OnOk result (self.new ≡ self.old ++ area ∷ []) }
         ensures err { OnErr result (self.new ≡ self.old) }

@@ -1,6 +1,6 @@
 //! The block of a term table, and whether it stands for the keys of a generation.
 
-ghost use Rattle.std.specs.Prelude.{◌≡◌, ◌<◌, ◌+◌, ◌^◌, ◌↔◌, IsTrue};
+ghost use Rattle.std.specs.Prelude.{◌≡◌, ◌<◌, ◌+◌, ◌^◌};
 ghost use Rattle.std.specs.List.{list_any, list_all};
 ghost use Rattle.area_core.specs.Map.{word_at};
 ghost use Rattle.area_core.specs.Blocks.{term_words};
@@ -46,7 +46,8 @@ fn look_at(
     }
 }
 
-/// What is known of a key after so many buckets, from that of its number on, going round.
+/// What is known of a key after so many buckets, from that of its number on, going round. Once it is
+/// known, no further bucket is looked at.
 #[tactic(auto, using(crate::proofs::Counted::looked_none, crate::proofs::Counted::looked_next))]
 fn looked(words: &WordTable, root: Root, key: u64, count: u32) -> Option<Option<u64>>
     requires { key + 1 < 2 ^ 64 }
@@ -55,6 +56,9 @@ fn looked(words: &WordTable, root: Root, key: u64, count: u32) -> Option<Option<
     let first = key % u64::from(BUCKETS);
     let mut known = None;
     for tried in 0..count {
+        if known.is_some() {
+            return known;
+        }
         let bucket = (first + u64::from(tried)) % u64::from(BUCKETS);
         known = look_at(words, root, key, bucket, known);
     }

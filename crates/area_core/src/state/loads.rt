@@ -1,6 +1,6 @@
 //! The events that load a word, and those of notes.
 
-ghost use Rattle.std.specs.Prelude.{◌≡◌, ◌<◌, IsErrOf, OnOk, OnErr, Some, None, length};
+ghost use Rattle.std.specs.Prelude.{◌≡◌, IsErrOf, OnOk, OnErr, Some, None};
 ghost use Rattle.prgr_core.specs.declared.fault.StepFault.TheVariants.{NotEnabled};
 ghost use Rattle.area_core.specs.declared.event.AreaEvent.TheVariants as events;
 ghost use Rattle.area_core.specs.Step.{after, confirms, has_seat, progress_if, with_progress};

@@ -3,7 +3,6 @@
 ghost use Rattle.std.specs.Prelude.{◌≡◌, false, IsTrue, IsErrOf, IfOk, OnOk, OnErr, Some, None};
 ghost use Rattle.prgr_core.specs.declared.fault.StepFault.TheVariants.{NotEnabled};
 ghost use Rattle.area_core.specs.declared.event.AreaEvent.TheVariants as events;
-ghost use Rattle.area_core.specs.Readers.{readable_generations};
 ghost use Rattle.area_core.specs.Roots.{fresh_areas};
 ghost use Rattle.area_core.specs.Step.{after, appended, may_publish_in, may_write_slot, root_stored};
 ghost use Rattle.area_core.specs.Stores.{holds_in_block, may_be_doom, may_be_retire};

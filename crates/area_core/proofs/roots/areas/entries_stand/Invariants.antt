@@ -1,6 +1,6 @@
 use Rattle.std.proofs.Common.{◌≡◌}
 use Rattle.area_core.specs.Roots.{entries_stand}
-use Rattle.area_core.proofs.roots.entries_stand.Given as goal
+use Rattle.area_core.proofs.roots.areas.entries_stand.Given as goal
 
 -- whether the entry words so far are as the generation asks
 abbrev pub invariant-loop-function : goal.invariant-loop-function

@@ -1,6 +1,6 @@
 use Rattle.std.proofs.Common.{◌≡◌, drop}
 use Rattle.area_core.specs.Roots.{image_of}
-use Rattle.area_core.proofs.roots.image_of.Given as goal
+use Rattle.area_core.proofs.roots.fresh.image_of.Given as goal
 
 -- no area so far has the serial
 abbrev pub invariant-loop-area : goal.invariant-loop-area

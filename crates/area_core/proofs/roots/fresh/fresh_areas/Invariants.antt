@@ -1,7 +1,7 @@
 use Rattle.std.proofs.Common.{◌≡◌, take}
 use Rattle.std.specs.List.{flat_map}
 use Rattle.area_core.specs.Roots.{fresh_in}
-use Rattle.area_core.proofs.roots.fresh_areas.Given as goal
+use Rattle.area_core.proofs.roots.fresh.fresh_areas.Given as goal
 
 -- the fresh areas of those so far
 abbrev pub invariant-loop-area : goal.invariant-loop-area

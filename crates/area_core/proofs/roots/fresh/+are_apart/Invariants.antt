@@ -1,5 +1,5 @@
 use Rattle.std.proofs.Common.{length}
-use Rattle.area_core.proofs.roots.+are_apart.Given as goal
+use Rattle.area_core.proofs.roots.fresh.+are_apart.Given as goal
 
 -- the areas behind are fewer
 abbrev pub decreases-are_apart : goal.decreases-are_apart

@@ -1,6 +1,6 @@
 use Rattle.std.proofs.Common.{◌≡◌}
 use Rattle.area_core.specs.Roots.{traces_stand}
-use Rattle.area_core.proofs.roots.traces_stand.Given as goal
+use Rattle.area_core.proofs.roots.blocks.traces_stand.Given as goal
 
 -- whether the words so far say what is traced
 abbrev pub invariant-loop-function : goal.invariant-loop-function
