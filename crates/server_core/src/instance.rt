@@ -55,4 +55,16 @@ impl LoadedModule {
         }
         self.words.get(at as usize).copied()
     }
+
+    /// The words of the instance that has this serial.
+    pub fn words(&self, alloc: Global, serial: u64) -> Result<WordList, NoMemory>
+        ensures { IfOk result (λ words. words ≡ instance_image serial self.now) }
+    {
+        let mut words = WordList::new(alloc);
+        words.push(serial)?;
+        if let Some((_, rest)) = self.words.as_slice().split_first() {
+            words.extend_from_slice(rest)?;
+        }
+        Ok(words)
+    }
 }

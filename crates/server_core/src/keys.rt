@@ -1,4 +1,6 @@
-ghost use Rattle.std.specs.Prelude.{◌≡◌, ◌<◌, ◌≤◌, [], IfSome, None, OnOk, if◌then◌else◌, is_some, length, option_and_then};
+ghost use Rattle.std.specs.Prelude.{◌≡◌, ◌<◌, ◌≤◌, ℕ, [], IfOk, IfSome, None, OnOk, if◌then◌else◌, is_some, length, map, option_and_then};
+ghost use Rattle.server_core.specs.Generations.{key_term};
+ghost use Rattle.server_core.specs.KeyTable.{persistent_in};
 ghost use Rattle.term_core.specs.Image.{IsImmediate};
 ghost use Rattle.term_core.specs.Plain.{plain};
 ghost use Rattle.server_core.specs.CommandTable.{holds_equal, with_key, without_key};
@@ -9,7 +11,7 @@ use crate::command::MOST_TERMS;
 use indexmap::IndexMap;
 use std::alloc::Global;
 use std::marker::Model;
-use term_core::{AreaRef, AtomId, Found, NoMemory, Term};
+use term_core::{AreaRef, AtomId, Found, Holding, KeyTerm, KeyTermList, NoMemory, Term};
 
 /// What a key holds: the term, and the serial of its area where it is complex.
 #[derive(Drop)]
@@ -95,6 +97,20 @@ impl KeyTable {
         }
     }
 
+    /// Each key with what it holds, in plain numbers.
+    pub fn terms(&self, alloc: Global) -> Result<KeyTermList, NoMemory>
+        requires { (key : ℕ) → IfSome (persistent_among self.now.persistents key) HasWord }
+        ensures { IfOk result (λ terms. terms ≡ map key_term self.now.persistents) }
+    {
+        let mut terms = KeyTermList::new(alloc);
+        for at in 0..self.held.len() {
+            if let Some((key, held)) = self.held.get_index(at) {
+                terms.push(key_term(*key, held))?;
+            }
+        }
+        Ok(terms)
+    }
+
     /// Makes room for one key more. The terms stay as they are, also where memory is refused.
     pub fn reserve(&mut self) -> Result<(), NoMemory>
         ensures same { self.new.persistents ≡ self.old.persistents }
@@ -126,6 +142,21 @@ impl KeyTable {
         let former = area_of(self.held.shift_remove(&key.0));
         self.areas -= count_of(former);
         former
+    }
+}
+
+/// A key with what it holds, in plain numbers.
+fn key_term(key: u32, held: &Held) -> KeyTerm
+    requires { held.now.area ≡ None → IsImmediate held.now.term }
+    ensures { result ≡ key_term (persistent_in (key, held.now)) }
+{
+    let holding = match held.area {
+        Some(serial) => Holding::Area(serial),
+        None => Holding::Word(held.term.word()),
+    };
+    KeyTerm {
+        key: AtomId(key),
+        holding,
     }
 }
 

@@ -7,6 +7,7 @@ mod breakpoints;
 mod command;
 mod fault;
 mod functions;
+mod generations;
 mod instance;
 mod keys;
 mod loading;

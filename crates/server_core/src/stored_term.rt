@@ -43,4 +43,11 @@ impl StoredTerm {
     {
         self.words.get(at as usize).copied()
     }
+
+    /// The words of the image.
+    pub fn words(&self, alloc: Global) -> Result<WordList, NoMemory>
+        ensures { IfOk result (λ words. words ≡ image_of self.now) }
+    {
+        WordList::from_slice(alloc, self.words.as_slice())
+    }
 }

@@ -1,10 +1,11 @@
-ghost use Rattle.std.specs.Prelude.{◌≡◌, [], ◌∷◌, ◌++◌, ◌==◌, filter, not, OnErr, OnOk};
+ghost use Rattle.std.specs.Prelude.{◌≡◌, [], ◌∷◌, ◌++◌, ◌==◌, filter, map, not, IfOk, OnErr, OnOk};
+ghost use Rattle.server_core.specs.Generations.{function_ref};
 ghost use Rattle.std.specs.List.{list_any};
 ghost use Rattle.server_core.specs.ServerState.{entry_of, is_same_entry};
 
 use std::alloc::Global;
 use std::marker::Model;
-use term_core::{CodeRef, NoMemory};
+use term_core::{CodeRef, FunctionRef, FunctionRefList, NoMemory};
 
 /// The functions with a breakpoint, the newest last. Contracts see where they stand, their blocks left out.
 #[derive(Drop)]
@@ -38,6 +39,17 @@ impl TraceTable {
         self.functions.iter().any(|other| is_same(at, *other))
     }
 
+    /// The functions in plain numbers.
+    pub fn functions(&self, alloc: Global) -> Result<FunctionRefList, NoMemory>
+        ensures { IfOk result (λ functions. functions ≡ map function_ref self.now) }
+    {
+        let mut functions = FunctionRefList::new(alloc);
+        for at in self.functions.iter() {
+            functions.push(in_numbers(*at))?;
+        }
+        Ok(functions)
+    }
+
     /// Where memory is refused, nothing is appended.
     pub fn push(&mut self, at: CodeRef) -> Result<(), NoMemory>
         ensures ok { OnOk result (self.new ≡ self.old ++ entry_of at ∷ []) }
@@ -59,6 +71,16 @@ impl TraceTable {
         ensures { self.new ≡ filter (λ e. not (e.serial == serial)) self.old }
     {
         self.functions.retain(|other| other.area.serial != serial);
+    }
+}
+
+/// The function in plain numbers.
+pub(crate) fn in_numbers(at: CodeRef) -> FunctionRef
+    ensures { result ≡ function_ref (entry_of at) }
+{
+    FunctionRef {
+        serial: at.area.serial,
+        function: at.function,
     }
 }
 
