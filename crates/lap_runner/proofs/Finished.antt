@@ -1,8 +1,8 @@
 -- A run that has no work left has made a lawful log.
-use Rattle.std.proofs.Common.{◌≡◌, ◌≢◌, ℕ, suc, ◌<◌, ◌≤◌, List, [], ◌∷◌, length, map, slice_get, Option, Some, None, option_map, IfSome, All, refl, sym, ap, subst, ◌∙◌, arith}
+use Rattle.std.proofs.Common.{◌≡◌, ◌≢◌, ℕ, suc, ◌<◌, ◌≤◌, List, [], ◌∷◌, length, map, slice_get, Some, None, option_map, IfSome, All, refl, sym, ap, subst, ◌∙◌, arith}
 use Rattle.std.proofs.lemmas.List.{length-map, take_all}
 use Rattle.std.proofs.lemmas.List.Elements.{All-from_recursion}
-use Rattle.std.proofs.lemmas.Option.{none-some, same_Some, slice_get-map, slice_get_within, slice_get-get_or}
+use Rattle.std.proofs.lemmas.Option.{same_Some, slice_get-map, slice_get_within, slice_get-get_or}
 use Rattle.server_core.specs.ServerState.{ServerState, empty_state}
 use Rattle.machine_core.specs.declared.process.End.{End}
 use Rattle.machine_core.specs.Process.{PlainProcess, new_process}
@@ -28,6 +28,7 @@ use Rattle.run_log.proofs.HistoryEnd.{lingers_told, purged_unnamed, released_unn
 use Rattle.lap_runner.proofs.Joining.{generations_counted, line_for}
 use Rattle.lap_runner.proofs.Making.{line_text}
 use Rattle.lap_runner.proofs.Observing.{seen_published, seen_true}
+use Rattle.run_log.proofs.HistoryLists.{mapped_some}
 
 -- a process that rests has ended, where its loader is past its spawn
 over_in : (journal : List Entry) (states : ℕ → ServerState) (newest : ServerState) (done number : ℕ) (line : SpawnLine) (p : ProcessRun) (phase : Phase) → line.place < done → Rests phase → StandsIn journal states newest done number line p phase
@@ -40,10 +41,6 @@ end_in : (journal : List Entry) (states : ℕ → ServerState) (newest : ServerS
 end_in journal states newest done number line p Waiting past rests h = absurd (omega (arith, past, h.still))
 end_in journal states newest done number line p Going past rests h = absurd rests
 end_in journal states newest done number line p (Ended fin) past rests h = tt
-
-mapped : {A B : Type 0} (f : A → B) (o : Option A) (y : B) → option_map f o ≡ Some y → (x : A) × ((o ≡ Some x) × (f x ≡ y))
-mapped f None y h = absurd (none-some y h)
-mapped f (Some x) y h = (x, (refl, same_Some (f x) y h))
 
 logs_match : (lines : List SpawnLine) (ps : List ProcessRun) → length ps ≡ length lines → ((n : ℕ) (line : SpawnLine) (p : ProcessRun) → slice_get lines n ≡ Some line → slice_get ps n ≡ Some p → IsLogOf line (log_of p)) → LogsMatch lines (map log_of ps)
 logs_match [] [] e h = tt
@@ -84,7 +81,7 @@ module _ (s : Script) (run : Run) (known : IsRun s run) (over : HasNoWork s run)
   logs = map log_of run.processes.items
 
   process_of_log : (number : ℕ) (log : ProcessLog) → slice_get logs number ≡ Some log → (p : ProcessRun) × ((slice_get run.processes.items number ≡ Some p) × (log_of p ≡ log))
-  process_of_log number log h = mapped log_of (slice_get run.processes.items number) log (sym (slice_get-map log_of run.processes.items number) ∙ h)
+  process_of_log number log h = mapped_some log_of (slice_get run.processes.items number) log (sym (slice_get-map log_of run.processes.items number) ∙ h)
 
   follow_at : (number : ℕ) (p : ProcessRun) → slice_get run.processes.items number ≡ Some p → SpansFollow states (new_process number p.process.target p.process.args) p.spans (end_of p.phase)
   follow_at number p h =
@@ -108,7 +105,7 @@ module _ (s : Script) (run : Run) (known : IsRun s run) (over : HasNoWork s run)
   histories = histories_of states run.server run.processes.items
 
   process_of_history : (number : ℕ) (h : History) → slice_get histories number ≡ Some h → (p : ProcessRun) × ((slice_get run.processes.items number ≡ Some p) × (history_of states (stand_in run.server p) ≡ h))
-  process_of_history number h at = mapped (λ p. history_of states (stand_in run.server p)) (slice_get run.processes.items number) h (sym (slice_get-map (λ p. history_of states (stand_in run.server p)) run.processes.items number) ∙ at)
+  process_of_history number h at = mapped_some (λ p. history_of states (stand_in run.server p)) (slice_get run.processes.items number) h (sym (slice_get-map (λ p. history_of states (stand_in run.server p)) run.processes.items number) ∙ at)
 
   same_marks : (number : ℕ) (p : ProcessRun) → slice_get run.processes.items number ≡ Some p → marks_of states (new_process p.process.number p.process.target p.process.args) p.spans ≡ marks_of states (new_process number p.process.target p.process.args) p.spans
   same_marks number p h = let line = line_for s run known number p h in ap (λ n. marks_of states (new_process n p.process.target p.process.args) p.spans) (over_at number line.0 p line.1 h).was.numbered

@@ -1,9 +1,9 @@
 -- What a process names, by the code's frames and registers: the words of the areas do not matter.
-use Rattle.std.proofs.Common.{◌≡◌, ◌==◌, ◌||◌, ℕ, Bool, true, false, List, [], ◌∷◌, length, map, reverse, refl, sym, ap, ◌∙◌, arith}
-use Rattle.std.proofs.lemmas.List.{length-map, length-reverse}
+use Rattle.std.proofs.Common.{◌≡◌, ◌==◌, ◌||◌, ℕ, Bool, false, List, [], ◌∷◌, map, reverse, refl, sym, ap, ◌∙◌}
 use Rattle.std.proofs.lemmas.List.Folds.{list_any-append}
 use Rattle.std.proofs.lemmas.List.Sorted.{IsPermutation-reverse, list_any-IsPermutation}
 use Rattle.std.specs.List.{flat_map, list_any}
+use Rattle.std.proofs.Math.Bool.{or-false}
 use Rattle.machine_core.specs.declared.process.Frame.{Frame}
 use Rattle.machine_core.specs.declared.process.Process.{Process}
 use Rattle.machine_core.specs.declared.process.Value.{Value}
@@ -28,13 +28,9 @@ any_flat : {X Y : Type 0} (f : Y → Bool) (g : X → List Y) (xs : List X) → 
 any_flat f g [] = refl
 any_flat f g (x ∷ xs) = list_any-append f (g x) (flat_map g xs) ∙ ap (λ b. list_any f (g x) || b) (any_flat f g xs)
 
-or_none : (b : Bool) → (b || false) ≡ b
-or_none true = refl
-or_none false = refl
-
 value_named : (words : Words) (serial : ℕ) (value : Value) → list_any (λ n. n == serial) (value_serials (value_shown words value)) ≡ is_literal_of serial value
 value_named words serial (Owned term) = refl
-value_named words serial (Literal at) = or_none (at.area.serial == serial)
+value_named words serial (Literal at) = or-false (at.area.serial == serial)
 
 registers_named : (words : Words) (serial : ℕ) (values : List Value) → list_any (λ n. n == serial) (register_serials (values_shown words values)) ≡ list_any (is_literal_of serial) values
 registers_named words serial values =
@@ -74,14 +70,3 @@ stands_by p serial b h = h ∙ sym (frames_named (λ n. []) p serial)
 -- where it stands not in the area it names it by a literal, if it does
 pub names_by : (p : Process) (serial : ℕ) (b : Bool) → false ≡ stands_in serial (unread p) → b ≡ list_any (has_literal_of serial) p.frames → b ≡ names_area serial (unread p)
 names_by p serial b apart h = h ∙ sym (literals_named (λ n. []) p serial) ∙ ap (λ a. a || is_among (names_of (unread p)).literals serial) apart
-
--- no frame stands for none
-no_frames : (words : Words) (fs : List Frame) → frames_of words fs ≡ [] → fs ≡ []
-no_frames words [] h = refl
-no_frames words (f ∷ fs) h = absurd (omega (arith, ap length h, length-reverse (map (frame_of words) (f ∷ fs)), length-map (f ∷ fs) (frame_of words)))
-
--- a process without frames stands for the same whatever the words are
-pub frameless_same : (words others : Words) (p : Process) → (process_of words p).frames ≡ [] → process_of others p ≡ process_of words p
-frameless_same words others p h =
-    let none = no_frames words p.frames h in
-    ap (λ frames. record { number = p.number; target = p.target; args = p.args; turns = p.turns; frames = frames }) (ap (frames_of others) none ∙ ap (frames_of words) (sym none))

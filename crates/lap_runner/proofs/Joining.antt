@@ -9,7 +9,7 @@ use Rattle.term_core.specs.declared.hold.TheConstants.{MOST_AREAS}
 use Rattle.machine_core.specs.Holds.{area_count}
 use Rattle.machine_core.specs.Process.{PlainProcess, names_of, new_process, process_of}
 use Rattle.machine_core.specs.View.{server_words}
-use Rattle.machine_core.proofs.LaterWords.{HasAreas, process_later}
+use Rattle.machine_core.proofs.LaterWords.{HasAreas, process_later, frameless_same}
 use Rattle.machine_core.proofs.TurnLaws.{may_turn_later}
 use Rattle.script_core.specs.declared.script.Script.{Script}
 use Rattle.run_log.specs.declared.logs.Who.{Who}
@@ -30,7 +30,6 @@ use Rattle.lap_runner.specs.declared.run.Run.{Run}
 use Rattle.run_log.specs.History.{History}
 use Rattle.lap_runner.specs.Runs.{IsRun, StandsIn, Waits, WasSpawned, done_of, fin_in, half_of, histories_of, history_of}
 use Rattle.lap_runner.specs.Steps.{HasJoined, stand_in}
-use Rattle.lap_runner.proofs.Frames.{frameless_same}
 use Rattle.run_log.proofs.ListPlaces.{all_weaker, get_within, map_same}
 
 -- what a longer journal keeps of a process

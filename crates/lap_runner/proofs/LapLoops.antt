@@ -3,6 +3,7 @@ use Rattle.std.proofs.Common.{◌≡◌, ◌==◌, ◌||◌, ℕ, suc, ◌+◌, 
 use Rattle.std.proofs.lemmas.Bool.{cases_lt, eqb-false, false≢true, true≢false, or_right}
 use Rattle.std.proofs.lemmas.Option.{none-some, same_Some, slice_get-get_or, slice_get_past, slice_get_read, slice_get_within}
 use Rattle.std.specs.List.{list_any}
+use Rattle.std.proofs.Math.Bool.{or-false}
 use Rattle.server_core.specs.declared.command.Cmd.TheVariants as cmds
 use Rattle.server_core.specs.ServerState.{ServerState, empty_state, old_of}
 use Rattle.machine_core.specs.Holds.{is_among}
@@ -138,10 +139,6 @@ pub record LoadersSoFar (s : Script) (before now : Run) (count : ℕ) (made : Bo
 pub loaders_begin : (s : Script) (before : Run) → IsRun s before → LoadersSoFar s before before 0 false
 loaders_begin s before known = record { run = known; less = omega arith; done = λ e k h. absurd (omega (arith, h)); kept = generations_same s.modules before.journal }
 
-or_false : (a : Bool) → (a || false) ≡ a
-or_false true = refl
-or_false false = refl
-
 one_more : (made : Bool) (before now after : ℕ) → now + one_if made ≤ before → after + 1 ≤ now → after + one_if (made || true) ≤ before
 one_more true before now after h less = omega (arith, h, less)
 one_more false before now after h less = omega (arith, h, less)
@@ -171,7 +168,7 @@ module _ (s : Script) (before now : Run) (count : ℕ) (made : Bool) (so_far : L
   -- a loader waited
   pub loader_waited : (cmd : ScriptCmd) (after : Run) → slice_get (commands_of s count) (done_of now.loaders.items count) ≡ Some cmd → HasWaited count cmd now after → LoadersSoFar s before after (count + 1) (made || false)
   loader_waited cmd after next has =
-      subst (LoadersSoFar s before after (count + 1)) (sym (or_false made)) (subst (λ x. LoadersSoFar s before x (count + 1) made) (sym has.same) (loader_idle (one_waits cmd next has.next)))
+      subst (LoadersSoFar s before after (count + 1)) (sym (or-false made)) (subst (λ x. LoadersSoFar s before x (count + 1) made) (sym has.same) (loader_idle (one_waits cmd next has.next)))
 
 -- past the last loader there is none
 past_loaders : (s : Script) (run : Run) → IsRun s run → (k : ℕ) → length s.loaders ≤ k → done_of run.loaders.items k ≡ length (commands_of s k)

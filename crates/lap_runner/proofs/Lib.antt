@@ -5,7 +5,6 @@ mod Taking
 mod Turning
 mod Dooms
 mod Frames
-mod Freeing
 mod Nexts
 mod Joining
 mod Looking

@@ -21,7 +21,7 @@ use Rattle.lap_runner.specs.declared.observers.ObserverRun.{ObserverRun}
 use Rattle.lap_runner.specs.declared.run.Run.{Run}
 use Rattle.lap_runner.specs.Runs.{IsRun}
 use Rattle.lap_runner.specs.Observers.{EachBecame, HasLooked, HaveObserved, IsTrueOf, KeepsGenerations, Observes, TakesAll, TakesOne, not_begun, shots_of}
-use Rattle.run_log.proofs.ListPlaces.{SetAt, get_within, here, set_at, set_there, there}
+use Rattle.run_log.proofs.ListPlaces.{SetAt, get_within, here, set_at, set_there, there, all_join, all_weaker}
 
 -- ---- exports and releases
 
@@ -36,14 +36,6 @@ exports_alike : (names : List (List ℕ)) (s t : ServerState) (exports : List (M
 exports_alike names s t exports e h = read_exports names s exports (subst (λ x. AreExports names x exports) (sym e) (exports_read names t exports h))
 
 -- ---- one observer
-
-all_append : {X : Type 0} (P : X → Type 0) (xs ys : List X) → AllByRecursion P xs → AllByRecursion P ys → AllByRecursion P (xs ++ ys)
-all_append P [] ys h k = k
-all_append P (x ∷ xs) ys h k = (h.0, all_append P xs ys h.1 k)
-
-all_weaker : {X : Type 0} (P Q : X → Type 0) (xs : List X) → ((x : X) → P x → Q x) → AllByRecursion P xs → AllByRecursion Q xs
-all_weaker P Q [] f h = tt
-all_weaker P Q (x ∷ xs) f h = (f x h.0, all_weaker P Q xs f h.1)
 
 module _ (names : List (List ℕ)) (states : ℕ → ServerState) (newest : ServerState) (functions : List Mfa) (exported : (shot : Snapshot) → IsSnapshotOf newest functions shot → AreExports names (states newest.generation) shot.exports) where
   -- a snapshot of the newest state is true
@@ -68,7 +60,7 @@ module _ (names : List (List ℕ)) (states : ℕ → ServerState) (newest : Serv
   looked_observes count looks before after o looked = record {
     counted = omega (arith, o.counted, looked.left, looked.many, ap length looked.shots, length-append before.shots looked.more);
     shots = subst (AllByRecursion (IsTrueOf names states newest.generation)) (sym looked.shots)
-        (all_append (IsTrueOf names states newest.generation) before.shots looked.more o.shots (all_weaker (IsSnapshotOf newest functions) (IsTrueOf names states newest.generation) looked.more new_true looked.each));
+        (all_join (IsTrueOf names states newest.generation) before.shots looked.more o.shots (all_weaker (IsSnapshotOf newest functions) (IsTrueOf names states newest.generation) new_true looked.more looked.each));
     rising = subst AreRising (sym looked.shots) (more_rising before.shots looked.more o.shots o.rising looked.each);
   }
 
@@ -122,8 +114,8 @@ module _ (s : Script) (journal : List Entry) where
         let known = observed.each number count o count_is o_is in
         record {
           counted = known.counted;
-          shots = all_weaker (IsTrueOf s.names states newest.generation) (IsTrueOf s.names (state_at s.modules empty_state later) (newest_state s.modules empty_state later).generation) o.shots
-              (later_true s.names states (state_at s.modules empty_state later) newest.generation (newest_state s.modules empty_state later).generation kept.later kept.same) known.shots;
+          shots = all_weaker (IsTrueOf s.names states newest.generation) (IsTrueOf s.names (state_at s.modules empty_state later) (newest_state s.modules empty_state later).generation) (later_true s.names states (state_at s.modules empty_state later) newest.generation (newest_state s.modules empty_state later).generation kept.later kept.same)
+              o.shots known.shots;
           rising = known.rising;
         };
   }
@@ -153,7 +145,7 @@ module _ (s : Script) (journal : List Entry) where
           let known = observed.each number count o.0 count_is o.1.0 in
           omega (arith, known.counted, done number o.0 o.1.0, ap length o.1.1);
       exports = all_shots (AllByRecursion (λ shot. AreExports s.names (states shot.generation) shot.exports)) observers
-          (λ k o h. all_weaker (IsTrueOf s.names states newest.generation) (λ (shot : Snapshot). AreExports s.names (states shot.generation) shot.exports) o.shots (λ shot is. is.exports) (observes_at k o h).1.shots);
+          (λ k o h. all_weaker (IsTrueOf s.names states newest.generation) (λ (shot : Snapshot). AreExports s.names (states shot.generation) shot.exports) (λ shot is. is.exports) o.shots (observes_at k o h).1.shots);
       rising = all_shots AreRising observers (λ k o h. (observes_at k o h).1.rising);
     }
 
@@ -161,7 +153,7 @@ module _ (s : Script) (journal : List Entry) where
     pub seen_published : (top : ℕ) → newest.generation ≤ top → AllByRecursion (AllByRecursion (λ (shot : Snapshot). shot.generation ≤ top)) (map shots_of observers)
     seen_published top low =
         all_shots (AllByRecursion (λ (shot : Snapshot). shot.generation ≤ top)) observers
-        (λ k o h. all_weaker (IsTrueOf s.names states newest.generation) (λ (shot : Snapshot). shot.generation ≤ top) o.shots (λ shot is. omega (arith, is.published, low)) (observes_at k o h).1.shots)
+        (λ k o h. all_weaker (IsTrueOf s.names states newest.generation) (λ (shot : Snapshot). shot.generation ≤ top) (λ shot is. omega (arith, is.published, low)) o.shots (observes_at k o h).1.shots)
 
 -- who took all that it lacked lacks nothing
 pub none_left : (server : ServerState) (functions : List Mfa) (before after now : List ObserverRun) → now ≡ after → EachBecame (TakesAll server functions) before after → (k : ℕ) (o : ObserverRun) → slice_get now k ≡ Some o → o.left ≡ 0
@@ -194,7 +186,7 @@ pub looked_more : (count : ℕ) (s : ServerState) (functions : List Mfa) (first 
 looked_more count s functions first second third f g = record {
   more = f.more ++ g.more;
   many = length-append f.more g.more ∙ omega (arith, f.many, g.many);
-  each = all_append (IsSnapshotOf s functions) f.more g.more f.each g.each;
+  each = all_join (IsSnapshotOf s functions) f.more g.more f.each g.each;
   left = omega (arith, f.left, g.left);
   shots = g.shots ∙ ap (λ xs. xs ++ g.more) f.shots ∙ append_assoc first.shots f.more g.more;
 }
@@ -215,9 +207,6 @@ pub record BecameSoFar {X : Type 0} (Became : X → X → Type 0) (before now : 
   pub left : (k : ℕ) → count ≤ k → slice_get now k ≡ slice_get before k
 
 module _ {X : Type 0} (Became : X → X → Type 0) where
-  pub became_begins : (before : List X) → BecameSoFar Became before before 0
-  became_begins before = record { many = refl; had = λ k x y h. absurd (omega (arith, h)); left = λ k h. refl }
-
   became_at : (before now : List X) (count : ℕ) (x y : X) → BecameSoFar Became before now count → slice_get now count ≡ Some x → Became x y → (k : ℕ) (p q : X) → k < count + 1 → slice_get before k ≡ Some p → SetAt now count y k q → Became p q
   became_at before now count x y so_far there_is b k p q h was (here e f) =
       let same : x ≡ p = same_Some x p (sym there_is ∙ so_far.left count (omega arith) ∙ ap (slice_get before) (sym e) ∙ was) in

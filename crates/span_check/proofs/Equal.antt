@@ -1,6 +1,6 @@
 -- What the tests for equal values and lines say.
-use Rattle.std.proofs.Common.{◌≡◌, ◌∙◌, ◌&&◌, ◌==◌, ℕ, ap, sym, refl, Bool, true, false, List, [], ◌∷◌, ◌++◌, drop, length}
-use Rattle.std.proofs.lemmas.Bool.{eqb-true, eq-eqb}
+use Rattle.std.proofs.Common.{◌≡◌, ◌∙◌, ◌&&◌, ◌==◌, ap, sym, refl, Bool, true, false, List, ◌++◌, drop, length}
+use Rattle.std.proofs.lemmas.Bool.{eqb-true, eq-eqb, and_parts, and_from}
 use Rattle.std.proofs.lemmas.Slice.Eq.{slice_eq-Decides, starts_is}
 use Rattle.std.specs.Bool.{Decides, IsTrue}
 use Rattle.std.specs.Cmp.Lexicographic.{pointwise}
@@ -16,6 +16,7 @@ use Rattle.machine_core.specs.declared.process.Value.{Value}
 use Rattle.machine_core.specs.declared.process.Value.TheVariants.{Owned, Literal}
 use Rattle.machine_core.specs.contracts.process.ValuePartialEq.TheImpl as value_impl
 use Rattle.machine_core.specs.contracts.process.LinePartialEq.TheImpl as line_impl
+use Rattle.term_core.proofs.TokenLaws.{terms_of-row_of}
 
 abbrev pub value_eq : Value → Value → Bool
 value_eq = (value_impl.eq-value).it
@@ -23,42 +24,27 @@ value_eq = (value_impl.eq-value).it
 abbrev pub line_eq : Line → Line → Bool
 line_eq = (line_impl.eq-value).it
 
-both_true : (a b : Bool) → (a && b) ≡ true → (a ≡ true) × (b ≡ true)
-both_true true b h = (refl, h)
-both_true false b h = absurd (cc)
-
-true_both : (a b : Bool) → a ≡ true → b ≡ true → (a && b) ≡ true
-true_both true b g h = h
-true_both false b g h = absurd (cc)
-
-same_number : (a b : ℕ) → a ≡ b → (a == b) ≡ true
-same_number a b e = eq-eqb a b e
-
 -- values that pass the test are one
 value_same : (v w : Value) → value_eq v w ≡ true → v ≡ w
 value_same (Owned t) (Owned u) h = ap Owned (plain-injective t u ((is_same-Decides (plain t) (plain u)).0 h))
 value_same (Owned t) (Literal b) h = cc
 value_same (Literal a) (Owned u) h = cc
 value_same (Literal a) (Literal b) h =
-    let k = both_true (a.area.serial == b.area.serial && a.area.block == b.area.block) (a.at == b.at) h in
-    let j = both_true (a.area.serial == b.area.serial) (a.area.block == b.area.block) k.0 in
+    let k = and_parts (a.area.serial == b.area.serial && a.area.block == b.area.block) (a.at == b.at) h in
+    let j = and_parts (a.area.serial == b.area.serial) (a.area.block == b.area.block) k.0 in
     λ i. Literal (record { area = record { serial = eqb-true a.area.serial b.area.serial j.0 i; block = eqb-true a.area.block b.area.block j.1 i }; at = eqb-true a.at b.at k.1 i })
 
 value_itself : (v : Value) → value_eq v v ≡ true
 value_itself (Owned t) = (is_same-Decides (plain t) (plain t)).1 refl
 value_itself (Literal a) =
-    true_both (a.area.serial == a.area.serial && a.area.block == a.area.block) (a.at == a.at)
-    (true_both (a.area.serial == a.area.serial) (a.area.block == a.area.block) (same_number a.area.serial a.area.serial refl) (same_number a.area.block a.area.block refl)) (same_number a.at a.at refl)
+    and_from (a.area.serial == a.area.serial && a.area.block == a.area.block) (a.at == a.at)
+    (and_from (a.area.serial == a.area.serial) (a.area.block == a.area.block) (eq-eqb a.area.serial a.area.serial refl) (eq-eqb a.area.block a.area.block refl)) (eq-eqb a.at a.at refl)
 
 value_decides : (v w : Value) → Decides (value_eq v w) (v ≡ w)
 value_decides v w = (value_same v w, λ e. ap (value_eq v) (sym e) ∙ value_itself v)
 
 row_same : (args others : List PlainTerm) → are_same args others ≡ true → args ≡ others
-row_same args others h = sym (terms_back args) ∙ ap terms_of ((is_same_row-Decides (row_of args) (row_of others)).0 h) ∙ terms_back others
-  where
-    terms_back : (ts : List PlainTerm) → terms_of (row_of ts) ≡ ts
-    terms_back [] = refl
-    terms_back (t ∷ ts) = ap (λ us. t ∷ us) (terms_back ts)
+row_same args others h = sym (terms_of-row_of args) ∙ ap terms_of ((is_same_row-Decides (row_of args) (row_of others)).0 h) ∙ terms_of-row_of others
 
 -- and so are lines
 line_same : (l m : Line) → line_eq l m ≡ true → l ≡ m
@@ -66,9 +52,9 @@ line_same (Print t) (Print u) h = ap Print (plain-injective t u ((is_same-Decide
 line_same (Print t) (Trace on others) h = cc
 line_same (Trace to args) (Print u) h = cc
 line_same (Trace to args) (Trace on others) h =
-    let k = both_true (to.«module».0 == on.«module».0 && (to.name.0 == on.name.0 && to.arity == on.arity)) (are_same args others) h in
-    let j = both_true (to.«module».0 == on.«module».0) (to.name.0 == on.name.0 && to.arity == on.arity) k.0 in
-    let n = both_true (to.name.0 == on.name.0) (to.arity == on.arity) j.1 in
+    let k = and_parts (to.«module».0 == on.«module».0 && (to.name.0 == on.name.0 && to.arity == on.arity)) (are_same args others) h in
+    let j = and_parts (to.«module».0 == on.«module».0) (to.name.0 == on.name.0 && to.arity == on.arity) k.0 in
+    let n = and_parts (to.name.0 == on.name.0) (to.arity == on.arity) j.1 in
     λ i. Trace (record {
       «module» = record { 0 = eqb-true to.«module».0 on.«module».0 j.0 i };
       name = record { 0 = eqb-true to.name.0 on.name.0 n.0 i };
@@ -78,9 +64,9 @@ line_same (Trace to args) (Trace on others) h =
 line_itself : (l : Line) → line_eq l l ≡ true
 line_itself (Print t) = (is_same-Decides (plain t) (plain t)).1 refl
 line_itself (Trace to args) =
-    true_both (to.«module».0 == to.«module».0 && (to.name.0 == to.name.0 && to.arity == to.arity)) (are_same args args)
-    (true_both (to.«module».0 == to.«module».0) (to.name.0 == to.name.0 && to.arity == to.arity) (same_number to.«module».0 to.«module».0 refl)
-    (true_both (to.name.0 == to.name.0) (to.arity == to.arity) (same_number to.name.0 to.name.0 refl) (same_number to.arity to.arity refl)))
+    and_from (to.«module».0 == to.«module».0 && (to.name.0 == to.name.0 && to.arity == to.arity)) (are_same args args)
+    (and_from (to.«module».0 == to.«module».0) (to.name.0 == to.name.0 && to.arity == to.arity) (eq-eqb to.«module».0 to.«module».0 refl)
+    (and_from (to.name.0 == to.name.0) (to.arity == to.arity) (eq-eqb to.name.0 to.name.0 refl) (eq-eqb to.arity to.arity refl)))
     ((is_same_row-Decides (row_of args) (row_of args)).1 refl)
 
 line_decides : (l m : Line) → Decides (line_eq l m) (l ≡ m)

@@ -1,5 +1,5 @@
 -- The turns of a span at a place of a log that is followed: they come behind those of the spans before it.
-use Rattle.std.proofs.Common.{◌≡◌, ◌≤◌, ◌∙◌, ℕ, refl, sym, ap, subst, arith, List, [], ◌∷◌, ◌++◌, append_assoc, Option, Some, None, IsSomeAnd}
+use Rattle.std.proofs.Common.{◌≡◌, ◌≤◌, ◌∙◌, ℕ, refl, sym, ap, subst, arith, List, [], ◌∷◌, ◌++◌, append_assoc, Some, IsSomeAnd}
 use Rattle.std.specs.List.{AllByRecursion}
 use Rattle.server_core.specs.ServerState.{ServerState}
 use Rattle.machine_core.specs.declared.process.End.{End}
@@ -9,9 +9,9 @@ use Rattle.machine_core.specs.Process.{PlainProcess}
 use Rattle.machine_core.specs.Turn.{Turn}
 use Rattle.run_log.specs.declared.logs.Span.{Span}
 use Rattle.run_log.specs.Legal.{SpansFollow, SpansGo, turns_of}
-use Rattle.run_log.proofs.SpanRuns.{go_more, go_over, some_and}
-use Rattle.run_log.proofs.TurnRuns.{some_turn}
-use Rattle.span_check.proofs.Lists.{all_join, all_map}
+use Rattle.run_log.proofs.SpanRuns.{go_more, go_over, some_and, some_and_then}
+use Rattle.run_log.proofs.TurnRuns.{some_turn, process_in}
+use Rattle.run_log.proofs.ListPlaces.{all_weaker, all_join}
 
 -- how a span ends whose process ends so after these spans
 abbrev pub EndsAs : List Span → TurnEnd → End → Type 0
@@ -21,10 +21,6 @@ EndsAs (span ∷ spans) e fin = e ≡ Again
 -- the turns of a span are there, with its lines and this end
 abbrev pub IsRow : (ℕ → ServerState) → Span → List Span → End → PlainProcess → Type 0
 IsRow states span after fin p = IsSomeAnd (turns_of (states span.generation) span.turns p []) (λ t. (t.made ≡ span.lines) × EndsAs after t.end fin)
-
-some_first : {T : Type 0} (o : Option T) (P Q : T → Type 0) → ((t : T) → P t → Q t) → IsSomeAnd o P → IsSomeAnd o Q
-some_first None P Q f h = h
-some_first (Some t) P Q f h = f t h
 
 never_empty : (before : List Span) (span : Span) (after : List Span) → before ++ span ∷ after ≡ [] → ⊥
 never_empty [] span after h = cc
@@ -38,14 +34,10 @@ follow_first states p x (y ∷ rest) fin some follow =
     let h = some_and (turns_of (states x.generation) x.turns p []) (λ t. (t.made ≡ x.lines) × (t.end ≡ Again) × SpansFollow states t.process (y ∷ rest) fin) follow.1 in
     (h.0, (h.1.0, h.1.1.2))
 
-abbrev pub process_in : PlainProcess → Option Turn → PlainProcess
-process_in p None = p
-process_in p (Some t) = t.process
-
 row_first : (states : ℕ → ServerState) (p : PlainProcess) (span : Span) (after : List Span) (fin : End) → SpansFollow states p (span ∷ after) fin → IsRow states span after fin p
 row_first states p span [] fin follow = follow
 row_first states p span (next ∷ after) fin follow =
-    some_first (turns_of (states span.generation) span.turns p []) (λ t. (t.made ≡ span.lines) × (t.end ≡ Again) × SpansFollow states t.process (next ∷ after) fin) (λ t. (t.made ≡ span.lines) × EndsAs (next ∷ after) t.end fin) (λ t h. (h.0, h.1)) follow.1
+    some_and_then (turns_of (states span.generation) span.turns p []) (λ t. (t.made ≡ span.lines) × (t.end ≡ Again) × SpansFollow states t.process (next ∷ after) fin) (λ t. (t.made ≡ span.lines) × EndsAs (next ∷ after) t.end fin) (λ t h. (h.0, h.1)) follow.1
 
 pub follow_at : (states : ℕ → ServerState) (span : Span) (after : List Span) (fin : End) (p now : PlainProcess) (before : List Span) → SpansGo states p before now → SpansFollow states p (before ++ span ∷ after) fin → IsRow states span after fin now
 follow_at states span after fin p now [] go follow = subst (IsRow states span after fin) go (row_first states p span after fin follow)
@@ -80,8 +72,8 @@ module _ (s : ServerState) (states : ℕ → ServerState) (here : states s.gener
   all_low : AllByRecursion (λ x. x.generation ≤ span.generation) (before ++ xs)
   all_low =
       all_join (λ x. x.generation ≤ span.generation) before xs
-      (all_map (λ x. x.generation ≤ s.generation) (λ x. x.generation ≤ span.generation) before (λ x h. omega (arith, h, same)) low)
-      (all_map (λ x. x.generation ≡ s.generation) (λ x. x.generation ≤ span.generation) xs (λ x h. omega (arith, h, same)) under)
+      (all_weaker (λ x. x.generation ≤ s.generation) (λ x. x.generation ≤ span.generation) (λ x h. omega (arith, h, same)) before low)
+      (all_weaker (λ x. x.generation ≡ s.generation) (λ x. x.generation ≤ span.generation) (λ x h. omega (arith, h, same)) xs under)
 
   turns_under : (e : TurnEnd) → turns_of s span.turns p [] ≡ some_turn now span.lines e → turns_of (states span.generation) span.turns p [] ≡ some_turn now span.lines e
   turns_under e h = ap (λ x. turns_of x span.turns p []) state_is ∙ h

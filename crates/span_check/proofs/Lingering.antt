@@ -11,10 +11,10 @@ use Rattle.run_log.proofs.Marks.{last_of, last_process, process_of_last}
 use Rattle.span_check.specs.declared.watch.Watch.{Watch}
 use Rattle.span_check.specs.Watches.{stands_in}
 use Rattle.span_check.specs.Sweeps.{turns_in}
-use Rattle.span_check.proofs.Lists.{get_within}
 use Rattle.span_check.proofs.Repeats.{no_turn}
 use Rattle.span_check.proofs.Watching.{stands_nowhere}
 use Rattle.span_check.proofs.MarkPlaces.{LingersAt, at_lingers, at_start, at_turn, last_stands, lingers_at, mark_at, marks_all, marks_join, marks_length, marks_under}
+use Rattle.run_log.proofs.ListPlaces.{get_within}
 
 -- a watch within so many turns that come behind so many others, of a process that stands here between them
 pub record SeesWithin (s : ServerState) (earlier turns : ℕ) (p : PlainProcess) (watch : Watch) : Type 0 where

@@ -1,15 +1,12 @@
 -- Lists by their places, and what holds of each element.
-use Rattle.std.proofs.Common.{◌≡◌, ◌≤◌, ◌<◌, ◌+◌, ◌-◌, ◌∙◌, ℕ, zero, suc, refl, sym, ap, subst, arith, add-one, List, [], ◌∷◌, ◌++◌, length, take, drop, get_or, slice_get, Some, IfSome}
+use Rattle.std.proofs.Common.{◌≡◌, ◌≤◌, ◌<◌, ◌+◌, ◌-◌, ◌∙◌, ℕ, zero, suc, refl, sym, ap, arith, add-one, List, [], ◌∷◌, ◌++◌, length, take, drop, get_or, slice_get, Some, IfSome}
 use Rattle.std.proofs.lemmas.List.{take_all}
 use Rattle.std.proofs.lemmas.Option.{none-some, same_Some, slice_get_read}
 use Rattle.std.specs.List.{AllByRecursion}
 use Rattle.script_core.proofs.JoinedPlaces.{take_next}
+use Rattle.run_log.proofs.ListPlaces.{get_within}
 
--- what holds of each of two lists holds of each of both
-pub all_join : {X : Type 0} (P : X → Type 0) (xs ys : List X) → AllByRecursion P xs → AllByRecursion P ys → AllByRecursion P (xs ++ ys)
-all_join P [] ys h k = k
-all_join P (x ∷ xs) ys h k = (h.0, all_join P xs ys h.1 k)
-
+-- what holds of each of a list holds of each of its front, and of what is behind
 pub all_front : {X : Type 0} (P : X → Type 0) (xs ys : List X) → AllByRecursion P (xs ++ ys) → AllByRecursion P xs
 all_front P [] ys h = tt
 all_front P (x ∷ xs) ys h = (h.0, all_front P xs ys h.1)
@@ -18,30 +15,16 @@ pub all_behind : {X : Type 0} (P : X → Type 0) (xs ys : List X) → AllByRecur
 all_behind P [] ys h = h
 all_behind P (x ∷ xs) ys h = all_behind P xs ys h.1
 
-pub all_map : {X : Type 0} (P Q : X → Type 0) (xs : List X) → ((x : X) → P x → Q x) → AllByRecursion P xs → AllByRecursion Q xs
-all_map P Q [] f h = tt
-all_map P Q (x ∷ xs) f h = (f x h.0, all_map P Q xs f h.1)
-
 -- what holds of each in two ways holds so together
 pub all_both : {X : Type 0} (P Q R : X → Type 0) (xs : List X) → ((x : X) → P x → Q x → R x) → AllByRecursion P xs → AllByRecursion Q xs → AllByRecursion R xs
 all_both P Q R [] f h k = tt
 all_both P Q R (x ∷ xs) f h k = (f x h.0 k.0, all_both P Q R xs f h.1 k.1)
 
-pub get_within : {X : Type 0} (xs : List X) (i : ℕ) → i < length xs → (x : X) × (slice_get xs i ≡ Some x)
-get_within [] i h = absurd (omega (arith, h))
-get_within (x ∷ xs) zero h = (x, refl)
-get_within (x ∷ xs) (suc i) h = get_within xs i (omega (arith, h))
-
--- what holds of each holds of the one at a place
-pub all_get : {X : Type 0} (P : X → Type 0) (xs : List X) (k : ℕ) (x : X) → AllByRecursion P xs → slice_get xs k ≡ Some x → P x
-all_get P [] k x h e = absurd (none-some x e)
-all_get P (y ∷ xs) zero x h e = subst P (same_Some y x e) h.0
-all_get P (y ∷ xs) (suc k) x h e = all_get P xs k x h.1 e
-
-pub all_at : {X : Type 0} (P : X → Type 0) (xs : List X) (k : ℕ) → AllByRecursion P xs → IfSome (slice_get xs k) P
-all_at P [] k h = tt
-all_at P (x ∷ xs) zero h = h.0
-all_at P (x ∷ xs) (suc k) h = all_at P xs k h.1
+-- what holds of each holds of the one at a place, if there is one
+pub all_if_there : {X : Type 0} (P : X → Type 0) (xs : List X) (k : ℕ) → AllByRecursion P xs → IfSome (slice_get xs k) P
+all_if_there P [] k h = tt
+all_if_there P (x ∷ xs) zero h = h.0
+all_if_there P (x ∷ xs) (suc k) h = all_if_there P xs k h.1
 
 -- the element at a place stands between those before it and those behind
 pub split_here : {X : Type 0} (xs : List X) (i : ℕ) (x : X) → slice_get xs i ≡ Some x → xs ≡ take i xs ++ x ∷ drop (i + 1) xs

@@ -12,9 +12,10 @@ use Rattle.run_log.proofs.Marks.{last_of, last_process, later_of, process_of_las
 use Rattle.script_core.proofs.JoinedPlaces.{get_behind, get_front, JoinedAt, in_front, behind, joined_at}
 use Rattle.span_check.specs.Watches.{stands_in}
 use Rattle.span_check.specs.Sweeps.{turns_in}
-use Rattle.span_check.proofs.Lists.{all_join, all_map, get_within, all_get, all_at}
+use Rattle.span_check.proofs.Lists.{all_if_there}
 use Rattle.span_check.proofs.Repeats.{no_turn}
 use Rattle.span_check.proofs.TurnRows.{after_add}
+use Rattle.run_log.proofs.ListPlaces.{get_within, all_at, all_weaker, all_join}
 
 -- ---- a process that lingers, by where its turn stands among the others
 
@@ -35,13 +36,13 @@ module _ (g : ℕ) (earlier under after : List Mark) (low : AllByRecursion (λ m
   last_before serial turn h e within false is =
       let other = eqb-false (h.place + 1) (length earlier) is in
       let m = get_within earlier (h.place + 1) (omega (arith, within, other)) in
-      let old = all_get (λ n. n.generation < g) earlier (h.place + 1) m.0 low m.1 in
+      let old = all_at (λ n. n.generation < g) earlier (h.place + 1) m.0 low m.1 in
       let new = next_is all (h.place + 1) m.0 (get_front earlier (under ++ after) (h.place + 1) m.0 m.1) h.next in
       absurd (omega (arith, old, new))
 
   behind_start : (serial turn : ℕ) (h : Lingers serial g turn all) (n : ℕ) → h.place ≡ length earlier + n → JoinedAt under after n h.mark → LingersAt serial turn earlier under
   behind_start serial turn h n e (in_front k) = at_turn h.mark n (omega (arith, h.counted, e)) k h.stands
-  behind_start serial turn h n e (behind k f at) = let past = all_get (λ m. g < m.generation) after k h.mark high at in absurd (omega (arith, past, h.seen))
+  behind_start serial turn h n e (behind k f at) = let past = all_at (λ m. g < m.generation) after k h.mark high at in absurd (omega (arith, past, h.seen))
 
   placed : (serial turn : ℕ) (h : Lingers serial g turn all) → JoinedAt earlier (under ++ after) h.place h.mark → LingersAt serial turn earlier under
   placed serial turn h (in_front e) = last_before serial turn h e (slice_get_within earlier h.place h.mark e) (h.place + 1 == length earlier) refl
@@ -52,15 +53,15 @@ module _ (g : ℕ) (earlier under after : List Mark) (low : AllByRecursion (λ m
 
   late : AllByRecursion (λ m. g ≤ m.generation) (under ++ after)
   late =
-      all_join (λ m. g ≤ m.generation) under after (all_map (λ m. m.generation ≡ g) (λ m. g ≤ m.generation) under (λ m h. omega (arith, h)) here)
-      (all_map (λ m. g < m.generation) (λ m. g ≤ m.generation) after (λ m h. omega (arith, h)) high)
+      all_join (λ m. g ≤ m.generation) under after (all_weaker (λ m. m.generation ≡ g) (λ m. g ≤ m.generation) (λ m h. omega (arith, h)) under here)
+      (all_weaker (λ m. g < m.generation) (λ m. g ≤ m.generation) (λ m h. omega (arith, h)) after high)
 
   next_late : (place n : ℕ) → place ≡ length earlier + n → IfSome (slice_get all place) (λ m. g ≤ m.generation)
-  next_late place n e = subst (λ o. IfSome o (λ m. g ≤ m.generation)) (sym (ap (slice_get all) e ∙ get_behind earlier (under ++ after) n)) (all_at (λ m. g ≤ m.generation) (under ++ after) n late)
+  next_late place n e = subst (λ o. IfSome o (λ m. g ≤ m.generation)) (sym (ap (slice_get all) e ∙ get_behind earlier (under ++ after) n)) (all_if_there (λ m. g ≤ m.generation) (under ++ after) n late)
 
   pub at_lingers : (serial turn : ℕ) → LingersAt serial turn earlier under → Lingers serial g turn all
   at_lingers serial turn (at_start m place counted last had stands) =
-      let old = all_get (λ n. n.generation < g) earlier place m low had in
+      let old = all_at (λ n. n.generation < g) earlier place m low had in
       record {
         place = place;
         mark = m;
@@ -71,7 +72,7 @@ module _ (g : ℕ) (earlier under after : List Mark) (low : AllByRecursion (λ m
         next = next_late (place + 1) 0 (omega (arith, last));
       }
   at_lingers serial turn (at_turn m place counted had stands) =
-      let same = all_get (λ n. n.generation ≡ g) under place m here had in
+      let same = all_at (λ n. n.generation ≡ g) under place m here had in
       record {
         place = length earlier + place;
         mark = m;

@@ -1,7 +1,8 @@
 -- What frames name, noted frame by frame; and what is kept of a process's names, whatever the words of the areas are.
-use Rattle.std.proofs.Common.{◌≡◌, ◌==◌, ◌||◌, ◌<◌, ◌+◌, ◌∙◌, ℕ, ap, sym, Bool, true, false, List, [], ◌∷◌, take, length, get_or, refl}
+use Rattle.std.proofs.Common.{◌≡◌, ◌==◌, ◌||◌, ◌<◌, ◌+◌, ◌∙◌, ℕ, ap, sym, Bool, false, List, [], ◌∷◌, take, length, get_or, refl}
 use Rattle.std.proofs.lemmas.List.Folds.{list_any-append}
 use Rattle.std.specs.List.{flat_map, list_any}
+use Rattle.std.proofs.Math.Bool.{or-false}
 use Rattle.term_core.specs.declared.hold.Kind.TheVariants.{Frame as for_frames}
 use Rattle.machine_core.specs.declared.process.Frame.{Frame}
 use Rattle.machine_core.specs.declared.process.Process.{Process}
@@ -17,14 +18,10 @@ use Rattle.span_check.specs.Standings.{AreNames, HasItsNames}
 use Rattle.span_check.specs.Watches.{one_runs, stands_in}
 use Rattle.span_check.proofs.Lists.{read_at}
 
-or_none : (b : Bool) → (b || false) ≡ b
-or_none true = refl
-or_none false = refl
-
 -- a test of some element of a list that grows by one
 any_more : {X : Type 0} (test : X → Bool) (xs : List X) (i : ℕ) (x : X) → i < length xs → x ≡ get_or xs i x → list_any test (take (i + 1) xs) ≡ (list_any test (take i xs) || test x)
 any_more test xs i x within is =
-    ap (list_any test) (take_next xs i x (read_at xs i x within is)) ∙ list_any-append test (take i xs) (x ∷ []) ∙ ap (λ b. list_any test (take i xs) || b) (or_none (test x))
+    ap (list_any test) (take_next xs i x (read_at xs i x within is)) ∙ list_any-append test (take i xs) (x ∷ []) ∙ ap (λ b. list_any test (take i xs) || b) (or-false (test x))
 
 -- what frames name is named by some of them
 instances_by : (fs : List Frame) (n : ℕ) → is_among (code_names fs).frames n ≡ one_runs fs n

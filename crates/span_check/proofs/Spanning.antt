@@ -16,10 +16,10 @@ use Rattle.span_check.specs.declared.spans.Rest.{Rest}
 use Rattle.span_check.specs.declared.watch.Watch.{Watch}
 use Rattle.span_check.specs.Watches.{AreInOrder, AreLater, AreSeen, AreSeenToEnd, due_count, stands_in}
 use Rattle.span_check.specs.Steps.{HasOtherLines, IsSpanJudged, IsSpanRefused, IsSpanTaken, IsStep, IsWhole, SeenSo}
-use Rattle.span_check.proofs.Lists.{all_map}
 use Rattle.span_check.proofs.Repeats.{no_turn}
 use Rattle.span_check.proofs.TurnRows.{after_add, end_is, first_lines, made_is, no_more, one_turn}
 use Rattle.span_check.proofs.Watching.{ended_here, looked, none_seen, not_looked, seen_on, unseen_on}
+use Rattle.run_log.proofs.ListPlaces.{all_weaker}
 
 -- some turns of a span were taken: where the process then stands, what is left gives the whole, and the watches so far were seen
 pub record AtRest (s : ServerState) (p now : PlainProcess) (span : Span) (rest : Rest) (watches left : List Watch) : Type 0 where
@@ -55,7 +55,7 @@ frameless : (s : ServerState) (p : PlainProcess) (e : TurnEnd) → (turn_of s p)
 frameless s p Again is other = absurd (other refl)
 frameless s p (Ended fin) is other = turn_ended s p fin is
 
-true_false : {A : Type 0} → true ≡ false → A
+pub true_false : {A : Type 0} → true ≡ false → A
 true_false h = cc
 
 module _ (s : ServerState) (p now : PlainProcess) (span : Span) (rest : Rest) (watches between : List Watch) (at : AtRest s p now span rest watches between) where
@@ -63,7 +63,7 @@ module _ (s : ServerState) (p now : PlainProcess) (span : Span) (rest : Rest) (w
   lines = take rest.lines span.lines
 
   later_now : AreLater now.turns between
-  later_now = all_map (λ w. p.turns + at.taken < w.turn) (λ w. now.turns < w.turn) between (λ w k. omega (arith, k, at.counted)) at.seen.later
+  later_now = all_weaker (λ w. p.turns + at.taken < w.turn) (λ w. now.turns < w.turn) (λ w k. omega (arith, k, at.counted)) between at.seen.later
 
   -- the lines of the next turn are others
   pub other_lines : (wanted : TurnEnd) → 0 < rest.turns → HasOtherLines s now span rest → IsSpanRefused s p span wanted watches

@@ -1,31 +1,28 @@
 -- What one who judges a whole log needs of where its processes stand: which processes a clause on all turns looks at, and that they stand there still
 -- under a later state.
-use Rattle.std.proofs.Common.{◌≡◌, ◌↔◌, ◌≤◌, ◌<◌, ◌+◌, ◌∙◌, ℕ, refl, sym, ap, subst, arith, Bool, true, false, List, [], ◌∷◌, ◌++◌, append_assoc, length, map, take, drop, Option, Some, None, IfSome}
-use Rattle.std.proofs.lemmas.List.{append-nil, length-map, length-reverse, take-append-drop, take_all}
+use Rattle.std.proofs.Common.{◌≡◌, ◌↔◌, ◌≤◌, ◌<◌, ◌+◌, ◌∙◌, ℕ, refl, sym, ap, subst, arith, Bool, true, false, List, [], ◌∷◌, ◌++◌, append_assoc, length, take, drop, Option, Some, None, IfSome}
+use Rattle.std.proofs.lemmas.List.{append-nil, take-append-drop, take_all}
 use Rattle.std.specs.List.{AllByRecursion}
 use Rattle.term_core.specs.declared.hold.TheConstants.{MOST_AREAS}
 use Rattle.server_core.specs.ServerState.{ServerState}
 use Rattle.machine_core.specs.declared.process.End.{End}
-use Rattle.machine_core.specs.declared.process.Frame.{Frame}
-use Rattle.machine_core.specs.declared.process.Process.{Process}
 use Rattle.machine_core.specs.declared.process.TurnEnd.TheVariants.{Again, Ended}
 use Rattle.machine_core.specs.Holds.{area_count}
-use Rattle.machine_core.specs.Process.{PlainProcess, Words, frame_of, frames_of, names_of, process_of}
+use Rattle.machine_core.specs.Process.{PlainProcess, Words, names_of, process_of}
 use Rattle.machine_core.specs.View.{server_words}
-use Rattle.machine_core.proofs.LaterWords.{HasAreas, process_later}
+use Rattle.machine_core.proofs.LaterWords.{HasAreas, process_later, frameless_same}
 use Rattle.machine_core.proofs.TurnLaws.{may_turn_later}
 use Rattle.run_log.specs.declared.logs.ProcessLog.{ProcessLog}
 use Rattle.run_log.specs.declared.logs.Span.{Span}
 use Rattle.run_log.specs.Legal.{Mark, NamesNot, SpansFollow, SpansGo, StandsNotIn, last_up_to, marks_of, process_after, turns_of}
 use Rattle.run_log.proofs.Marks.{last_of, last_of_all, last_past, last_process, marks_within, process_now, process_of_last, process_over}
 use Rattle.run_log.proofs.SpanRuns.{some_and}
-use Rattle.run_log.proofs.TurnRuns.{ended_again}
-use Rattle.span_check.proofs.Following.{process_in}
+use Rattle.run_log.proofs.TurnRuns.{ended_again, process_in}
 use Rattle.span_check.proofs.TurnRows.{end_in}
 use Rattle.span_check.specs.declared.standing.Standing.{Standing}
 use Rattle.span_check.specs.Standings.{IsReached, IsReady, StandsAt, StandsSo, first_of, marks_in_log}
-use Rattle.span_check.proofs.Lists.{all_map}
 use Rattle.span_check.proofs.MarkPlaces.{marks_all, marks_join}
+use Rattle.run_log.proofs.ListPlaces.{all_weaker}
 
 -- ---- the last turn up to a generation
 
@@ -53,10 +50,10 @@ module _ (states : ℕ → ServerState) (words : Words) (number : ℕ) (log : Pr
   stands_now at = stands_after standing.ended reached.over at
 
   before_low : AllByRecursion (λ x. x.generation ≤ g) before
-  before_low = all_map (λ x. x.generation < g + 1) (λ x. x.generation ≤ g) before (λ x h. omega (arith, h)) reached.before
+  before_low = all_weaker (λ x. x.generation < g + 1) (λ x. x.generation ≤ g) (λ x h. omega (arith, h)) before reached.before
 
   behind_high : AllByRecursion (λ x. g < x.generation) (drop standing.gone log.spans)
-  behind_high = all_map (λ x. g + 1 ≤ x.generation) (λ x. g < x.generation) (drop standing.gone log.spans) (λ x h. omega (arith, h)) reached.behind
+  behind_high = all_weaker (λ x. g + 1 ≤ x.generation) (λ x. g < x.generation) (λ x h. omega (arith, h)) (drop standing.gone log.spans) reached.behind
 
   last_is : last_up_to g (marks_in_log states number log) ≡ last_of (marks_of states first before)
   last_is =
@@ -108,16 +105,6 @@ goes_not_over states p last (span ∷ next ∷ spans) fin go follow =
     goes_not_over states b.0.process last (next ∷ spans) fin (subst (λ q. SpansGo states q (next ∷ spans) last) same a.1.1.2) b.1.1.2
 
 -- ---- a later state of the server
-
--- no frame stands for none
-no_frames : (words : Words) (fs : List Frame) → frames_of words fs ≡ [] → fs ≡ []
-no_frames words [] h = refl
-no_frames words (f ∷ fs) h = absurd (omega (arith, ap length h, length-reverse (map (frame_of words) (f ∷ fs)), length-map (f ∷ fs) (frame_of words)))
-
-frameless_same : (words others : Words) (p : Process) → (process_of words p).frames ≡ [] → process_of others p ≡ process_of words p
-frameless_same words others p h =
-    let none = no_frames words p.frames h in
-    ap (λ frames. record { number = p.number; target = p.target; args = p.args; turns = p.turns; frames = frames }) (ap (frames_of others) none ∙ ap (frames_of words) (sym none))
 
 module _ (older newer : ServerState) (has : HasAreas older newer) (states : ℕ → ServerState) (number : ℕ) (log : ProcessLog) (standing : Standing) (ready : IsReady older standing) where
   stands_so_later : (b : Bool) → standing.ended ≡ b → StandsSo states number log standing.gone (process_of (server_words older) standing.process) b → StandsSo states number log standing.gone (process_of (server_words newer) standing.process) b

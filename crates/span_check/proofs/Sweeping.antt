@@ -19,12 +19,14 @@ use Rattle.span_check.specs.declared.watch.Watch.{Watch}
 use Rattle.span_check.specs.Standings.{AreTold, HasItsNames, IsOver, IsReached, IsReady, NeverFall, StandsAt, StandsSo, first_of}
 use Rattle.span_check.specs.Sweeps.{AreJudgedSo, AreNotTaken, IsMoved, IsRefused, IsTaken, count_under, end_at, spans_from, turns_in}
 use Rattle.span_check.specs.Watches.{AreFrom, AreInOrder, AreLater, AreSeen, AreSeenToEnd, Sees, due_count, stands_in}
-use Rattle.span_check.proofs.Lists.{all_behind, all_both, all_join, all_map, all_take, drop_more}
+use Rattle.span_check.proofs.Lists.{all_behind, all_both, all_take, drop_more}
 use Rattle.span_check.proofs.Lingering.{SeesWithin, lingers_sees, sees_lingers}
 use Rattle.span_check.proofs.MarkPlaces.{process_join, process_under}
 use Rattle.span_check.proofs.Moving.{falls_drop, under_split}
 use Rattle.span_check.proofs.Repeats.{no_turn}
 use Rattle.span_check.proofs.Watching.{all_tested, due_split, each_seen, seen_on, seen_to_end, stands_nowhere}
+use Rattle.run_log.proofs.ListPlaces.{all_weaker, all_join}
+use Rattle.span_check.proofs.Spanning.{true_false}
 
 -- ---- watches at the first look, before any turn of the generation
 
@@ -46,15 +48,15 @@ module _ (s : ServerState) (p : PlainProcess) where
         parts = sym (take-append-drop n watches);
         seen = all_both (λ w. (p.turns ≤ w.turn) × (w.turn ≤ p.turns)) (λ w. stands w ≡ true) (Sees s p) (take n watches) (λ w at is. record { from = at.0; stands = stands_here w at.1 ∙ is }) placed
             (each_seen (λ w. stands w ≡ true) stands (take n watches) (λ w k. k) all);
-        low = all_map (λ w. w.turn ≤ p.turns) (λ w. w.turn ≤ p.turns + 0) (take n watches) (λ w k. omega (arith, k)) split.0;
-        later = all_map (λ w. p.turns < w.turn) (λ w. p.turns + 0 < w.turn) (drop n watches) (λ w k. omega (arith, k)) split.1;
+        low = all_weaker (λ w. w.turn ≤ p.turns) (λ w. w.turn ≤ p.turns + 0) (λ w k. omega (arith, k)) (take n watches) split.0;
+        later = all_weaker (λ w. p.turns < w.turn) (λ w. p.turns + 0 < w.turn) (λ w k. omega (arith, k)) (drop n watches) split.1;
       }
 
   pub first_unseen : (watches : List Watch) → AreInOrder watches → list_all stands (take (due_count p.turns watches) watches) ≡ false → AllByRecursion (Sees s p) watches → ⊥
   first_unseen watches order some all =
       let n = due_count p.turns watches in
       let split = due_split p.turns watches order in
-      let implied = all_map (λ w. w.turn ≤ p.turns) (λ w. Sees s p w → stands w ≡ true) (take n watches) (λ w low seen. sym (stands_here w low) ∙ seen.stands) split.0 in
+      let implied = all_weaker (λ w. w.turn ≤ p.turns) (λ w. Sees s p w → stands w ≡ true) (λ w low seen. sym (stands_here w low) ∙ seen.stands) (take n watches) split.0 in
       differ (sym (all_tested (Sees s p) stands (take n watches) implied (all_take (Sees s p) n watches all)) ∙ some)
     where
       differ : true ≡ false → ⊥
@@ -66,7 +68,7 @@ module _ (s : ServerState) (p : PlainProcess) where
     looked_seen from all = subst (AreSeen s p 0 watches) (sym left) (first_seen watches order from all)
 
   pub seen_later : (watches left : List Watch) → AreSeen s p 0 watches left → AreLater p.turns left
-  seen_later watches left seen = all_map (λ w. p.turns + 0 < w.turn) (λ w. p.turns < w.turn) left (λ w k. omega (arith, k)) seen.later
+  seen_later watches left seen = all_weaker (λ w. p.turns + 0 < w.turn) (λ w. p.turns < w.turn) (λ w k. omega (arith, k)) left seen.later
 
 -- ---- watches within the turns of the generation
 
@@ -106,12 +108,9 @@ module _ (s : ServerState) (p : PlainProcess) (n : ℕ) where
 
   -- what is seen within them is seen
   pub within_sees : (watches : List Watch) → AllByRecursion Within watches → AllByRecursion (Sees s p) watches
-  within_sees watches h = all_map Within (Sees s p) watches (λ w a. record { from = a.from; stands = a.stands }) h
+  within_sees watches h = all_weaker Within (Sees s p) (λ w a. record { from = a.from; stands = a.stands }) watches h
 
 -- ---- a log and its spans under the generation
-
-pub true_false : {A : Type 0} → true ≡ false → A
-true_false h = cc
 
 -- what the end of a log at a place says of the place
 abbrev EndIs : ProcessLog → ℕ → Option End → Type 0
@@ -160,10 +159,10 @@ module _ (s : ServerState) (log : ProcessLog) (old : Standing) (watches : List W
   next = (under_split g behind (falls_drop old.gone log.spans falls) reached.behind).1
 
   high : AllByRecursion (λ x. g < x.generation) after
-  high = all_map (λ x. g + 1 ≤ x.generation) (λ x. g < x.generation) after (λ x h. omega (arith, h)) next
+  high = all_weaker (λ x. g + 1 ≤ x.generation) (λ x. g < x.generation) (λ x h. omega (arith, h)) after next
 
   low : AllByRecursion (λ x. x.generation ≤ g) before
-  low = all_map (λ x. x.generation < g) (λ x. x.generation ≤ g) before (λ x h. omega (arith, h)) reached.before
+  low = all_weaker (λ x. x.generation < g) (λ x. x.generation ≤ g) (λ x h. omega (arith, h)) before reached.before
 
   abbrev Here : Watch → Type 0
   Here watch = SeesWithin s p.turns (turns_in here) p watch
@@ -191,14 +190,14 @@ module _ (s : ServerState) (log : ProcessLog) (old : Standing) (watches : List W
         (lingers_sees s states g state first refl before here after reached.before under high watch (subst (λ spans. Lingers watch.serial g watch.turn (marks_of states first spans)) parts told)))
 
     all_told : AllByRecursion Here watches → AreTold states number log g watches
-    all_told h = all_map Here (λ w. Lingers w.serial g w.turn (marks_of states first log.spans)) watches told_is h
+    all_told h = all_weaker Here (λ w. Lingers w.serial g w.turn (marks_of states first log.spans)) told_is watches h
 
     all_seen : AreTold states number log g watches → AllByRecursion Here watches
-    all_seen h = all_map (λ w. Lingers w.serial g w.turn (marks_of states first log.spans)) Here watches seen_is h
+    all_seen h = all_weaker (λ w. Lingers w.serial g w.turn (marks_of states first log.spans)) Here seen_is watches h
 
   -- spans that are gone before a generation are gone before the next one
   before_next : AllByRecursion (λ x. x.generation < g + 1) before
-  before_next = all_map (λ x. x.generation < g) (λ x. x.generation < g + 1) before (λ x h. omega (arith, h)) reached.before
+  before_next = all_weaker (λ x. x.generation < g) (λ x. x.generation < g + 1) (λ x h. omega (arith, h)) before reached.before
 
   module _ (going : old.ended ≡ false) where
     stood : (states : ℕ → ServerState) (number : ℕ) → StandsAt states (server_words s) number log old → SpansGo states (first_of number log) before p
@@ -210,7 +209,7 @@ module _ (s : ServerState) (log : ProcessLog) (old : Standing) (watches : List W
 
     -- a watch looks at an earlier turn
     pub early_refused : (AreFrom p.turns watches → ⊥) → IsRefused s log watches old
-    early_refused other = refused_by (λ states number state go follow seen. other (all_map Here (λ w. p.turns ≤ w.turn) watches (λ w a. a.from) seen))
+    early_refused other = refused_by (λ states number state go follow seen. other (all_weaker Here (λ w. p.turns ≤ w.turn) (λ w a. a.from) watches seen))
 
     -- not each sees what it tells
     pub sees_refused : (AllByRecursion (Sees s p) watches → ⊥) → IsRefused s log watches old
@@ -305,7 +304,7 @@ module _ (s : ServerState) (log : ProcessLog) (old : Standing) (watches : List W
               within = omega (arith, within_log, moved.gone);
               before = subst (λ n. AllByRecursion (λ x. x.generation < g + 1) (take n log.spans)) (sym moved.gone)
                   (subst (AllByRecursion (λ x. x.generation < g + 1)) (sym taken_are)
-                  (all_join (λ x. x.generation < g + 1) before here before_next (all_map (λ x. x.generation ≡ g) (λ x. x.generation < g + 1) here (λ x h. omega (arith, h)) under)));
+                  (all_join (λ x. x.generation < g + 1) before here before_next (all_weaker (λ x. x.generation ≡ g) (λ x. x.generation < g + 1) (λ x h. omega (arith, h)) here under)));
               behind = subst (λ n. AllByRecursion (λ x. g + 1 ≤ x.generation) (drop n log.spans)) (sym moved.gone) (subst (AllByRecursion (λ x. g + 1 ≤ x.generation)) (sym left_are) next);
               over = λ h. moved.gone ∙ over_so (end_at log place) is (sym moved.ended ∙ h);
             };

@@ -14,11 +14,11 @@ use Rattle.span_check.specs.declared.watch.Watch.{Watch}
 use Rattle.span_check.specs.Watches.{AreLater, AreSeen, AreSeenToEnd}
 use Rattle.span_check.specs.Steps.{IsSpanJudged, IsSpanRefused, IsSpanTaken}
 use Rattle.span_check.specs.Sweeps.{AreNotTaken, AreTaken, EndsNotSo, EndsSo, IsEndJudged, turns_in}
-use Rattle.span_check.proofs.Lists.{all_map}
 use Rattle.span_check.proofs.Repeats.{no_turn}
 use Rattle.span_check.proofs.TurnRows.{after_add}
 use Rattle.span_check.proofs.Watching.{none_seen, seen_on, seen_to_end, unseen_on}
 use Rattle.span_check.proofs.Following.{ends_at, ends_behind, goes_at, goes_behind}
+use Rattle.run_log.proofs.ListPlaces.{all_weaker}
 
 turns_push : (xs : List Span) (span : Span) → turns_in (xs ++ span ∷ []) ≡ turns_in xs + span.turns
 turns_push [] span = omega arith
@@ -36,7 +36,7 @@ none_taken s p watches later = record {
 module _ (s : ServerState) (xs : List Span) (p now : PlainProcess) (watches between : List Watch) (under : AllByRecursion (λ x. x.generation ≡ s.generation) xs) (taken : AreTaken s xs p now watches between) where
   -- the watches that are left look later than where the process stands
   pub left_later : AreLater now.turns between
-  left_later = all_map (λ w. p.turns + turns_in xs < w.turn) (λ w. now.turns < w.turn) between (λ w k. omega (arith, k, taken.counted)) taken.seen.later
+  left_later = all_weaker (λ w. p.turns + turns_in xs < w.turn) (λ w. now.turns < w.turn) (λ w k. omega (arith, k, taken.counted)) between taken.seen.later
 
   module _ (span : Span) (same : span.generation ≡ s.generation) where
     row_under : (states : ℕ → ServerState) (t : Turn) → states s.generation ≡ s → turns_of (states span.generation) span.turns now [] ≡ Some t → turns_of s span.turns now [] ≡ Some t

@@ -9,7 +9,7 @@ use Rattle.machine_core.specs.declared.process.TurnEnd.TheVariants.{Again, Ended
 use Rattle.machine_core.specs.Process.{PlainProcess}
 use Rattle.machine_core.specs.Turn.{Turn, turn_of}
 use Rattle.run_log.specs.Legal.{after_turn, after_turns, turns_of}
-use Rattle.run_log.proofs.TurnRuns.{some_turn}
+use Rattle.run_log.proofs.TurnRuns.{some_turn, none_some}
 
 -- a list that begins with another
 abbrev pub BeginsWith : List Line → List Line → Type 0
@@ -18,10 +18,6 @@ BeginsWith front lines = (rest : List Line) × (lines ≡ front ++ rest)
 abbrev lines_in : Option Turn → List Line
 lines_in None = []
 lines_in (Some t) = t.made
-
--- nothing is no turn
-pub none_some : {A : Type 0} (t : Turn) → None ≡ Some t → A
-none_some t h = cc
 
 module _ (s : ServerState) where
   -- turns in two parts

@@ -9,8 +9,9 @@ use Rattle.machine_core.specs.Holds.{is_among}
 use Rattle.run_log.specs.Legal.{after_turns}
 use Rattle.span_check.specs.declared.watch.Watch.{Watch}
 use Rattle.span_check.specs.Watches.{AreFrom, AreInOrder, AreLater, AreSeen, AreSeenToEnd, Sees, due_count, first_turn, stands_in}
-use Rattle.span_check.proofs.Lists.{all_join, all_front, all_behind, all_map, all_both}
+use Rattle.span_check.proofs.Lists.{all_front, all_behind, all_both}
 use Rattle.span_check.proofs.TurnRows.{after_add}
+use Rattle.run_log.proofs.ListPlaces.{all_weaker, all_join}
 
 -- watches behind the first are in order, and look no earlier than it
 pub order_drop : (n : ℕ) (watches : List Watch) → AreInOrder watches → AreInOrder (drop n watches)
@@ -32,7 +33,7 @@ SplitDue turns watches n = AllByRecursion (λ watch. watch.turn ≤ turns) (take
 
 later_all : (turns : ℕ) (watch : Watch) (watches : List Watch) → turns < watch.turn → AreInOrder (watch ∷ watches) → AreLater turns (watch ∷ watches)
 later_all turns watch watches high h =
-    (high, all_map (λ w. watch.turn ≤ w.turn) (λ w. turns < w.turn) watches (λ w k. omega (arith, high, k)) (first_low watches watch.turn h.0 h.1))
+    (high, all_weaker (λ w. watch.turn ≤ w.turn) (λ w. turns < w.turn) (λ w k. omega (arith, high, k)) watches (first_low watches watch.turn h.0 h.1))
 
 split_at : (turns : ℕ) (watch : Watch) (watches : List Watch) (b : Bool) → nat_le watch.turn turns ≡ b → AreInOrder (watch ∷ watches) → SplitDue turns watches (due_count turns watches) → SplitDue turns (watch ∷ watches) (cond b (1 + due_count turns watches) 0)
 split_at turns watch watches true e h rest =
@@ -89,13 +90,13 @@ module _ (s : ServerState) (p now : PlainProcess) (turns : ℕ) (reached : after
     parts_more front left e = seen.parts ∙ ap (λ ws. seen.front ++ ws) e ∙ sym (append_assoc seen.front front left)
 
     seen_more : (front : List Watch) → AllByRecursion (Sees s now) front → AllByRecursion (Sees s p) (seen.front ++ front)
-    seen_more front h = all_join (Sees s p) seen.front front seen.seen (all_map (Sees s now) (Sees s p) front sees_back h)
+    seen_more front h = all_join (Sees s p) seen.front front seen.seen (all_weaker (Sees s now) (Sees s p) sees_back front h)
 
     low_more : (more : ℕ) (front : List Watch) → AllByRecursion (λ w. w.turn ≤ now.turns + more) front → AllByRecursion (λ w. w.turn ≤ p.turns + (turns + more)) (seen.front ++ front)
     low_more more front h =
         all_join (λ w. w.turn ≤ p.turns + (turns + more)) seen.front front
-        (all_map (λ w. w.turn ≤ p.turns + turns) (λ w. w.turn ≤ p.turns + (turns + more)) seen.front (λ w k. omega (arith, k)) seen.low)
-        (all_map (λ w. w.turn ≤ now.turns + more) (λ w. w.turn ≤ p.turns + (turns + more)) front (λ w k. omega (arith, k, counted)) h)
+        (all_weaker (λ w. w.turn ≤ p.turns + turns) (λ w. w.turn ≤ p.turns + (turns + more)) (λ w k. omega (arith, k)) seen.front seen.low)
+        (all_weaker (λ w. w.turn ≤ now.turns + more) (λ w. w.turn ≤ p.turns + (turns + more)) (λ w k. omega (arith, k, counted)) front h)
 
     -- watches seen in two rows of turns
     pub seen_on : (more : ℕ) (left : List Watch) → AreSeen s now more between left → AreSeen s p (turns + more) watches left
@@ -104,7 +105,7 @@ module _ (s : ServerState) (p now : PlainProcess) (turns : ℕ) (reached : after
       parts = parts_more next.front left next.parts;
       seen = seen_more next.front next.seen;
       low = low_more more next.front next.low;
-      later = all_map (λ w. now.turns + more < w.turn) (λ w. p.turns + (turns + more) < w.turn) left (λ w k. omega (arith, k, counted)) next.later;
+      later = all_weaker (λ w. now.turns + more < w.turn) (λ w. p.turns + (turns + more) < w.turn) (λ w k. omega (arith, k, counted)) left next.later;
     }
 
     pub seen_to_end : (more : ℕ) (left : List Watch) → AreSeenToEnd s now more between left → AreSeenToEnd s p (turns + more) watches left
@@ -114,7 +115,7 @@ module _ (s : ServerState) (p now : PlainProcess) (turns : ℕ) (reached : after
       seen = seen_more next.front next.seen;
       low = low_more more next.front next.low;
       none = ap (λ (q : PlainProcess). q.frames) (after_add s turns more p ∙ ap (after_turns s more) reached) ∙ next.none;
-      from = all_map (λ w. now.turns + more ≤ w.turn) (λ w. p.turns + (turns + more) ≤ w.turn) left (λ w k. omega (arith, k, counted)) next.from;
+      from = all_weaker (λ w. now.turns + more ≤ w.turn) (λ w. p.turns + (turns + more) ≤ w.turn) (λ w k. omega (arith, k, counted)) left next.from;
     }
 
     -- what not all later ones see, not all see
@@ -127,14 +128,14 @@ module _ (s : ServerState) (p now : PlainProcess) (turns : ℕ) (reached : after
       front = seen.front;
       parts = seen.parts;
       seen = seen.seen;
-      low = all_map (λ w. w.turn ≤ p.turns + turns) (λ w. w.turn ≤ p.turns + (turns + 1)) seen.front (λ w k. omega (arith, k)) seen.low;
+      low = all_weaker (λ w. w.turn ≤ p.turns + turns) (λ w. w.turn ≤ p.turns + (turns + 1)) (λ w k. omega (arith, k)) seen.front seen.low;
       none = ap (λ (q : PlainProcess). q.frames) (after_add s turns 1 p ∙ ap (after_turns s 1) reached ∙ step) ∙ none;
-      from = all_map (λ w. p.turns + turns < w.turn) (λ w. p.turns + (turns + 1) ≤ w.turn) between (λ w k. omega (arith, k)) seen.later;
+      from = all_weaker (λ w. p.turns + turns < w.turn) (λ w. p.turns + (turns + 1) ≤ w.turn) (λ w k. omega (arith, k)) between seen.later;
     }
 
 -- before the first turn no watch is seen
 pub none_seen : (s : ServerState) (p : PlainProcess) (watches : List Watch) → AreLater p.turns watches → AreSeen s p 0 watches watches
-none_seen s p watches later = record { front = []; parts = refl; seen = tt; low = tt; later = all_map (λ w. p.turns < w.turn) (λ w. p.turns + 0 < w.turn) watches (λ w k. omega (arith, k)) later }
+none_seen s p watches later = record { front = []; parts = refl; seen = tt; low = tt; later = all_weaker (λ w. p.turns < w.turn) (λ w. p.turns + 0 < w.turn) (λ w k. omega (arith, k)) watches later }
 
 -- the watches that come due in turns of which each leaves the frames that the last leaves
 module _ (s : ServerState) (p now : PlainProcess) (turns : ℕ) (counted : now.turns ≡ p.turns + turns) (still : (k : ℕ) → 0 < k → k ≤ turns → (after_turns s k p).frames ≡ now.frames) where
@@ -157,8 +158,8 @@ module _ (s : ServerState) (p now : PlainProcess) (turns : ℕ) (counted : now.t
         parts = sym (take-append-drop n watches);
         seen = all_both (λ w. (p.turns < w.turn) × (w.turn ≤ now.turns)) (λ w. stands_in now w.serial ≡ true) (Sees s p) (take n watches)
             (λ w at yes. record { from = omega (arith, at.0); stands = stands_due w at.0 at.1 ∙ yes }) placed tested;
-        low = all_map (λ w. w.turn ≤ now.turns) (λ w. w.turn ≤ p.turns + turns) (take n watches) (λ w k. omega (arith, k, counted)) split.0;
-        later = all_map (λ w. now.turns < w.turn) (λ w. p.turns + turns < w.turn) (drop n watches) (λ w k. omega (arith, k, counted)) split.1;
+        low = all_weaker (λ w. w.turn ≤ now.turns) (λ w. w.turn ≤ p.turns + turns) (λ w k. omega (arith, k, counted)) (take n watches) split.0;
+        later = all_weaker (λ w. now.turns < w.turn) (λ w. p.turns + turns < w.turn) (λ w k. omega (arith, k, counted)) (drop n watches) split.1;
       }
 
   -- and not each where it does not

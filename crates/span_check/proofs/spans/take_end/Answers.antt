@@ -3,9 +3,10 @@ use Rattle.std.proofs.Common.{◌≡◌, ◌-◌, IfOk, sym, subst, arith, drop,
 use Rattle.machine_core.specs.Process.{process_of}
 use Rattle.machine_core.specs.View.{server_words}
 use Rattle.span_check.specs.Sweeps.{AreJudged, EndsNotSo, IsEndJudged}
-use Rattle.span_check.proofs.Lists.{all_get, all_take, last_at, last_split, read_at}
+use Rattle.span_check.proofs.Lists.{all_take, last_at, last_split, read_at}
 use Rattle.span_check.proofs.Taking.{end_judged, front_refused, left_later}
 use Rattle.span_check.proofs.spans.take_end.Goals as goal
+use Rattle.run_log.proofs.ListPlaces.{all_at}
 
 pub take_going-requires : goal.take_going-requires
 take_going-requires c = record {
@@ -62,4 +63,4 @@ returns-clause-judged c =
     let under = all_take (λ x. x.generation ≡ s.generation) n c.args.spans.now c.requires.here in
     subst (λ ys. IfOk c.take_span.result (IsEndJudged s ys c.args.fin p next all left)) (sym (last_at c.args.spans.now span c.requires.some at))
     (end_judged s xs p now next all between left under (subst (AreJudged s xs p now all between) c.if-not-branch.false c.in_ok-take_going.ensures.judged) span
-    (all_get (λ x. x.generation ≡ s.generation) c.args.spans.now n span c.requires.here at) c.args.fin c.take_span.result c.take_span.ensures.judged)
+    (all_at (λ x. x.generation ≡ s.generation) c.args.spans.now n span c.requires.here at) c.args.fin c.take_span.result c.take_span.ensures.judged)

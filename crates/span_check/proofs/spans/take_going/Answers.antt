@@ -7,10 +7,11 @@ use Rattle.machine_core.specs.View.{server_words}
 use Rattle.script_core.proofs.JoinedPlaces.{take_next}
 use Rattle.span_check.specs.Steps.{IsSpanJudged}
 use Rattle.span_check.specs.Sweeps.{AreNotTaken, AreTaken}
-use Rattle.span_check.proofs.Lists.{all_get, all_take, read_at, split_here}
+use Rattle.span_check.proofs.Lists.{all_take, read_at, split_here}
 use Rattle.span_check.proofs.Taking.{left_later, none_taken, one_refused, one_taken}
 use Rattle.std.proofs.Common.{refl}
 use Rattle.span_check.proofs.spans.take_going.Goals as goal
+use Rattle.run_log.proofs.ListPlaces.{all_at}
 
 pub loop-span-init : goal.loop-span-init
 loop-span-init c = record {
@@ -49,7 +50,7 @@ loop-span-preserved c =
     record {
       taken = subst (λ xs. AreTaken s xs p next all left) (sym (take_next c.args.spans.now i span at))
           (one_taken s (take i c.args.spans.now) p now all between (all_take (λ x. x.generation ≡ s.generation) i c.args.spans.now c.requires.here) c.loop-span.invariant.taken span
-          (all_get (λ x. x.generation ≡ s.generation) c.args.spans.now i span c.requires.here at) next left taken);
+          (all_at (λ x. x.generation ≡ s.generation) c.args.spans.now i span c.requires.here at) next left taken);
       ready = c.in_ok-take_span.ensures.ready c.if-not-branch.false refl;
       within = c.in_ok-take_span.ensures.within;
     }
@@ -70,7 +71,7 @@ returns-then-not-branch-clause-judged c =
     let refused = subst (IsSpanJudged s now next span Again between left) c.if-not-branch.true c.in_ok-take_span.ensures.judged in
     subst (λ xs. AreNotTaken s xs p all) (sym (split_here c.args.spans.now i span at))
     (one_refused s (take i c.args.spans.now) p now all between (all_take (λ x. x.generation ≡ s.generation) i c.args.spans.now c.requires.here) c.loop-span.invariant.taken span
-    (all_get (λ x. x.generation ≡ s.generation) c.args.spans.now i span c.requires.here at) (drop (i + 1) c.args.spans.now) refused)
+    (all_at (λ x. x.generation ≡ s.generation) c.args.spans.now i span c.requires.here at) (drop (i + 1) c.args.spans.now) refused)
 
 pub returns-clause-judged : goal.returns-clause-judged
 returns-clause-judged c =

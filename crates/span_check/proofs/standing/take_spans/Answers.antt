@@ -6,8 +6,9 @@ use Rattle.machine_core.specs.View.{server_words}
 use Rattle.span_check.specs.Sweeps.{IsMoved, count_under, spans_from}
 use Rattle.span_check.proofs.GoingOn.{left_is, look_is}
 use Rattle.span_check.proofs.Moving.{count_is, none_at, none_left, room_is, some_at, some_left}
-use Rattle.span_check.proofs.Sweeping.{early_refused, ended_refused, ended_taken, first_unseen, looked_seen, moved_refused, moved_taken, none_refused, none_taken, seen_later, sees_refused, spans_refused, true_false, under}
+use Rattle.span_check.proofs.Sweeping.{early_refused, ended_refused, ended_taken, first_unseen, looked_seen, moved_refused, moved_taken, none_refused, none_taken, seen_later, sees_refused, spans_refused, under}
 use Rattle.span_check.proofs.standing.take_spans.Goals as goal
+use Rattle.span_check.proofs.Spanning.{true_false}
 
 pub returns-then-standing-clause-taken : goal.returns-then-standing-clause-taken
 returns-then-standing-clause-taken c = λ h.
