@@ -4,4 +4,6 @@ pub mod Rooms
 pub mod VersionTable
 pub mod KeyTable
 pub mod Areas
+pub mod RoomAhead
+pub mod Decided
 pub mod Tables
