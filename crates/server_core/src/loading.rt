@@ -1,4 +1,4 @@
-ghost use Rattle.std.specs.Prelude.{◌≡◌, ◌↔◌, ◌+◌, ◌<◌, ◌^◌, ◌≤◌, IfOk, IsErrOf, None, OnErr, Some, [], All, length, map};
+ghost use Rattle.std.specs.Prelude.{◌≡◌, ◌↔◌, ◌+◌, ◌<◌, ◌^◌, ◌≤◌, IfOk, IsErrOf, None, Some, [], All, length, map};
 ghost use Rattle.mod_core.specs.Module.{IsModule};
 ghost use Rattle.server_core.specs.CommandTable.{load_of, not_purged, published, while_none_doomed, with_all};
 ghost use Rattle.server_core.specs.Decided.{AreasFit, FitsIn, Fits, IsNext, made};

@@ -1,5 +1,5 @@
 -- The tables after the append and the versions after all loads are the state that all loads leave.
-use Rattle.std.proofs.Common.{◌≡◌, ◌+◌, ◌∙◌, ap, sym, subst, length, arith}
+use Rattle.std.proofs.Common.{◌≡◌, ◌+◌, ◌∙◌, ap, sym, subst, length}
 use Rattle.server_core.specs.declared.command.Reply.TheVariants as replies
 use Rattle.server_core.specs.CommandTable.{published, with_all}
 use Rattle.server_core.specs.Rooms.{with_currents}

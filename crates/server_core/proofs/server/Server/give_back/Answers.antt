@@ -1,5 +1,5 @@
 -- The tables after the change are the state that a release leaves.
-use Rattle.std.proofs.Common.{◌≡◌, [], ◌∷◌, ◌++◌, ap, ◌∙◌, sym, subst}
+use Rattle.std.proofs.Common.{◌≡◌, ap, ◌∙◌, sym, subst}
 use Rattle.server_core.specs.CommandTable.{with_released}
 use Rattle.server_core.specs.ServerState.{IsSound}
 use Rattle.server_core.specs.Tables.{state_of}
