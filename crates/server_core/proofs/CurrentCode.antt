@@ -5,7 +5,7 @@ use Rattle.std.proofs.lemmas.List.{drop_more}
 use Rattle.std.specs.Map.{lookup}
 use Rattle.std.specs.Result.{IsOk}
 use Rattle.indexmap.specs.IndexMap.{insert_entry}
-use Rattle.server_core.specs.declared.command.ModRef.{ModRef}
+use Rattle.mod_core.specs.declared.code.Module.{Module}
 use Rattle.server_core.specs.declared.versions.Serials.{Serials}
 use Rattle.server_core.specs.ServerState.{Versions, current_among, old_among, live_count, live_of}
 use Rattle.server_core.specs.CommandTable.{with_versions}
@@ -109,13 +109,13 @@ old_in_map (Err e) es vs name seen absent some =
     let gone : is_some (old_among vs name) ≡ false = old_shown es vs name None seen (sym absent) in
     absurd (cc)
 
--- the names of modules as a load lists them
-abbrev pub names_in : List ModRef → List ℕ
-names_in refs = map (λ r. r.name.0) refs
+-- the names of modules
+abbrev pub names_of_modules : List Module → List ℕ
+names_of_modules ms = map (λ m. m.name.0) ms
 
 -- one load of a row of them, and the rest of the row
-pub currents_step : (vs after : List Versions) (serial i : ℕ) (refs : List ModRef) (d : ModRef) → i < length refs → after ≡ with_current vs (get_or refs i d).name.0 serial
-    → with_currents after (serial + 1) (names_in (drop (i + 1) refs)) ≡ with_currents vs serial (names_in (drop i refs))
-currents_step vs after serial i refs d within put =
-    ap (λ v. with_currents v (serial + 1) (names_in (drop (i + 1) refs))) put
-    ∙ ap (λ rest. with_currents vs serial (names_in rest)) (sym (drop_more refs i d within))
+pub currents_step : (vs after : List Versions) (serial i : ℕ) (ms : List Module) (d : Module) → i < length ms → after ≡ with_current vs (get_or ms i d).name.0 serial
+    → with_currents after (serial + 1) (names_of_modules (drop (i + 1) ms)) ≡ with_currents vs serial (names_of_modules (drop i ms))
+currents_step vs after serial i ms d within put =
+    ap (λ v. with_currents v (serial + 1) (names_of_modules (drop (i + 1) ms))) put
+    ∙ ap (λ rest. with_currents vs serial (names_of_modules rest)) (sym (drop_more ms i d within))

@@ -3,9 +3,11 @@ pub mod Changes
 pub mod CommandLaws
 pub mod CurrentCode
 pub mod GivenTexts
+pub mod Growing
 pub mod KeyChanges
 pub mod KeyEntries
 pub mod Loads
+pub mod MovedMaps
 pub mod SoundParts
 pub mod Soundness
 pub mod Traced

@@ -12,7 +12,7 @@ use Rattle.server_core.specs.Rooms.{with_current, with_currents}
 use Rattle.server_core.specs.declared.areas.Area.{Area}
 use Rattle.server_core.specs.declared.areas.Area.TheVariants.{Loaded, Stored}
 use Rattle.server_core.specs.Areas.{instances_in, numbered, terms_in}
-use Rattle.server_core.proofs.CurrentCode.{live_after}
+use Rattle.server_core.proofs.CurrentCode.{live_after, names_of_modules}
 use Rattle.server_core.proofs.SoundParts.{sound_terms, sound_whole, terms_kept}
 use Rattle.server_core.proofs.Soundness.{IsFit, IsGone, at_some, instance_known, some_same, sound_versions, with_instance}
 
@@ -39,10 +39,6 @@ terms_loaded n [] [] = refl
 terms_loaded n [] (m ∷ ms) = terms_loaded (n + 1) [] ms
 terms_loaded n (Loaded m ∷ areas) ms = terms_loaded (n + 1) areas ms
 terms_loaded n (Stored t ∷ areas) ms = ap (λ ts. record { serial = n; term = t } ∷ ts) (terms_loaded (n + 1) areas ms)
-
--- the names of modules
-abbrev pub names_of_modules : List Module → List ℕ
-names_of_modules ms = map (λ m. m.name.0) ms
 
 -- the parts of a state after all loads
 pub with_all_parts : (s : ServerState) (ms : List Module)

@@ -316,9 +316,9 @@ published_as s t reply answer e is =
     ∙ (λ i. record { state = t; answer = sym is i })
 
 -- a soft purge of old code in which nobody lingers
-pub soft_purged : (s t : ServerState) (name serial : ℕ) (lingers : Option Linger) (answer : Applied) → s.doomed ≡ [] → lingers ≡ None → old_of s name ≡ Some serial → published (with_purged s name serial) replies.True ≡ record { state = t; answer = answer }
-    → while_none_doomed s (soft_purge_of s name lingers (old_of s name)) ≡ Some (record { state = t; answer = answer })
-soft_purged s t name serial lingers answer rest none was made =
+pub soft_purged : (s : ServerState) (made : Outcome) (name serial : ℕ) (lingers : Option Linger) → s.doomed ≡ [] → lingers ≡ None → old_of s name ≡ Some serial → published (with_purged s name serial) replies.True ≡ made
+    → while_none_doomed s (soft_purge_of s name lingers (old_of s name)) ≡ Some made
+soft_purged s made name serial lingers rest none was is =
     let free : nat_lt 0 (length s.doomed) ≡ false = ap (λ l. nat_lt 0 (length l)) rest in
-    let dropped : published (with_dropped s name serial) replies.True ≡ record { state = t; answer = answer } = ap (λ u. published u replies.True) (sym (purged_at_rest s name serial rest)) ∙ made in
+    let dropped : published (with_dropped s name serial) replies.True ≡ made = ap (λ u. published u replies.True) (sym (purged_at_rest s name serial rest)) ∙ is in
     ap (λ b. cond b None (soft_purge_of s name lingers (old_of s name))) free ∙ (λ i. soft_purge_of s name (none i) (was i)) ∙ ap Some dropped

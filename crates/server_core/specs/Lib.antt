@@ -5,4 +5,6 @@ pub mod Rooms
 pub mod VersionTable
 pub mod KeyTable
 pub mod Areas
+pub mod RoomAhead
+pub mod Decided
 pub mod Tables

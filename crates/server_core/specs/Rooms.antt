@@ -1,5 +1,6 @@
 -- What contracts see of the tables that grow: what they hold, and for how much more they have room.
-use Rattle.std.specs.Prelude.{◌≡◌, ℕ, ◌+◌, ◌&&◌, false, nat_le, not, length, is_none, List, [], ◌∷◌, Option, Some, None, option_and_then}
+use Rattle.std.specs.Prelude.{◌≡◌, ℕ, ◌+◌, ◌/◌, ◌^◌, ◌<◌, ◌≤◌, ◌&&◌, false, nat_le, not, length, is_none, List, [], ◌∷◌, Option, Some, None, MatchOption, option_and_then, Vec, vec_capacity}
+use Rattle.indexmap.specs.IndexMap.{IndexMap, spare}
 use Rattle.term_core.specs.Image.{IsImmediate, is_immediate}
 use Rattle.term_core.specs.Plain.{term_of}
 use Rattle.term_core.specs.PlainTerm.{PlainTerm}
@@ -51,3 +52,23 @@ HasWord p = p.area ≡ None → IsImmediate (term_of p.term)
 pub record HasPlace (keys : List Persistent) (key : ℕ) (term : PlainTerm) : Type 0 where
   pub for_key : (is_none (persistent_among keys key) && nat_le MOST_KEYS (length keys)) ≡ false
   pub for_area : (not (is_immediate term) && nat_le MOST_TERMS (live_areas keys)) ≡ false
+
+-- a block without items, with room for so many
+pub record IsBlock {T Z : Type 0} (count : ℕ) (block : Vec T Z) : Type 0 where
+  pub empty : block.items ≡ []
+  pub room : count ≤ vec_capacity block
+
+-- a map without entries, with room for so many
+pub record HasPlaces {K V S : Type 0} (count : ℕ) (map : IndexMap K V S) : Type 0 where
+  pub empty : map.entries ≡ []
+  pub room : count ≤ spare map
+
+-- a block of this capacity has room for every list up to the power of two that is next to this length
+abbrev pub HasRoomAhead : ℕ → ℕ → Type 0
+HasRoomAhead len capacity = (power : ℕ) → 2 ^ power / 2 < len → 2 ^ power ≤ capacity
+
+-- room for so many items behind those of a list that only grows: where its own block need not have it, a bigger one
+pub record HasRoom {T Z : Type 0} (len more : ℕ) (block : Option (Vec T Z)) : Type 0 where
+  pub power : ℕ
+  pub fits : len + more ≤ 2 ^ power
+  pub bigger : MatchOption block (2 ^ power / 2 < len) (IsBlock (2 ^ power))

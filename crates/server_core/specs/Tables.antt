@@ -18,7 +18,7 @@ state_of s =
       traced = s.traced;
       doomed = option_to_list s.doomed;
       retired = s.retired.serials;
-      released = s.released.serials;
+      released = s.released;
     }
 
 -- the tables hold a sound state

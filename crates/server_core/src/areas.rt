@@ -1,8 +1,11 @@
-ghost use Rattle.std.specs.Prelude.{◌≡◌, ◌+◌, ◌^◌, ◌≤◌, [], ◌∷◌, ◌++◌, IfOk, OnErr, OnOk, length, map, option_and_then, slice_get};
+ghost use Rattle.std.specs.Prelude.{◌≡◌, ◌+◌, ◌^◌, ◌≤◌, [], ◌∷◌, ◌++◌, IfOk, length, map, option_and_then, slice_get, vec_capacity, vec_len};
 ghost use Rattle.std.specs.Option.{option_copied};
 ghost use Rattle.server_core.specs.Areas.{area_at, instances_in, words_among};
+ghost use Rattle.server_core.specs.Rooms.{HasRoom};
 ghost use Rattle.server_core.specs.ServerState.{code_among};
 
+use crate::growth;
+use crate::growth::make_room;
 use crate::instance::LoadedModule;
 use crate::stored_term::StoredTerm;
 use mod_core::Module;
@@ -33,7 +36,11 @@ impl Model for AreaTable {
 
     ghost coded = { coded_list area_contracts.the_row.coded };
 
+    ghost use Rattle.server_core.specs.RoomAhead.{HasAreasAhead};
+
     ghost view = { λ it. it.areas.items };
+
+    ghost invariant = { HasAreasAhead };
 }
 
 impl AreaTable {
@@ -92,33 +99,40 @@ impl AreaTable {
         areas.get(serial.checked_sub(1)? as usize)
     }
 
-    /// The term gets the next serial. Where memory is refused, nothing comes in.
-    pub fn push(&mut self, term: StoredTerm) -> Result<(), NoMemory>
-        ensures ok { OnOk result (self.new ≡ self.old ++ Area.Stored term ∷ []) }
-        ensures err { OnErr result (self.new ≡ self.old) }
+    /// The memory for so many areas more.
+    pub fn room(&self, alloc: Global, more: usize) -> Result<Option<Vec<Area>>, NoMemory>
+        ensures { IfOk result (λ block. HasRoom (length self.now) more block) }
     {
-        self.areas.push(Area::Stored(term))?;
-        Ok(())
+        growth::room(alloc, self.areas.len(), more)
     }
 
-    /// The modules get the next serials, in order. Where memory is refused, nothing comes in.
-    pub fn append(&mut self, alloc: Global, modules: Vec<LoadedModule>) -> Result<(), NoMemory>
-        ensures ok { OnOk result (self.new ≡ self.old ++ map Area.Loaded modules.items) }
-        ensures err { OnErr result (self.new ≡ self.old) }
+    /// The term gets the next serial.
+    pub fn push(&mut self, term: StoredTerm, block: Option<Vec<Area>>)
+        requires { HasRoom (length self.old) 1 block }
+        ensures { self.new ≡ self.old ++ Area.Stored term ∷ [] }
     {
-        let mut areas = as_areas(alloc, modules)?;
-        self.areas.append(&mut areas)?;
-        Ok(())
+        make_room(&mut self.areas, 1, block);
+        self.areas.push_reserved(Area::Stored(term));
+    }
+
+    /// The modules get the next serials, in order.
+    pub fn append(&mut self, modules: Vec<LoadedModule>, block: Option<Vec<Area>>)
+        requires { HasRoom (length self.old) (length modules.items) block }
+        ensures { self.new ≡ self.old ++ map Area.Loaded modules.items }
+    {
+        make_room(&mut self.areas, modules.len(), block);
+        push_all(&mut self.areas, modules);
     }
 }
 
-/// Each of the modules as what has an area.
-fn as_areas(alloc: Global, modules: Vec<LoadedModule>) -> Result<Vec<Area>, NoMemory>
-    ensures { IfOk result (λ areas. areas.items ≡ map Area.Loaded modules.items) }
+/// Appends each of the modules as what has an area.
+fn push_all(areas: &mut Vec<Area>, modules: Vec<LoadedModule>)
+    requires { vec_len areas.old + length modules.items ≤ vec_capacity areas.old }
+    ensures items { areas.new.items ≡ areas.old.items ++ map Area.Loaded modules.items }
+    ensures len { vec_len areas.new ≡ vec_len areas.old + length modules.items }
+    ensures capacity { vec_capacity areas.new ≡ vec_capacity areas.old }
 {
-    let mut areas = Vec::new(alloc);
     for instance in modules {
-        areas.push(Area::Loaded(instance))?;
+        areas.push_reserved(Area::Loaded(instance));
     }
-    Ok(areas)
 }

@@ -1,10 +1,10 @@
-ghost use Rattle.std.specs.Prelude.{◌≡◌, ◌<◌, ◌≤◌, ℕ, [], IfOk, IfSome, None, OnOk, if◌then◌else◌, is_some, length, map, option_and_then};
+ghost use Rattle.std.specs.Prelude.{◌≡◌, ◌<◌, ◌≤◌, ℕ, [], IfOk, IfSome, None, if◌then◌else◌, is_some, length, map, option_and_then, ◌+◌};
 ghost use Rattle.server_core.specs.Generations.{key_term};
 ghost use Rattle.server_core.specs.KeyTable.{persistent_in};
 ghost use Rattle.term_core.specs.Image.{IsImmediate};
 ghost use Rattle.term_core.specs.Plain.{plain};
 ghost use Rattle.server_core.specs.CommandTable.{holds_equal, with_key, without_key};
-ghost use Rattle.server_core.specs.Rooms.{HasWord, area_among};
+ghost use Rattle.server_core.specs.Rooms.{HasPlaces, HasWord, area_among};
 ghost use Rattle.server_core.specs.ServerState.{found_as, found_in, found_of, live_areas, persistent_among};
 
 use crate::command::MOST_TERMS;
@@ -111,13 +111,23 @@ impl KeyTable {
         Ok(terms)
     }
 
-    /// Makes room for one key more. The terms stay as they are, also where memory is refused.
-    pub fn reserve(&mut self) -> Result<(), NoMemory>
-        ensures same { self.new.persistents ≡ self.old.persistents }
-        ensures ok { OnOk result (0 < self.new.room) }
+    /// A map for these keys and one more. As in Erlang/OTP, a put takes time in proportion to the number of keys.
+    pub fn room(&self, alloc: Global) -> Result<IndexMap<u32, Held>, NoMemory>
+        ensures { IfOk result (λ map. HasPlaces (length self.now.persistents + 1) map) }
     {
-        self.held.reserve(1)?;
-        Ok(())
+        let wanted = self.held.len().checked_add(1).ok_or(NoMemory)?;
+        Ok(IndexMap::with_capacity(alloc, wanted)?)
+    }
+
+    /// Moves the terms into the map.
+    pub fn make_room(&mut self, mut map: IndexMap<u32, Held>)
+        requires { HasPlaces (length self.old.persistents + 1) map }
+        ensures same { self.new.persistents ≡ self.old.persistents }
+        ensures room { 0 < self.new.room }
+    {
+        let _ = self.held.len();
+        map.append(&mut self.held).unwrap();
+        self.held = map;
     }
 
     /// The key holds the term from now on. Gives the area of the term that it held.

@@ -4,10 +4,12 @@
 mod answers;
 mod areas;
 mod breakpoints;
+mod change;
 mod command;
 mod fault;
 mod functions;
 mod generations;
+mod growth;
 mod instance;
 mod keys;
 mod loading;
@@ -21,6 +23,7 @@ mod texts;
 mod traces;
 mod versions;
 
+pub use change::Change;
 pub use command::{Applied, Cmd, Limit, Linger, ModRef, RefList, Reply};
 pub use fault::ApplyFault;
 pub use server::Server;

@@ -1,73 +1,70 @@
-ghost use Rattle.std.specs.Prelude.{◌≡◌, ◌↔◌, [], IfOk, IsErrOf, IsSome, None, OnErr, Some, is_some};
-ghost use Rattle.server_core.specs.CommandTable.{answered, delete_of, doom_of, published, purge_of, soft_purge_of, unchanged, while_none_doomed, with_deleted, with_purged, without_number};
-ghost use Rattle.server_core.specs.ServerState.{IsSound, current_of, old_of};
+ghost use Rattle.std.specs.Prelude.{◌≡◌, ◌↔◌, IfOk, IsErrOf, None, Some, is_some};
+ghost use Rattle.server_core.specs.CommandTable.{answered, delete_of, doom_of, published, purge_of, soft_purge_of, unchanged, while_none_doomed, with_deleted, with_purged};
+ghost use Rattle.server_core.specs.Decided.{CanBeDoomed, CanBeOld, CanGo, Fits, IsNext, RetiredFits, made, with_doomed};
+ghost use Rattle.server_core.specs.ServerState.{IsSound, old_of};
 
-use crate::answers::{answered, next_generation, published, unpublished};
+use crate::answers::{answered, next_generation, published};
+use crate::change::Change;
 use crate::command::{Applied, Linger, Reply};
 use crate::fault::ApplyFault;
 use crate::server::Server;
 use term_core::{AtomId, NoMemory};
 
 impl Server {
-    /// The module's current code becomes old.
-    pub(crate) fn delete(&mut self, module: AtomId) -> Result<Applied, ApplyFault>
-        ensures ok { IfOk result (λ answer. while_none_doomed self.old (Some (delete_of self.old «module».0)) ≡ Some (record { state = self.new; answer = answer })) }
-        ensures not_enabled { IsErrOf result ApplyFault.NotEnabled ↔ (while_none_doomed self.old (Some (delete_of self.old «module».0)) ≡ None) }
-        ensures err { OnErr result (self.new ≡ self.old) }
-        ensures sound { IsSound self.new }
+    /// The module's current code is to become old.
+    pub(crate) fn decide_delete(&self, module: AtomId) -> Result<Change, ApplyFault>
+        ensures ok { IfOk result (λ change. while_none_doomed self.now (Some (delete_of self.now «module».0)) ≡ Some (made self.now change)) }
+        ensures fits { IfOk result (Fits self.now) }
+        ensures not_enabled { IsErrOf result ApplyFault.NotEnabled ↔ (while_none_doomed self.now (Some (delete_of self.now «module».0)) ≡ None) }
     {
         if self.is_purging() {
             return Err(ApplyFault::NotEnabled);
         }
         if self.old(module).is_some() || self.current(module).is_none() {
-            return Ok(unpublished(Reply::False));
+            return Ok(Change::Nothing(Reply::False));
         }
-        Ok(self.make_old(module)?)
+        let generation = next_generation(self.generation)?;
+        Ok(Change::MakeOld { generation, module })
     }
 
     /// The module's current code becomes old, and the generation is published.
-    fn make_old(&mut self, module: AtomId) -> Result<Applied, NoMemory>
-        requires current { IsSome (current_of self.old «module».0) }
-        requires old { old_of self.old «module».0 ≡ None }
-        requires rest { self.old.doomed ≡ [] }
-        ensures ok { IfOk result (λ answer. published (with_deleted self.old «module».0) Reply.True ≡ record { state = self.new; answer = answer }) }
-        ensures err { OnErr result (self.new ≡ self.old) }
+    pub(crate) fn make_old(&mut self, generation: u64, module: AtomId) -> Applied
+        requires next { IsNext self.old generation }
+        requires code { CanBeOld self.old «module».0 }
+        ensures value { published (with_deleted self.old «module».0) Reply.True ≡ record { state = self.new; answer = result } }
         ensures sound { IsSound self.new }
     {
-        let generation = next_generation(self.generation)?;
         self.versions.make_old(module);
         self.generation = generation;
-        Ok(published(Reply::True, generation))
+        published(Reply::True, generation)
     }
 
-    /// The module's old code goes, unless a process lingers in it.
-    pub(crate) fn soft_purge(
-        &mut self,
+    /// The module's old code is to go, unless a process lingers in it.
+    pub(crate) fn decide_soft_purge(
+        &self,
         module: AtomId,
         lingers: Option<Linger>,
-    ) -> Result<Applied, ApplyFault>
-        ensures ok { IfOk result (λ answer. while_none_doomed self.old (soft_purge_of self.old «module».0 lingers (old_of self.old «module».0)) ≡ Some (record { state = self.new; answer = answer })) }
-        ensures not_enabled { IsErrOf result ApplyFault.NotEnabled ↔ (while_none_doomed self.old (soft_purge_of self.old «module».0 lingers (old_of self.old «module».0)) ≡ None) }
-        ensures err { OnErr result (self.new ≡ self.old) }
-        ensures sound { IsSound self.new }
+    ) -> Result<Change, ApplyFault>
+        ensures ok { IfOk result (λ change. while_none_doomed self.now (soft_purge_of self.now «module».0 lingers (old_of self.now «module».0)) ≡ Some (made self.now change)) }
+        ensures fits { IfOk result (Fits self.now) }
+        ensures not_enabled { IsErrOf result ApplyFault.NotEnabled ↔ (while_none_doomed self.now (soft_purge_of self.now «module».0 lingers (old_of self.now «module».0)) ≡ None) }
     {
         if self.is_purging() {
             return Err(ApplyFault::NotEnabled);
         }
         match (lingers, self.old(module)) {
-            (None, None) => Ok(unpublished(Reply::True)),
-            (None, Some(serial)) => Ok(self.drop_old(module, serial, true)?),
+            (None, None) => Ok(Change::Nothing(Reply::True)),
+            (None, Some(serial)) => Ok(self.decide_drop(module, serial, true)?),
             (Some(_), None) => Err(ApplyFault::NotEnabled),
-            (Some(linger), Some(_)) => Ok(unpublished(Reply::FalseBy(linger))),
+            (Some(linger), Some(_)) => Ok(Change::Nothing(Reply::FalseBy(linger))),
         }
     }
 
-    /// The module's old code is to go, and a process that stands in it ends.
-    pub(crate) fn doom(&mut self, module: AtomId) -> Result<Applied, ApplyFault>
-        ensures ok { IfOk result (λ answer. while_none_doomed self.old (doom_of self.old (old_of self.old «module».0)) ≡ Some (record { state = self.new; answer = answer })) }
-        ensures not_enabled { IsErrOf result ApplyFault.NotEnabled ↔ (while_none_doomed self.old (doom_of self.old (old_of self.old «module».0)) ≡ None) }
-        ensures err { OnErr result (self.new ≡ self.old) }
-        ensures sound { IsSound self.new }
+    /// The module's old code is to be doomed: then a process that stands in it ends.
+    pub(crate) fn decide_doom(&self, module: AtomId) -> Result<Change, ApplyFault>
+        ensures ok { IfOk result (λ change. while_none_doomed self.now (doom_of self.now (old_of self.now «module».0)) ≡ Some (made self.now change)) }
+        ensures fits { IfOk result (Fits self.now) }
+        ensures not_enabled { IsErrOf result ApplyFault.NotEnabled ↔ (while_none_doomed self.now (doom_of self.now (old_of self.now «module».0)) ≡ None) }
     {
         if self.is_purging() {
             return Err(ApplyFault::NotEnabled);
@@ -76,17 +73,26 @@ impl Server {
             return Err(ApplyFault::NotEnabled);
         };
         let generation = next_generation(self.generation)?;
-        self.doomed = Some(serial);
-        self.generation = generation;
-        Ok(published(Reply::Ok, generation))
+        Ok(Change::Condemn { generation, serial })
     }
 
-    /// The module's doomed code goes. A process was killed by it, or none.
-    pub(crate) fn purge(&mut self, module: AtomId, killed: bool) -> Result<Applied, ApplyFault>
-        ensures ok { IfOk result (λ answer. purge_of self.old «module».0 killed (old_of self.old «module».0) ≡ Some (record { state = self.new; answer = answer })) }
-        ensures not_enabled { IsErrOf result ApplyFault.NotEnabled ↔ (purge_of self.old «module».0 killed (old_of self.old «module».0) ≡ None) }
-        ensures err { OnErr result (self.new ≡ self.old) }
+    /// The old code with this serial is doomed, and the generation is published.
+    pub(crate) fn condemn(&mut self, generation: u64, serial: u64) -> Applied
+        requires next { IsNext self.old generation }
+        requires code { CanBeDoomed self.old serial }
+        ensures value { published (with_doomed self.old serial) Reply.Ok ≡ record { state = self.new; answer = result } }
         ensures sound { IsSound self.new }
+    {
+        self.doomed = Some(serial);
+        self.generation = generation;
+        published(Reply::Ok, generation)
+    }
+
+    /// The module's doomed code is to go. A process was killed by it, or none.
+    pub(crate) fn decide_purge(&self, module: AtomId, killed: bool) -> Result<Change, ApplyFault>
+        ensures ok { IfOk result (λ change. purge_of self.now «module».0 killed (old_of self.now «module».0) ≡ Some (made self.now change)) }
+        ensures fits { IfOk result (Fits self.now) }
+        ensures not_enabled { IsErrOf result ApplyFault.NotEnabled ↔ (purge_of self.now «module».0 killed (old_of self.now «module».0) ≡ None) }
     {
         let _ = &self.generation;
         match self.old(module) {
@@ -94,42 +100,64 @@ impl Server {
                 if !self.doomed(serial) {
                     return Err(ApplyFault::NotEnabled);
                 }
-                Ok(self.drop_old(module, serial, killed)?)
+                Ok(self.decide_drop(module, serial, killed)?)
             }
             None => {
                 if killed || self.is_purging() {
                     return Err(ApplyFault::NotEnabled);
                 }
-                Ok(unpublished(Reply::False))
+                Ok(Change::Nothing(Reply::False))
             }
         }
     }
 
-    /// The module's old code is dropped and doomed no more, its area is retired, and its breakpoints
-    /// are forgotten. The generation is published.
-    fn drop_old(&mut self, module: AtomId, serial: u64, yes: bool) -> Result<Applied, NoMemory>
-        requires old { old_of self.old «module».0 ≡ Some serial }
-        requires doomed { without_number serial self.old.doomed ≡ [] }
-        ensures ok { IfOk result (λ answer. published (with_purged self.old «module».0 serial) (answered yes) ≡ record { state = self.new; answer = answer }) }
-        ensures err { OnErr result (self.new ≡ self.old) }
-        ensures sound { IsSound self.new }
+    /// The room for old code that is to go.
+    fn decide_drop(&self, module: AtomId, serial: u64, yes: bool) -> Result<Change, NoMemory>
+        requires { CanGo self.now «module».0 serial }
+        ensures ok { IfOk result (λ change. published (with_purged self.now «module».0 serial) (answered yes) ≡ made self.now change) }
+        ensures fits { IfOk result (Fits self.now) }
     {
         let generation = next_generation(self.generation)?;
-        self.retired.reserve()?;
+        let retired = self.retired.room(self.alloc)?;
+        Ok(Change::DropOld {
+            generation,
+            module,
+            serial,
+            yes,
+            retired,
+        })
+    }
+
+    /// The module's old code is dropped and doomed no more, its area is retired, and its breakpoints
+    /// are forgotten. The generation is published.
+    pub(crate) fn drop_old(
+        &mut self,
+        generation: u64,
+        module: AtomId,
+        serial: u64,
+        yes: bool,
+        retired: Vec<u64>,
+    ) -> Applied
+        requires next { IsNext self.old generation }
+        requires code { CanGo self.old «module».0 serial }
+        requires room { RetiredFits self.old retired }
+        ensures value { published (with_purged self.old «module».0 serial) (answered yes) ≡ record { state = self.new; answer = result } }
+        ensures sound { IsSound self.new }
+    {
+        self.retired.make_room(retired);
         self.retired.push(serial);
         self.versions.drop_old(module);
         self.traced.forget(serial);
         self.doomed = None;
         self.generation = generation;
-        Ok(published(answered(yes), generation))
+        published(answered(yes), generation)
     }
 
     /// Whether the module has old code.
-    pub(crate) fn check_old(&self, module: AtomId) -> Applied
-        ensures value { unchanged self.now (answered (is_some (old_of self.now «module».0))) ≡ record { state = self.now; answer = result } }
-        ensures sound { IsSound self.now }
+    pub(crate) fn decide_check_old(&self, module: AtomId) -> Change
+        ensures value { unchanged self.now (answered (is_some (old_of self.now «module».0))) ≡ made self.now result }
+        ensures fits { Fits self.now result }
     {
-        let _ = &self.generation;
-        unpublished(answered(self.old(module).is_some()))
+        Change::Nothing(answered(self.old(module).is_some()))
     }
 }

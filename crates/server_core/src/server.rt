@@ -2,15 +2,17 @@ ghost use Rattle.std.specs.Prelude.{◌≡◌, ◌↔◌, [], IfOk, IsErrOf, Non
 ghost use Rattle.std.specs.Bool.{OnFalse};
 ghost use Rattle.std.specs.Option.{option_to_list};
 ghost use Rattle.server_core.specs.CommandTable.{AreTexts, IsOfText, apply_of};
+ghost use Rattle.server_core.specs.Decided.{Fits, made};
 ghost use Rattle.server_core.specs.ServerState.{IsSound, current_of, dispatch_of, empty_state, entry_of, found_as, is_doomed, is_retired, is_traced, key_found, old_of, word_of};
 
 use crate::answers::unpublished;
 use crate::areas::AreaTable;
+use crate::change::Change;
 use crate::command::{Applied, Cmd, Reply};
 use crate::fault::ApplyFault;
 use crate::functions::export_of;
 use crate::keys::KeyTable;
-use crate::serials::SerialList;
+use crate::serials::{SerialHistory, SerialList};
 use crate::traces::TraceTable;
 use crate::versions::VersionTable;
 use mod_core::ModuleList;
@@ -30,7 +32,7 @@ pub struct Server {
     /// The old instance that is being purged.
     pub(crate) doomed: Option<u64>,
     pub(crate) retired: SerialList,
-    pub(crate) released: SerialList,
+    pub(crate) released: SerialHistory,
 }
 
 impl Model for Server {
@@ -64,13 +66,11 @@ impl Server {
             traced: TraceTable::new(alloc),
             doomed: None,
             retired: SerialList::new(alloc),
-            released: SerialList::new(alloc),
+            released: SerialHistory::new(alloc),
         })
     }
 
-    /// Makes one command. After a fault the server is as before.
-    ///
-    /// Rule: the manual pages `code`, `erlang` and `persistent_term`; the order of the cases is docs/FORMATS.md's.
+    /// Makes one command: decides it, and makes the change. After a fault the server is as before.
     pub fn apply(&mut self, cmd: &Cmd, texts: &ModuleList) -> Result<Applied, ApplyFault>
         requires given { AreTexts texts.now }
         requires put { IsOfText cmd.now }
@@ -79,21 +79,92 @@ impl Server {
         ensures err { OnErr result (self.new ≡ self.old) }
         ensures sound { IsSound self.new }
     {
+        let _ = &self.generation;
+        let change = self.decide(cmd, texts)?;
+        Ok(self.make(change))
+    }
+
+    /// What one command changes. It reads, and takes all the memory that making the change takes.
+    ///
+    /// Rule: the manual pages `code`, `erlang` and `persistent_term`; the order of the cases is docs/FORMATS.md's.
+    pub fn decide(&self, cmd: &Cmd, texts: &ModuleList) -> Result<Change, ApplyFault>
+        requires given { AreTexts texts.now }
+        requires put { IsOfText cmd.now }
+        ensures ok { IfOk result (λ change. apply_of texts.now self.now cmd.now ≡ Some (made self.now change)) }
+        ensures fits { IfOk result (Fits self.now) }
+        ensures not_enabled { IsErrOf result ApplyFault.NotEnabled ↔ (apply_of texts.now self.now cmd.now ≡ None) }
+    {
         match cmd {
-            Cmd::Load(refs) => self.load(refs.as_slice(), texts.as_slice()),
-            Cmd::Delete(module) => self.delete(*module),
-            Cmd::SoftPurge { module, lingers } => self.soft_purge(*module, *lingers),
-            Cmd::Doom(module) => self.doom(*module),
-            Cmd::Purge { module, killed } => self.purge(*module, *killed),
-            Cmd::CheckOld(module) => Ok(self.check_old(*module)),
-            Cmd::Put { key, term } => self.put(*key, term),
-            Cmd::Erase(key) => self.erase(*key),
-            Cmd::Trace { target, on } => self.trace(*target, *on),
-            Cmd::Spawn { .. } => {
+            Cmd::Load(refs) => self.decide_load(refs.as_slice(), texts.as_slice()),
+            Cmd::Delete(module) => self.decide_delete(*module),
+            Cmd::SoftPurge { module, lingers } => self.decide_soft_purge(*module, *lingers),
+            Cmd::Doom(module) => self.decide_doom(*module),
+            Cmd::Purge { module, killed } => self.decide_purge(*module, *killed),
+            Cmd::CheckOld(module) => Ok(self.decide_check_old(*module)),
+            Cmd::Put { key, term } => self.decide_put(*key, term),
+            Cmd::Erase(key) => self.decide_erase(*key),
+            Cmd::Trace { target, on } => self.decide_trace(*target, *on),
+            Cmd::Spawn { .. } => Ok(Change::Nothing(Reply::Ok)),
+            Cmd::Release(serial) => self.decide_release(*serial),
+        }
+    }
+
+    /// Makes a change that was decided. It takes no memory and cannot fail.
+    ///
+    /// Since the decision areas may have been released: no change but a release depends on what is retired.
+    pub fn make(&mut self, change: Change) -> Applied
+        requires { Fits self.old change }
+        ensures value { made self.old change ≡ record { state = self.new; answer = result } }
+        ensures sound { IsSound self.new }
+    {
+        match change {
+            Change::Nothing(reply) => {
                 let _ = &self.generation;
-                Ok(unpublished(Reply::Ok))
+                unpublished(reply)
             }
-            Cmd::Release(serial) => self.release(*serial),
+            Change::BringIn {
+                generation,
+                modules,
+                areas,
+                versions,
+            } => self.bring_in(generation, modules, areas, versions),
+            Change::MakeOld { generation, module } => self.make_old(generation, module),
+            Change::DropOld {
+                generation,
+                module,
+                serial,
+                yes,
+                retired,
+            } => self.drop_old(generation, module, serial, yes, retired),
+            Change::Condemn { generation, serial } => self.condemn(generation, serial),
+            Change::HoldWord {
+                generation,
+                key,
+                term,
+                keys,
+                retired,
+            } => self.hold_word(generation, key, term, keys, retired),
+            Change::HoldArea {
+                generation,
+                key,
+                term,
+                stored,
+                areas,
+                keys,
+                retired,
+            } => self.hold_area(generation, key, term, stored, areas, keys, retired),
+            Change::Forget {
+                generation,
+                key,
+                retired,
+            } => self.forget(generation, key, retired),
+            Change::SetTrace {
+                generation,
+                at,
+                traced,
+            } => self.set_trace(generation, at, traced),
+            Change::ClearTrace { generation, at } => self.clear_trace(generation, at),
+            Change::GiveBack { serial, released } => self.give_back(serial, released),
         }
     }
 

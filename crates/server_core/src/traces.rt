@@ -1,6 +1,7 @@
-ghost use Rattle.std.specs.Prelude.{◌≡◌, [], ◌∷◌, ◌++◌, ◌==◌, filter, map, not, IfOk, OnErr, OnOk};
+ghost use Rattle.std.specs.Prelude.{◌≡◌, [], ◌∷◌, ◌++◌, ◌==◌, filter, map, not, IfOk, ◌+◌, length};
 ghost use Rattle.server_core.specs.Generations.{function_ref};
 ghost use Rattle.std.specs.List.{list_any};
+ghost use Rattle.server_core.specs.Rooms.{IsBlock};
 ghost use Rattle.server_core.specs.ServerState.{entry_of, is_same_entry};
 
 use std::alloc::Global;
@@ -50,13 +51,22 @@ impl TraceTable {
         Ok(functions)
     }
 
-    /// Where memory is refused, nothing is appended.
-    pub fn push(&mut self, at: CodeRef) -> Result<(), NoMemory>
-        ensures ok { OnOk result (self.new ≡ self.old ++ entry_of at ∷ []) }
-        ensures err { OnErr result (self.new ≡ self.old) }
+    /// A block for these functions and one more.
+    pub fn room(&self, alloc: Global) -> Result<Vec<CodeRef>, NoMemory>
+        ensures { IfOk result (λ block. IsBlock (length self.now + 1) block) }
     {
-        self.functions.push(at)?;
-        Ok(())
+        let wanted = self.functions.len().checked_add(1).ok_or(NoMemory)?;
+        Ok(Vec::with_capacity(alloc, wanted)?)
+    }
+
+    /// Moves the functions into the block, and appends this one.
+    pub fn push(&mut self, at: CodeRef, mut block: Vec<CodeRef>)
+        requires { IsBlock (length self.old + 1) block }
+        ensures { self.new ≡ self.old ++ entry_of at ∷ [] }
+    {
+        block.append(&mut self.functions).unwrap();
+        block.push_reserved(at);
+        self.functions = block;
     }
 
     /// Takes the function's breakpoint away.

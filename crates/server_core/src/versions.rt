@@ -1,5 +1,5 @@
-ghost use Rattle.std.specs.Prelude.{◌≡◌, ◌+◌, ◌<◌, ◌≤◌, [], None, OnOk, IsSome, is_some, option_and_then};
-ghost use Rattle.server_core.specs.Rooms.{with_current, with_made_old, without_old};
+ghost use Rattle.std.specs.Prelude.{◌≡◌, ◌+◌, ◌<◌, ◌≤◌, [], IfOk, None, IsSome, is_some, length, option_and_then};
+ghost use Rattle.server_core.specs.Rooms.{HasPlaces, with_current, with_made_old, without_old};
 ghost use Rattle.server_core.specs.ServerState.{current_among, live_count, old_among};
 
 use crate::command::MOST_INSTANCES;
@@ -67,13 +67,23 @@ impl VersionTable {
         self.live
     }
 
-    /// Makes room for more modules. The versions stay as they are, also where memory is refused.
-    pub fn reserve(&mut self, more: usize) -> Result<(), NoMemory>
-        ensures same { self.new.versions ≡ self.old.versions }
-        ensures ok { OnOk result (more ≤ self.new.room) }
+    /// A map for these modules and so many more.
+    pub fn room(&self, alloc: Global, more: usize) -> Result<IndexMap<u32, Serials>, NoMemory>
+        ensures { IfOk result (λ map. HasPlaces (length self.now.versions + more) map) }
     {
-        self.serials.reserve(more)?;
-        Ok(())
+        let wanted = self.serials.len().checked_add(more).ok_or(NoMemory)?;
+        Ok(IndexMap::with_capacity(alloc, wanted)?)
+    }
+
+    /// Moves the versions into the map.
+    pub fn make_room(&mut self, more: usize, mut map: IndexMap<u32, Serials>)
+        requires { HasPlaces (length self.old.versions + more) map }
+        ensures same { self.new.versions ≡ self.old.versions }
+        ensures room { more ≤ self.new.room }
+    {
+        let _ = self.serials.len();
+        map.append(&mut self.serials).unwrap();
+        self.serials = map;
     }
 
     /// The instance with this serial is the current code of the module, and what was current is old.

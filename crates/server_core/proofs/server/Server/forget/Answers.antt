@@ -1,5 +1,5 @@
 -- The tables after the change are the state that an erase leaves.
-use Rattle.std.proofs.Common.{◌≡◌, ◌++◌, ap, ◌∙◌, sym, subst}
+use Rattle.std.proofs.Common.{◌≡◌, ◌+◌, ◌++◌, ap, ◌∙◌, sym, subst}
 use Rattle.std.specs.Option.{option_to_list}
 use Rattle.server_core.specs.declared.command.Reply.TheVariants as replies
 use Rattle.server_core.specs.CommandTable.{published, with_erased}
@@ -10,18 +10,19 @@ use Rattle.server_core.proofs.Soundness.{published_as, sound_published}
 use Rattle.server_core.proofs.server.Server.forget.Goals as goal
 
 retired : (c : goal.After-published) → c.push_some.new.self.serials ≡ c.self.inside.retired.serials ++ option_to_list (key_area (state_of c.self.inside) c.args.key.0)
-retired c = c.push_some.ensures ∙ (λ i. c.in_ok-reserve.ensures.same i ++ option_to_list (c.erase-former.ensures.former i))
+retired c = c.push_some.ensures ∙ (λ i. c.make_room.ensures.same i ++ option_to_list (c.erase-former.ensures.former i))
 
-state_after : (c : goal.After-published) → (published (with_erased c.args.self.now c.args.key.0) replies.True).state ≡ state_of (record c.self.inside { generation = c.in_ok-generation.generation; keys = c.erase-former.new.self; retired = c.push_some.new.self })
+state_after : (c : goal.After-published) → (published (with_erased c.args.self.now c.args.key.0) replies.True).state ≡ state_of (record c.self.inside { generation = c.args.generation; keys = c.erase-former.new.self; retired = c.push_some.new.self })
 state_after c =
+    let next = ap (λ s. s.generation + 1) c.self.view_is ∙ sym c.requires.next in
     ap (λ s. (published (with_erased s c.args.key.0) replies.True).state) (sym c.self.view_is)
-    ∙ (λ i. record (state_of c.self.inside) { generation = sym c.in_ok-generation.ensures i; keys = sym c.erase-former.ensures.persistents i; retired = sym (retired c) i })
+    ∙ (λ i. record (state_of c.self.inside) { generation = next i; keys = sym c.erase-former.ensures.persistents i; retired = sym (retired c) i })
 
-pub invariant_of-self-2 : goal.invariant_of-self-2
-invariant_of-self-2 c = subst IsSound (state_after c) (sound_published (with_erased c.args.self.now c.args.key.0) _ (sound_erased c.args.self.now c.args.key.0 (subst IsSound c.self.view_is c.self.invariant)))
+pub invariant_of-self : goal.invariant_of-self
+invariant_of-self c = subst IsSound (state_after c) (sound_published (with_erased c.args.self.now c.args.key.0) _ (sound_erased c.args.self.now c.args.key.0 (subst IsSound c.self.view_is c.self.invariant)))
 
-pub returns-clause-ok : goal.returns-clause-ok
-returns-clause-ok c = published_as (with_erased c.args.self.now c.args.key.0) _ replies.True c.published.result (state_after c) c.published.ensures
+pub returns-clause-value : goal.returns-clause-value
+returns-clause-value c = published_as (with_erased c.args.self.now c.args.key.0) _ replies.True c.published.result (state_after c) c.published.ensures
 
 pub returns-clause-sound : goal.returns-clause-sound
-returns-clause-sound c = invariant_of-self-2 c
+returns-clause-sound c = invariant_of-self c
