@@ -14,7 +14,7 @@ use Rattle.script_maker.specs.MadeScript.{command_at, command_of, command_of_kin
 use Rattle.script_maker.proofs.MadeModules.{IsSubject, is_integer}
 
 -- what holds of both holds of the one that is chosen
-either : (P : ScriptCmd → Type 0) (b : Bool) (x y : ScriptCmd) → P x → P y → P (cond b x y)
+pub either : (P : ScriptCmd → Type 0) (b : Bool) (x y : ScriptCmd) → P x → P y → P (cond b x y)
 either P true x y here there = here
 either P false x y here there = there
 

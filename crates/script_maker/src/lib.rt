@@ -11,3 +11,6 @@ mod subject;
 pub use laws::made_scripts_are_scripts;
 pub use making::{MOST_COMMANDS, make_script};
 pub use subject::Subject;
+
+#[cfg(test)]
+mod tests;

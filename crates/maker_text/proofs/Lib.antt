@@ -1,0 +1,3 @@
+pub mod BriefTexts
+pub mod MadeLines
+pub mod MadeTexts
