@@ -3,10 +3,8 @@ use Rattle.std.proofs.Common.{◌≡◌, ◌↔◌, ◌||◌, ℕ, zero, suc, �
 use Rattle.std.proofs.lemmas.Bool.{false≢true}
 use Rattle.std.proofs.lemmas.Option.{none-some, same_Some, slice_get_within}
 use Rattle.std.specs.List.{list_any}
-use Rattle.term_core.specs.declared.atom.AtomId.{AtomId}
 use Rattle.server_core.specs.declared.command.Cmd.{Cmd}
 use Rattle.server_core.specs.declared.command.Cmd.TheVariants as cmds
-use Rattle.server_core.specs.declared.command.Linger.{Linger}
 use Rattle.server_core.specs.ServerState.{ServerState, empty_state, old_of}
 use Rattle.machine_core.specs.Holds.{Holds, is_among, is_area_held}
 use Rattle.machine_core.specs.Process.{PlainProcess, code_names, names_of, process_of}
@@ -17,12 +15,13 @@ use Rattle.run_log.specs.declared.logs.Entry.{Entry}
 use Rattle.run_log.specs.declared.logs.ProcessLog.{ProcessLog}
 use Rattle.run_log.specs.declared.logs.RunLog.{RunLog}
 use Rattle.run_log.specs.Journal.{state_at}
-use Rattle.run_log.specs.Legal.{EntryFollows, Lingers, MayStand, NamesNot, StandsNotIn, dropped_by, last_up_to, published_to, state_before, turns_in_log}
+use Rattle.run_log.specs.Legal.{EntryFollows, Lingers, MayStand, NamesNot, PurgedUnnamed, StandsNotIn, dropped_by, last_up_to, published_to, state_before, turns_in_log}
 use Rattle.span_check.specs.declared.standing.Standing.{Standing}
 use Rattle.span_check.proofs.StandingLaws.{names_not, stands_not}
-use Rattle.legality.specs.Entries.{EntryMeets, half_before}
+use Rattle.legality.specs.Breaches.{ClauseHolds}
+use Rattle.legality.specs.Entries.{EntryLingers, EntryMeets, half_before}
 use Rattle.legality.specs.Looks.{IsPurged, IsTold, names_area, some_names, some_stands, stands_in}
-use Rattle.legality.specs.Sweeps.{AreStanding, IsStanding, LingersAhead}
+use Rattle.legality.specs.Sweeps.{AreStanding, IsStanding, LingersAhead, told_by}
 
 -- ---- lists
 
@@ -156,9 +155,8 @@ module _ (s : Script) (log : RunLog) (place : ℕ) (server : ServerState) (stand
   before_is : (name : ℕ) → old_of server name ≡ old_of (state_before s.modules place log.journal) name
   before_is name = ap (λ x. old_of x name) server_is
 
-  lingers_here : IsTold server standings log.processes e.cmd → LingersAhead s log server place → slice_get log.journal place ≡ Some e → (serial : ℕ) (name : AtomId) (linger : Linger) → e.cmd ≡ cmds.SoftPurge name (Some linger)
-      → old_of (state_before s.modules place log.journal) name.0 ≡ Some serial
-      → IsSomeAnd (slice_get log.processes linger.process) (λ process. Lingers serial (published_to place log.journal) linger.turn (turns_in_log s log linger.process process))
+  -- what it tells of a process that lingers is so
+  pub lingers_here : IsTold server standings log.processes e.cmd → LingersAhead s log server place → slice_get log.journal place ≡ Some e → EntryLingers s log place e
   lingers_here told ahead at serial name linger is old =
       let here = before_is name.0 ∙ old in
       let known = if_some_at (old_of server name.0) (λ n. linger.process < length log.processes) serial here (subst (IsTold server standings log.processes) is told) in
@@ -168,44 +166,45 @@ module _ (s : Script) (log : RunLog) (place : ℕ) (server : ServerState) (stand
       (ahead place serial e name linger process.0 (omega arith) at now_is is here process.1))
 
   -- what a look tells is what a lawful log says of the entry
-  pub meets_by : IsTold server standings log.processes e.cmd → LingersAhead s log server place → slice_get log.journal place ≡ Some e → EntryFollows s.modules (state_before s.modules place log.journal) e
+  pub meets_by : IsTold server standings log.processes e.cmd → EntryFollows s.modules (state_before s.modules place log.journal) e
       → MayStand (state_before s.modules place log.journal) (half_before place log.journal) e → EntryMeets s log place e
-  meets_by told ahead at follows stands = record {
+  meets_by told follows stands = record {
     follows = follows;
     stands = stands;
     released = λ serial number process is known. none_named s log place server standings are now_is serial (subst (IsTold server standings log.processes) is told) number process known;
-    lingers = lingers_here told ahead at;
     unnamed = λ serial number process drops known.
         none_stood s log place server standings are now_is serial (dropped_told server standings log.processes e.cmd serial told (ap (λ x. dropped_by x e.cmd) server_is ∙ drops)) number process known;
     told = λ serial name killed is old.
         (if_some_at (old_of server name.0) (IsPurged standings log.processes killed) serial (before_is name.0 ∙ old) (subst (IsTold server standings log.processes) is told)).told;
   }
 
-  -- and the other way round
-  told_by : EntryMeets s log place e → (cmd : Cmd) → e.cmd ≡ cmd → IsTold server standings log.processes cmd
-  told_by meets (cmds.Load refs) is = tt
-  told_by meets (cmds.Delete name) is = tt
-  told_by meets (cmds.SoftPurge name None) is =
-      if_some_by (old_of server name.0) (λ serial. some_stands serial standings ≡ false)
-      (λ serial old. none_stands s log place server standings are now_is serial
-      (λ number process at. meets.unnamed serial number process (ap (dropped_by (state_before s.modules place log.journal)) is ∙ sym (before_is name.0) ∙ old) at))
-  told_by meets (cmds.SoftPurge name (Some linger)) is =
-      if_some_by (old_of server name.0) (λ serial. linger.process < length log.processes)
-      (λ serial old. within_some log.processes linger.process _ (meets.lingers serial name linger is (sym (before_is name.0) ∙ old)))
-  told_by meets (cmds.Doom name) is = tt
-  told_by meets (cmds.Purge name killed) is =
-      if_some_by (old_of server name.0) (IsPurged standings log.processes killed)
-      (λ serial old. record {
-        unnamed = none_stands s log place server standings are now_is serial
-            (λ number process at. meets.unnamed serial number process (ap (dropped_by (state_before s.modules place log.journal)) is ∙ sym (before_is name.0) ∙ old) at);
-        told = meets.told serial name killed is (sym (before_is name.0) ∙ old);
-      })
-  told_by meets (cmds.CheckOld name) is = tt
-  told_by meets (cmds.Put key term) is = tt
-  told_by meets (cmds.Erase key) is = tt
-  told_by meets (cmds.Trace target on) is = tt
-  told_by meets (cmds.Spawn target args) is = tt
-  told_by meets (cmds.Release serial) is = none_names s log place server standings are now_is serial (λ number process at. meets.released serial number process is at)
+  -- and the other way round: it is so where the clause holds that it would break
+  module _ (at : slice_get log.journal place ≡ Some e) where
+    none_then : (serial : ℕ) → PurgedUnnamed s log → (cmd : Cmd) → e.cmd ≡ cmd → dropped_by server cmd ≡ Some serial → some_stands serial standings ≡ false
+    none_then serial holds cmd is drops =
+        none_stands s log place server standings are now_is serial
+        (λ number process known. holds.unnamed place serial number e process at (ap (dropped_by (state_before s.modules place log.journal)) is ∙ sym (ap (λ x. dropped_by x cmd) server_is) ∙ drops) known)
 
-  pub meets_told : EntryMeets s log place e → IsTold server standings log.processes e.cmd
-  meets_told meets = told_by meets e.cmd refl
+    so_told : (cmd : Cmd) → e.cmd ≡ cmd → ClauseHolds (told_by cmd) s log → IsTold server standings log.processes cmd
+    so_told (cmds.Load refs) is holds = tt
+    so_told (cmds.Delete name) is holds = tt
+    so_told (cmds.SoftPurge name None) is holds = if_some_by (old_of server name.0) (λ serial. some_stands serial standings ≡ false) (λ serial old. none_then serial holds (cmds.SoftPurge name None) is old)
+    so_told (cmds.SoftPurge name (Some linger)) is holds =
+        if_some_by (old_of server name.0) (λ serial. linger.process < length log.processes)
+        (λ serial old. within_some log.processes linger.process _ (holds place serial e name linger at is (sym (before_is name.0) ∙ old)))
+    so_told (cmds.Doom name) is holds = tt
+    so_told (cmds.Purge name killed) is holds =
+        if_some_by (old_of server name.0) (IsPurged standings log.processes killed)
+        (λ serial old. record {
+          unnamed = none_then serial holds (cmds.Purge name killed) is old;
+          told = holds.told place serial e name killed at is (sym (before_is name.0) ∙ old);
+        })
+    so_told (cmds.CheckOld name) is holds = tt
+    so_told (cmds.Put key term) is holds = tt
+    so_told (cmds.Erase key) is holds = tt
+    so_told (cmds.Trace target on) is holds = tt
+    so_told (cmds.Spawn target args) is holds = tt
+    so_told (cmds.Release serial) is holds = none_names s log place server standings are now_is serial (λ number process known. holds place serial number e process at is known)
+
+    pub is_told_where : ClauseHolds (told_by e.cmd) s log → IsTold server standings log.processes e.cmd
+    is_told_where holds = so_told e.cmd refl holds

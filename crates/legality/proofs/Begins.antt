@@ -1,5 +1,5 @@
 -- What is known before the first entry.
-use Rattle.std.proofs.Common.{◌≡◌, ◌⊎◌, inl, inr, ℕ, zero, suc, ◌+◌, ◌≤◌, List, [], ◌∷◌, ◌++◌, length, length-append, replicate, slice_get, Some, None, refl, sym, ap, subst, ◌∙◌, arith}
+use Rattle.std.proofs.Common.{◌≡◌, ◌⊎◌, inl, inr, ℕ, zero, suc, ◌+◌, ◌≤◌, Bool, List, [], ◌∷◌, ◌++◌, length, length-append, replicate, slice_get, Some, None, refl, sym, ap, subst, ◌∙◌, arith}
 use Rattle.std.proofs.lemmas.List.{length-replicate}
 use Rattle.std.proofs.lemmas.Option.{none-some, same_Some}
 use Rattle.std.specs.List.{AllByRecursion}
@@ -61,7 +61,7 @@ one_begun processes count standings process standing so_far here begun = record 
 
 -- ---- the sweep
 
-module _ (s : Script) (log : RunLog) (sweep : Sweep) (server : sweep.server ≡ empty_state) (sound : IsSound sweep.server) (half : sweep.half ≡ None) (standings : AreBegun log.processes (length log.processes) sweep.standings.items)
+module _ (s : Script) (log : RunLog) (watched : Bool) (sweep : Sweep) (server : sweep.server ≡ empty_state) (sound : IsSound sweep.server) (half : sweep.half ≡ None) (standings : AreBegun log.processes (length log.processes) sweep.standings.items)
     (seen : sweep.seen.items ≡ replicate (length log.observers) 0) where
   generation_none : sweep.server.generation ≡ 0
   generation_none = ap (λ x. x.generation) server
@@ -104,9 +104,10 @@ module _ (s : Script) (log : RunLog) (sweep : Sweep) (server : sweep.server ≡ 
   }
 
   -- nothing is judged before the first entry
-  pub made_begin : IsMade s log 0 sweep
+  pub made_begin : IsMade s log watched 0 sweep
   made_begin = record {
     here = at_first;
+    linger = λ is k e low at. absurd (omega (arith, low));
     first = ap (state_at s.modules empty_state log.journal) generation_none ∙ made_first s.modules log.journal ∙ sym server;
     standings = stands_first;
     seen = seen_none;

@@ -14,14 +14,17 @@ use Rattle.run_log.specs.declared.logs.RunLog.{RunLog}
 use Rattle.run_log.specs.declared.logs.Snapshot.{Snapshot}
 use Rattle.run_log.specs.declared.logs.Span.{Span}
 use Rattle.run_log.specs.Journal.{newest_state, published_count, state_at}
-use Rattle.run_log.specs.Legal.{Legal, PurgesGo, Replays, SpansFollow}
+use Rattle.run_log.specs.Legal.{PurgesGo, Replays, SpansFollow, TurnsFollow}
 use Rattle.legality.specs.Shape.{IsShaped}
 use Rattle.span_check.specs.declared.standing.Standing.{Standing}
 use Rattle.span_check.specs.Standings.{StandsSo, first_of}
 use Rattle.span_check.proofs.StandingLaws.{still_goes}
 use Rattle.legality.specs.declared.sweep.Sweep.{Sweep}
+use Rattle.legality.specs.declared.breach.Clause.{Clause}
+use Rattle.legality.specs.declared.breach.Clause.TheVariants as clauses
+use Rattle.legality.specs.Breaches.{ClauseHolds, ClausesHold}
 use Rattle.legality.specs.Entries.{half_before, half_over}
-use Rattle.legality.specs.Sweeps.{HasEnded, IsSeen, IsSwept, IsTrueShot}
+use Rattle.legality.specs.Sweeps.{HasEnded, IsLeft, IsSeen, IsSwept, IsTrueShot}
 use Rattle.legality.proofs.Answers.{get_within}
 use Rattle.legality.proofs.Locals.{half_last, purges_before, replays_before}
 use Rattle.legality.proofs.Places.{published_now}
@@ -47,7 +50,7 @@ none_behind f g (suc n) (x ∷ xs) low high = let rest = none_behind f g n xs lo
 
 -- ---- the end
 
-module _ (s : Script) (log : RunLog) (sweep : Sweep) (swept : IsSwept s log (length log.journal) sweep) (shaped : IsShaped s log) where
+module _ (s : Script) (log : RunLog) (watched : Bool) (sweep : Sweep) (swept : IsSwept s log watched (length log.journal) sweep) (shaped : IsShaped s log) where
   abbrev states : ℕ → ServerState
   states = state_at s.modules empty_state log.journal
 
@@ -83,13 +86,13 @@ module _ (s : Script) (log : RunLog) (sweep : Sweep) (swept : IsSwept s log (len
   follows_so number process standing true is h = h.follow
   follows_so number process standing false is h = absurd (false≢true is)
 
-  -- in a lawful log each process has ended
-  pub has_ended : Legal s log → (number : ℕ) (standing : Standing) → slice_get sweep.standings.items number ≡ Some standing → standing.ended ≡ false → ⊥
-  has_ended legal number standing is going =
+  -- where turns follow each process has ended
+  has_ended : TurnsFollow s log → (number : ℕ) (standing : Standing) → slice_get sweep.standings.items number ≡ Some standing → standing.ended ≡ false → ⊥
+  has_ended follow number standing is going =
       let process = get_within log.processes number (omega (arith, slice_get_within sweep.standings.items number standing is, swept.standings.many)) in
       let it = swept.standings.each number process.0 standing process.1 is in
       still_goes states (server_words sweep.server) number process.0 standing going (let h = all_gone number process.0 standing process.1 is in omega (arith, h, it.reached.within)) it.stands
-      (legal.turns_follow number process.0 process.1)
+      (follow number process.0 process.1)
 
   shots_true : (observer count : ℕ) (shots : List Snapshot) → slice_get log.observers observer ≡ Some shots → IsSeen s log (top + 1) shots count → AllByRecursion (IsTrueShot s log) shots
   shots_true observer count shots at seen = all_from (IsTrueShot s log) shots (λ k shot is. by k shot is (cases_lt k count))
@@ -109,61 +112,57 @@ module _ (s : Script) (log : RunLog) (sweep : Sweep) (swept : IsSwept s log (len
       let count = get_within sweep.seen.items observer (omega (arith, slice_get_within log.observers observer shots at, swept.seen.many)) in
       shots_true observer count.0 shots at (swept.seen.each observer count.0 shots at count.1))
 
-  -- nothing is left to be judged: the log is lawful
-  pub legal_at_end : sweep.half ≡ None → sweep.server.retired ≡ [] → ((number : ℕ) (standing : Standing) → slice_get sweep.standings.items number ≡ Some standing → standing.ended ≡ true) → Legal s log
-  legal_at_end none retired ended = record {
-    replays = subst (Replays s.modules empty_state) whole (replays_before s log (length log.journal) swept.here.meet);
-    loaders_in_order = record {
-      commands = shaped.commands;
-      purges =
-          subst (PurgesGo s.modules empty_state None log.journal) (sym swept.here.half_is ∙ none)
-          (subst (λ j. PurgesGo s.modules empty_state None j (half_before (length log.journal) log.journal)) whole (purges_before s log (length log.journal) swept.here.meet));
-    };
-    spawn_before_turns = shaped.spawns;
-    turns_follow = λ number process at.
-        let standing = get_within sweep.standings.items number (omega (arith, slice_get_within log.processes number process at, swept.standings.many)) in
-        follows_so number process standing.0 standing.0.ended (ended number standing.0 standing.1) (swept.standings.each number process standing.0 at standing.1).stands;
-    released_unnamed = λ place serial number e process at is known. (swept.here.meet place e (slice_get_within log.journal place e at) at).released serial number process is known;
-    lingers_told = λ place serial e name linger at is old. (swept.here.meet place e (slice_get_within log.journal place e at) at).lingers serial name linger is old;
-    purged_unnamed = record {
-      unnamed = λ place serial number e process at drops known. (swept.here.meet place e (slice_get_within log.journal place e at) at).unnamed serial number process drops known;
-      told = λ place serial e name killed at is old. (swept.here.meet place e (slice_get_within log.journal place e at) at).told serial name killed is old;
-    };
-    snapshots_true = record { counts = shaped.fit.counts; exports = exports_true; rising = shaped.fit.rising };
-    nothing_retired = ap (λ x. x.retired) (sym newest_is) ∙ retired;
-    complete = shaped.complete;
-  }
-
-  -- in a lawful log no purge waits at the end
-  pub none_waits : Legal s log → sweep.half ≡ None
-  none_waits legal = swept.here.half_is ∙ ap (half_over None) whole ∙ half_last s.modules empty_state None None log.journal legal.loaders_in_order.purges
-
-  -- and no area
-  pub none_retired : Legal s log → sweep.server.retired ≡ []
-  none_retired legal = ap (λ x. x.retired) newest_is ∙ legal.nothing_retired
-
   not_going : (b : Bool) → (b ≡ false → ⊥) → b ≡ true
   not_going true h = refl
   not_going false h = absurd (h refl)
 
-  -- where nothing waits and each process has ended the log is lawful
-  pub ended_legal : HasEnded sweep → Legal s log
-  ended_legal h =
-      legal_at_end h.half h.retired
-      (λ number standing is. all_at (λ (x : Standing). x.ended ≡ true) sweep.standings.items number standing (recursion_from_All (λ (x : Standing). x.ended ≡ true) sweep.standings.items h.ended) is)
+  -- where something waits a clause does not hold
+  pub left_broken : (clause : Clause) → IsLeft sweep clause → ClauseHolds clause s log → ⊥
+  left_broken clauses.Replays left holds = left
+  left_broken clauses.LoadersInOrder left holds = left (swept.here.half_is ∙ ap (half_over None) whole ∙ half_last s.modules empty_state None None log.journal holds.purges)
+  left_broken clauses.SpawnBeforeTurns left holds = left
+  left_broken clauses.TurnsFollow left holds =
+      left
+      (All-from_recursion (λ (x : Standing). x.ended ≡ true) sweep.standings.items
+      (all_from (λ (x : Standing). x.ended ≡ true) sweep.standings.items (λ number standing is. not_going standing.ended (has_ended holds number standing is))))
+  left_broken clauses.ReleasedUnnamed left holds = left
+  left_broken clauses.LingersTold left holds = left
+  left_broken clauses.PurgedUnnamed left holds = left
+  left_broken clauses.SnapshotsTrue left holds = left
+  left_broken clauses.NothingRetired left holds = left (ap (λ x. x.retired) newest_is ∙ holds)
+  left_broken clauses.Complete left holds = left
 
-  -- and in a lawful log nothing waits
-  pub legal_ended : Legal s log → HasEnded sweep
-  legal_ended legal = record {
-    half = none_waits legal;
-    retired = none_retired legal;
-    ended =
-        All-from_recursion (λ (x : Standing). x.ended ≡ true) sweep.standings.items
-        (all_from (λ (x : Standing). x.ended ≡ true) sweep.standings.items (λ number standing is. not_going standing.ended (has_ended legal number standing is)));
-  }
+  -- where nothing waits and each process has ended each clause holds that was watched
+  module _ (over : HasEnded sweep) where
+    turns_at_end : TurnsFollow s log
+    turns_at_end number process at =
+        let standing = get_within sweep.standings.items number (omega (arith, slice_get_within log.processes number process at, swept.standings.many)) in
+        follows_so number process standing.0 standing.0.ended
+        (all_at (λ (x : Standing). x.ended ≡ true) sweep.standings.items number standing.0 (recursion_from_All (λ (x : Standing). x.ended ≡ true) sweep.standings.items over.ended) standing.1)
+        (swept.standings.each number process standing.0 at standing.1).stands
+
+    pub clauses_at_end : ClausesHold watched s log
+    clauses_at_end clauses.Replays is = subst (Replays s.modules empty_state) whole (replays_before s log (length log.journal) swept.here.meet)
+    clauses_at_end clauses.LoadersInOrder is = record {
+      commands = shaped.commands;
+      purges =
+          subst (PurgesGo s.modules empty_state None log.journal) (sym swept.here.half_is ∙ over.half)
+          (subst (λ j. PurgesGo s.modules empty_state None j (half_before (length log.journal) log.journal)) whole (purges_before s log (length log.journal) swept.here.meet));
+    }
+    clauses_at_end clauses.SpawnBeforeTurns is = shaped.spawns
+    clauses_at_end clauses.TurnsFollow is = turns_at_end
+    clauses_at_end clauses.ReleasedUnnamed is = λ place serial number e process at cmd known. (swept.here.meet place e (slice_get_within log.journal place e at) at).released serial number process cmd known
+    clauses_at_end clauses.LingersTold is = λ place serial e name linger at cmd old. swept.linger (is refl) place e (slice_get_within log.journal place e at) at serial name linger cmd old
+    clauses_at_end clauses.PurgedUnnamed is = record {
+      unnamed = λ place serial number e process at drops known. (swept.here.meet place e (slice_get_within log.journal place e at) at).unnamed serial number process drops known;
+      told = λ place serial e name killed at cmd old. (swept.here.meet place e (slice_get_within log.journal place e at) at).told serial name killed cmd old;
+    }
+    clauses_at_end clauses.SnapshotsTrue is = record { counts = shaped.fit.counts; exports = exports_true; rising = shaped.fit.rising }
+    clauses_at_end clauses.NothingRetired is = ap (λ x. x.retired) (sym newest_is) ∙ over.retired
+    clauses_at_end clauses.Complete is = shaped.complete
 
 -- at the end of the journal
-pub swept_over : (s : Script) (log : RunLog) (place end : ℕ) (sweep : Sweep) → IsSwept s log place sweep → end ≡ length log.journal → end ≤ place → IsSwept s log (length log.journal) sweep
-swept_over s log place end sweep swept is over =
+pub swept_over : (s : Script) (log : RunLog) (watched : Bool) (place end : ℕ) (sweep : Sweep) → IsSwept s log watched place sweep → end ≡ length log.journal → end ≤ place → IsSwept s log watched (length log.journal) sweep
+swept_over s log watched place end sweep swept is over =
     let same : place ≡ length log.journal = omega (arith, is, over, swept.here.within) in
-    subst (λ n. IsSwept s log n sweep) same swept
+    subst (λ n. IsSwept s log watched n sweep) same swept

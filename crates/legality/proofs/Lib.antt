@@ -2,8 +2,10 @@ pub mod Equivalences
 pub mod RisingNumbers
 pub mod SameCommands
 pub mod ListPlaces
+pub mod Clauses
 pub mod CommandPlaces
 pub mod SpawnSteps
+pub mod Judged
 pub mod LogsMatching
 pub mod Locals
 pub mod Places

@@ -12,13 +12,13 @@ use Rattle.run_log.specs.declared.underway.HalfPurge.{HalfPurge}
 use Rattle.legality.specs.Entries.{EntryMeets, MeetBefore, half_before, half_over}
 
 -- an entry of a replayed journal follows from the state before it
-follows_at : (texts : List Module) (s : ServerState) (journal : List Entry) (place : ℕ) (e : Entry) → Replays texts s journal → slice_get journal place ≡ Some e → EntryFollows texts (newest_state texts s (take place journal)) e
+pub follows_at : (texts : List Module) (s : ServerState) (journal : List Entry) (place : ℕ) (e : Entry) → Replays texts s journal → slice_get journal place ≡ Some e → EntryFollows texts (newest_state texts s (take place journal)) e
 follows_at texts s [] place e r at = absurd (none-some e at)
 follows_at texts s (x ∷ journal) zero e r at = subst (EntryFollows texts s) (same_Some x e at) r.0
 follows_at texts s (x ∷ journal) (suc place) e r at = follows_at texts (next_state texts s x.cmd) journal place e r.1 at
 
 -- and each entry may stand where it stands
-stands_at : (texts : List Module) (s : ServerState) (half last : Option HalfPurge) (journal : List Entry) (place : ℕ) (e : Entry) → PurgesGo texts s half journal last → slice_get journal place ≡ Some e
+pub stands_at : (texts : List Module) (s : ServerState) (half last : Option HalfPurge) (journal : List Entry) (place : ℕ) (e : Entry) → PurgesGo texts s half journal last → slice_get journal place ≡ Some e
     → MayStand (newest_state texts s (take place journal)) (half_over half (take place journal)) e
 stands_at texts s half last [] place e go at = absurd (none-some e at)
 stands_at texts s half last (x ∷ journal) zero e go at = subst (MayStand s half) (same_Some x e at) go.0
@@ -35,7 +35,6 @@ legal_meets s log legal place e at = record {
   follows = follows_at s.modules empty_state log.journal place e legal.replays at;
   stands = stands_at s.modules empty_state None None log.journal place e legal.loaders_in_order.purges at;
   released = λ serial number process is known. legal.released_unnamed place serial number e process at is known;
-  lingers = λ serial name linger is old. legal.lingers_told place serial e name linger at is old;
   unnamed = λ serial number process drops known. legal.purged_unnamed.unnamed place serial number e process at drops known;
   told = λ serial name killed is old. legal.purged_unnamed.told place serial e name killed at is old;
 }

@@ -1,4 +1,4 @@
--- The snapshots of a generation, judged: what is then known, and that a lawful log has none that is not true.
+-- The snapshots of a generation, judged: what is then known, and that none errs where they are true.
 use Rattle.std.proofs.Common.{◌≡◌, ◌≢◌, ◌⊎◌, inl, inr, ℕ, zero, suc, ◌+◌, ◌<◌, ◌≤◌, List, [], ◌∷◌, slice_get, Some, sym, ap, subst, ◌∙◌, arith}
 use Rattle.std.proofs.lemmas.Bool.{cases_lt}
 use Rattle.std.proofs.lemmas.Option.{none-some, same_Some, slice_get_within}
@@ -8,7 +8,7 @@ use Rattle.script_core.specs.declared.script.Script.{Script}
 use Rattle.run_log.specs.declared.logs.RunLog.{RunLog}
 use Rattle.run_log.specs.declared.logs.Snapshot.{Snapshot}
 use Rattle.run_log.specs.Journal.{state_at}
-use Rattle.run_log.specs.Legal.{AreRising, Legal}
+use Rattle.run_log.specs.Legal.{AreRising, SnapshotsTrue}
 use Rattle.run_log.specs.Snapshots.{AreExports}
 use Rattle.legality.specs.Observers.{AllSee, IsSnapshotOf, OneErrs, SeesMore}
 use Rattle.legality.specs.Sweeps.{AreSeen, IsSeen, IsTrueShot}
@@ -76,10 +76,10 @@ module _ (s : Script) (log : RunLog) (server : ServerState) (first : state_at s.
         seen_next shots from.0 to (seen.each observer from.0 shots at from.1) (more.each observer from.0 to shots at from.1 is) (all_at AreRising log.observers observer shots rising at);
   }
 
-  -- in a lawful log each snapshot is true
-  pub none_errs : Legal s log → OneErrs s.names server log.observers → ⊥
-  none_errs legal h =
+  -- where the snapshots are true, none errs
+  pub none_errs : SnapshotsTrue s log → OneErrs s.names server log.observers → ⊥
+  none_errs holds h =
       h.other.other
       (shot_exports h.other.shot h.other.generation
       (all_at (IsTrueShot s log) h.shots h.other.place h.other.shot
-      (all_at (λ shots. AllByRecursion (IsTrueShot s log) shots) log.observers h.observer h.shots legal.snapshots_true.exports h.at) h.other.at))
+      (all_at (λ shots. AllByRecursion (IsTrueShot s log) shots) log.observers h.observer h.shots holds.exports h.at) h.other.at))

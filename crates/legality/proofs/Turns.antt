@@ -1,6 +1,6 @@
 -- The spans of a generation, judged: what is then known, and that a lawful log is not refused.
-use Rattle.std.proofs.Common.{◌≡◌, ℕ, ◌+◌, ◌≤◌, ◌-◌, List, drop, slice_get, Option, Some, IsSomeAnd, sym, ap, subst, ◌∙◌, arith}
-use Rattle.std.proofs.lemmas.Option.{slice_get_within}
+use Rattle.std.proofs.Common.{◌≡◌, ℕ, ◌+◌, ◌≤◌, ◌-◌, Bool, List, [], drop, slice_get, Option, Some, IsSomeAnd, sym, ap, subst, ◌∙◌, arith}
+use Rattle.std.proofs.lemmas.Option.{none-some, slice_get_within}
 use Rattle.term_core.specs.declared.atom.AtomId.{AtomId}
 use Rattle.server_core.specs.declared.command.Cmd.TheVariants as cmds
 use Rattle.server_core.specs.declared.command.Linger.{Linger}
@@ -10,7 +10,7 @@ use Rattle.run_log.specs.declared.logs.Entry.{Entry}
 use Rattle.run_log.specs.declared.logs.ProcessLog.{ProcessLog}
 use Rattle.run_log.specs.declared.logs.RunLog.{RunLog}
 use Rattle.run_log.specs.Journal.{state_at}
-use Rattle.run_log.specs.Legal.{Legal, Lingers, published_to, state_before, turns_in_log}
+use Rattle.run_log.specs.Legal.{Legal, Lingers, TurnsFollow, published_to, state_before, turns_in_log}
 use Rattle.span_check.specs.declared.standing.Standing.{Standing}
 use Rattle.span_check.specs.declared.watch.Watch.{Watch}
 use Rattle.legality.specs.declared.sweep.Sweep.{Sweep}
@@ -28,12 +28,9 @@ legal_before s log legal place k e below at = legal_meets s log legal k e at
 some_here : {X : Type 0} (o : Option X) (P : X → Type 0) (x : X) → o ≡ Some x → IsSomeAnd o P → P x
 some_here o P x e h = subst (λ y. IsSomeAnd y P) e h
 
-module _ (s : Script) (log : RunLog) (place : ℕ) (sweep : Sweep) (made : IsMade s log place sweep) where
+module _ (s : Script) (log : RunLog) (watched : Bool) (place : ℕ) (sweep : Sweep) (made : IsMade s log watched place sweep) where
   abbrev states : ℕ → ServerState
   states = state_at s.modules empty_state log.journal
-
-  abbrev ahead : List Entry
-  ahead = stretch (drop place log.journal)
 
   abbrev server : ServerState
   server = sweep.server
@@ -41,7 +38,7 @@ module _ (s : Script) (log : RunLog) (place : ℕ) (sweep : Sweep) (made : IsMad
   now_is : published_to place log.journal ≡ server.generation
   now_is = published_now s log place made.here.meet ∙ ap (λ x. x.generation) (sym made.here.server_is)
 
-  module _ (after : List Standing) (taken : AllTaken server ahead log.processes sweep.standings.items after) where
+  module _ (ahead : List Entry) (after : List Standing) (taken : AllTaken server ahead log.processes sweep.standings.items after) where
     -- what stood before
     stood : (number : ℕ) (a : Standing) → slice_get after number ≡ Some a → (b : Standing) × (slice_get sweep.standings.items number ≡ Some b)
     stood number a is = get_within sweep.standings.items number (omega (arith, slice_get_within after number a is, taken.many))
@@ -64,21 +61,21 @@ module _ (s : Script) (log : RunLog) (place : ℕ) (sweep : Sweep) (made : IsMad
           stands_next number process b.0 a at (made.standings.each number process b.0 at b.1) (taken.each number process b.0 a at b.1 is);
     }
 
-    told_at : (k serial : ℕ) (e : Entry) (name : AtomId) (linger : Linger) (process : ProcessLog) (b : Standing) → place ≤ k → slice_get log.journal k ≡ Some e → published_to k log.journal ≡ server.generation
+    told_at : ahead ≡ stretch (drop place log.journal) → (k serial : ℕ) (e : Entry) (name : AtomId) (linger : Linger) (process : ProcessLog) (b : Standing) → place ≤ k → slice_get log.journal k ≡ Some e → published_to k log.journal ≡ server.generation
         → e.cmd ≡ cmds.SoftPurge name (Some linger) → old_of server name.0 ≡ Some serial → IsStanding s log server server.generation linger.process process b → (a : Standing) → IsTakenWith server ahead linger.process process b a
         → Lingers serial server.generation linger.turn (turns_in_log s log linger.process process)
-    told_at k serial e name linger process b low at now is old was a t =
+    told_at ahead_is k serial e name linger process b low at now is old was a t =
         given_at (λ watch. Lingers watch.serial server.generation watch.turn (turns_in_log s log linger.process process)) (λ (x : Entry). watch_in server linger.process x.cmd) ahead (k - place) e
         (record { turn = linger.turn; serial = serial })
         (watches_told (λ watch. Lingers watch.serial server.generation watch.turn (turns_in_log s log linger.process process)) server linger.process ahead t.watches t.are (t.taken.told states linger.process made.first was.stands))
-        (ahead_has log.journal place k e low at (now ∙ sym now_is)) (watch_made server e.cmd name linger serial is old)
+        (ap (λ xs. slice_get xs (k - place)) ahead_is ∙ ahead_has log.journal place k e low at (now ∙ sym now_is)) (watch_made server e.cmd name linger serial is old)
 
     -- and what is told of processes that linger is so
-    pub lingers_next : LingersAhead s log server place
-    lingers_next k serial e name linger process low at now is old known =
+    pub lingers_next : ahead ≡ stretch (drop place log.journal) → LingersAhead s log server place
+    lingers_next ahead_is k serial e name linger process low at now is old known =
         let a = get_within after linger.process (omega (arith, slice_get_within log.processes linger.process process known, taken.many, made.standings.many)) in
         let b = stood linger.process a.0 a.1 in
-        told_at k serial e name linger process b.0 low at now is old (made.standings.each linger.process process b.0 known b.1) a.0 (taken.each linger.process process b.0 a.0 known b.1 a.1)
+        told_at ahead_is k serial e name linger process b.0 low at now is old (made.standings.each linger.process process b.0 known b.1) a.0 (taken.each linger.process process b.0 a.0 known b.1 a.1)
 
   module _ (legal : Legal s log) where
     -- what a lawful log tells of a process that lingers
@@ -98,6 +95,9 @@ module _ (s : Script) (log : RunLog) (place : ℕ) (sweep : Sweep) (made : IsMad
         subst (λ n. Lingers watch.serial n watch.turn (turns_in_log s log number process)) (a.same ∙ now_is)
         (subst (λ n. Lingers watch.serial (published_to a.k log.journal) n (turns_in_log s log number process)) (sym w.turn_is) here)
 
+    abbrev ahead : List Entry
+    ahead = stretch (drop place log.journal)
+
     -- a lawful log is not refused
     pub not_refused : SomeRefused server ahead log.processes sweep.standings.items → ⊥
     not_refused r =
@@ -105,3 +105,11 @@ module _ (s : Script) (log : RunLog) (place : ℕ) (sweep : Sweep) (made : IsMad
         (watches_hold (λ watch. Lingers watch.serial server.generation watch.turn (turns_in_log s log r.number r.process)) server r.number ahead r.watches r.are
         (all_given (λ watch. Lingers watch.serial server.generation watch.turn (turns_in_log s log r.number r.process)) (λ (x : Entry). watch_in server r.number x.cmd) ahead
         (λ k e watch at is. lingers_legal r.number r.process e watch r.process_at (ahead_only log.journal place k e at) (watch_is server r.number e.cmd watch is))))
+
+  -- where turns follow, a log is not refused as long as it is not watched who lingers
+  pub not_refused_unwatched : TurnsFollow s log → SomeRefused server [] log.processes sweep.standings.items → ⊥
+  not_refused_unwatched follow r =
+      r.refused.no states r.number made.first (made.standings.each r.number r.process r.standing r.process_at r.standing_at).stands (follow r.number r.process r.process_at)
+      (watches_hold (λ watch. Lingers watch.serial server.generation watch.turn (turns_in_log s log r.number r.process)) server r.number [] r.watches r.are
+      (all_given (λ watch. Lingers watch.serial server.generation watch.turn (turns_in_log s log r.number r.process)) (λ (x : Entry). watch_in server r.number x.cmd) []
+      (λ k e watch at is. absurd (none-some e at))))

@@ -22,14 +22,12 @@ half_over half (e ∷ journal) = half_over (half_after half e.who e.cmd) journal
 abbrev pub half_before : ℕ → List Entry → Option HalfPurge
 half_before place journal = half_over None (take place journal)
 
--- what a lawful log says of the entry at a place
+-- what a lawful log says of the entry at a place, apart from processes that linger
 pub record EntryMeets (s : Script) (log : RunLog) (place : ℕ) (e : Entry) : Type 0 where
   pub follows : EntryFollows s.modules (state_before s.modules place log.journal) e
   pub stands : MayStand (state_before s.modules place log.journal) (half_before place log.journal) e
   pub released : (serial number : ℕ) (process : ProcessLog) → e.cmd ≡ Release serial → slice_get log.processes number ≡ Some process
       → IfSome (last_up_to (published_to place log.journal) (turns_in_log s log number process)) (λ m. NamesNot serial m.process)
-  pub lingers : (serial : ℕ) (name : AtomId) (linger : Linger) → e.cmd ≡ SoftPurge name (Some linger) → old_of (state_before s.modules place log.journal) name.0 ≡ Some serial
-      → IsSomeAnd (slice_get log.processes linger.process) (λ process. Lingers serial (published_to place log.journal) linger.turn (turns_in_log s log linger.process process))
   pub unnamed : (serial number : ℕ) (process : ProcessLog) → dropped_by (state_before s.modules place log.journal) e.cmd ≡ Some serial → slice_get log.processes number ≡ Some process
       → IfSome (last_up_to (published_to place log.journal) (turns_in_log s log number process)) (λ m. StandsNotIn serial m.process)
   pub told : (serial : ℕ) (name : AtomId) (killed : Bool) → e.cmd ≡ Purge name killed → old_of (state_before s.modules place log.journal) name.0 ≡ Some serial
@@ -38,3 +36,13 @@ pub record EntryMeets (s : Script) (log : RunLog) (place : ℕ) (e : Entry) : Ty
 -- each entry of the journal before a place does
 abbrev pub MeetBefore : Script → RunLog → ℕ → Type 0
 MeetBefore s log place = (k : ℕ) (e : Entry) → k < place → slice_get log.journal k ≡ Some e → EntryMeets s log k e
+
+-- what a lawful log says of the entry at a place that tells of a process that lingers
+abbrev pub EntryLingers : Script → RunLog → ℕ → Entry → Type 0
+EntryLingers s log place e =
+    (serial : ℕ) (name : AtomId) (linger : Linger) → e.cmd ≡ SoftPurge name (Some linger) → old_of (state_before s.modules place log.journal) name.0 ≡ Some serial
+    → IsSomeAnd (slice_get log.processes linger.process) (λ process. Lingers serial (published_to place log.journal) linger.turn (turns_in_log s log linger.process process))
+
+-- each entry of the journal before a place does so
+abbrev pub LingerBefore : Script → RunLog → ℕ → Type 0
+LingerBefore s log place = (k : ℕ) (e : Entry) → k < place → slice_get log.journal k ≡ Some e → EntryLingers s log k e

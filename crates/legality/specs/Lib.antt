@@ -1,3 +1,4 @@
+pub mod Breaches
 pub mod Entries
 pub mod Looks
 pub mod Observers

@@ -1,6 +1,6 @@
 -- What is known of a log after the entries of its journal before a place.
 -- Source: this project's profile. The definitions replay journal and turns; the code keeps one server and where each process stands.
-use Rattle.std.specs.Prelude.{◌≡◌, ℕ, ◌+◌, ◌<◌, ◌≤◌, ◌==◌, Bool, true, false, is_some, List, [], ◌∷◌, length, slice_get, Option, Some, None, if◌then◌else◌, All}
+use Rattle.std.specs.Prelude.{◌≡◌, ℕ, ◌+◌, ◌<◌, ◌≤◌, ◌==◌, Bool, true, false, is_some, List, [], ◌∷◌, length, drop, slice_get, Option, Some, None, if◌then◌else◌, All}
 use Rattle.std.specs.List.{filter_map}
 use Rattle.std.specs.List.Sorted.{IsPermutation}
 use Rattle.term_core.specs.declared.atom.AtomId.{AtomId}
@@ -28,7 +28,9 @@ use Rattle.span_check.specs.Sweeps.{IsRefused, IsTaken}
 use Rattle.span_check.specs.Watches.{AreInOrder}
 use Rattle.legality.specs.declared.known.Known.{Known}
 use Rattle.legality.specs.declared.sweep.Sweep.{Sweep}
-use Rattle.legality.specs.Entries.{MeetBefore, half_before}
+use Rattle.legality.specs.declared.breach.Clause.{Clause}
+use Rattle.legality.specs.declared.breach.Clause.TheVariants as clauses
+use Rattle.legality.specs.Entries.{LingerBefore, MeetBefore, half_before}
 use Rattle.legality.specs.Looks.{AreKilled, IsTold}
 
 -- ---- processes
@@ -149,18 +151,20 @@ pub record IsAt (s : Script) (log : RunLog) (place : ℕ) (server : ServerState)
   pub sound : IsSound server
   pub half_is : half ≡ half_before place log.journal
 
--- a generation was just made, and nothing of it is judged yet
-pub record IsMade (s : Script) (log : RunLog) (place : ℕ) (sweep : Sweep) : Type 0 where
+-- a generation was just made, and nothing of it is judged yet; of lingering processes only what is watched
+pub record IsMade (s : Script) (log : RunLog) (watched : Bool) (place : ℕ) (sweep : Sweep) : Type 0 where
   pub here : IsAt s log place sweep.server sweep.half
+  pub linger : watched ≡ true → LingerBefore s log place
   pub first : state_at s.modules empty_state log.journal sweep.server.generation ≡ sweep.server
   pub standings : AreStanding s log sweep.server sweep.server.generation sweep.standings.items
   pub seen : AreSeen s log sweep.server.generation sweep.seen.items
 
--- all up to the newest generation is judged
-pub record IsSwept (s : Script) (log : RunLog) (place : ℕ) (sweep : Sweep) : Type 0 where
+-- all up to the newest generation is judged; of lingering processes only what is watched
+pub record IsSwept (s : Script) (log : RunLog) (watched : Bool) (place : ℕ) (sweep : Sweep) : Type 0 where
   pub here : IsAt s log place sweep.server sweep.half
+  pub linger : watched ≡ true → LingerBefore s log place
   pub standings : AreStanding s log sweep.server (sweep.server.generation + 1) sweep.standings.items
-  pub ahead : LingersAhead s log sweep.server place
+  pub ahead : watched ≡ true → LingersAhead s log sweep.server place
   pub seen : AreSeen s log (sweep.server.generation + 1) sweep.seen.items
 
 -- what is looked up of a script and a log is right
@@ -183,16 +187,37 @@ pub record HasFollowed (texts : List Module) (before after : ServerState) (e : E
   pub sound : IsSound after
 
 -- what is known after an entry: where it made a generation, nothing of that is judged yet
-abbrev pub AfterEntry : Script → RunLog → ℕ → Sweep → Option ℕ → Type 0
-AfterEntry s log place sweep None = IsSwept s log place sweep
-AfterEntry s log place sweep (Some generation) = IsMade s log place sweep
+abbrev pub AfterEntry : Script → RunLog → Bool → ℕ → Sweep → Option ℕ → Type 0
+AfterEntry s log watched place sweep None = IsSwept s log watched place sweep
+AfterEntry s log watched place sweep (Some generation) = IsMade s log watched place sweep
 
 -- what is known after the entry at a place
-abbrev pub AfterPlace : Script → RunLog → ℕ → Sweep → Type 0
-AfterPlace s log place sweep = (e : Entry) → slice_get log.journal place ≡ Some e → AfterEntry s log (place + 1) sweep e.published
+abbrev pub AfterPlace : Script → RunLog → Bool → ℕ → Sweep → Type 0
+AfterPlace s log watched place sweep = (e : Entry) → slice_get log.journal place ≡ Some e → AfterEntry s log watched (place + 1) sweep e.published
+
+-- the entries that are looked at ahead for processes that linger: those up to the next generation where these are watched, else none
+abbrev pub watched_ahead : Bool → ℕ → List Entry → List Entry
+watched_ahead watched place journal = if watched then stretch (drop place journal) else []
+
+-- the clause that refused spans break: where it is watched who lingers, what is told of that, else the turns
+abbrev pub clause_of_spans : Bool → Clause
+clause_of_spans watched = if watched then clauses.LingersTold else clauses.TurnsFollow
 
 -- after the last entry nothing waits: no purge, no area, no process
 pub record HasEnded (sweep : Sweep) : Type 0 where
   pub half : sweep.half ≡ None
   pub retired : sweep.server.retired ≡ []
   pub ended : All (λ standing. standing.ended ≡ true) sweep.standings.items
+
+-- something still waits after the last entry, and so a clause does not hold
+abbrev pub IsLeft : Sweep → Clause → Type 0
+IsLeft sweep clauses.LoadersInOrder = sweep.half ≡ None → ⊥
+IsLeft sweep clauses.NothingRetired = sweep.server.retired ≡ [] → ⊥
+IsLeft sweep clauses.TurnsFollow = All (λ standing. standing.ended ≡ true) sweep.standings.items → ⊥
+IsLeft sweep _ = ⊥
+
+-- the clause that an entry breaks where what its command tells of the processes is not so
+abbrev pub told_by : Cmd → Clause
+told_by (cmds.SoftPurge name (Some linger)) = clauses.LingersTold
+told_by (cmds.Release serial) = clauses.ReleasedUnnamed
+told_by _ = clauses.PurgedUnnamed

@@ -1,12 +1,12 @@
-ghost use Rattle.std.specs.Prelude.{◌≡◌, ◌<◌, ◌↔◌, true, false, length, All, IfOk, IsTrue};
+ghost use Rattle.std.specs.Prelude.{◌≡◌, ◌<◌, ◌↔◌, true, false, length, None, IfOk, IfSome, IsTrue};
 ghost use Rattle.server_core.specs.CommandTable.{AreTexts, IsOfText};
 ghost use Rattle.script_core.specs.Sound.{IsScript};
-ghost use Rattle.run_log.specs.Legal.{EntryFollows, Legal, is_release, is_runtime};
-ghost use Rattle.span_check.specs.Standings.{HasItsNames};
-ghost use Rattle.legality.specs.Looks.{AreKilled};
+ghost use Rattle.run_log.specs.Legal.{EntryFollows, is_release, is_runtime};
+ghost use Rattle.legality.specs.Breaches.{IsBroken};
 ghost use Rattle.legality.specs.Shape.{IsShaped};
-ghost use Rattle.legality.specs.Sweeps.{AfterPlace, HasFollowed, IsKnown, IsSwept, MayBeMade};
+ghost use Rattle.legality.specs.Sweeps.{AfterPlace, HasFollowed, IsKnown, IsSwept, told_by};
 
+use crate::breach::Clause;
 use crate::halves::{half_after, may_stand};
 use crate::known::Known;
 use crate::looks::is_told;
@@ -18,48 +18,57 @@ use script_core::Script;
 use server_core::{Applied, ApplyFault, Cmd, Server};
 use term_core::NoMemory;
 
-/// Makes the next entry of the journal. Answers whether it is lawful beside those before it.
+/// Makes the next entry of the journal. Answers the clause that it breaks beside those before it, if it breaks one.
 pub fn make_entry(
     script: &Script,
     log: &RunLog,
     known: &Known,
     place: usize,
     sweep: &mut Sweep,
-) -> Result<bool, NoMemory>
+) -> Result<Option<Clause>, NoMemory>
     requires script { IsScript script.now }
     requires shaped { IsShaped script.now log.now }
     requires known { IsKnown script.now log.now known.now }
-    requires swept { IsSwept script.now log.now place sweep.old }
+    requires swept { IsSwept script.now log.now known.now.watched place sweep.old }
     requires there { place < length log.now.journal }
-    ensures on { IfOk result (λ yes. yes ≡ true → AfterPlace script.now log.now place sweep.new) }
-    ensures off { IfOk result (λ yes. yes ≡ false → Legal script.now log.now → ⊥) }
+    ensures on { IfOk result (λ broken. broken ≡ None → AfterPlace script.now log.now known.now.watched place sweep.new) }
+    ensures off { IfOk result (λ broken. IfSome broken (IsBroken known.now.watched script.now log.now)) }
 {
     let entry = &log.journal.as_slice()[place];
-    if !is_lawful(log, known, entry, sweep) {
-        return Ok(false);
+    if !is_by_whom(entry) {
+        return Ok(Some(Clause::Replays));
+    }
+    if !may_stand(&sweep.server, sweep.half, entry) {
+        return Ok(Some(Clause::LoadersInOrder));
+    }
+    if !is_told(
+        &sweep.server,
+        &sweep.standings,
+        &log.processes,
+        &known.killed,
+        &entry.cmd,
+    ) {
+        return Ok(Some(told_by(&entry.cmd)));
     }
     if !follow(entry, &script.modules, &mut sweep.server)? {
-        return Ok(false);
+        return Ok(Some(Clause::Replays));
     }
     sweep.half = half_after(sweep.half, entry);
-    Ok(true)
+    Ok(None)
 }
 
-/// Whether the entry is made by whom it may be, stands where it may, and tells the truth of the processes.
-fn is_lawful(log: &RunLog, known: &Known, entry: &Entry, sweep: &Sweep) -> bool
-    requires named { All HasItsNames sweep.now.standings.items }
-    requires killed { AreKilled known.now.killed log.now.processes }
-    ensures { IsTrue result ↔ MayBeMade sweep.now log.now.processes entry.now }
+/// The clause that an entry breaks where what its command tells of the processes is not so.
+fn told_by(cmd: &Cmd) -> Clause
+    ensures { result ≡ told_by cmd.now }
 {
-    is_by_whom(entry)
-        && may_stand(&sweep.server, sweep.half, entry)
-        && is_told(
-            &sweep.server,
-            &sweep.standings,
-            &log.processes,
-            &known.killed,
-            &entry.cmd,
-        )
+    match cmd {
+        Cmd::SoftPurge {
+            lingers: Some(_),
+            ..
+        } => Clause::LingersTold,
+        Cmd::Release(_) => Clause::ReleasedUnnamed,
+        _ => Clause::PurgedUnnamed,
+    }
 }
 
 /// Whether the entry is made by whom it may be: the runtime makes releases, and nobody else does.

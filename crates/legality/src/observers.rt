@@ -5,7 +5,9 @@ ghost use Rattle.run_log.specs.ExportedFunctions.{AreExportedFunctions};
 ghost use Rattle.run_log.specs.InstanceTexts.{AreOfTexts};
 ghost use Rattle.legality.specs.Observers.{AreShotsJudged, SeesSo};
 
-use run_log::{ExportList, MfaList, Snapshot, SnapshotList, exports_of};
+use crate::breach::Place;
+use crate::sweep::Sweep;
+use run_log::{ExportList, MfaList, RunLog, Snapshot, SnapshotList, exports_of};
 use script_core::Script;
 use server_core::Server;
 use std::alloc::Global;
@@ -90,4 +92,28 @@ fn are_same(exports: &ExportList, others: &ExportList) -> bool
     ensures { IsTrue result ↔ (exports.now ≡ others.now) }
 {
     exports.as_slice() == others.as_slice()
+}
+
+/// The first snapshot of the newest generation that was not seen as a true one, where one was found that is not.
+pub fn first_unseen(log: &RunLog, sweep: &Sweep) -> Place {
+    let generation = sweep.server.generation();
+    for (observer, shots) in log.observers.as_slice().iter().enumerate() {
+        if let Some(snapshot) = sweep.seen.get(observer) {
+            if is_of(shots, *snapshot, generation) {
+                return Place::Snapshot {
+                    observer,
+                    snapshot: *snapshot,
+                };
+            }
+        }
+    }
+    Place::Whole
+}
+
+/// Whether there is a snapshot at the place, and it is of the generation.
+fn is_of(shots: &SnapshotList, place: usize, generation: u64) -> bool {
+    match shots.get(place) {
+        Some(shot) => shot.generation == generation,
+        None => false,
+    }
 }

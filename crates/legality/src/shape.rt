@@ -11,10 +11,12 @@ mod snapshots;
 mod spans;
 mod spawns;
 
-ghost use Rattle.std.specs.Prelude.{◌↔◌, IsTrue};
+ghost use Rattle.std.specs.Prelude.{◌≡◌, IfSome, None};
 ghost use Rattle.script_core.specs.Sound.{IsScript};
+ghost use Rattle.legality.specs.Breaches.{ClauseHolds};
 ghost use Rattle.legality.specs.Shape.{IsShaped};
 
+use crate::breach::Clause;
 pub use completeness::is_complete;
 pub use kills::{is_killed, killed_serials};
 pub use order::has_commands_in_order;
@@ -24,19 +26,26 @@ pub use snapshots::snapshots_fit;
 pub use spans::spans_rise;
 pub use spawns::spawns_come_first;
 
-/// Whether the log has what needs no run.
-pub fn is_shaped(script: &Script, log: &RunLog) -> bool
+/// The clause that the log breaks in what needs no run, if it breaks one there.
+pub fn broken_shape(script: &Script, log: &RunLog) -> Option<Clause>
     requires { IsScript script.now }
-    ensures { IsTrue result ↔ IsShaped script.now log.now }
+    ensures shaped { result ≡ None → IsShaped script.now log.now }
+    ensures broken { IfSome result (λ clause. ClauseHolds clause script.now log.now → ⊥) }
 {
     if !is_complete(script, log) {
-        return false;
+        return Some(Clause::Complete);
     }
     if !has_commands_in_order(script, log) {
-        return false;
+        return Some(Clause::LoadersInOrder);
     }
     if !spawns_come_first(script, log) {
-        return false;
+        return Some(Clause::SpawnBeforeTurns);
     }
-    snapshots_fit(script, log) && spans_rise(log)
+    if !snapshots_fit(script, log) {
+        return Some(Clause::SnapshotsTrue);
+    }
+    if !spans_rise(log) {
+        return Some(Clause::TurnsFollow);
+    }
+    None
 }

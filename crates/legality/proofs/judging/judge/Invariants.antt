@@ -1,5 +1,0 @@
-use Rattle.legality.specs.Sweeps.{IsSwept}
-use Rattle.legality.proofs.judging.judge.Given as goal
-
-abbrev pub invariant-loop-place : goal.invariant-loop-place
-invariant-loop-place l = IsSwept l.script l.log l.place l.sweep
