@@ -119,6 +119,12 @@ impl SerialHistory {
         }
     }
 
+    pub fn as_slice(&self) -> &[u64]
+        ensures { result.now ≡ self.now }
+    {
+        self.serials.as_slice()
+    }
+
     /// The memory for one more.
     pub fn room(&self, alloc: Global) -> Result<Option<Vec<u64>>, NoMemory>
         ensures { IfOk result (λ block. HasRoom (length self.now) 1 block) }
