@@ -51,3 +51,4 @@ pub mod GenerationExports
 pub mod GenerationKeys
 pub mod GenerationTurns
 pub mod GenerationLiterals
+pub mod GenerationProcesses

@@ -1,15 +1,20 @@
 -- What holds between a sound state of the server and its generation in plain numbers, for any numbers of names that list what current instances export.
 -- Source: erts internal documentation, CodeLoading; that one turn serves both kinds of state is this project's own.
-use Rattle.std.specs.Prelude.{◌≡◌, ◌↔◌, ℕ, false, List, [], ◌∷◌, option_map}
+use Rattle.std.specs.Prelude.{◌≡◌, ◌↔◌, ℕ, false, All, List, [], ◌∷◌, option_map}
 use Rattle.term_core.specs.declared.atom.Mfa.{Mfa}
 use Rattle.server_core.specs.Generations.{AreNumbered, function_ref, generation_of}
 use Rattle.server_core.specs.ServerState.{IsSound, ServerState, dispatch_of, is_serial_in}
+use Rattle.machine_core.specs.declared.process.Frame.{Frame}
 use Rattle.machine_core.specs.declared.process.LitRef.{LitRef}
+use Rattle.machine_core.specs.declared.process.Process.{Process}
+use Rattle.machine_core.specs.declared.process.Value.{Value}
+use Rattle.machine_core.specs.declared.process.Value.TheVariants.{Owned, Literal}
 use Rattle.machine_core.specs.GenerationReads.{exported, found_held, holding_among, reads_in, shown_in, words_in}
-use Rattle.machine_core.specs.Process.{PlainFrame, PlainProcess}
+use Rattle.machine_core.specs.Holds.{Holds}
+use Rattle.machine_core.specs.Process.{PlainFrame, PlainProcess, process_of}
 use Rattle.machine_core.specs.Reads.{dispatched, found_of}
 use Rattle.machine_core.specs.ServerReads.{key_value, reads_of}
-use Rattle.machine_core.specs.Turn.{ArePlaced, held_after, turn_by, turn_of}
+use Rattle.machine_core.specs.Turn.{ArePlaced, MayTurn, held_after, turn_by, turn_of}
 use Rattle.machine_core.specs.View.{IsLawful, IsLiteral, server_words, shown_of}
 
 -- a law of each sound state with numbers of names for what its current instances export
@@ -78,3 +83,28 @@ pub record IsTurnOfState (names : List Mfa) (s : ServerState) (p : PlainProcess)
 -- so is each turn of a process that stands at places of the generation
 abbrev pub TurnsAgree : List Mfa → ServerState → Type 0
 TurnsAgree names s = (p : PlainProcess) → ArePlaced (reads_in names (generation_of names s)) p.frames → IsTurnOfState names s p
+
+-- the area of a literal is not released
+abbrev pub IsKeptValue : ServerState → Value → Type 0
+IsKeptValue s (Owned term) = Unit {0}
+IsKeptValue s (Literal at) = is_serial_in s.released at.area.serial ≡ false
+
+-- neither the instance of a frame nor the area of one of its literals is released
+pub record HasKept (s : ServerState) (f : Frame) : Type 0 where
+  pub instance : is_serial_in s.released f.code.area.serial ≡ false
+  pub values : All (IsKeptValue s) f.registers
+
+-- so it is with each frame of a process: it names no area that is released
+abbrev pub NamesKept : ServerState → Process → Type 0
+NamesKept s p = All (HasKept s) p.frames
+
+-- the code's process by a generation
+pub record IsProcessOfState (names : List Mfa) (s : ServerState) (p : Process) : Type 0 where
+  -- it stands for the process that it is by the state
+  pub process : process_of (words_in (generation_of names s)) p ≡ process_of (server_words s) p
+  -- and may have a turn exactly where it may have one by the state
+  pub ready : (held : Holds) → MayTurn (shown_in names (generation_of names s)) held p ↔ MayTurn (shown_of s) held p
+
+-- so is each process that names no area which is released
+abbrev pub ProcessesAgree : List Mfa → ServerState → Type 0
+ProcessesAgree names s = (p : Process) → NamesKept s p → IsProcessOfState names s p

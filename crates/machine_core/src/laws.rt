@@ -1,6 +1,6 @@
 //! What holds of every sound state of the server and its generation in plain numbers.
 
-ghost use Rattle.machine_core.specs.GenerationLaws.{AreasAgree, CallsReachSame, IsLawfulGeneration, KeysHoldSame, LiteralsAgree, OfEachState, PlacesAgree, TurnsAgree};
+ghost use Rattle.machine_core.specs.GenerationLaws.{AreasAgree, CallsReachSame, IsLawfulGeneration, KeysHoldSame, LiteralsAgree, OfEachState, PlacesAgree, ProcessesAgree, TurnsAgree};
 
 /// A view that shows the generation of a sound state, with the images of its areas, is lawful.
 pub fn generations_are_lawful()
@@ -30,6 +30,11 @@ pub fn literals_are_those_of_states()
 /// Frames stand at places by a generation exactly where they do by its state, in instances that are not released.
 pub fn places_are_those_of_states()
     ensures { OfEachState PlacesAgree }
+{}
+
+/// A process that names no area which is released stands by a generation for what it is by its state, and may have a turn by the one exactly where by the other.
+pub fn processes_are_those_of_states()
+    ensures { OfEachState ProcessesAgree }
 {}
 
 /// A turn by the generation of a sound state is the turn under that state, for every process that stands at

@@ -31,7 +31,7 @@ mod view;
 pub use laws::{
     generations_are_lawful, generations_have_the_areas, generations_hold_the_same,
     generations_reach_the_same, literals_are_those_of_states, places_are_those_of_states,
-    turns_are_those_of_states,
+    processes_are_those_of_states, turns_are_those_of_states,
 };
 pub use machine::turn;
 pub use plain::PlainView;
