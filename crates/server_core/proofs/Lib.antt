@@ -11,3 +11,4 @@ pub mod MovedMaps
 pub mod SoundParts
 pub mod Soundness
 pub mod Traced
+pub mod Waiting
