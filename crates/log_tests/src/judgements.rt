@@ -1,4 +1,4 @@
-use legality::legal;
+use legality::{Clause, first_breach, legal};
 use machine_core::{End, Line, LineList};
 use run_log::{
     Entry, EntryList, ObserverList, ProcessLog, ProcessLogList, RunLog, Span, SpanList, Who,
@@ -154,6 +154,37 @@ fn is_lawful(
     Ok(Some(legal(alloc, &script, &log)?))
 }
 
+/// The clause that the log is found to break, or none where it is lawful. None where the text is no script.
+fn broken(
+    alloc: Global,
+    text: &str,
+    journal: Journal,
+    processes: ProcessLogList,
+) -> Result<Option<Option<Clause>>, NoMemory> {
+    let Ok(script) = read_script(alloc, text.as_bytes()) else {
+        return Ok(None);
+    };
+    let log = RunLog {
+        journal: journal.entries,
+        processes,
+        observers: ObserverList::new(alloc),
+    };
+    match first_breach(alloc, &script, &log)? {
+        Some(breach) => Ok(Some(Some(breach.clause))),
+        None => Ok(Some(None)),
+    }
+}
+
+/// The journal of a process whose code is replaced before the flag is put.
+fn replaced(alloc: Global, main: Mfa) -> Result<Journal, NoMemory> {
+    let mut journal = Journal::new(alloc);
+    journal.loaded(&[(FIRST, 1)], 1)?;
+    journal.spawned(main)?;
+    journal.loaded(&[(FIRST, 2)], 2)?;
+    journal.put(THIRD, Term::Int(1), 3)?;
+    Ok(journal)
+}
+
 #[test]
 fn external_calls_go_to_current_code(rt: HostRuntime) -> Result<(), Fail> {
     let alloc = rt.alloc();
@@ -164,14 +195,28 @@ fn external_calls_go_to_current_code(rt: HostRuntime) -> Result<(), Fail> {
         (&[3, 1], 2, false),
     ];
     for (generations, number, is) in cases {
-        let mut journal = Journal::new(alloc);
-        journal.loaded(&[(FIRST, 1)], 1)?;
-        journal.spawned(main)?;
-        journal.loaded(&[(FIRST, 2)], 2)?;
-        journal.put(THIRD, Term::Int(1), 3)?;
+        let journal = replaced(alloc, main)?;
         let lines = printed(alloc, &[number])?;
         let processes = one_process(alloc, main, generations, lines, End::Normal)?;
         assert!(rt; is_lawful(alloc, REPLACED, journal, processes)? == Some(is));
+    }
+    Ok(())
+}
+
+#[test]
+fn the_broken_clause_is_named(rt: HostRuntime) -> Result<(), Fail> {
+    let alloc = rt.alloc();
+    let main = function(FIRST, SECOND);
+    let cases: [(&[u64], Option<Clause>); 3] = [
+        (&[1, 3], None),
+        (&[3, 1], Some(Clause::TurnsFollow)),
+        (&[1, 4], Some(Clause::Complete)),
+    ];
+    for (generations, clause) in cases {
+        let journal = replaced(alloc, main)?;
+        let lines = printed(alloc, &[2])?;
+        let processes = one_process(alloc, main, generations, lines, End::Normal)?;
+        assert!(rt; broken(alloc, REPLACED, journal, processes)? == Some(clause));
     }
     Ok(())
 }
