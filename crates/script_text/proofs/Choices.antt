@@ -1,5 +1,5 @@
 -- Steps that may fail, tests of numbers by a bound, and words in front of a text.
-use Rattle.std.proofs.Common.{◌≡◌, ℕ, ◌+◌, ◌≤◌, true, false, nat_lt, List, Option, Some, Result, Ok, bytes_eq, sym, ap, ◌∙◌, arith}
+use Rattle.std.proofs.Common.{◌≡◌, ℕ, ◌+◌, ◌≤◌, true, false, nat_lt, List, Some, Result, Ok, bytes_eq, sym, ap, ◌∙◌, arith}
 use Rattle.std.proofs.lemmas.Bool.Decides.{nat_tests}
 use Rattle.term_core.specs.Text.Cuts.{cut_at}
 use Rattle.term_core.proofs.Text.Options.{some_is, same_bytes}

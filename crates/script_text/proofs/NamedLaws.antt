@@ -6,7 +6,7 @@ use Rattle.term_core.specs.Text.Numbers.{is_number_text}
 use Rattle.mod_text.specs.ModuleLine.{parted_by, spaced, function_written, is_arity_text, is_function_form}
 use Rattle.term_core.specs.Text.Steps.{◌>>=◌, tested, numbered_reading}
 use Rattle.term_core.specs.Text.Cuts.{cut_at}
-use Rattle.term_core.proofs.Text.Options.{some, some_is, bind_some, bind_at, bytes_are, same_bytes, tested_is, tested_at}
+use Rattle.term_core.proofs.Text.Options.{some, some_is, bind_some, bind_at, bytes_are, tested_is, tested_at}
 use Rattle.term_core.proofs.Text.Cuts.{lacks, lacks-append, lacks-cons, cut_here, cut_is, atom_lacks, number_lacks}
 use Rattle.script_text.specs.ScriptLine.{AtomCommand, delete, soft_purge, purge, check_old, erase, on_atom, trace, command_word, trace_written, is_script_line, IsLine}
 use Rattle.script_text.specs.LineReading.{command_reading, TraceForm, trace_reading}

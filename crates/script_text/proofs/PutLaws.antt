@@ -6,7 +6,7 @@ use Rattle.term_core.specs.Written.{WrittenTerm, written}
 use Rattle.term_core.specs.Text.Steps.{◌>>=◌ as ◌>>?◌, tested}
 use Rattle.term_core.specs.Text.Cuts.{cut_at}
 use Rattle.mod_text.specs.ModuleLine.{spaced}
-use Rattle.term_core.proofs.Text.Options.{some, some_is, bind_some, bind_at, same_bytes, tested_is, tested_at}
+use Rattle.term_core.proofs.Text.Options.{some, some_is, bind_some, bind_at, tested_is, tested_at}
 use Rattle.term_core.proofs.Text.Cuts.{cut_here, cut_is, atom_lacks}
 use Rattle.script_text.specs.declared.reading.cause.LineCause.{LineCause}
 use Rattle.script_text.specs.declared.reading.cause.LineCause.TheVariants as causes
