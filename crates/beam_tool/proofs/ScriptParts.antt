@@ -10,9 +10,9 @@ use Rattle.script_core.specs.declared.script.Script.{Script}
 use Rattle.script_text.specs.ScriptLine.{ScriptLine, go, script_line_written, is_script_line}
 use Rattle.script_text.specs.LineFaults.{last_of, line_fault}
 use Rattle.script_text.specs.ScriptText.{ScriptText, HaveNoFault}
-use Rattle.script_text.specs.TextLines.{lines_of, lines_joined}
+use Rattle.term_core.specs.Text.Parts.{lines_of, lines_joined}
 use Rattle.script_text.proofs.GrownLines.{last_of-snoc}
-use Rattle.script_text.proofs.LinesJoined.{ended_lack}
+use Rattle.term_core.proofs.Text.Parts.{ended_lack}
 use Rattle.script_text.proofs.OneLine.{one_line}
 use Rattle.beam_tool.specs.Parting.{lines_to_go, script_part, report_part}
 

@@ -1,7 +1,7 @@
 -- How the input of a check is parted: a script's text stands first, and a report behind it.
 -- Source: this project's command line. The definition takes the lines of the whole input; the code goes over its bytes once.
 use Rattle.std.specs.Prelude.{ℕ, List, [], ◌∷◌, length, drop, Option, Some, None, option_map, unwrap_or, bytes_eq, codes, if◌then◌else◌}
-use Rattle.script_text.specs.TextLines.{lines_of, lines_joined}
+use Rattle.term_core.specs.Text.Parts.{lines_of, lines_joined}
 
 -- the lines up to the first that is `go`, and with it, if there is one
 abbrev pub lines_to_go : List (List ℕ) → Option (List (List ℕ))

@@ -17,17 +17,19 @@ use Rattle.term_core.specs.Text.Steps.{◌>>=◌}
 use Rattle.term_core.specs.Text.Cuts.{cut_at}
 use Rattle.term_core.proofs.Text.Options.{some, some_is, bind_some, bind_at}
 use Rattle.term_core.proofs.Text.Cuts.{lacks, lacks-append, lacks-cons, cut_here, cut_is}
-use Rattle.script_text.specs.LineReading.{parts_of, each_reading, switch_reading}
+use Rattle.term_core.specs.Text.Parts.{parts_of, each_reading}
+use Rattle.term_core.specs.Text.Words.{switch_word, switch_reading}
+use Rattle.term_core.proofs.Text.Words.{switch_is, switch_again}
 use Rattle.script_core.specs.Sound.{IsTermOf}
-use Rattle.script_text.proofs.CommandLaws.{join-flat}
 use Rattle.run_log.specs.Report.{mfa_text, plain_text, call_text, reference_text, switch_text, cmd_text}
 use Rattle.run_log.specs.WellFormed.{IsNamed, IsReferenceOf, IsCommandOf}
-use Rattle.report_text.specs.WordReading.{atom_reading, version_reading, number_reading}
+use Rattle.term_core.specs.Text.Words.{number_reading}
+use Rattle.report_text.specs.WordReading.{atom_reading, version_reading}
 use Rattle.report_text.specs.TermReading.{plain_reading, function_reading, call_reading}
 use Rattle.report_text.specs.CommandReading.{reference_reading, load_reading, put_reading, trace_reading, spawn_reading, release_reading, atom_command, on_atom_reading, worded_command, command_reading}
 use Rattle.report_text.proofs.Pairs.{two_at, two_is, by_word}
 use Rattle.report_text.proofs.WordLaws.{atom_again, atom_is, named_lacks, version_again, version_is, number_again, number_is, decimal_lacks, digit_apart}
-use Rattle.report_text.proofs.Items.{IsItem, joined_again, joined_is, AreJoined}
+use Rattle.term_core.proofs.Text.Items.{IsItem, joined_again, joined_is, AreJoined, join-flat}
 use Rattle.report_text.proofs.TermLaws.{call_of, plain_again, plain_is, function_again, function_is, function_lacks, call_again, call_is}
 
 -- a command as it is read before its reply: none lingers and none was killed
@@ -109,17 +111,15 @@ put_is names sound text c e =
       bare_is = refl;
     })
 
-on_text : (text : List ℕ) (on : Bool) → switch_reading text ≡ Some on → text ≡ switch_text on
-on_text text on e =
-    by_word text (codes "on") (some true) _ on e
-    (λ named is. named ∙ ap switch_text (some_is true on is))
-    (λ later. by_word text (codes "off") (some false) None on later (λ named is. named ∙ ap switch_text (some_is false on is)) (λ no. absurd cc))
+same_switch : (on : Bool) → switch_word on ≡ switch_text on
+same_switch true = refl
+same_switch false = refl
 
 trace_is : (names : List (List ℕ)) → IsNames names → (text : List ℕ) (c : Cmd) → trace_reading names text ≡ Some c → IsCommandText names (codes "trace " ++ text) c
 trace_is names sound text c e =
     let t = two_is (cut_at 32 text) (function_reading names) switch_reading (λ (to : Mfa) (on : Bool). Trace to on) c e in
     let f = function_is names sound t.cut.0 t.a t.front_is in
-    let s = on_text t.cut.1 t.b t.behind_is in
+    let s = switch_is t.cut.1 t.b t.behind_is ∙ same_switch t.b in
     let whole : text ≡ mfa_text names t.a ++ 32 ∷ switch_text t.b = (cut_is 32 text t.cut t.sides_are).whole ∙ ap (λ (x : List ℕ). x ++ 32 ∷ t.cut.1) f.text_is ∙ ap (λ (x : List ℕ). mfa_text names t.a ++ 32 ∷ x) s in
     subst (IsCommandText names (codes "trace " ++ text)) t.made_is (record { text_is = ap (λ (x : List ℕ). codes "trace " ++ x) whole; fits = f.fits; bare_is = refl })
 
@@ -191,17 +191,13 @@ put_again names sound key term h =
     (plain_again names (plain term) sound h.is_term)
     ∙ ap (λ t. some (Put key t)) (term_of-plain term)
 
-switch_again : (on : Bool) → switch_reading (switch_text on) ≡ Some on
-switch_again true = refl
-switch_again false = refl
-
 trace_again : (names : List (List ℕ)) → IsNames names → (to : Mfa) (on : Bool) → IsCommandOf names (Trace to on) → command_reading names (cmd_text names (Trace to on)) ≡ Some (Trace to on)
 trace_again names sound to on h =
     ap (λ (x : List ℕ). command_reading names x) (append_assoc (codes "trace ") (mfa_text names to) (32 ∷ switch_text on))
     ∙ two_at (cut_at 32 (mfa_text names to ++ 32 ∷ switch_text on)) (function_reading names) switch_reading (λ (f : Mfa) (b : Bool). Trace f b) (mfa_text names to, switch_text on) to on
     (cut_here 32 (mfa_text names to) (switch_text on) (function_lacks 32 names to sound refl refl refl h))
     (function_again names to sound h)
-    (switch_again on)
+    (ap switch_reading (sym (same_switch on)) ∙ switch_again on)
 
 name_again : (names : List (List ℕ)) → IsNames names → (word : List ℕ) (made : AtomId → Cmd) (a : AtomId) → IsNamed names a → (atom_reading names (atom_text names a.0) >>= λ b. Some (made b)) ≡ Some (made a)
 name_again names sound word made a h = bind_at (atom_reading names (atom_text names a.0)) (λ b. Some (made b)) a (some (made a)) (atom_again names a sound h) refl

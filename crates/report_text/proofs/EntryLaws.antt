@@ -15,7 +15,8 @@ use Rattle.run_log.specs.Report.{who_text, cmd_text, reply_text, published_text}
 use Rattle.run_log.specs.WellFormed.{IsWide, IsWhoOf, IsCommandOf, IsReplyOf, IsEntryOf}
 use Rattle.report_text.specs.declared.entry.Answer.{Answer}
 use Rattle.report_text.specs.declared.entry.Made.{Made}
-use Rattle.report_text.specs.WordReading.{cut_last, narrow_reading}
+use Rattle.term_core.specs.Text.Words.{narrow_reading}
+use Rattle.report_text.specs.WordReading.{cut_last}
 use Rattle.report_text.specs.TermReading.{ended_reading}
 use Rattle.report_text.specs.CommandReading.{command_reading}
 use Rattle.report_text.specs.ReplyReading.{reply_reading, published_reading, agreed}

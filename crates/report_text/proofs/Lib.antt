@@ -1,6 +1,5 @@
 pub mod Pairs
 pub mod WordLaws
-pub mod Items
 pub mod TermLaws
 pub mod CommandLaws
 pub mod ReplyLaws
@@ -9,7 +8,6 @@ pub mod EntryLaws
 pub mod LineLaws
 pub mod RenderedLines
 pub mod WholeLogs
-pub mod Parsed
 pub mod LastCuts
 pub mod ReadingLoops
 pub mod SoFar

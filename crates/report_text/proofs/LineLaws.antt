@@ -21,7 +21,7 @@ use Rattle.report_text.specs.declared.terms.Call.{Call}
 use Rattle.report_text.specs.declared.line.ReportLine.{ReportLine}
 use Rattle.report_text.specs.declared.line.ReportLine.TheVariants as lines
 use Rattle.report_text.specs.ReportLine.{line_text, IsReportLine, shown_line_text}
-use Rattle.report_text.specs.WordReading.{number_reading}
+use Rattle.term_core.specs.Text.Words.{number_reading}
 use Rattle.report_text.specs.TermReading.{plain_reading, function_reading, call_reading}
 use Rattle.report_text.specs.EntryReading.{entry_reading}
 use Rattle.report_text.specs.LineReading.{worded_end, longer_end, end_reading, process_reading, span_reading, export_reading, print_reading, trace_line_reading, numbered_line, number_line, plain_line, worded_line, longer_line, line_reading}

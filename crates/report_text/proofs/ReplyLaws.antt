@@ -17,15 +17,16 @@ use Rattle.term_core.specs.Text.Steps.{◌>>=◌}
 use Rattle.term_core.specs.Text.Cuts.{cut_at}
 use Rattle.term_core.proofs.Text.Options.{some, some_is, bind_some, bind_at, map_some}
 use Rattle.term_core.proofs.Text.Cuts.{lacks, cut_here, cut_is}
-use Rattle.script_text.specs.LineReading.{parts_of, each_reading}
+use Rattle.term_core.specs.Text.Parts.{parts_of, each_reading}
 use Rattle.run_log.specs.Report.{cmd_text, limit_text, reply_text, published_text}
 use Rattle.run_log.specs.WellFormed.{IsNamed, IsWide, IsLingerOf, IsReplyOf, IsCommandOf, Agrees}
-use Rattle.report_text.specs.WordReading.{atom_reading, narrow_reading, number_reading}
+use Rattle.term_core.specs.Text.Words.{narrow_reading, number_reading}
+use Rattle.report_text.specs.WordReading.{atom_reading}
 use Rattle.report_text.specs.TermReading.{ended_reading}
 use Rattle.report_text.specs.ReplyReading.{linger_reading, limit_reading, atoms_reading, closed_atoms, not_purged_reading, false_reading, duplicated_reading, system_limit_reading, worded_reply, longer_reply, reply_reading, published_reading, agreed}
 use Rattle.report_text.proofs.Pairs.{two_at, two_is, ended_is, by_word, nothing}
 use Rattle.report_text.proofs.WordLaws.{atom_again, atom_is, atom_is_text, named_lacks, narrow_again, narrow_is, narrow_wide, number_again, number_is, decimal_lacks}
-use Rattle.report_text.proofs.Items.{IsItem, joined_again, joined_is, joined_lacks}
+use Rattle.term_core.proofs.Text.Items.{IsItem, joined_again, joined_is, joined_lacks}
 use Rattle.report_text.proofs.CommandLaws.{bare}
 
 -- the text is that of this reply

@@ -16,7 +16,7 @@ use Rattle.machine_core.specs.declared.process.End.{End}
 use Rattle.machine_core.specs.declared.process.End.TheVariants.{Normal}
 use Rattle.term_core.specs.Text.Steps.{◌>>=◌}
 use Rattle.term_core.proofs.Text.Options.{some, some_is, bind_some, guarded, guard_some}
-use Rattle.script_text.proofs.SoundnessGroups.{each_append}
+use Rattle.term_core.proofs.Lists.{each_append, all_front}
 use Rattle.run_log.specs.declared.logs.Who.TheVariants.{Runtime}
 use Rattle.run_log.specs.declared.logs.Entry.{Entry}
 use Rattle.run_log.specs.declared.logs.Span.{Span}
@@ -34,7 +34,7 @@ use Rattle.report_text.specs.declared.state.Stage.TheVariants.{Head, Count, Entr
 use Rattle.report_text.specs.declared.state.ReportState.{ReportState}
 use Rattle.report_text.specs.ReportLine.{IsReportLine, span_lines, process_lines, processes_lines, export_line, snapshot_lines, observer_lines, observers_lines, log_lines}
 use Rattle.report_text.specs.ReportText.{AreCounted}
-use Rattle.report_text.specs.Taking.{at, empty_log, opening, count_after, with_entry, may_begin, begun, process_behind, spans_with, spans_closed, may_follow, with_line, shown_in, ended, with_process, shots_with, shots_closed, observers_closed, observer_behind, with_export, export_in, head_taken, count_taken, entry_taken, process_taken, span_taken, shown_taken, end_taken, observer_taken, snapshot_taken, export_taken, close_taken, taken}
+use Rattle.report_text.specs.Taking.{at, empty_log, opening, count_after, with_entry, may_begin, begun, process_behind, with_going, spans_closed, may_follow, with_line, shown_in, ended, with_process, shots_closed, observers_closed, observer_behind, with_export, export_in, head_taken, count_taken, entry_taken, process_taken, span_taken, shown_taken, end_taken, observer_taken, snapshot_taken, export_taken, close_taken, taken}
 
 -- ---- the lines so far
 
@@ -55,7 +55,7 @@ with_observers log more = with_processes log (observers_lines 0 log.observers ++
 
 -- the lines of a process that has not ended
 abbrev begun_lines : ℕ → ProcessLog → Option Span → List ReportLine
-begun_lines number process going = lines.Process number process.target process.args ∷ flat_map span_lines (spans_with process.spans going)
+begun_lines number process going = lines.Process number process.target process.args ∷ flat_map span_lines (with_going process.spans going)
 
 -- the lines that were taken
 abbrev stage_lines : RunLog → Stage → List ReportLine
@@ -64,7 +64,7 @@ stage_lines log Count = lines.Head ∷ []
 stage_lines log (Entries left) = headed (published_count log.journal + left) (entry_lines log.journal)
 stage_lines log Processes = with_processes log []
 stage_lines log (Process process going) = with_processes log (begun_lines (length log.processes) process going)
-stage_lines log (Observer shots going) = with_observers log (observer_lines (length log.observers) (shots_with shots going))
+stage_lines log (Observer shots going) = with_observers log (observer_lines (length log.observers) (with_going shots going))
 stage_lines log Done = log_lines log
 
 abbrev pub so_far : ReportState → List ReportLine
@@ -105,7 +105,7 @@ pub record InProcess (names : List (List ℕ)) (log : RunLog) (process : Process
 -- in an observer
 pub record InObserver (names : List (List ℕ)) (log : RunLog) (shots : List Snapshot) (going : Option Snapshot) : Type 0 where
   good : IsGood names log
-  shots_are : AllByRecursion (IsSnapshotOf names) (shots_with shots going)
+  shots_are : AllByRecursion (IsSnapshotOf names) (with_going shots going)
   room : length log.observers < 2 ^ 64
 
 abbrev StageStands : List (List ℕ) → RunLog → Stage → Type 0
@@ -133,10 +133,6 @@ no_state next e = absurd cc
 
 all_more : {X : Type 0} (P : X → Type 0) (xs : List X) (x : X) → AllByRecursion P xs → P x → AllByRecursion P (xs ++ x ∷ [])
 all_more P xs x h k = each_append P xs (x ∷ []) h (k, tt)
-
-pub all_front : {X : Type 0} (P : X → Type 0) (xs ys : List X) → AllByRecursion P (xs ++ ys) → AllByRecursion P xs
-all_front P [] ys h = tt
-all_front P (x ∷ xs) ys h = (h.0, all_front P xs ys h.1)
 
 all_last : {X : Type 0} (P : X → Type 0) (xs : List X) (x : X) → AllByRecursion P (xs ++ x ∷ []) → P x
 all_last P [] x h = h.0
@@ -317,13 +313,13 @@ follows_is (Some span) generation turns h =
     record { some = positive turns p.0; apart = not_same span.generation generation p.1 }
 
 -- spans that are apart, with one that follows
-spans_apart : (spans : List Span) (going : Option Span) (next : Span) → IsFirst spans going → AreApart (spans_with spans going) → IfSome going (λ span. span.generation ≢ next.generation) → AreApart (spans_with spans going ++ next ∷ [])
+spans_apart : (spans : List Span) (going : Option Span) (next : Span) → IsFirst spans going → AreApart (with_going spans going) → IfSome going (λ span. span.generation ≢ next.generation) → AreApart (with_going spans going ++ next ∷ [])
 spans_apart spans None next first h k = subst (λ ss. AreApart (ss ++ next ∷ [])) (sym first) (tt, tt)
 spans_apart spans (Some span) next first h k = apart_more (spans ++ span ∷ []) next h (subst (λ o. IfSome o (λ g. g ≢ next.generation)) (sym (last_is spans span)) k)
 
 span_begins : (names : List (List ℕ)) (log : RunLog) (process : ProcessLog) (going : Option Span) (span : Span) → span.lines ≡ [] → InProcess names log process going → IsWide span.generation → IsWide span.turns → Follows going span.generation span.turns → IsTaken names (at log (Process process going)) (lines.Span span.generation span.turns) (at log (Process (spans_closed process going) (Some span)))
 span_begins names log process going span bare h g t f =
-    let all = spans_with process.spans going in
+    let all = with_going process.spans going in
     record {
       stands = record {
         good = h.good;
@@ -427,7 +423,7 @@ processes_done names log stage h = record {
 
 observer_done : (names : List (List ℕ)) (log : RunLog) (shots : List Snapshot) (going : Option Snapshot) → InObserver names log shots going → IsClosed names log (Observer shots going) (shots_closed log shots going)
 observer_done names log shots going h =
-    let all = shots_with shots going in
+    let all = with_going shots going in
     let longer = length-append log.observers (all ∷ []) in
     record {
       good = record {
@@ -462,9 +458,9 @@ observer_is names log stage number next h wide e =
     let g = guard_some (number == length m.0.observers) (at m.0 (Observer [] None)) next m.2 in
     subst (IsTaken names (at log stage) (lines.Observer number)) g.1 (observer_begins names log stage m.0 number (closed_is names log stage m.0 h m.1) wide ((Decides-eqb number (length m.0.observers)).0 g.0))
 
-snapshot_begins : (names : List (List ℕ)) (log : RunLog) (shots : List Snapshot) (going : Option Snapshot) (shot : Snapshot) → shot.exports ≡ [] → InObserver names log shots going → IsWide shot.generation → IsTaken names (at log (Observer shots going)) (lines.Snapshot shot.generation) (at log (Observer (shots_with shots going) (Some shot)))
+snapshot_begins : (names : List (List ℕ)) (log : RunLog) (shots : List Snapshot) (going : Option Snapshot) (shot : Snapshot) → shot.exports ≡ [] → InObserver names log shots going → IsWide shot.generation → IsTaken names (at log (Observer shots going)) (lines.Snapshot shot.generation) (at log (Observer (with_going shots going) (Some shot)))
 snapshot_begins names log shots going shot bare h g =
-    let all = shots_with shots going in
+    let all = with_going shots going in
     record {
       stands = record { good = h.good; shots_are = all_more (IsSnapshotOf names) all shot h.shots_are (record { generation = g; exports = subst (AllByRecursion (IsExportOf names)) (sym bare) tt }); room = h.room };
       lines_are = ap (λ ls. with_observers log (lines.Observer (length log.observers) ∷ ls)) (flat_more snapshot_lines all shot (lines.Snapshot shot.generation) (ap (λ es. lines.Snapshot shot.generation ∷ map export_line es) bare))
@@ -474,7 +470,7 @@ snapshot_begins names log shots going shot bare h g =
 snapshot_is : (names : List (List ℕ)) (log : RunLog) (stage : Stage) (generation : ℕ) (next : ReportState) → StageStands names log stage → IsWide generation → snapshot_taken log stage generation ≡ Some next → IsTaken names (at log stage) (lines.Snapshot generation) next
 snapshot_is names log (Observer shots going) generation next h g e =
     let shot : Snapshot = record { generation = generation; exports = [] } in
-    subst (IsTaken names (at log (Observer shots going)) (lines.Snapshot generation)) (some_is (at log (Observer (shots_with shots going) (Some shot))) next e) (snapshot_begins names log shots going shot refl h g)
+    subst (IsTaken names (at log (Observer shots going)) (lines.Snapshot generation)) (some_is (at log (Observer (with_going shots going) (Some shot))) next e) (snapshot_begins names log shots going shot refl h g)
 snapshot_is names log stage generation next h g e = no_state next e
 
 snapshot_lines-more : (shot : Snapshot) (function : Mfa) (serial : ℕ) → snapshot_lines (with_export shot function serial) ≡ snapshot_lines shot ++ lines.Export function serial ∷ []

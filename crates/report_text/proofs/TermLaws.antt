@@ -28,7 +28,7 @@ use Rattle.term_core.proofs.WrittenTokens.{RowHasLeafTexts}
 use Rattle.term_core.specs.Text.Cuts.{cut_at}
 use Rattle.term_core.proofs.Text.Options.{some, some_is, bind_some, bind_at, guard_some, guarded, passed, same_bytes, bytes_are}
 use Rattle.term_core.proofs.Text.Cuts.{lacks, lacks-all, lacks-append, lacks-cons, cut_here, cut_is}
-use Rattle.script_text.specs.LineReading.{each_reading}
+use Rattle.term_core.specs.Text.Parts.{each_reading}
 use Rattle.script_core.specs.Sound.{IsTermOf}
 use Rattle.run_log.specs.Report.{mfa_text, plain_text, call_text}
 use Rattle.run_log.specs.WellFormed.{IsFunctionOf, IsCallOf}
@@ -37,7 +37,7 @@ use Rattle.report_text.specs.WordReading.{atom_reading, arity_reading}
 use Rattle.report_text.specs.TermReading.{is_short_text, named_term, plain_reading, some_terms, terms_reading, ended_reading, closed_reading, arity_part, function_reading, arguments_part, call_reading}
 use Rattle.report_text.proofs.Pairs.{two_at, two_is, ended_is}
 use Rattle.report_text.proofs.WordLaws.{atom_again, atom_is, named_lacks, arity_again, arity_is, decimal_lacks, digit_apart}
-use Rattle.report_text.proofs.Items.{IsItem, each_again, each_is, each_count, joined_lacks}
+use Rattle.term_core.proofs.Text.Items.{IsItem, each_again, each_is, each_count, joined_lacks}
 
 -- ---- terms
 

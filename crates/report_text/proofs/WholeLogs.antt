@@ -22,7 +22,7 @@ use Rattle.report_text.specs.declared.state.Stage.{Stage}
 use Rattle.report_text.specs.declared.state.Stage.TheVariants.{Entries, Processes, Process, Observer, Done}
 use Rattle.report_text.specs.declared.state.ReportState.{ReportState}
 use Rattle.report_text.specs.ReportLine.{span_lines, process_lines, processes_lines, export_line, snapshot_lines, observers_lines, log_lines}
-use Rattle.report_text.specs.Taking.{at, empty_log, opening, count_after, with_entry, may_begin, begun, spans_with, spans_closed, may_follow, with_line, with_process, shots_with, with_observer, observers_closed, with_export, taken, all_taken}
+use Rattle.report_text.specs.Taking.{at, empty_log, opening, count_after, with_entry, may_begin, begun, with_going, spans_closed, may_follow, with_line, with_process, with_observer, observers_closed, with_export, taken, all_taken}
 
 -- ---- entries
 
@@ -90,10 +90,10 @@ regroup a b c = append_assoc a b c
 
 -- the process with these spans too, ended so
 abbrev all_spans : ProcessLog → Option Span → List Span → End → ProcessLog
-all_spans process going spans fin = record process { spans = spans_with process.spans going ++ spans; fin = fin }
+all_spans process going spans fin = record process { spans = with_going process.spans going ++ spans; fin = fin }
 
 spans_are : (log : RunLog) (process : ProcessLog) (going : Option Span) (spans : List Span) (fin : End) (rest : List ReportLine) → AllByRecursion (λ span. 0 < span.turns) spans → AreBehind going spans → all_taken (at log (Process process going)) (flat_map span_lines spans ++ lines.End fin ∷ rest) ≡ all_taken (at (with_process log (all_spans process going spans fin)) Processes) rest
-spans_are log process going [] fin rest turns apart = ap (λ ss. all_taken (at (with_process log (record process { spans = ss; fin = fin })) Processes) rest) (sym (append-nil (spans_with process.spans going)))
+spans_are log process going [] fin rest turns apart = ap (λ ss. all_taken (at (with_process log (record process { spans = ss; fin = fin })) Processes) rest) (sym (append-nil (with_going process.spans going)))
 spans_are log process going (span ∷ spans) fin rest turns apart =
     let more = flat_map span_lines spans ++ lines.End fin ∷ rest in
     let shown = map (λ l. lines.Shown l) span.lines in
@@ -103,7 +103,7 @@ spans_are log process going (span ∷ spans) fin rest turns apart =
     (span_begins log process going span (follows going span spans turns.0 apart))
     (lines_are log (spans_closed process going) bare span.lines more)
     ∙ spans_are log (spans_closed process going) (Some span) spans fin rest turns.1 (behind_it going span spans apart)
-    ∙ ap (λ ss. all_taken (at (with_process log (record process { spans = ss; fin = fin })) Processes) rest) (append_assoc (spans_with process.spans going) (span ∷ []) spans)
+    ∙ ap (λ ss. all_taken (at (with_process log (record process { spans = ss; fin = fin })) Processes) rest) (append_assoc (with_going process.spans going) (span ∷ []) spans)
 
 begins : (log : RunLog) (stage : Stage) (number : ℕ) (process : ProcessLog) → may_begin stage ≡ true → number ≡ length log.processes → taken (at log stage) (lines.Process number process.target process.args) ≡ Some (at log (Process (begun process.target process.args) None))
 begins log stage number process h e =
@@ -135,13 +135,13 @@ exports_are log shots shot [] rest = ap (λ es. all_taken (at log (Observer shot
 exports_are log shots shot (x ∷ exports) rest =
     exports_are log shots (with_export shot x.0 x.1) exports rest ∙ ap (λ es. all_taken (at log (Observer shots (Some (record shot { exports = es })))) rest) (append_assoc shot.exports (x ∷ []) exports)
 
-shots_are : (log : RunLog) (shots : List Snapshot) (going : Option Snapshot) (more : List Snapshot) (rest : List ReportLine) (r : Option ReportState) → ((ss : List Snapshot) (g : Option Snapshot) → shots_with ss g ≡ shots_with shots going ++ more → all_taken (at log (Observer ss g)) rest ≡ r) → all_taken (at log (Observer shots going)) (flat_map snapshot_lines more ++ rest) ≡ r
-shots_are log shots going [] rest r k = k shots going (sym (append-nil (shots_with shots going)))
+shots_are : (log : RunLog) (shots : List Snapshot) (going : Option Snapshot) (more : List Snapshot) (rest : List ReportLine) (r : Option ReportState) → ((ss : List Snapshot) (g : Option Snapshot) → with_going ss g ≡ with_going shots going ++ more → all_taken (at log (Observer ss g)) rest ≡ r) → all_taken (at log (Observer shots going)) (flat_map snapshot_lines more ++ rest) ≡ r
+shots_are log shots going [] rest r k = k shots going (sym (append-nil (with_going shots going)))
 shots_are log shots going (shot ∷ more) rest r k =
     let later = flat_map snapshot_lines more ++ rest in
     ap (λ ls. all_taken (at log (Observer shots going)) (lines.Snapshot shot.generation ∷ ls)) (regroup (map export_line shot.exports) (flat_map snapshot_lines more) rest)
-    ∙ exports_are log (shots_with shots going) (record { generation = shot.generation; exports = [] }) shot.exports later
-    ∙ shots_are log (shots_with shots going) (Some shot) more rest r (λ ss g e. k ss g (e ∙ append_assoc (shots_with shots going) (shot ∷ []) more))
+    ∙ exports_are log (with_going shots going) (record { generation = shot.generation; exports = [] }) shot.exports later
+    ∙ shots_are log (with_going shots going) (Some shot) more rest r (λ ss g e. k ss g (e ∙ append_assoc (with_going shots going) (shot ∷ []) more))
 
 abbrev with_observers : RunLog → List (List Snapshot) → RunLog
 with_observers log obs = record log { observers = log.observers ++ obs }

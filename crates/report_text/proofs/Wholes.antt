@@ -10,9 +10,9 @@ use Rattle.term_core.specs.Text.Steps.{◌>>=◌}
 use Rattle.term_core.specs.Text.Cuts.{Lines, lines, before_lines}
 use Rattle.term_core.proofs.Text.Cuts.{lacks, lines_behind}
 use Rattle.term_core.proofs.Text.Options.{some, some_is, bind_some, bind_at}
-use Rattle.script_text.specs.TextLines.{lines_of, last_line, all_lines, lines_joined}
-use Rattle.script_text.proofs.LinesJoined.{ended_lack}
-use Rattle.script_text.proofs.SoundnessGroups.{each_append}
+use Rattle.term_core.specs.Text.Parts.{lines_of, last_line, all_lines, lines_joined}
+use Rattle.term_core.proofs.Text.Parts.{ended_lack}
+use Rattle.term_core.proofs.Lists.{each_append, all_front}
 use Rattle.run_log.specs.declared.logs.Entry.{Entry}
 use Rattle.run_log.specs.declared.logs.Span.{Span}
 use Rattle.run_log.specs.declared.logs.ProcessLog.{ProcessLog}
@@ -38,7 +38,7 @@ use Rattle.report_text.specs.Reading.{Gives, line_taken, ended_log, last_number,
 use Rattle.report_text.proofs.LineLaws.{line_is, line_again, line_lacks}
 use Rattle.report_text.proofs.RenderedLines.{lines_text-append, rendered}
 use Rattle.report_text.proofs.WholeLogs.{log_taken}
-use Rattle.report_text.proofs.SoFar.{IsGood, Stands, so_far, line_is as step_is, opening_stands, completed, all_front}
+use Rattle.report_text.proofs.SoFar.{IsGood, Stands, so_far, line_is as step_is, opening_stands, completed}
 
 -- ---- each line of a log can be written
 

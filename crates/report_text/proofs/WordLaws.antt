@@ -1,16 +1,12 @@
 -- Atoms and numbers of a report's line: what is read has this text, and what has this text is read.
-use Rattle.std.proofs.Common.{◌≡◌, ℕ, ◌<◌, ◌≤◌, ◌^◌, Bool, true, false, cond, ◌&&◌, nat_le, nat_lt, List, [], ◌∷◌, length, decimal, Option, Some, None, option_map, slice_get, unwrap_or, bytes_eq, refl, sym, ap, ◌∙◌, subst, arith, inl, inr}
+use Rattle.std.proofs.Common.{◌≡◌, ℕ, ◌<◌, ◌≤◌, ◌^◌, Bool, true, false, cond, ◌&&◌, nat_le, nat_lt, List, [], length, decimal, Option, Some, None, option_map, slice_get, unwrap_or, refl, sym, ap, ◌∙◌, subst, arith}
 use Rattle.std.specs.Char.{is_ascii_digit}
-use Rattle.std.proofs.lemmas.Bool.{or_cases, and_parts, and_from}
+use Rattle.std.proofs.lemmas.Bool.{and_parts, and_from}
 use Rattle.std.proofs.lemmas.Bool.Decides.{nat_tests}
-use Rattle.std.proofs.lemmas.Fmt.{decimal-digits_value, decimal_digit}
 use Rattle.std.proofs.lemmas.Option.{slice_get-get_or, slice_get_within}
-use Rattle.std.proofs.lemmas.Slice.Eq.{bytes_eq-Decides}
 use Rattle.term_core.specs.declared.atom.AtomId.{AtomId}
 use Rattle.term_core.specs.Names.{IsNames, number_of, is_atom_text, is_name_byte}
 use Rattle.term_core.specs.TermText.{atom_text}
-use Rattle.term_core.specs.Written.{is_positive_text}
-use Rattle.term_core.proofs.IntegerTexts.{own, Positive-from}
 use Rattle.term_core.proofs.NameTables.{slice_get-number_of, texts_are_atoms}
 use Rattle.term_core.proofs.GrownNames.{number_of-at}
 use Rattle.term_core.specs.Text.Numbers.{is_number_text, number_value}
@@ -18,7 +14,9 @@ use Rattle.term_core.proofs.Text.Numbers.{decimal-writes}
 use Rattle.term_core.proofs.Text.Options.{some, some_is, map_some, guard_some, guarded, passed}
 use Rattle.term_core.proofs.Text.Cuts.{lacks, atom_lacks, number_lacks}
 use Rattle.run_log.specs.WellFormed.{IsWide, IsNarrow, IsNamed}
-use Rattle.report_text.specs.WordReading.{wide_number, number_reading, number_passing, narrow_reading, version_reading, arity_reading, atom_numbered, atom_reading}
+use Rattle.term_core.specs.Text.Words.{number_reading, narrow_reading}
+use Rattle.term_core.proofs.Text.Words.{decimal_again}
+use Rattle.report_text.specs.WordReading.{number_passing, version_reading, arity_reading, atom_numbered, atom_reading}
 
 -- ---- atoms
 
@@ -60,28 +58,35 @@ below_at n limit h = grind (arith, nat_tests)
 below_is : (n limit : ℕ) → nat_lt n limit ≡ true → n < limit
 below_is n limit h = grind (arith, nat_tests)
 
+-- a number's text that is read below a limit
+abbrev below_reading : ℕ → List ℕ → Option ℕ
+below_reading limit text = cond (is_number_text text) (cond (nat_lt (number_value text) limit) (Some (number_value text)) None) None
+
+below_again : (limit n : ℕ) → n < limit → IsWide n → below_reading limit (decimal n) ≡ Some n
+below_again limit n h wide =
+    let w = decimal-writes n wide in
+    passed (is_number_text (decimal n)) _ None w.form
+    ∙ ap (λ (k : ℕ). cond (nat_lt k limit) (some k) None) w.value
+    ∙ passed (nat_lt n limit) (some n) None (below_at n limit h)
+
+record IsBelow (limit : ℕ) (text : List ℕ) (n : ℕ) : Type 0 where
+  text_is : text ≡ decimal n
+  below : n < limit
+
+below_of : (limit : ℕ) (text : List ℕ) (n : ℕ) → limit ≤ 2 ^ 64 → below_reading limit text ≡ Some n → IsBelow limit text n
+below_of limit text n wide e =
+    let form = guarded (is_number_text text) (cond (nat_lt (number_value text) limit) (Some (number_value text)) None) n e in
+    let small = guard_some (nat_lt (number_value text) limit) (number_value text) n form.1 in
+    let below = below_is (number_value text) limit small.0 in
+    subst (IsBelow limit text) small.1 (record { text_is = sym (decimal_again text form.0 (omega (arith, below, wide))); below = below })
+
 -- the text of a number is read as it
 pub number_again : (n : ℕ) → IsWide n → number_reading (decimal n) ≡ Some n
-number_again n h =
-    let w = decimal-writes n h in
-    passed (is_number_text (decimal n)) (wide_number (decimal n)) None w.form
-    ∙ ap (λ (k : ℕ). cond (nat_lt k (2 ^ 64)) (some k) None) w.value
-    ∙ passed (nat_lt n (2 ^ 64)) (some n) None (below_at n (2 ^ 64) h)
-
-decimal_of : (text : List ℕ) → is_number_text text ≡ true → number_value text < 2 ^ 64 → text ≡ decimal (number_value text)
-decimal_of text h small =
-    elim (or_cases (bytes_eq text (48 ∷ [])) (is_positive_text text) h) [
-      | inl nought ↦ subst (λ (t : List ℕ). t ≡ decimal (number_value t)) (sym ((bytes_eq-Decides text (48 ∷ [])).0 nought)) (sym (decimal_digit 0 (omega arith)))
-      | inr positive ↦ let p = Positive-from text positive in sym (decimal-digits_value own text p.digits p.some (λ z. absurd (omega (arith, p.low, z))) small)
-    ]
+number_again n h = below_again (2 ^ 64) n h h
 
 -- what is read is a number with this text
 pub number_is : (text : List ℕ) (n : ℕ) → number_reading text ≡ Some n → IsNumberOf text n
-number_is text n e =
-    let form = guarded (is_number_text text) (wide_number text) n e in
-    let small = guard_some (nat_lt (number_value text) (2 ^ 64)) (number_value text) n form.1 in
-    let wide = below_is (number_value text) (2 ^ 64) small.0 in
-    subst (IsNumberOf text) small.1 (record { text_is = decimal_of text form.0 wide; wide = wide })
+number_is text n e = let is = below_of (2 ^ 64) text n (omega arith) e in record { text_is = is.text_is; wide = is.below }
 
 pub decimal_lacks : (byte n : ℕ) → is_ascii_digit byte ≡ false → IsWide n → lacks byte (decimal n) ≡ true
 decimal_lacks byte n apart h = number_lacks byte (decimal n) apart (decimal-writes n h).form
@@ -108,16 +113,14 @@ passing_is test (Some m) n e = passing_step test m n (test m) refl e
 
 -- of 32 bits
 pub narrow_again : (n : ℕ) → IsNarrow n → narrow_reading (decimal n) ≡ Some n
-narrow_again n h = passing_at (λ k. nat_lt k (2 ^ 32)) (number_reading (decimal n)) n (number_again n (omega (arith, h))) (below_at n (2 ^ 32) h)
+narrow_again n h = below_again (2 ^ 32) n h (omega (arith, h))
 
 pub record IsNarrowOf (text : List ℕ) (n : ℕ) : Type 0 where
   pub text_is : text ≡ decimal n
   pub narrow : IsNarrow n
 
 pub narrow_is : (text : List ℕ) (n : ℕ) → narrow_reading text ≡ Some n → IsNarrowOf text n
-narrow_is text n e =
-    let p = passing_is (λ k. nat_lt k (2 ^ 32)) (number_reading text) n e in
-    record { text_is = (number_is text n p.read).text_is; narrow = below_is n (2 ^ 32) p.test_is }
+narrow_is text n e = let is = below_of (2 ^ 32) text n (omega arith) e in record { text_is = is.text_is; narrow = is.below }
 
 pub narrow_wide : (n : ℕ) → IsNarrow n → IsWide n
 narrow_wide n h = omega (arith, h)

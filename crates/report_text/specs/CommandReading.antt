@@ -8,8 +8,10 @@ use Rattle.server_core.specs.declared.command.Cmd.{Cmd}
 use Rattle.server_core.specs.declared.command.Cmd.TheVariants.{Load, Delete, SoftPurge, Doom, Purge, CheckOld, Put, Erase, Trace, Spawn, Release}
 use Rattle.term_core.specs.Text.Steps.{◌>>=◌}
 use Rattle.term_core.specs.Text.Cuts.{cut_at}
-use Rattle.script_text.specs.LineReading.{parts_of, each_reading, switch_reading}
-use Rattle.report_text.specs.WordReading.{atom_reading, version_reading, number_reading}
+use Rattle.term_core.specs.Text.Parts.{parts_of, each_reading}
+use Rattle.term_core.specs.Text.Words.{switch_reading}
+use Rattle.term_core.specs.Text.Words.{number_reading}
+use Rattle.report_text.specs.WordReading.{atom_reading, version_reading}
 use Rattle.report_text.specs.TermReading.{plain_reading, function_reading, call_reading}
 
 -- a version of a module

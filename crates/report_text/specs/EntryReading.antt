@@ -9,7 +9,8 @@ use Rattle.run_log.specs.declared.logs.Who.TheVariants.{Loader, Runtime}
 use Rattle.run_log.specs.declared.logs.Entry.{Entry}
 use Rattle.report_text.specs.declared.entry.Answer.{Answer}
 use Rattle.report_text.specs.declared.entry.Made.{Made}
-use Rattle.report_text.specs.WordReading.{cut_last, narrow_reading}
+use Rattle.term_core.specs.Text.Words.{narrow_reading}
+use Rattle.report_text.specs.WordReading.{cut_last}
 use Rattle.report_text.specs.TermReading.{ended_reading}
 use Rattle.report_text.specs.CommandReading.{command_reading}
 use Rattle.report_text.specs.ReplyReading.{reply_reading, published_reading, agreed}

@@ -9,7 +9,7 @@ use Rattle.term_core.specs.Text.Steps.{◌>>=◌}
 use Rattle.term_core.specs.Text.Cuts.{cut_at}
 use Rattle.report_text.specs.declared.line.ReportLine.{ReportLine}
 use Rattle.report_text.specs.declared.line.ReportLine.TheVariants as lines
-use Rattle.report_text.specs.WordReading.{number_reading}
+use Rattle.term_core.specs.Text.Words.{number_reading}
 use Rattle.report_text.specs.TermReading.{plain_reading, function_reading, call_reading}
 use Rattle.report_text.specs.EntryReading.{entry_reading}
 

@@ -2,7 +2,7 @@
 -- Source: this project's report text. What a report's text is stands in run_log; laws say that both agree.
 use Rattle.std.specs.Prelude.{◌≡◌, ℕ, ◌+◌, ◌-◌, nat_lt, List, [], ◌∷◌, Option, Some, None, Result, Ok, Err, if◌then◌else◌}
 use Rattle.term_core.specs.Text.Steps.{◌>>=◌}
-use Rattle.script_text.specs.TextLines.{lines_of}
+use Rattle.term_core.specs.Text.Parts.{lines_of}
 use Rattle.run_log.specs.declared.logs.RunLog.{RunLog}
 use Rattle.report_text.specs.declared.fault.ReportFault.{ReportFault}
 use Rattle.report_text.specs.declared.fault.ReportFault.TheVariants.{Syntax, NoMemory}

@@ -11,9 +11,10 @@ use Rattle.server_core.specs.declared.command.Reply.{Reply}
 use Rattle.server_core.specs.declared.command.Reply.TheVariants as replies
 use Rattle.term_core.specs.Text.Steps.{◌>>=◌}
 use Rattle.term_core.specs.Text.Cuts.{cut_at}
-use Rattle.script_text.specs.LineReading.{parts_of, each_reading}
+use Rattle.term_core.specs.Text.Parts.{parts_of, each_reading}
 use Rattle.run_log.specs.WellFormed.{lingering_in, is_true_reply}
-use Rattle.report_text.specs.WordReading.{atom_reading, narrow_reading, number_reading}
+use Rattle.term_core.specs.Text.Words.{narrow_reading, number_reading}
+use Rattle.report_text.specs.WordReading.{atom_reading}
 use Rattle.report_text.specs.TermReading.{ended_reading}
 
 -- a process and a turn

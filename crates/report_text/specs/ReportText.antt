@@ -1,7 +1,7 @@
 -- What is wrong with a text that is no report: the first line after which no report goes on.
 -- Source: this project's report text. It speaks of whole texts; the code reads line by line.
 use Rattle.std.specs.Prelude.{◌≡◌, ℕ, ◌-◌, ◌<◌, ◌≤◌, ◌^◌, ◌⊎◌, List, ◌++◌, length, take, max}
-use Rattle.script_text.specs.TextLines.{lines_of, all_lines, lines_joined}
+use Rattle.term_core.specs.Text.Parts.{lines_of, all_lines, lines_joined}
 use Rattle.run_log.specs.declared.logs.RunLog.{RunLog}
 use Rattle.run_log.specs.Journal.{published_count}
 use Rattle.run_log.specs.Report.{rendering_of}

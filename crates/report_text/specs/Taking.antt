@@ -51,13 +51,9 @@ count_after left (Some generation) = if left == 0 then None else Some (left - 1)
 abbrev pub with_entry : RunLog → Entry → RunLog
 with_entry log e = record log { journal = log.journal ++ e ∷ [] }
 
--- an entry among others, where it may publish what it does
-abbrev pub entry_behind : RunLog → ℕ → Entry → Option ReportState
-entry_behind log left e = count_after left e.published >>= λ more. Some (at (with_entry log e) (Entries more))
-
 -- an entry stands behind the count and other entries
 abbrev pub entry_taken : RunLog → Stage → Entry → Option ReportState
-entry_taken log (Entries left) e = entry_behind log left e
+entry_taken log (Entries left) e = count_after left e.published >>= λ more. Some (at (with_entry log e) (Entries more))
 entry_taken log stage e = None
 
 -- ---- processes
@@ -80,42 +76,34 @@ process_behind log number target args = if number == length log.processes then S
 abbrev pub process_taken : RunLog → Stage → ℕ → Mfa → List PlainTerm → Option ReportState
 process_taken log stage number target args = if may_begin stage then process_behind log number target args else None
 
--- the spans with the one that went on
-abbrev pub spans_with : List Span → Option Span → List Span
-spans_with spans None = spans
-spans_with spans (Some span) = spans ++ span ∷ []
+-- a list with the one that went on
+abbrev pub with_going : {X : Type 0} → List X → Option X → List X
+with_going xs None = xs
+with_going xs (Some x) = xs ++ x ∷ []
 
 -- a process with the span that went on
 abbrev pub spans_closed : ProcessLog → Option Span → ProcessLog
-spans_closed process going = record process { spans = spans_with process.spans going }
+spans_closed process going = record process { spans = with_going process.spans going }
 
 -- whether a span has a turn, and another generation than the one before it
 abbrev pub may_follow : Option Span → ℕ → ℕ → Bool
 may_follow None generation turns = nat_lt 0 turns
 may_follow (Some span) generation turns = nat_lt 0 turns && not (span.generation == generation)
 
--- a span in a process, which closes the one before it
-abbrev pub span_behind : RunLog → ProcessLog → Option Span → ℕ → ℕ → Option ReportState
-span_behind log process going generation turns =
-    if may_follow going generation turns then Some (at log (Process (spans_closed process going) (Some (record { generation = generation; turns = turns; lines = [] })))) else None
-
 -- a span stands in a process
 abbrev pub span_taken : RunLog → Stage → ℕ → ℕ → Option ReportState
-span_taken log (Process process going) generation turns = span_behind log process going generation turns
+span_taken log (Process process going) generation turns =
+    if may_follow going generation turns then Some (at log (Process (spans_closed process going) (Some (record { generation = generation; turns = turns; lines = [] })))) else None
 span_taken log stage generation turns = None
 
 -- a span with one more line
 abbrev pub with_line : Span → Line → Span
 with_line span line = record span { lines = span.lines ++ line ∷ [] }
 
--- what is shown in a span
-abbrev pub shown_behind : RunLog → ProcessLog → Span → Line → Option ReportState
-shown_behind log process span line = Some (at log (Process process (Some (with_line span line))))
-
 -- what is shown stands in a span
 abbrev pub shown_in : RunLog → ProcessLog → Option Span → Line → Option ReportState
 shown_in log process None line = None
-shown_in log process (Some span) line = shown_behind log process span line
+shown_in log process (Some span) line = Some (at log (Process process (Some (with_line span line))))
 
 -- what is shown stands in a process
 abbrev pub shown_taken : RunLog → Stage → Line → Option ReportState
@@ -130,21 +118,12 @@ ended process fin = record process { fin = fin }
 abbrev pub with_process : RunLog → ProcessLog → RunLog
 with_process log process = record log { processes = log.processes ++ process ∷ [] }
 
--- the end of a process
-abbrev pub end_behind : RunLog → ProcessLog → Option Span → End → Option ReportState
-end_behind log process going fin = Some (at (with_process log (ended (spans_closed process going) fin)) Processes)
-
 -- an end stands in a process
 abbrev pub end_taken : RunLog → Stage → End → Option ReportState
-end_taken log (Process process going) fin = end_behind log process going fin
+end_taken log (Process process going) fin = Some (at (with_process log (ended (spans_closed process going) fin)) Processes)
 end_taken log stage fin = None
 
 -- ---- observers
-
--- the snapshots with the one that went on
-abbrev pub shots_with : List Snapshot → Option Snapshot → List Snapshot
-shots_with shots None = shots
-shots_with shots (Some shot) = shots ++ shot ∷ []
 
 -- a log with one more observer
 abbrev pub with_observer : RunLog → List Snapshot → RunLog
@@ -152,7 +131,7 @@ with_observer log shots = record log { observers = log.observers ++ shots ∷ []
 
 -- a log with an observer and the snapshot that went on
 abbrev pub shots_closed : RunLog → List Snapshot → Option Snapshot → RunLog
-shots_closed log shots going = with_observer log (shots_with shots going)
+shots_closed log shots going = with_observer log (with_going shots going)
 
 -- the log where an observer may begin, or the report end: with the observer that went on, if there is one
 abbrev pub observers_closed : RunLog → Stage → Option RunLog
@@ -169,27 +148,19 @@ observer_behind log number = if number == length log.observers then Some (at log
 abbrev pub observer_taken : RunLog → Stage → ℕ → Option ReportState
 observer_taken log stage number = observers_closed log stage >>= λ closed. observer_behind closed number
 
--- a snapshot in an observer, which closes the one before it
-abbrev pub snapshot_behind : RunLog → List Snapshot → Option Snapshot → ℕ → Option ReportState
-snapshot_behind log shots going generation = Some (at log (Observer (shots_with shots going) (Some (record { generation = generation; exports = [] }))))
-
 -- a snapshot stands in an observer
 abbrev pub snapshot_taken : RunLog → Stage → ℕ → Option ReportState
-snapshot_taken log (Observer shots going) generation = snapshot_behind log shots going generation
+snapshot_taken log (Observer shots going) generation = Some (at log (Observer (with_going shots going) (Some (record { generation = generation; exports = [] }))))
 snapshot_taken log stage generation = None
 
 -- a snapshot with one more export
 abbrev pub with_export : Snapshot → Mfa → ℕ → Snapshot
 with_export shot function serial = record shot { exports = shot.exports ++ (function, serial) ∷ [] }
 
--- an export in a snapshot
-abbrev pub export_behind : RunLog → List Snapshot → Snapshot → Mfa → ℕ → Option ReportState
-export_behind log shots shot function serial = Some (at log (Observer shots (Some (with_export shot function serial))))
-
 -- an export stands in a snapshot
 abbrev pub export_in : RunLog → List Snapshot → Option Snapshot → Mfa → ℕ → Option ReportState
 export_in log shots None function serial = None
-export_in log shots (Some shot) function serial = export_behind log shots shot function serial
+export_in log shots (Some shot) function serial = Some (at log (Observer shots (Some (with_export shot function serial))))
 
 -- an export stands in an observer
 abbrev pub export_taken : RunLog → Stage → Mfa → ℕ → Option ReportState

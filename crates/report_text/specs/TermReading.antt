@@ -10,7 +10,7 @@ use Rattle.term_core.specs.TermParts.{parts_of_terms}
 use Rattle.mod_core.specs.declared.code.TheConstants.{MOST_ARGUMENTS}
 use Rattle.term_core.specs.Text.Steps.{◌>>=◌}
 use Rattle.term_core.specs.Text.Cuts.{cut_at}
-use Rattle.script_text.specs.LineReading.{each_reading}
+use Rattle.term_core.specs.Text.Parts.{each_reading}
 use Rattle.run_log.specs.Report.{plain_text}
 use Rattle.report_text.specs.declared.terms.Call.{Call}
 use Rattle.report_text.specs.WordReading.{atom_reading, arity_reading}

@@ -1,12 +1,11 @@
 -- How the words of a report's line are read: numbers within their bounds, and atoms that have a name.
 -- Source: this project's report text. The texts of words stand in run_log; laws say that both agree.
-use Rattle.std.specs.Prelude.{◌≡◌, ℕ, ◌^◌, ◌==◌, ◌&&◌, nat_le, nat_lt, Bool, List, [], ◌∷◌, Option, Some, None, Result, Ok, Err, option_map, if◌then◌else◌}
+use Rattle.std.specs.Prelude.{◌≡◌, ℕ, ◌==◌, ◌&&◌, nat_le, Bool, List, [], ◌∷◌, Option, Some, None, Result, Ok, Err, option_map, if◌then◌else◌}
 use Rattle.term_core.specs.declared.atom.AtomId.{AtomId}
 use Rattle.term_core.specs.Names.{number_of}
-use Rattle.term_core.specs.TermParts.{CutText}
 use Rattle.mod_core.specs.declared.code.TheConstants.{MOST_ARGUMENTS, GREATEST_VERSION}
-use Rattle.term_core.specs.Text.Cuts.{with_first, cut_at}
-use Rattle.term_core.specs.Text.Numbers.{is_number_text, number_value}
+use Rattle.term_core.specs.Text.Cuts.{with_first}
+use Rattle.term_core.specs.Text.Words.{narrow_reading}
 use Rattle.report_text.specs.declared.line_fault.LineFault.{LineFault}
 use Rattle.report_text.specs.declared.line_fault.LineFault.TheVariants.{Form, NoMemory}
 
@@ -26,31 +25,10 @@ abbrev pub cut_last : ℕ → List ℕ → Option (List ℕ × List ℕ)
 cut_last byte [] = None
 cut_last byte (b ∷ bs) = cut_or byte b bs (cut_last byte bs)
 
--- the sides of a cut, or the whole text where there is none
-abbrev pub part_of_cut : List ℕ → Option (List ℕ × List ℕ) → CutText
-part_of_cut text None = record { front = text; rest = None }
-part_of_cut text (Some sides) = record { front = sides.0; rest = Some sides.1 }
-
--- what stands before the first such byte, and behind it, if there is one
-abbrev pub first_part : ℕ → List ℕ → CutText
-first_part byte text = part_of_cut text (cut_at byte text)
-
--- the value of digits, where it is of 64 bits
-abbrev pub wide_number : List ℕ → Option ℕ
-wide_number digits = if nat_lt (number_value digits) (2 ^ 64) then Some (number_value digits) else None
-
--- the number of 64 bits that digits write
-abbrev pub number_reading : List ℕ → Option ℕ
-number_reading text = if is_number_text text then wide_number text else None
-
 -- a number that passes a test
 abbrev pub number_passing : (ℕ → Bool) → Option ℕ → Option ℕ
 number_passing test None = None
 number_passing test (Some number) = if test number then Some number else None
-
--- a number of 32 bits
-abbrev pub narrow_reading : List ℕ → Option ℕ
-narrow_reading text = number_passing (λ n. nat_lt n (2 ^ 32)) (number_reading text)
 
 -- a version
 abbrev pub version_reading : List ℕ → Option ℕ

@@ -1,16 +1,16 @@
 //! Commands, as the entries of a report have them.
 
 ghost use Rattle.std.specs.Prelude.{◌≡◌};
-ghost use Rattle.script_text.specs.LineReading.{parts_of, each_reading, switch_reading};
+ghost use Rattle.term_core.specs.Text.Parts.{parts_of, each_reading};
 ghost use Rattle.report_text.specs.WordReading.{Reads};
 ghost use Rattle.report_text.specs.CommandReading.{reference_reading, load_reading, put_reading, trace_reading, spawn_reading, release_reading, on_atom_reading, worded_command, command_reading};
 
 use crate::line_fault::LineFault;
 use crate::terms::{function_of, read_call, read_term};
-use crate::words::{atom_of, cut_at, cut_first, number_of, version_of};
+use crate::words::{atom_of, version_of};
 use server_core::{Cmd, ModRef, RefList};
 use std::alloc::Global;
-use term_core::Names;
+use term_core::{Names, cut_at, cut_first, number_of, switch_of};
 
 /// A version of a module, as `m.1`.
 fn reference_of(names: &Names, text: &[u8]) -> Option<ModRef>
@@ -55,18 +55,6 @@ fn read_put(alloc: Global, names: &Names, text: &[u8]) -> Result<Cmd, LineFault>
     let key = atom_of(names, key).ok_or(LineFault::Form)?;
     let term = read_term(alloc, names, rest)?;
     Ok(Cmd::Put { key, term })
-}
-
-fn switch_of(text: &[u8]) -> Option<bool>
-    ensures { result ≡ switch_reading text.now }
-{
-    if text == b"on".as_slice() {
-        Some(true)
-    } else if text == b"off".as_slice() {
-        Some(false)
-    } else {
-        None
-    }
 }
 
 fn read_trace(names: &Names, text: &[u8]) -> Result<Cmd, LineFault>

@@ -7,11 +7,11 @@ ghost use Rattle.report_text.specs.EntryReading.{who_reading, command_front, ans
 use crate::command::read_command;
 use crate::line_fault::LineFault;
 use crate::reply::{agreed, published_of, read_reply};
-use crate::words::{cut_at, cut_last, narrow_of};
+use crate::words::cut_last;
 use run_log::{Entry, Who};
 use server_core::{Cmd, Reply};
 use std::alloc::Global;
-use term_core::Names;
+use term_core::{Names, cut_at, narrow_of};
 
 /// What a command answered.
 #[derive(Drop)]

@@ -7,11 +7,10 @@ ghost use Rattle.report_text.specs.LineReading.{end_reading, longer_end, worded_
 use crate::entry::read_entry;
 use crate::line_fault::LineFault;
 use crate::terms::{function_of, read_call, read_term};
-use crate::words::{cut_at, number_of};
 use machine_core::{End, Line};
 use run_log::Entry;
 use std::alloc::Global;
-use term_core::{Mfa, Names, TermList};
+use term_core::{Mfa, Names, TermList, cut_at, number_of};
 
 /// A line of a report.
 #[derive(Debug, Drop)]

@@ -16,10 +16,9 @@ use crate::fault::ReportFault;
 use crate::line::read_line;
 use crate::line_fault::LineFault;
 use crate::state::{ReportState, Stage, opening, take_line};
-use crate::words::cut_at;
 use run_log::RunLog;
 use std::alloc::Global;
-use term_core::{AtomId, Names};
+use term_core::{AtomId, Names, cut_at};
 
 /// The state behind a line of the text.
 fn take_text(

@@ -1,16 +1,16 @@
 //! Replies, as the entries of a report have them, and what a command has of them.
 
 ghost use Rattle.std.specs.Prelude.{◌≡◌};
-ghost use Rattle.script_text.specs.LineReading.{parts_of, each_reading};
+ghost use Rattle.term_core.specs.Text.Parts.{parts_of, each_reading};
 ghost use Rattle.report_text.specs.WordReading.{Reads, atom_reading};
 ghost use Rattle.run_log.specs.WellFormed.{lingering_in, is_true_reply};
 ghost use Rattle.report_text.specs.ReplyReading.{linger_reading, limit_reading, atoms_reading, closed_atoms, not_purged_reading, false_reading, duplicated_reading, system_limit_reading, worded_reply, longer_reply, reply_reading, published_reading, agreed};
 
 use crate::line_fault::LineFault;
-use crate::words::{atom_of, cut_at, cut_first, narrow_of, number_of};
+use crate::words::atom_of;
 use server_core::{Cmd, Limit, Linger, Reply};
 use std::alloc::Global;
-use term_core::{AtomId, AtomList, Names};
+use term_core::{AtomId, AtomList, Names, cut_at, cut_first, narrow_of, number_of};
 
 /// A process and a turn, as `0 3`.
 fn linger_of(text: &[u8]) -> Option<Linger>

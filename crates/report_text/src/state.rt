@@ -1,8 +1,9 @@
 //! A report up to a line: what is read of its log, and which lines may follow.
 
-ghost use Rattle.std.specs.Prelude.{◌≡◌, IfOk};
+ghost use Rattle.std.specs.Prelude.{◌≡◌, Some, IfOk};
 ghost use Rattle.report_text.specs.WordReading.{Reads};
-ghost use Rattle.report_text.specs.Taking.{opening, count_after, may_begin, may_follow, spans_with, shots_with, spans_closed, shots_closed, observers_closed, head_taken, count_taken, entry_behind, entry_taken, process_behind, process_taken, span_behind, span_taken, shown_behind, shown_in, shown_taken, end_behind, end_taken, observer_behind, observer_taken, snapshot_behind, snapshot_taken, export_behind, export_in, export_taken, close_taken, taken};
+ghost use Rattle.report_text.specs.Taking.{opening, count_after, may_begin, may_follow, with_going, spans_closed, shots_closed, observers_closed, head_taken, count_taken, entry_taken, process_behind, process_taken, span_taken, shown_in, shown_taken, end_taken, observer_behind, observer_taken, snapshot_taken, export_in, export_taken, close_taken, taken};
+ghost use Rattle.report_text.specs.declared.state.Stage.TheVariants as stages;
 
 use crate::line::ReportLine;
 use crate::line_fault::LineFault;
@@ -12,7 +13,7 @@ use run_log::{
     SnapshotList, Span, SpanList,
 };
 use std::alloc::Global;
-use term_core::{Mfa, NoMemory, TermList};
+use term_core::{Items, Mfa, NoMemory, TermList};
 
 /// Where in a report a line stands.
 #[derive(Debug, Drop)]
@@ -90,7 +91,7 @@ fn count_after(left: u64, published: Option<u64>) -> Option<u64>
 }
 
 fn entry_behind(mut log: RunLog, left: u64, entry: Entry) -> Result<ReportState, LineFault>
-    ensures { Reads (λ state. state) result (entry_behind log left entry) }
+    ensures { Reads (λ state. state) result (entry_taken log (stages.Entries left) entry) }
 {
     let left = count_after(left, entry.published).ok_or(LineFault::Form)?;
     log.journal.push(entry)?;
@@ -161,15 +162,15 @@ fn take_process(
     }
 }
 
-/// The spans with the one that went on.
-fn spans_with(mut spans: SpanList, going: Option<Span>) -> Result<SpanList, NoMemory>
-    ensures { IfOk result (λ all. all ≡ spans_with spans going) }
+/// A list with the one that went on.
+fn with_going<T: Drop>(mut list: Items<T>, going: Option<T>) -> Result<Items<T>, NoMemory>
+    ensures { IfOk result (λ all. all ≡ with_going list going) }
 {
     match going {
-        None => Ok(spans),
-        Some(span) => {
-            spans.push(span)?;
-            Ok(spans)
+        None => Ok(list),
+        Some(last) => {
+            list.push(last)?;
+            Ok(list)
         }
     }
 }
@@ -184,7 +185,7 @@ fn spans_closed(process: ProcessLog, going: Option<Span>) -> Result<ProcessLog, 
         spans,
         fin,
     } = process;
-    let spans = spans_with(spans, going)?;
+    let spans = with_going(spans, going)?;
     Ok(ProcessLog {
         target,
         args,
@@ -211,7 +212,7 @@ fn span_behind(
     generation: u64,
     turns: u64,
 ) -> Result<ReportState, LineFault>
-    ensures { Reads (λ state. state) result (span_behind log process going generation turns) }
+    ensures { Reads (λ state. state) result (span_taken log (stages.Process process going) generation turns) }
 {
     if !may_follow(&going, generation, turns) {
         return Err(LineFault::Form);
@@ -251,7 +252,7 @@ fn shown_behind(
     mut span: Span,
     line: Line,
 ) -> Result<ReportState, LineFault>
-    ensures { Reads (λ state. state) result (shown_behind log process span line) }
+    ensures { Reads (λ state. state) result (shown_in log process (Some span) line) }
 {
     span.lines.push(line)?;
     Ok(ReportState {
@@ -289,7 +290,7 @@ fn end_behind(
     going: Option<Span>,
     fin: End,
 ) -> Result<ReportState, LineFault>
-    ensures { Reads (λ state. state) result (end_behind log process going fin) }
+    ensures { Reads (λ state. state) result (end_taken log (stages.Process process going) fin) }
 {
     let mut process = spans_closed(process, going)?;
     process.fin = fin;
@@ -309,19 +310,6 @@ fn take_end(log: RunLog, stage: Stage, fin: End) -> Result<ReportState, LineFaul
     }
 }
 
-/// The snapshots with the one that went on.
-fn shots_with(mut shots: SnapshotList, going: Option<Snapshot>) -> Result<SnapshotList, NoMemory>
-    ensures { IfOk result (λ all. all ≡ shots_with shots going) }
-{
-    match going {
-        None => Ok(shots),
-        Some(shot) => {
-            shots.push(shot)?;
-            Ok(shots)
-        }
-    }
-}
-
 /// The log with an observer's snapshots.
 fn shots_closed(
     mut log: RunLog,
@@ -330,7 +318,7 @@ fn shots_closed(
 ) -> Result<RunLog, NoMemory>
     ensures { IfOk result (λ closed. closed ≡ shots_closed log shots going) }
 {
-    let shots = shots_with(shots, going)?;
+    let shots = with_going(shots, going)?;
     log.observers.push(shots)?;
     Ok(log)
 }
@@ -378,9 +366,9 @@ fn snapshot_behind(
     going: Option<Snapshot>,
     generation: u64,
 ) -> Result<ReportState, LineFault>
-    ensures { Reads (λ state. state) result (snapshot_behind log shots going generation) }
+    ensures { Reads (λ state. state) result (snapshot_taken log (stages.Observer shots going) generation) }
 {
-    let shots = shots_with(shots, going)?;
+    let shots = with_going(shots, going)?;
     let shot = Snapshot {
         generation,
         exports: ExportList::new(alloc),
@@ -412,7 +400,7 @@ fn export_behind(
     function: Mfa,
     serial: u64,
 ) -> Result<ReportState, LineFault>
-    ensures { Reads (λ state. state) result (export_behind log shots shot function serial) }
+    ensures { Reads (λ state. state) result (export_in log shots (Some shot) function serial) }
 {
     shot.exports.push((function, serial))?;
     Ok(ReportState {

@@ -4,17 +4,17 @@ ghost use Rattle.std.specs.Prelude.{◌≡◌, ◌≤◌, length, option_map, by
 ghost use Rattle.term_core.specs.Plain.{plain, term_of};
 ghost use Rattle.term_core.specs.TermText.{term_text};
 ghost use Rattle.term_core.specs.TermParts.{parts_of_terms};
-ghost use Rattle.script_text.specs.LineReading.{each_reading};
+ghost use Rattle.term_core.specs.Text.Parts.{each_reading};
 ghost use Rattle.report_text.specs.WordReading.{Reads};
 ghost use Rattle.report_text.specs.TermReading.{is_short_text, plain_reading, some_terms, terms_reading, closed_reading, arity_part, function_reading, arguments_part, call_reading};
 
 use crate::line_fault::LineFault;
-use crate::words::{arity_of, atom_of, cut_at};
+use crate::words::{arity_of, atom_of};
 use mod_core::MOST_ARGUMENTS;
 use std::alloc::Global;
 use term_core::{
-    AtomId, ByteList, MOST_WORDS, Mfa, Names, NoMemory, Term, TermList, cut_term, is_term_text,
-    is_wide_text, print_term, term_in, text_words,
+    AtomId, ByteList, MOST_WORDS, Mfa, Names, NoMemory, Term, TermList, cut_at, cut_term,
+    is_term_text, is_wide_text, print_term, term_in, text_words,
 };
 
 /// A function, and the arguments with which it is called.

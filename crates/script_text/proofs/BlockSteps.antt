@@ -16,6 +16,7 @@ use Rattle.script_text.specs.ScriptLine.{RefForm, AtomCommand, ScriptLine, loade
 use Rattle.script_text.specs.ScriptValue.{commands_of}
 use Rattle.script_text.specs.LineFaults.{may_stand_loading, may_stand}
 use Rattle.script_text.specs.Reading.{block_step, end_step}
+use Rattle.script_text.proofs.Choices.{few, few_more}
 use Rattle.script_text.proofs.Summaries.{Summary, table, fault_by}
 use Rattle.script_text.proofs.Holding.{Knows}
 use Rattle.script_text.proofs.Steps.{holds_loader, holds_go}
@@ -25,12 +26,6 @@ use Rattle.script_text.proofs.CodeSteps.{Judges, misplaced}
 
 pub names_few : (names : List (List ℕ)) → IsNames names → nat_lt 4096 (length names) ≡ false
 names_few names h = let room : length names ≤ 4096 = h.room in grind (arith, nat_tests)
-
-pub few_more : (n bound : ℕ) → n ≤ bound → nat_lt bound (n + 0) ≡ false
-few_more n bound h = grind (arith, nat_tests)
-
-pub few : (n bound : ℕ) → n ≤ bound → nat_lt bound n ≡ false
-few n bound h = grind (arith, nat_tests)
 
 -- one more is too many exactly where there are as many as may be
 pub full_more : (n bound : ℕ) → nat_le bound n ≡ nat_lt bound (n + 1)

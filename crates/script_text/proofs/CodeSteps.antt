@@ -2,7 +2,6 @@
 use Rattle.std.proofs.Common.{◌≡◌, ℕ, ◌+◌, ◌≤◌, Bool, true, false, not, ◌||◌, nat_lt, List, [], ◌∷◌, ◌++◌, length, Some, None, Result, Ok, Err, refl, sym, ◌∙◌, subst, arith}
 use Rattle.std.specs.List.{AllByRecursion, list_all}
 use Rattle.std.proofs.lemmas.Bool.{and_parts}
-use Rattle.std.proofs.lemmas.Bool.Decides.{nat_tests}
 use Rattle.term_core.specs.declared.atom.Mfa.{Mfa}
 use Rattle.term_core.specs.Names.{IsNames, Extends, is_atom_text, names_with}
 use Rattle.term_core.specs.TermText.{names_with_all}
@@ -19,6 +18,7 @@ use Rattle.script_text.specs.declared.reading.reader.ScriptReader.{ScriptReader}
 use Rattle.script_text.specs.ScriptLine.{RefForm, ScriptLine, code, IsLine}
 use Rattle.script_text.specs.Groups.{last_group}
 use Rattle.script_text.specs.LineFaults.{may_stand, is_given_again}
+use Rattle.script_text.proofs.Choices.{few, few_more}
 use Rattle.script_text.proofs.HeldNames.{IsHeldText, held_in, all_held_in}
 use Rattle.script_text.proofs.ModuleNames.{AreHeld, HaveHeld}
 use Rattle.script_text.proofs.Summaries.{Summary, summary_with, table, fault_by}
@@ -51,12 +51,6 @@ Judges m text (Err causes.NoMemory) = ⊥
 pub misplaced : (m : Summary) (line : ScriptLine) → may_stand m.last line ≡ false → fault_by m line ≡ Some (faults.Syntax (m.count + 1))
 misplaced m line e = misplaced_table (may_stand m.last line) _ _ _ _ _ _ _ _ _ _ _ (m.count + 1) e
 
-no_count : (n bound : ℕ) → n ≤ bound → nat_lt bound (n + 0) ≡ false
-no_count n bound h = grind (arith, nat_tests)
-
-no_more : (n bound : ℕ) → n ≤ bound → nat_lt bound n ≡ false
-no_more n bound h = grind (arith, nat_tests)
-
 -- whether the functions are too many after a line
 abbrev pub exports_by : Summary → ScriptLine → Bool
 exports_by m line = nat_lt 1024 (length (summary_with m line).functions)
@@ -64,9 +58,9 @@ exports_by m line = nat_lt 1024 (length (summary_with m line).functions)
 -- the fault of a line of a module's text that may stand there
 pub code_fault : (m : Summary) (r : ScriptReader) (closed : List (List LineForm)) (line : LineForm) → Knows m r closed → may_stand m.last (code line) ≡ true → fault_by m (code line) ≡ with_counts (fault_of_line m.names (last_group m.texts) line) (exports_by m (code line)) (is_given_again m.titles line) (m.count + 1)
 code_fault m r closed line k e =
-    let spawns = no_count m.spawns 64 k.few_processes in
-    let loaders = no_count m.loaders 8 k.few_loaders in
-    let observers = no_more (length m.observers) 4 k.few_observers in
+    let spawns = few_more m.spawns 64 k.few_processes in
+    let loaders = few_more m.loaders 8 k.few_loaders in
+    let observers = few (length m.observers) 4 k.few_observers in
     (λ i. table (not (e i) || has_high_register line) (has_wide_integer line) (has_long_term line) (overfills_names m.names line) (is_seventeenth (last_group m.texts) line) (ends_too_long m.names (last_group m.texts) line) (exports_by m (code line)) (spawns i) (loaders i) (observers i) (is_given_again m.titles line || is_repeated (last_group m.texts) line) (m.count + 1))
     ∙ code_table (has_high_register line) (has_wide_integer line) (has_long_term line) (overfills_names m.names line) (is_seventeenth (last_group m.texts) line) (ends_too_long m.names (last_group m.texts) line) (is_repeated (last_group m.texts) line) (exports_by m (code line)) (is_given_again m.titles line) (m.count + 1)
 

@@ -1,5 +1,5 @@
 -- The lines of loader blocks: what is read has this text, and what has this text is read.
-use Rattle.std.proofs.Common.{◌≡◌, ℕ, ◌<◌, Bool, true, false, cond, ◌&&◌, ◌==◌, nat_le, List, [], ◌∷◌, ◌++◌, length, Option, Some, None, codes, refl, sym, ap, ◌∙◌, subst, arith, append-nil, length-append}
+use Rattle.std.proofs.Common.{◌≡◌, ℕ, ◌<◌, Bool, true, false, cond, ◌&&◌, ◌==◌, nat_le, List, [], ◌∷◌, ◌++◌, length, Some, None, codes, refl, sym, ap, ◌∙◌, subst, arith, length-append}
 use Rattle.std.specs.Prelude.{map}
 use Rattle.std.specs.List.{list_all, flat_map, join_with_byte}
 use Rattle.std.proofs.lemmas.Bool.{and_parts, and_from}
@@ -14,15 +14,15 @@ use Rattle.term_core.proofs.TermForms.{is_term_text-form, nonempty-is_term_text}
 use Rattle.term_core.specs.Text.Numbers.{is_number_text}
 use Rattle.mod_text.specs.ModuleLine.{is_version_text}
 use Rattle.term_core.specs.Text.Steps.{◌>>=◌, tested}
-use Rattle.term_core.specs.Text.Cuts.{cut_at}
+use Rattle.term_core.specs.Text.Parts.{cut_at, each_reading}
 use Rattle.term_core.proofs.Text.Options.{some, some_is, bind_some, bind_at, guard_some, passed, failed, tested_is, tested_at}
 use Rattle.term_core.proofs.Text.Cuts.{lacks, lacks-append, lacks-cons, cut_here, cut_is, atom_lacks, number_lacks}
-use Rattle.mod_text.proofs.LineAgain.{IsApart}
+use Rattle.mod_text.proofs.LineAgain.{IsApart, space_apart}
 use Rattle.script_text.specs.ScriptLine.{RefForm, load, spawn, ref_written, call_written, is_ref_form, is_term_form, is_script_line, IsLine}
-use Rattle.script_text.specs.LineReading.{parts_of, ref_reading, each_reading, refs_reading, argument_reading, arguments_reading, CallForm, closed_arguments, call_reading}
+use Rattle.script_text.specs.LineReading.{ref_reading, refs_reading, argument_reading, arguments_reading, CallForm, closed_arguments, call_reading}
 use Rattle.script_text.proofs.TermLines.{text_of_form, term_lacks, argument_again, argument_is}
+use Rattle.term_core.proofs.Text.Items.{IsItem, each_again, each_is, joined_again, joined_is, AreJoined, join-flat, all_pass, pass_all}
 use Rattle.script_text.proofs.TermParts.{parts_of_written}
-use Rattle.script_text.proofs.Parts.{parts_at, parts_whole, parts_are_some, join-parts}
 
 -- ---- a version of a module
 
@@ -60,84 +60,28 @@ ref_lacks byte r apart dot h =
     let p = and_parts (is_atom_text r.name) (is_version_text r.version) h in
     lacks-append byte r.name (46 ∷ r.version) (atom_lacks byte r.name apart.name p.0) (lacks-cons byte 46 r.version dot (number_lacks byte r.version apart.digit (version_number r.version p.1)))
 
--- ---- items with a byte between them
-
--- how items are written and read
-pub record IsReader {X : Type 0} (write : X → List ℕ) (read : List ℕ → Option X) (ok : X → Bool) (byte : ℕ) : Type 0 where
-  pub again : (x : X) → ok x ≡ true → read (write x) ≡ Some x
-  pub text_is : (text : List ℕ) (x : X) → read text ≡ Some x → text ≡ write x
-  pub sound : (text : List ℕ) (x : X) → read text ≡ Some x → ok x ≡ true
-  pub apart : (x : X) → ok x ≡ true → lacks byte (write x) ≡ true
-
-each_again : {X : Type 0} (write : X → List ℕ) (read : List ℕ → Option X) (ok : X → Bool) → ((x : X) → ok x ≡ true → read (write x) ≡ Some x) → (xs : List X) → list_all ok xs ≡ true → each_reading read (map write xs) ≡ Some xs
-each_again write read ok again [] h = refl
-each_again write read ok again (x ∷ xs) h =
-    let p = and_parts (ok x) (list_all ok xs) h in
-    bind_at (read (write x)) (λ y. each_reading read (map write xs) >>= λ ys. Some (y ∷ ys)) x (some (x ∷ xs)) (again x p.0)
-    (bind_at (each_reading read (map write xs)) (λ ys. Some (x ∷ ys)) xs (some (x ∷ xs)) (each_again write read ok again xs p.1) refl)
-
--- the parts are the texts of these items
-pub record AreItems {X : Type 0} (write : X → List ℕ) (ok : X → Bool) (parts : List (List ℕ)) (xs : List X) : Type 0 where
-  pub texts : parts ≡ map write xs
-  pub sound : list_all ok xs ≡ true
-
-each_is : {X : Type 0} (write : X → List ℕ) (read : List ℕ → Option X) (ok : X → Bool) → ((text : List ℕ) (x : X) → read text ≡ Some x → text ≡ write x) → ((text : List ℕ) (x : X) → read text ≡ Some x → ok x ≡ true) → (parts : List (List ℕ)) (xs : List X) → each_reading read parts ≡ Some xs → AreItems write ok parts xs
-each_is write read ok text_is sound [] xs e = subst (AreItems write ok []) (some_is [] xs e) (record { texts = refl; sound = refl })
-each_is write read ok text_is sound (part ∷ parts) xs e =
-    let a = bind_some (read part) (λ y. each_reading read parts >>= λ ys. Some (y ∷ ys)) xs e in
-    let b = bind_some (each_reading read parts) (λ ys. Some (a.0 ∷ ys)) xs a.2 in
-    let more = each_is write read ok text_is sound parts b.0 b.1 in
-    subst (AreItems write ok (part ∷ parts)) (some_is (a.0 ∷ b.0) xs b.2) (record {
-      texts = ap (λ (t : List ℕ). t ∷ parts) (text_is part a.0 a.1) ∙ ap (λ (ps : List (List ℕ)). write a.0 ∷ ps) more.texts;
-      sound = and_from (ok a.0) (list_all ok b.0) (sound part a.0 a.1) more.sound;
-    })
-
-joined_parts : {X : Type 0} (write : X → List ℕ) (read : List ℕ → Option X) (ok : X → Bool) (byte : ℕ) → IsReader write read ok byte → (x : X) (xs : List X) → list_all ok (x ∷ xs) ≡ true → parts_of byte (join_with_byte byte (map write (x ∷ xs))) ≡ map write (x ∷ xs)
-joined_parts write read ok byte r x [] h = parts_whole byte (write x) (r.apart x (and_parts (ok x) true h).0)
-joined_parts write read ok byte r x (y ∷ ys) h =
-    let p = and_parts (ok x) (list_all ok (y ∷ ys)) h in
-    parts_at byte (write x) (join_with_byte byte (map write (y ∷ ys))) (r.apart x p.0) ∙ ap (λ (ps : List (List ℕ)). write x ∷ ps) (joined_parts write read ok byte r y ys p.1)
-
--- items with this byte in front of each
-pub join-flat : {X : Type 0} (write : X → List ℕ) (byte : ℕ) (x : X) (xs : List X) → byte ∷ join_with_byte byte (map write (x ∷ xs)) ≡ flat_map (λ y. byte ∷ write y) (x ∷ xs)
-join-flat write byte x [] = ap (λ (t : List ℕ). byte ∷ t) (sym (append-nil (write x)))
-join-flat write byte x (y ∷ ys) = ap (λ (t : List ℕ). byte ∷ (write x ++ t)) (join-flat write byte y ys)
-
 -- ---- loads
 
-space_apart : IsApart 32
-space_apart = record { name = refl; digit = refl; zero_digit = refl; minus = refl; dollar = refl }
+abbrev IsRefForm : RefForm → Type 0
+IsRefForm r = is_ref_form r ≡ true
 
-pub ref_reader : IsReader ref_written ref_reading is_ref_form 32
-ref_reader = record {
-  again = ref_again;
-  text_is = λ text r e. (ref_is text r e).text_is;
-  sound = λ text r e. (ref_is text r e).sound;
-  apart = λ r h. ref_lacks 32 r space_apart refl h;
-}
+ref_item : (text : List ℕ) (r : RefForm) → ref_reading text ≡ Some r → IsItem ref_written IsRefForm text r
+ref_item text r e = let is = ref_is text r e in record { text_is = is.text_is; fits = is.sound }
 
 -- what follows the word of a load
 pub record IsLoadRest (rest : List ℕ) (refs : List RefForm) : Type 0 where
   pub text_is : 32 ∷ rest ≡ flat_map (λ r. 32 ∷ ref_written r) refs
   pub sound : is_script_line (load refs) ≡ true
 
-parts_some : (byte : ℕ) (text : List ℕ) → 0 < length (parts_of byte text)
-parts_some byte text = parts_are_some byte text
-
 pub refs_is : (rest : List ℕ) (refs : List RefForm) → refs_reading rest ≡ Some refs → IsLoadRest rest refs
-refs_is rest [] e =
-    let is = each_is ref_written ref_reading is_ref_form ref_reader.text_is ref_reader.sound (parts_of 32 rest) [] e in
-    absurd (omega (arith, parts_some 32 rest, ap length is.texts))
-refs_is rest (r ∷ rs) e =
-    let is = each_is ref_written ref_reading is_ref_form ref_reader.text_is ref_reader.sound (parts_of 32 rest) (r ∷ rs) e in
-    record {
-      text_is = ap (λ (t : List ℕ). 32 ∷ t) (sym (join-parts 32 rest) ∙ ap (join_with_byte 32) is.texts) ∙ join-flat ref_written 32 r rs;
-      sound = is.sound;
-    }
+refs_is rest refs e = by_some refs (joined_is ref_written ref_reading IsRefForm 32 ref_item rest refs e)
+  where
+    by_some : (rs : List RefForm) → AreJoined ref_written IsRefForm 32 rest rs → IsLoadRest rest rs
+    by_some [] is = let some = is.some in absurd (omega (arith, some))
+    by_some (r ∷ rs) is = record { text_is = ap (λ (t : List ℕ). 32 ∷ t) is.text_is ∙ join-flat ref_written 32 r rs; sound = pass_all is_ref_form (r ∷ rs) is.fit }
 
 pub refs_again : (r : RefForm) (rs : List RefForm) → list_all is_ref_form (r ∷ rs) ≡ true → refs_reading (join_with_byte 32 (map ref_written (r ∷ rs))) ≡ Some (r ∷ rs)
-refs_again r rs h =
-    ap (each_reading ref_reading) (joined_parts ref_written ref_reading is_ref_form 32 ref_reader r rs h) ∙ each_again ref_written ref_reading is_ref_form ref_reader.again (r ∷ rs) h
+refs_again r rs h = joined_again ref_written ref_reading IsRefForm 32 ref_again (λ r. ref_lacks 32 r space_apart refl) r rs (all_pass is_ref_form (r ∷ rs) h)
 
 -- the text of a load, cut at its first space
 pub load_cut : (text : List ℕ) (refs : List RefForm) → IsLine text (load refs) → (rest : List ℕ) × (cut_at 32 text ≡ Some (codes "load", rest)) × (refs_reading rest ≡ Some refs)
@@ -151,6 +95,12 @@ load_cut text (r ∷ rs) is =
 some_text : (t : WrittenTerm) (ts : List WrittenTerm) → is_term_form t ≡ true → 0 < length (parted (row_of (t ∷ ts)))
 some_text t ts h = omega (arith, length-append (written t) (behind (row_of ts)), nonempty-is_term_text (written t) (is_term_text-form (written t) t (text_of_form t h)))
 
+abbrev IsTermForm : WrittenTerm → Type 0
+IsTermForm t = is_term_form t ≡ true
+
+argument_item : (text : List ℕ) (t : WrittenTerm) → argument_reading text ≡ Some t → IsItem written IsTermForm text t
+argument_item text t e = let is = argument_is text t e in record { text_is = is.text_is; fits = is.sound }
+
 arguments_again : (ts : List WrittenTerm) → list_all is_term_form ts ≡ true → arguments_reading (parted (row_of ts)) ≡ Some ts
 arguments_again [] h = refl
 arguments_again (t ∷ ts) h =
@@ -158,7 +108,7 @@ arguments_again (t ∷ ts) h =
     let long : (length (parted (row_of (t ∷ ts))) == 0) ≡ false = grind (arith, nat_tests) in
     failed (length (parted (row_of (t ∷ ts))) == 0) (some []) _ long
     ∙ ap (each_reading argument_reading) (parts_of_written t ts h)
-    ∙ each_again written argument_reading is_term_form argument_again (t ∷ ts) h
+    ∙ each_again written argument_reading IsTermForm argument_again (t ∷ ts) (all_pass is_term_form (t ∷ ts) h)
 
 nothing : (text : List ℕ) → (length text == 0) ≡ true → text ≡ []
 nothing [] h = refl
@@ -167,8 +117,8 @@ nothing (c ∷ rest) h = absurd (omega (arith, (Decides-eqb (length (c ∷ rest)
 arguments_cases : (text : List ℕ) (ts : List WrittenTerm) (b : Bool) → (length text == 0) ≡ b → cond b (Some []) (each_reading argument_reading (parts_of_terms text)) ≡ Some ts → (text ≡ parted (row_of ts)) × (list_all is_term_form ts ≡ true)
 arguments_cases text ts true is e = let none : [] ≡ ts = some_is [] ts e in subst (λ us. (text ≡ parted (row_of us)) × (list_all is_term_form us ≡ true)) none (nothing text is, refl)
 arguments_cases text ts false is e =
-    let a = each_is written argument_reading is_term_form (λ part t read. (argument_is part t read).text_is) (λ part t read. (argument_is part t read).sound) (parts_of_terms text) ts e in
-    (sym (joined_parts_of_terms text) ∙ ap joined a.texts ∙ joined_written ts, a.sound)
+    let a = each_is written argument_reading IsTermForm argument_item (parts_of_terms text) ts e in
+    (sym (joined_parts_of_terms text) ∙ ap joined a.texts ∙ joined_written ts, pass_all is_term_form ts a.fit)
 
 arguments_is : (text : List ℕ) (ts : List WrittenTerm) → arguments_reading text ≡ Some ts → (text ≡ parted (row_of ts)) × (list_all is_term_form ts ≡ true)
 arguments_is text ts e = arguments_cases text ts (length text == 0) refl e

@@ -14,7 +14,7 @@ use Rattle.script_text.specs.declared.reading.reader.Place.TheVariants.{Finished
 use Rattle.script_text.specs.declared.reading.reader.ScriptReader.{ScriptReader}
 use Rattle.script_text.specs.ScriptLine.{ScriptLine, script_line_written, IsLine}
 use Rattle.script_text.specs.LineFaults.{line_fault}
-use Rattle.script_text.specs.TextLines.{last_line, all_lines}
+use Rattle.term_core.specs.Text.Parts.{last_line, all_lines}
 use Rattle.script_text.specs.ScriptText.{AreAllLines, ScriptText, IsMisplaced, Reaches, FaultyAt, FaultOf}
 use Rattle.script_text.specs.Reading.{line_at, at_line, line_judged, script_known, ended_at, go_on, text_on, bytes_on, opening, script_reading}
 use Rattle.script_text.proofs.Summaries.{summary_of, fault_by, line_fault-by}

@@ -32,7 +32,6 @@ pub mod ObserverSteps
 pub mod OneLine
 pub mod OpenText
 pub mod Outcomes
-pub mod Parts
 pub mod Prefixes
 pub mod PutLaws
 pub mod PutSteps

@@ -18,7 +18,8 @@ use Rattle.script_text.proofs.Holding.{IsUnread, IsLoading, IsFinished, Stands, 
 use Rattle.script_text.proofs.Steps.{holds_head}
 use Rattle.script_text.proofs.CodeSteps.{Judges, misplaced}
 use Rattle.script_text.proofs.WithinSteps.{judges_within}
-use Rattle.script_text.proofs.BlockSteps.{names_few, few, few_more, judges_block, judges_end, no_command}
+use Rattle.script_text.proofs.Choices.{few, few_more}
+use Rattle.script_text.proofs.BlockSteps.{names_few, judges_block, judges_end, no_command}
 use Rattle.script_text.proofs.LoadSteps.{judges_load}
 use Rattle.script_text.proofs.NamedLaws.{atom_cut, trace_cut}
 use Rattle.script_text.proofs.PutLaws.{put_cut}

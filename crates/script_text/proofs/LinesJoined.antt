@@ -1,31 +1,16 @@
 -- The lines of a text that is made of lines.
-use Rattle.std.proofs.Common.{◌≡◌, ℕ, Bool, true, false, cond, ◌==◌, List, [], ◌∷◌, ◌++◌, map, refl, sym, ap, ◌∙◌, append_assoc}
+use Rattle.std.proofs.Common.{◌≡◌, ℕ, true, List, [], ◌∷◌, ◌++◌, map, refl, sym, ap, ◌∙◌, append_assoc}
 use Rattle.std.specs.List.{AllByRecursion, flat_map}
 use Rattle.std.proofs.lemmas.Grind.{flat_map-append}
 use Rattle.mod_core.specs.declared.code.Module.{Module}
 use Rattle.mod_text.specs.Canonical.{canonical as module_lines}
 use Rattle.mod_text.specs.ModuleLine.{LineForm, line_bytes, lines_written}
-use Rattle.term_core.specs.Text.Cuts.{Lines, lines, before_lines, lines_of}
-use Rattle.term_core.proofs.Text.Cuts.{lacks, lacks-cons, lines_behind}
+use Rattle.term_core.specs.Text.Cuts.{Lines, lines, lines_of}
+use Rattle.term_core.proofs.Text.Cuts.{lacks, lines_behind}
+use Rattle.term_core.proofs.Text.Parts.{LackLineFeed}
 use Rattle.script_text.specs.ScriptLine.{ScriptLine, head, code, go, script_line_written}
 use Rattle.script_text.specs.Canonical.{code_form, script_line_bytes}
 use Rattle.script_text.proofs.InOrder.{assemble}
-
--- no line of a text has a line feed in it
-abbrev LackLineFeed : List (List ℕ) → Type 0
-LackLineFeed texts = AllByRecursion (λ line. lacks 10 line ≡ true) texts
-
-with_byte : (b : ℕ) (ended : List (List ℕ)) (tail : List ℕ) → (b == 10) ≡ false → LackLineFeed ended → LackLineFeed (before_lines b ended tail).ended
-with_byte b [] tail other h = tt
-with_byte b (line ∷ others) tail other h = (lacks-cons 10 b line other h.0, h.1)
-
-ended_by : (b : ℕ) (ended : List (List ℕ)) (tail : List ℕ) (t : Bool) → (b == 10) ≡ t → LackLineFeed ended → LackLineFeed (cond t (lines ([] ∷ ended) tail) (before_lines b ended tail)).ended
-ended_by b ended tail true is h = (refl, h)
-ended_by b ended tail false is h = with_byte b ended tail is h
-
-pub ended_lack : (text : List ℕ) → LackLineFeed (lines_of text).ended
-ended_lack [] = tt
-ended_lack (b ∷ bytes) = ended_by b (lines_of bytes).ended (lines_of bytes).tail (b == 10) refl (ended_lack bytes)
 
 pub lack_of_forms : (forms : List ScriptLine) → LackLineFeed (map script_line_written forms) → AllByRecursion (λ line. lacks 10 (script_line_written line) ≡ true) forms
 lack_of_forms [] h = tt

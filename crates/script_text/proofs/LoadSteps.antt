@@ -13,7 +13,7 @@ use Rattle.term_core.specs.Text.Cuts.{cut_at}
 use Rattle.mod_text.specs.ModuleValue.{module_of}
 use Rattle.term_core.proofs.Text.Cuts.{cut_is}
 use Rattle.mod_text.proofs.LineNames.{are_atoms}
-use Rattle.term_core.proofs.Text.Options.{some_is, same_bytes}
+use Rattle.term_core.proofs.Text.Options.{some_is}
 use Rattle.server_core.specs.declared.command.ModRef.{ModRef}
 use Rattle.script_text.specs.declared.fault.Which.TheVariants as which
 use Rattle.script_text.specs.declared.fault.ScriptFault.TheVariants as faults
@@ -44,7 +44,8 @@ use Rattle.script_text.proofs.Holding.{function_in, Stands, Knows, IsLoading, Ho
 use Rattle.script_text.proofs.Steps.{more_lines, commands-onto_last, length-onto_last}
 use Rattle.script_text.proofs.Functions.{functions_held_in}
 use Rattle.script_text.proofs.CodeSteps.{Judges, names_all-IsNames, at_after, titles_held_in}
-use Rattle.script_text.proofs.BlockSteps.{few, few_more, no_command}
+use Rattle.script_text.proofs.Choices.{few, few_more, other_word}
+use Rattle.script_text.proofs.BlockSteps.{no_command}
 
 -- ---- what is given
 
@@ -191,18 +192,10 @@ judges_refs m r closed text number refs k l place n is =
 
 -- a text whose first word is another's is no load
 pub no_load_text : (text word rest : List ℕ) → cut_at 32 text ≡ Some (word, rest) → bytes_eq word (codes "load") ≡ false → (refs : List RefForm) → IsLine text (load refs) → ⊥
-no_load_text text word rest e other refs is =
-    let c = load_cut text refs is in
-    let same : (codes "load", c.0) ≡ (word, rest) = some_is _ _ (sym c.1 ∙ e) in
-    let yes : bytes_eq word (codes "load") ≡ true = ap (λ (p : List ℕ × List ℕ). bytes_eq p.0 (codes "load")) (sym same) ∙ same_bytes (codes "load") in
-    absurd cc
+no_load_text text word rest e other refs is = let c = load_cut text refs is in other_word text word rest (codes "load") c.0 e other c.1
 
 pub no_spawn_text : (text word rest : List ℕ) → cut_at 32 text ≡ Some (word, rest) → bytes_eq word (codes "spawn") ≡ false → (n f : List ℕ) (args : List WrittenTerm) → IsLine text (spawn n f args) → ⊥
-no_spawn_text text word rest e other n f args is =
-    let c = spawn_cut text n f args is in
-    let same : (codes "spawn", c.0) ≡ (word, rest) = some_is _ _ (sym c.1 ∙ e) in
-    let yes : bytes_eq word (codes "spawn") ≡ true = ap (λ (p : List ℕ × List ℕ). bytes_eq p.0 (codes "spawn")) (sym same) ∙ same_bytes (codes "spawn") in
-    absurd cc
+no_spawn_text text word rest e other n f args is = let c = spawn_cut text n f args is in other_word text word rest (codes "spawn") c.0 e other c.1
 
 -- a text whose first word is that of a load
 pub judges_load : (m : Summary) (r : ScriptReader) (closed : List (List LineForm)) (text : List ℕ) (number : ℕ) (rest : List ℕ) → Knows m r closed → IsLoading m r → r.place ≡ Loading → number ≡ m.count + 1 → bytes_eq text (codes "loader") ≡ false → bytes_eq text (codes "go") ≡ false → cut_at 32 text ≡ Some (codes "load", rest) → Judges m text (load_step r number rest)

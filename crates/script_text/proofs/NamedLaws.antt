@@ -6,10 +6,13 @@ use Rattle.term_core.specs.Text.Numbers.{is_number_text}
 use Rattle.mod_text.specs.ModuleLine.{parted_by, spaced, function_written, is_arity_text, is_function_form}
 use Rattle.term_core.specs.Text.Steps.{◌>>=◌, tested, numbered_reading}
 use Rattle.term_core.specs.Text.Cuts.{cut_at}
-use Rattle.term_core.proofs.Text.Options.{some, some_is, bind_some, bind_at, bytes_are, same_bytes, tested_is, tested_at}
+use Rattle.term_core.proofs.Text.Options.{some, some_is, bind_some, bind_at, bytes_are, tested_is, tested_at}
 use Rattle.term_core.proofs.Text.Cuts.{lacks, lacks-append, lacks-cons, cut_here, cut_is, atom_lacks, number_lacks}
-use Rattle.script_text.specs.ScriptLine.{AtomCommand, delete, soft_purge, purge, check_old, erase, on_atom, trace, command_word, switch_word, trace_written, is_script_line, IsLine}
-use Rattle.script_text.specs.LineReading.{command_reading, TraceForm, switch_reading, trace_reading}
+use Rattle.script_text.specs.ScriptLine.{AtomCommand, delete, soft_purge, purge, check_old, erase, on_atom, trace, command_word, trace_written, is_script_line, IsLine}
+use Rattle.script_text.specs.LineReading.{command_reading, TraceForm, trace_reading}
+use Rattle.term_core.specs.Text.Words.{switch_word, switch_reading}
+use Rattle.term_core.proofs.Text.Words.{switch_is, switch_again}
+use Rattle.script_text.proofs.Choices.{other_word}
 
 -- ---- commands of one atom
 
@@ -43,21 +46,6 @@ pub atom_cut : (text : List ℕ) (c : AtomCommand) (n : List ℕ) → IsLine tex
 atom_cut text c n is = ap (cut_at 32) is.text_is ∙ cut_here 32 (command_word c) n (word_lacks c)
 
 -- ---- breakpoints
-
-switch_is : (text : List ℕ) (on : Bool) → switch_reading text ≡ Some on → text ≡ switch_word on
-switch_is text on e = by_on (bytes_eq text (codes "on")) refl e
-  where
-    by_off : (t : Bool) → bytes_eq text (codes "off") ≡ t → cond t (Some false) None ≡ Some on → text ≡ switch_word on
-    by_off true b e = bytes_are text (codes "off") b ∙ ap switch_word (some_is false on e)
-    by_off false b e = absurd cc
-
-    by_on : (t : Bool) → bytes_eq text (codes "on") ≡ t → cond t (Some true) (cond (bytes_eq text (codes "off")) (Some false) None) ≡ Some on → text ≡ switch_word on
-    by_on true b e = bytes_are text (codes "on") b ∙ ap switch_word (some_is true on e)
-    by_on false b e = by_off (bytes_eq text (codes "off")) refl e
-
-switch_again : (on : Bool) → switch_reading (switch_word on) ≡ Some on
-switch_again true = refl
-switch_again false = refl
 
 -- the bytes are a function's name and arity
 record IsFunction (text : List ℕ) (x : List ℕ × List ℕ) : Type 0 where
@@ -150,8 +138,4 @@ no_atom_command text word rest e other c n is =
     absurd cc
 
 pub no_trace_text : (text word rest : List ℕ) → cut_at 32 text ≡ Some (word, rest) → bytes_eq word (codes "trace") ≡ false → (m f arity : List ℕ) (on : Bool) → IsLine text (trace m f arity on) → ⊥
-no_trace_text text word rest e other m f arity on is =
-    let c = trace_cut text m f arity on is in
-    let same : (codes "trace", c.0) ≡ (word, rest) = some_is _ _ (sym c.1 ∙ e) in
-    let yes : bytes_eq word (codes "trace") ≡ true = ap (λ (p : List ℕ × List ℕ). bytes_eq p.0 (codes "trace")) (sym same) ∙ same_bytes (codes "trace") in
-    absurd cc
+no_trace_text text word rest e other m f arity on is = let c = trace_cut text m f arity on is in other_word text word rest (codes "trace") c.0 e other c.1

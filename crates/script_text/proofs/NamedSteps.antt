@@ -33,6 +33,7 @@ use Rattle.script_text.specs.WrittenLine.{trace_words}
 use Rattle.script_text.specs.Causes.{◌>>=◌}
 use Rattle.script_text.specs.Reading.{with_command, atom_step, trace_step}
 use Rattle.script_text.proofs.PutLaws.{no_put_text}
+use Rattle.script_text.proofs.OneLine.{trace_of as traced}
 use Rattle.script_text.proofs.NamedLaws.{word_is, atom_cut, trace_is, trace_cut, no_atom_command, no_trace_text}
 use Rattle.script_text.proofs.HeldNames.{held_all, Extends-all, number_in-more}
 use Rattle.script_text.proofs.ModuleNames.{AreHeld}
@@ -42,7 +43,8 @@ use Rattle.script_text.proofs.Holding.{function_in, Stands, Knows, IsLoading, Ho
 use Rattle.script_text.proofs.Steps.{more_lines, commands-onto_last, length-onto_last}
 use Rattle.script_text.proofs.Functions.{functions_held_in}
 use Rattle.script_text.proofs.CodeSteps.{Judges, names_all-IsNames, titles_held_in}
-use Rattle.script_text.proofs.BlockSteps.{few, few_more, no_command}
+use Rattle.script_text.proofs.Choices.{few, few_more}
+use Rattle.script_text.proofs.BlockSteps.{no_command}
 use Rattle.script_text.proofs.LoadSteps.{no_load_text, no_spawn_text}
 
 -- ---- a command with atoms and no more
@@ -194,9 +196,6 @@ judges_atom m r closed text word rest k l place no_loader no_go cut no_load no_s
     by_word (Some c) e = by_atom c (is_atom_text rest) e refl
 
 -- ---- breakpoints
-
-abbrev traced : TraceForm → ScriptLine
-traced t = trace t.«module» t.name t.arity t.on
 
 trace_plain : (t : TraceForm) → is_atom_text t.«module» ≡ true → is_atom_text t.name ≡ true → IsPlain (traced t) (t.«module» ∷ t.name ∷ []) (λ names. Trace (traced_in names t) t.on)
 trace_plain t m_is f_is = record {

@@ -27,6 +27,7 @@ use Rattle.script_text.specs.LineFaults.{is_wide_term, is_long_term}
 use Rattle.script_text.specs.WrittenLine.{ref_words, trace_words, ArgumentWords, integer, complex, argument_words, put_words, call_words}
 use Rattle.script_text.specs.Causes.{◌>>=◌}
 use Rattle.script_text.specs.Naming.{atom_named, each_named, ref_named, refs_named, trace_named, argument_named, arguments_named, is_wide_word, is_long_word, key_named, put_named, target_named, call_named}
+use Rattle.script_text.proofs.Choices.{not_over}
 use Rattle.script_text.proofs.HeldNames.{held_with, held_all, Extends-all, number_in-after}
 use Rattle.script_text.proofs.TermLines.{text_of_form}
 use Rattle.script_text.proofs.TermNames.{term_after}
@@ -46,9 +47,6 @@ pub record IsNamer {A X Y : Type 0} (step : List (List ℕ) → X → Result (Y 
   pub one : (names : List (List ℕ)) (a : A) → ok a ≡ true → length names ≤ 4096 → step names (words a) ≡ or_full (λ after. value after a) (names_with_all names (atoms a))
   pub stays : (names after : List (List ℕ)) (a : A) → ok a ≡ true → Extends (names_with_all names (atoms a)) after → value after a ≡ value (names_with_all names (atoms a)) a
 
-within : (n : ℕ) → nat_lt 4096 n ≡ false → n ≤ 4096
-within n h = grind (arith, nat_tests)
-
 abbrev in_front : {Y : Type 0} → Y → List Y × List (List ℕ) → Result (List Y × List (List ℕ)) LineCause
 in_front y ys = Ok (y ∷ ys.0, ys.1)
 
@@ -62,8 +60,8 @@ join first more = first >>= λ y. more y.1 >>= λ ys. Ok (y.0 ∷ ys.0, ys.1)
 pub each_named-is : {A X Y : Type 0} (step : List (List ℕ) → X → Result (Y × List (List ℕ)) LineCause) (words : A → X) (atoms : A → List (List ℕ)) (value : List (List ℕ) → A → Y) (ok : A → Bool) → IsNamer step words atoms value ok → (names : List (List ℕ)) (xs : List A) → list_all ok xs ≡ true → length names ≤ 4096 → each_named step names (map words xs) ≡ or_full (λ after. map (value after) xs) (names_with_all names (flat_map atoms xs))
 unfolding each_named
 each_named-is step words atoms value ok n names [] h room =
-    let not_over : nat_lt 4096 (length names) ≡ false = grind (arith, nat_tests) in
-    sym (ap (λ t. cond {A = Result _ LineCause} t (Err (causes.Limit which.Names)) (Ok ([], names))) not_over)
+    let room : nat_lt 4096 (length names) ≡ false = grind (arith, nat_tests) in
+    sym (ap (λ t. cond {A = Result _ LineCause} t (Err (causes.Limit which.Names)) (Ok ([], names))) room)
 each_named-is step words atoms value ok n names (x ∷ xs) h room =
     let p = and_parts (ok x) (list_all ok xs) h in
     let between = names_with_all names (atoms x) in
@@ -84,7 +82,7 @@ each_named-is step words atoms value ok n names (x ∷ xs) h room =
         let over : nat_lt 4096 (length (names_with_all (names_with_all names (atoms x)) (flat_map atoms xs))) ≡ true = over_stays (length (names_with_all names (atoms x))) _ (more_names_all (names_with_all names (atoms x)) (flat_map atoms xs)) e in
         sym (ap (λ t. all_named t (map (value (names_with_all (names_with_all names (atoms x)) (flat_map atoms xs))) (x ∷ xs)) (names_with_all (names_with_all names (atoms x)) (flat_map atoms xs))) over)
     by_room false e ok_x more =
-        let le : length (names_with_all names (atoms x)) ≤ 4096 = within (length (names_with_all names (atoms x))) e in
+        let le : length (names_with_all names (atoms x)) ≤ 4096 = not_over 4096 (length (names_with_all names (atoms x))) e in
         ap (λ (r : Result _ LineCause). r >>= in_front (value (names_with_all names (atoms x)) x)) (more le)
         ∙ by_over (nat_lt 4096 (length (names_with_all (names_with_all names (atoms x)) (flat_map atoms xs)))) ok_x
 
@@ -180,8 +178,8 @@ argument_one names (integer_leaf text) h room = by_fit (is_term_integer (integer
   where
     by_fit : (b : Bool) → not (is_some {T = ℕ} (cond b None (Some 0))) ≡ true → argument_named names (integer (cond b (Some (integer_of text)) None)) ≡ or_full (λ after. integer_leaf (integer_of text)) names
     by_fit true e =
-        let not_over : nat_lt 4096 (length names) ≡ false = grind (arith, nat_tests) in
-        sym (ap (λ t. cond {A = Result _ LineCause} t (Err (causes.Limit which.Names)) (Ok (integer_leaf (integer_of text), names))) not_over)
+        let room : nat_lt 4096 (length names) ≡ false = grind (arith, nat_tests) in
+        sym (ap (λ t. cond {A = Result _ LineCause} t (Err (causes.Limit which.Names)) (Ok (integer_leaf (integer_of text), names))) room)
     by_fit false e = absurd cc
 argument_one names (atom_leaf text) h room =
     let p = and_parts (is_atom_text text) _ h in
@@ -208,7 +206,7 @@ arguments_named-is names args h room = each_named-is argument_named argument_wor
 abbrev pub target_in : List (List ℕ) → CallForm → Mfa
 target_in names c = record { «module» = atom_in names c.«module»; name = atom_in names c.name; arity = length c.args }
 
-abbrev Called : Type 0
+abbrev pub Called : Type 0
 Called = Mfa × List PlainTerm × List (List ℕ)
 
 abbrev pub call_or_full : List (List ℕ) → CallForm → Result Called LineCause
@@ -259,7 +257,7 @@ target_named-is names c m_is f_is args_are room =
     by_name true e = sym (by_over (nat_lt 4096 (length (names_after_call names c))) (over_stays (length (names_with (names_with names c.«module») c.name)) _ (more_names_all (names_with (names_with names c.«module») c.name) (flat_map atoms_of c.args)) e))
     by_name false e =
         ap (λ (r : Result _ LineCause). r >>= with_target (number_in (names_with names c.«module») c.«module») (number_in (names_with (names_with names c.«module») c.name) c.name))
-        (arguments_named-is (names_with (names_with names c.«module») c.name) c.args args_are (within (length (names_with (names_with names c.«module») c.name)) e))
+        (arguments_named-is (names_with (names_with names c.«module») c.name) c.args args_are (not_over 4096 (length (names_with (names_with names c.«module») c.name)) e))
         ∙ target_last names c.«module» c.name c.args (nat_lt 4096 (length (names_after_call names c)))
 
     by_module : (t : Bool) → nat_lt 4096 (length (names_with names c.«module»)) ≡ t → (numbered t names c.«module» >>= with_call c.name (map argument_words c.args)) ≡ call_or_full (names_after_call names c) c
@@ -361,7 +359,7 @@ key_named-is names p key_is narrow =
     by_key : (t : Bool) → nat_lt 4096 (length (names_with names p.key)) ≡ t → (numbered t names p.key >>= with_key (argument_words p.term)) ≡ put_or_full (names_after_put names p) p
     by_key true e = sym (by_over (nat_lt 4096 (length (names_after_put names p))) (over_stays (length (names_with names p.key)) _ (more_names_all (names_with names p.key) (atoms_of p.term)) e))
     by_key false e =
-        ap (λ (r : Result _ LineCause). r >>= with_value (number_in (names_with names p.key) p.key)) (argument_one (names_with names p.key) p.term narrow (within (length (names_with names p.key)) e))
+        ap (λ (r : Result _ LineCause). r >>= with_value (number_in (names_with names p.key) p.key)) (argument_one (names_with names p.key) p.term narrow (not_over 4096 (length (names_with names p.key)) e))
         ∙ by_term (nat_lt 4096 (length (names_after_put names p)))
 
 -- a put is named, or has an integer that is too wide, or a term that is too long, or finds the table full

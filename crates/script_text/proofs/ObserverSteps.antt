@@ -21,7 +21,8 @@ use Rattle.script_text.proofs.Summaries.{Summary, table, fault_by}
 use Rattle.script_text.proofs.Holding.{IsBetween, IsObserving, Knows}
 use Rattle.script_text.proofs.Steps.{holds_observer}
 use Rattle.script_text.proofs.CodeSteps.{Judges, misplaced}
-use Rattle.script_text.proofs.BlockSteps.{names_few, few, few_more, full_more}
+use Rattle.script_text.proofs.Choices.{few, few_more}
+use Rattle.script_text.proofs.BlockSteps.{names_few, full_more}
 use Rattle.script_text.proofs.ObserverLaws.{observer_cut}
 use Rattle.script_text.proofs.OneLine.{observer_alone}
 use Rattle.script_text.proofs.TitleSteps.{judges_title}

@@ -16,13 +16,13 @@ use Rattle.script_text.proofs.NamedLaws.{word_is, atom_cut, trace_cut}
 
 -- ---- a line by its text
 
-abbrev spawn_of : CallForm → ScriptLine
+abbrev pub spawn_of : CallForm → ScriptLine
 spawn_of c = spawn c.«module» c.name c.args
 
-abbrev put_of : PutForm → ScriptLine
+abbrev pub put_of : PutForm → ScriptLine
 put_of p = put p.key p.term
 
-abbrev trace_of : TraceForm → ScriptLine
+abbrev pub trace_of : TraceForm → ScriptLine
 trace_of t = trace t.«module» t.name t.arity t.on
 
 -- the line of a command of one atom, or another
@@ -115,39 +115,24 @@ code_parts text line e = by_cut (cut_at 32 text) refl
     by_atom parts None read f = ap (option_map (λ l. code l)) e
     by_atom parts (Some c) read f = absurd (no_code parts.0 parts.1 c (word_is parts.0 c f) read)
 
-    by_put : (parts : List ℕ × List ℕ) (t : Bool) → parts_reading text (Some parts) ≡ Some line → bytes_eq parts.0 (codes "put") ≡ t → cond t (option_map put_of (put_reading parts.1)) (by_word (command_reading parts.0) parts.1 (option_map (λ l. code l) (line_reading text))) ≡ Some (code line)
-    by_put parts true read f =
-        let none : parts_reading text (Some (codes "put", parts.1)) ≡ Some line = ap (λ (w : List ℕ). parts_reading text (Some (w, parts.1))) (sym (bytes_are parts.0 (codes "put") f)) ∙ read in
+    -- the word in front is none that has a step of its own
+    by_key : (key : List ℕ) (parts : List ℕ × List ℕ) (x y : Option ScriptLine) (t : Bool) → parts_reading text (Some parts) ≡ Some line → bytes_eq parts.0 key ≡ t → parts_reading text (Some (key, parts.1)) ≡ None → y ≡ Some (code line) → cond t x y ≡ Some (code line)
+    by_key key parts x y true read f none rest =
+        let both : None ≡ Some line = sym none ∙ ap (λ (w : List ℕ). parts_reading text (Some (w, parts.1))) (sym (bytes_are parts.0 key f)) ∙ read in
         absurd cc
-    by_put parts false read f = by_atom parts (command_reading parts.0) read refl
+    by_key key parts x y false read f none rest = rest
 
-    by_trace : (parts : List ℕ × List ℕ) (t : Bool) → parts_reading text (Some parts) ≡ Some line → bytes_eq parts.0 (codes "trace") ≡ t → cond t (option_map trace_of (trace_reading parts.1)) (cond (bytes_eq parts.0 (codes "put")) (option_map put_of (put_reading parts.1)) (by_word (command_reading parts.0) parts.1 (option_map (λ l. code l) (line_reading text)))) ≡ Some (code line)
-    by_trace parts true read f =
-        let none : parts_reading text (Some (codes "trace", parts.1)) ≡ Some line = ap (λ (w : List ℕ). parts_reading text (Some (w, parts.1))) (sym (bytes_are parts.0 (codes "trace") f)) ∙ read in
-        absurd cc
-    by_trace parts false read f = by_put parts (bytes_eq parts.0 (codes "put")) read refl
-
-    by_spawn : (parts : List ℕ × List ℕ) (t : Bool) → parts_reading text (Some parts) ≡ Some line → bytes_eq parts.0 (codes "spawn") ≡ t → cond t (option_map spawn_of (call_reading parts.1)) (by_other text parts) ≡ Some (code line)
-    by_spawn parts true read f =
-        let none : parts_reading text (Some (codes "spawn", parts.1)) ≡ Some line = ap (λ (w : List ℕ). parts_reading text (Some (w, parts.1))) (sym (bytes_are parts.0 (codes "spawn") f)) ∙ read in
-        absurd cc
-    by_spawn parts false read f = by_trace parts (bytes_eq parts.0 (codes "trace")) read refl
-
-    by_load : (parts : List ℕ × List ℕ) (t : Bool) → parts_reading text (Some parts) ≡ Some line → bytes_eq parts.0 (codes "load") ≡ t → cond t (option_map (λ refs. load refs) (refs_reading parts.1)) (cond (bytes_eq parts.0 (codes "spawn")) (option_map spawn_of (call_reading parts.1)) (by_other text parts)) ≡ Some (code line)
-    by_load parts true read f =
-        let none : parts_reading text (Some (codes "load", parts.1)) ≡ Some line = ap (λ (w : List ℕ). parts_reading text (Some (w, parts.1))) (sym (bytes_are parts.0 (codes "load") f)) ∙ read in
-        absurd cc
-    by_load parts false read f = by_spawn parts (bytes_eq parts.0 (codes "spawn")) read refl
-
-    by_observer : (parts : List ℕ × List ℕ) (t : Bool) → parts_reading text (Some parts) ≡ Some line → bytes_eq parts.0 (codes "observer") ≡ t → cond t (observer_of parts.1) (by_command text parts) ≡ Some (code line)
-    by_observer parts true read f =
-        let none : parts_reading text (Some (codes "observer", parts.1)) ≡ Some line = ap (λ (w : List ℕ). parts_reading text (Some (w, parts.1))) (sym (bytes_are parts.0 (codes "observer") f)) ∙ read in
-        absurd cc
-    by_observer parts false read f = by_load parts (bytes_eq parts.0 (codes "load")) read refl
+    by_keys : (parts : List ℕ × List ℕ) → parts_reading text (Some parts) ≡ Some line → by_parts text (Some parts) ≡ Some (code line)
+    by_keys parts read =
+        by_key (codes "observer") parts (observer_of parts.1) (by_command text parts) (bytes_eq parts.0 (codes "observer")) read refl refl
+        (by_key (codes "load") parts (option_map (λ refs. load refs) (refs_reading parts.1)) _ (bytes_eq parts.0 (codes "load")) read refl refl
+        (by_key (codes "spawn") parts (option_map spawn_of (call_reading parts.1)) (by_other text parts) (bytes_eq parts.0 (codes "spawn")) read refl refl
+        (by_key (codes "trace") parts (option_map trace_of (trace_reading parts.1)) _ (bytes_eq parts.0 (codes "trace")) read refl refl
+        (by_key (codes "put") parts (option_map put_of (put_reading parts.1)) _ (bytes_eq parts.0 (codes "put")) read refl refl (by_atom parts (command_reading parts.0) read refl)))))
 
     by_cut : (o : Option (List ℕ × List ℕ)) → cut_at 32 text ≡ o → by_parts text o ≡ Some (code line)
     by_cut None cut = ap (option_map (λ l. code l)) e
-    by_cut (Some parts) cut = by_observer parts (bytes_eq parts.0 (codes "observer")) (sym (ap (parts_reading text) cut) ∙ split_is (line_split text) line e) refl
+    by_cut (Some parts) cut = by_keys parts (sym (ap (parts_reading text) cut) ∙ split_is (line_split text) line e)
 
 -- ---- the one line
 

@@ -19,14 +19,15 @@ use Rattle.script_text.specs.ScriptLine.{ScriptLine, code, loader, go, script_li
 use Rattle.script_text.specs.Counts.{names_of, module_texts, titles_of, loader_blocks}
 use Rattle.script_text.specs.ScriptValue.{commands_of, script_of}
 use Rattle.script_text.specs.LineFaults.{may_stand_behind, may_stand, or_else, lack_in_texts, lack_in_loads, first_lack, last_of}
-use Rattle.script_text.specs.TextLines.{last_line}
+use Rattle.term_core.specs.Text.Parts.{last_line}
 use Rattle.script_text.specs.ScriptText.{AreAllLines, ScriptText, IsMisplaced, Reaches, MisplacedAt, FaultyAt, FaultOf}
 use Rattle.script_text.specs.Reading.{line_at, at_line, line_judged, script_known, ended_at, text_ended, go_on, text_on, bytes_on, opening, script_reading}
 use Rattle.script_text.proofs.GrownLines.{length-snoc, last_of-snoc}
 use Rattle.script_text.proofs.Summaries.{Summary, summary_of, table, fault_by, line_fault-by}
 use Rattle.script_text.proofs.Holding.{as_text, Stands, Knows, Holds}
 use Rattle.script_text.proofs.CodeSteps.{IsRefused, Judges}
-use Rattle.script_text.proofs.BlockSteps.{names_few, few, few_more}
+use Rattle.script_text.proofs.Choices.{few, few_more}
+use Rattle.script_text.proofs.BlockSteps.{names_few}
 use Rattle.script_text.proofs.LineSteps.{judges_line}
 use Rattle.script_text.proofs.OneLine.{one_line}
 use Rattle.script_text.proofs.Prefixes.{IsPrefix, at_front, one_more, reaches, all_count, ended_count, no_bytes}

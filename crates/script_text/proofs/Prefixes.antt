@@ -6,7 +6,7 @@ use Rattle.std.proofs.lemmas.List.{map-append, length-map}
 use Rattle.term_core.specs.Text.Cuts.{lines, before_lines, lines_of}
 use Rattle.script_text.specs.ScriptLine.{ScriptLine, script_line_written, is_script_line, IsLine}
 use Rattle.script_text.specs.LineFaults.{line_fault}
-use Rattle.script_text.specs.TextLines.{last_line, all_lines}
+use Rattle.term_core.specs.Text.Parts.{last_line, all_lines}
 use Rattle.script_text.specs.ScriptText.{IsShort, HaveNoFault, Reaches}
 
 abbrev pub written : List ScriptLine → List (List ℕ)

@@ -6,7 +6,7 @@ use Rattle.term_core.specs.Written.{WrittenTerm, written}
 use Rattle.term_core.specs.Text.Steps.{◌>>=◌ as ◌>>?◌, tested}
 use Rattle.term_core.specs.Text.Cuts.{cut_at}
 use Rattle.mod_text.specs.ModuleLine.{spaced}
-use Rattle.term_core.proofs.Text.Options.{some, some_is, bind_some, bind_at, same_bytes, tested_is, tested_at}
+use Rattle.term_core.proofs.Text.Options.{some, some_is, bind_some, bind_at, tested_is, tested_at}
 use Rattle.term_core.proofs.Text.Cuts.{cut_here, cut_is, atom_lacks}
 use Rattle.script_text.specs.declared.reading.cause.LineCause.{LineCause}
 use Rattle.script_text.specs.declared.reading.cause.LineCause.TheVariants as causes
@@ -17,6 +17,7 @@ use Rattle.script_text.specs.LineReading.{argument_reading, PutForm, put_reading
 use Rattle.script_text.specs.KeptTerm.{ArgumentWords, argument_words}
 use Rattle.script_text.specs.WrittenLine.{PutWords, put_words}
 use Rattle.script_text.proofs.TermLines.{argument_again, argument_is}
+use Rattle.script_text.proofs.Choices.{other_word}
 
 put_of : List ℕ → WrittenTerm → PutForm
 put_of key t = record { key = key; term = t }
@@ -85,9 +86,4 @@ put_cut text key t is =
     (spaced key (written t), ap (cut_at 32) is.text_is ∙ cut_here 32 (codes "put") (spaced key (written t)) refl, put_again p is.sound)
 
 pub no_put_text : (text word rest : List ℕ) → cut_at 32 text ≡ Some (word, rest) → bytes_eq word (codes "put") ≡ false → (key : List ℕ) (t : WrittenTerm) → IsLine text (put key t) → ⊥
-no_put_text text word rest e other key t is =
-    let c = put_cut text key t is in
-    let same : (codes "put", c.0) ≡ (word, rest) = some_is (codes "put", c.0) (word, rest) (sym c.1 ∙ e) in
-    let yes : bytes_eq word (codes "put") ≡ true = ap (λ (p : List ℕ × List ℕ). bytes_eq p.0 (codes "put")) (sym same) ∙ same_bytes (codes "put") in
-    let both : true ≡ false = sym yes ∙ other in
-    absurd cc
+no_put_text text word rest e other key t is = let c = put_cut text key t is in other_word text word rest (codes "put") c.0 e other c.1

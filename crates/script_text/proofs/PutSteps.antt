@@ -19,7 +19,7 @@ use Rattle.script_text.specs.declared.reading.reader.Place.TheVariants.{Loading}
 use Rattle.script_text.specs.declared.reading.reader.ScriptReader.{ScriptReader}
 use Rattle.script_core.specs.declared.script.ScriptCmd.{ScriptCmd}
 use Rattle.script_core.specs.declared.script.ScriptCmd.TheVariants.{Put}
-use Rattle.script_text.specs.ScriptLine.{ScriptLine, put, is_term_form, IsLine}
+use Rattle.script_text.specs.ScriptLine.{put, is_term_form, IsLine}
 use Rattle.script_text.specs.ScriptValue.{argument_in}
 use Rattle.script_text.specs.LineFaults.{is_wide_term, is_long_term, may_stand}
 use Rattle.script_text.specs.LineReading.{PutForm, put_reading}
@@ -27,6 +27,7 @@ use Rattle.script_text.specs.Naming.{or_syntax, put_named}
 use Rattle.script_text.specs.WrittenLine.{put_words}
 use Rattle.script_text.specs.Causes.{◌>>=◌}
 use Rattle.script_text.specs.Reading.{with_command, put_step}
+use Rattle.script_text.proofs.OneLine.{put_of as put_line}
 use Rattle.script_text.proofs.PutLaws.{put_is, put_cut}
 use Rattle.script_text.proofs.NamedLaws.{no_atom_command, no_trace_text}
 use Rattle.script_text.proofs.HeldNames.{number_in-more}
@@ -35,12 +36,10 @@ use Rattle.script_text.proofs.Namings.{Keyed, names_after_put, put_or_full, put_
 use Rattle.script_text.proofs.Summaries.{Summary, table, fault_by}
 use Rattle.script_text.proofs.Holding.{Knows, IsLoading}
 use Rattle.script_text.proofs.CodeSteps.{Judges}
-use Rattle.script_text.proofs.BlockSteps.{few, few_more, no_command}
+use Rattle.script_text.proofs.Choices.{few, few_more}
+use Rattle.script_text.proofs.BlockSteps.{no_command}
 use Rattle.script_text.proofs.LoadSteps.{no_load_text, no_spawn_text}
 use Rattle.script_text.proofs.NamedSteps.{IsPlain, done, judges_plain}
-
-abbrev put_line : PutForm → ScriptLine
-put_line p = put p.key p.term
 
 abbrev put_atoms : PutForm → List (List ℕ)
 put_atoms p = p.key ∷ atoms_of p.term

@@ -3,7 +3,6 @@ use Rattle.std.proofs.Common.{◌≡◌, ℕ, ◌+◌, ◌≤◌, Bool, true, fa
 use Rattle.std.specs.Prelude.{fold, count_by, IsTrue}
 use Rattle.std.specs.List.{AllByRecursion, flat_map, list_any}
 use Rattle.std.proofs.lemmas.Bool.{le-ltb, or_from}
-use Rattle.std.proofs.lemmas.Bool.Decides.{nat_tests}
 use Rattle.std.proofs.lemmas.Grind.{flat_map-append}
 use Rattle.std.proofs.lemmas.List.Sums.{fold-append, sum_by-append}
 use Rattle.term_core.specs.Names.{given_names}
@@ -14,6 +13,7 @@ use Rattle.script_text.specs.ScriptLine.{ScriptLine, is_script_line}
 use Rattle.script_text.specs.Counts.{script_line_atoms, names_of, FunctionForm, is_same_function, functions_named, functions_with, functions_of, titles_of, line_observers, observers_of, is_loader, is_spawn}
 use Rattle.script_text.specs.LineFaults.{may_stand, is_high, is_wide, is_long, of_code, is_given_again, last_of, last_text, line_fault}
 use Rattle.script_text.specs.ScriptText.{HaveNoFault}
+use Rattle.script_text.proofs.Choices.{not_over}
 use Rattle.script_text.proofs.GrownLines.{home_of}
 use Rattle.script_text.proofs.Summaries.{Summary, summary_with, table}
 use Rattle.script_text.proofs.SoundnessRows.{IsKept, kept}
@@ -28,9 +28,6 @@ pub record AreWithin (lines : List ScriptLine) : Type 0 where
   pub observers : length (observers_of lines) ≤ 4
 
 -- ---- lines without a fault
-
-not_over : (most n : ℕ) → nat_lt most n ≡ false → n ≤ most
-not_over most n h = grind (arith, nat_tests)
 
 record IsWithin (m : Summary) : Type 0 where
   names : length m.names ≤ 4096

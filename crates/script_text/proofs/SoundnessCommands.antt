@@ -1,5 +1,5 @@
 -- The commands among lines without a fault can be made, and their loaders and processes are few enough.
-use Rattle.std.proofs.Common.{◌≡◌, ℕ, ◌+◌, ◌<◌, ◌≤◌, Bool, true, false, cond, nat_lt, nat_le, List, [], ◌∷◌, length, map, Option, Some, None, is_some, refl, sym, ap, ◌∙◌, subst, arith, length-append}
+use Rattle.std.proofs.Common.{◌≡◌, ℕ, ◌+◌, ◌<◌, ◌≤◌, Bool, true, false, cond, nat_le, List, [], ◌∷◌, length, map, Option, Some, None, is_some, refl, sym, ap, ◌∙◌, subst, arith, length-append}
 use Rattle.std.specs.Prelude.{IsTrue, count_by, sum_by}
 use Rattle.std.specs.List.{AllByRecursion, flat_map, list_any, list_all}
 use Rattle.std.proofs.lemmas.Bool.{and_parts, or_parts}
@@ -21,6 +21,7 @@ use Rattle.mod_text.specs.ModuleLine.{LineForm, title, header, label, instr, end
 use Rattle.mod_text.specs.ModuleValue.{atom_in, mfa_in, module_of}
 use Rattle.server_core.specs.CommandTable.{text_of}
 use Rattle.script_core.specs.declared.script.ScriptCmd.TheVariants.{Load, Put, Trace, Spawn}
+use Rattle.script_text.proofs.Choices.{not_over}
 use Rattle.script_text.proofs.Steps.{length-onto_last}
 use Rattle.script_text.specs.ScriptLine.{RefForm, AtomCommand, delete, ScriptLine, head, code, observer, loader, load, on_atom, put, trace, spawn, go, is_script_line}
 use Rattle.script_text.specs.Counts.{script_line_atoms, is_given, is_loader, is_spawn, block_lines, loader_blocks}
@@ -62,13 +63,10 @@ mutual
   held_row names no_terms fits held = tt
   held_row names (term_then t row) fits held = (held_leaves names t fits.0 (held_first names (atoms_of t) (row_atoms row) held), held_row names row fits.1 (held_second names (atoms_of t) (row_atoms row) held))
 
-at_most_words : (n : ℕ) → nat_lt 64 n ≡ false → n ≤ 64
-at_most_words n h = grind (arith, nat_tests)
-
 argument_is : (names : List (List ℕ)) (arg : WrittenTerm) → is_wide_term arg ≡ false → is_long_term arg ≡ false → AreHeld names (atoms_of arg) → IsTermOf names (argument_in names arg)
 argument_is names arg narrow brief held = record {
   leaves = held_leaves names arg (narrow_fits arg narrow) held;
-  short = let same = term_words-map integer_of (number_in names) arg in let few = at_most_words (term_words arg) brief in omega (arith, same, few);
+  short = let same = term_words-map integer_of (number_in names) arg in let few = not_over 64 (term_words arg) brief in omega (arith, same, few);
 }
 
 arguments_are : (names : List (List ℕ)) (args : List WrittenTerm) → list_any is_wide_term args ≡ false → list_any is_long_term args ≡ false → AllByRecursion (λ arg. AreHeld names (atoms_of arg)) args → AllByRecursion (λ arg. IsTermOf names (argument_in names arg)) args
@@ -200,12 +198,6 @@ record AreCounted (m : Summary) : Type 0 where
   loaders : m.loaders ≤ 8
   processes : m.spawns ≤ 64
 
-within_loaders : (n : ℕ) → nat_lt 8 n ≡ false → n ≤ 8
-within_loaders n h = grind (arith, nat_tests)
-
-within_processes : (n : ℕ) → nat_lt 64 n ≡ false → n ≤ 64
-within_processes n h = grind (arith, nat_tests)
-
 counted_more : (m : Summary) (line : ScriptLine) → AreCounted m → Passes m line → (length (blocks_with m.blocks line) ≡ (summary_with m line).loaders) × SomeBehind (Some line) (length (blocks_with m.blocks line))
 counted_more m loader c p = (simp length-append (omega (arith, c.blocks)), simp length-append (omega arith))
 counted_more m head c p = (omega (arith, c.blocks), tt)
@@ -222,7 +214,7 @@ counted_kept = record {
   first = record { blocks = refl; some = tt; loaders = omega arith; processes = omega arith };
   more = λ m line c sound p.
       let next = counted_more m line c p in
-      record { blocks = next.0; some = next.1; loaders = within_loaders (summary_with m line).loaders p.loaders; processes = within_processes (summary_with m line).spawns p.processes };
+      record { blocks = next.0; some = next.1; loaders = not_over 8 (summary_with m line).loaders p.loaders; processes = not_over 64 (summary_with m line).spawns p.processes };
 }
 
 counted : (lines : List ScriptLine) → AllByRecursion (λ line. IsTrue (is_script_line line)) lines → HaveNoFault [] lines → AreCounted (summary_of lines)

@@ -1,9 +1,8 @@
 -- The names of lines without a fault are a table, which holds the atoms of each line.
-use Rattle.std.proofs.Common.{◌≡◌, ℕ, ◌≤◌, Bool, true, false, ◌&&◌, nat_lt, nat_le, List, [], ◌∷◌, length, map, refl, arith}
+use Rattle.std.proofs.Common.{◌≡◌, ℕ, ◌≤◌, Bool, true, ◌&&◌, nat_le, List, [], ◌∷◌, length, map, refl, arith}
 use Rattle.std.specs.Prelude.{IsTrue}
 use Rattle.std.specs.List.{AllByRecursion, flat_map, list_all}
 use Rattle.std.proofs.lemmas.Bool.{and_parts, and_from}
-use Rattle.std.proofs.lemmas.Bool.Decides.{nat_tests}
 use Rattle.term_core.specs.Names.{IsNames, given_names, is_atom_text, names_with}
 use Rattle.term_core.specs.PlainTerm.{atoms_of}
 use Rattle.term_core.specs.TermText.{names_with_all}
@@ -15,6 +14,7 @@ use Rattle.mod_text.proofs.LineNames.{are_atoms, line_atoms_are, more_names_all}
 use Rattle.script_text.specs.ScriptLine.{RefForm, ScriptLine, code, load, on_atom, put, trace, spawn, is_ref_form, is_term_form, is_script_line}
 use Rattle.script_text.specs.Counts.{script_line_atoms, names_of}
 use Rattle.script_text.specs.ScriptText.{HaveNoFault}
+use Rattle.script_text.proofs.Choices.{not_over}
 use Rattle.script_text.proofs.HeldNames.{IsHeldText, held_all}
 use Rattle.script_text.proofs.ModuleNames.{AreHeld}
 use Rattle.script_text.proofs.TermNames.{term_atoms_are, terms_atoms_are, each_first}
@@ -81,14 +81,11 @@ all_named names (text ∷ texts) sound atoms room =
     let more = more_names_all (names_with names text) texts in
     all_named (names_with names text) texts (names_with-IsNames names text sound p.0 (omega (arith, more, room))) p.1 room
 
-pub not_over : (n : ℕ) → nat_lt 4096 n ≡ false → n ≤ 4096
-not_over n h = grind (arith, nat_tests)
-
 -- the names are a table
 pub names_kept : IsKept (λ m. IsNames m.names)
 names_kept = record {
   first = given_names-IsNames;
-  more = λ m line sound is passed. all_named m.names (script_line_atoms line) sound (atoms_are line is) (not_over (length (summary_with m line).names) passed.room);
+  more = λ m line sound is passed. all_named m.names (script_line_atoms line) sound (atoms_are line is) (not_over 4096 (length (summary_with m line).names) passed.room);
 }
 
 pub names_sound : (lines : List ScriptLine) → AllByRecursion (λ line. IsTrue (is_script_line line)) lines → HaveNoFault [] lines → IsNames (names_of lines)

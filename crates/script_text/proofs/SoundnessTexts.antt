@@ -24,7 +24,8 @@ use Rattle.script_text.proofs.GroupLaws.{onto_last-snoc}
 use Rattle.script_text.proofs.HeldNames.{Extends-all, held_all, all_held_in}
 use Rattle.script_text.proofs.ModuleNames.{HaveHeld, module_of-more}
 use Rattle.script_text.proofs.Summaries.{Summary, summary_with, texts_with}
-use Rattle.script_text.proofs.SoundnessGroups.{each_append, each_weaker}
+use Rattle.script_text.proofs.SoundnessGroups.{each_weaker}
+use Rattle.term_core.proofs.Lists.{each_append}
 use Rattle.script_text.proofs.SoundnessRows.{not_false, Passes, IsKept, kept}
 use Rattle.script_text.proofs.SoundnessNames.{names_kept}
 

@@ -34,7 +34,7 @@ use Rattle.script_text.proofs.SoundnessTexts.{IsClosed, AreClosed, titled, held_
 abbrev pub title_ref : List LineForm → RefForm
 title_ref text = record { name = (title_of text).0; version = (title_of text).1 }
 
-no_title : (last line : LineForm) → may_follow (Some last) line ≡ true → line_titles line ≡ []
+pub no_title : (last line : LineForm) → may_follow (Some last) line ≡ true → line_titles line ≡ []
 no_title last (title name version) h = absurd cc
 no_title last line h = refl
 

@@ -6,7 +6,7 @@ use Rattle.std.proofs.lemmas.Bool.{and_parts}
 use Rattle.std.proofs.lemmas.Bool.Decides.{nat_tests}
 use Rattle.term_core.specs.declared.atom.Mfa.{Mfa}
 use Rattle.term_core.specs.Names.{IsNames, Extends, is_atom_text}
-use Rattle.term_core.specs.PlainTerm.{PlainTerm, atoms_of}
+use Rattle.term_core.specs.PlainTerm.{atoms_of}
 use Rattle.term_core.specs.Written.{WrittenTerm}
 use Rattle.mod_text.specs.ModuleLine.{LineForm}
 use Rattle.term_core.specs.Text.Cuts.{cut_at}
@@ -22,7 +22,7 @@ use Rattle.script_text.specs.declared.reading.cause.LineCause.TheVariants as cau
 use Rattle.script_text.specs.declared.reading.reader.Place.TheVariants.{Loading}
 use Rattle.script_text.specs.declared.reading.reader.ScriptReader.{ScriptReader}
 use Rattle.script_core.specs.declared.script.ScriptCmd.TheVariants.{Spawn}
-use Rattle.script_text.specs.ScriptLine.{ScriptLine, spawn, is_term_form, IsLine}
+use Rattle.script_text.specs.ScriptLine.{spawn, is_term_form, IsLine}
 use Rattle.script_text.specs.Counts.{FunctionForm}
 use Rattle.script_text.specs.Groups.{onto_last}
 use Rattle.script_text.specs.ScriptValue.{ref_in, argument_in, commands_of}
@@ -38,13 +38,15 @@ use Rattle.script_text.proofs.TermNames.{terms_after, terms_atoms_are}
 use Rattle.script_text.proofs.PutLaws.{no_put_text}
 use Rattle.script_text.proofs.NamedLaws.{no_atom_command, no_trace_text}
 use Rattle.script_text.proofs.HeldNames.{held_all, Extends-all, number_in-more}
-use Rattle.script_text.proofs.Namings.{target_in, call_or_full, names_after_call, call_named-is}
+use Rattle.script_text.proofs.OneLine.{spawn_of as spawned}
+use Rattle.script_text.proofs.Namings.{Called as Call, target_in, call_or_full, names_after_call, call_named-is}
 use Rattle.script_text.proofs.Summaries.{Summary, summary_with, table, fault_by}
 use Rattle.script_text.proofs.Holding.{function_in, Stands, Knows, IsLoading, grown, same_lack}
 use Rattle.script_text.proofs.Steps.{more_lines, commands-onto_last, length-onto_last}
 use Rattle.script_text.proofs.Functions.{or_exports, one, added_line, functions_more, functions_held_in, held_line}
 use Rattle.script_text.proofs.CodeSteps.{Judges, names_all-IsNames, at_after, titles_held_in}
-use Rattle.script_text.proofs.BlockSteps.{few, few_more, full_more, no_command}
+use Rattle.script_text.proofs.Choices.{few, few_more}
+use Rattle.script_text.proofs.BlockSteps.{full_more, no_command}
 use Rattle.script_text.proofs.LoadSteps.{no_load_text}
 
 -- ---- the names of a call
@@ -78,9 +80,6 @@ all_atoms c h =
     λ i. m i && (f i && rest i)
 
 -- ---- what is known after it
-
-abbrev spawned : CallForm → ScriptLine
-spawned c = spawn c.«module» c.name c.args
 
 abbrev after_spawn : ScriptReader → List (List ℕ) → List Mfa → CallForm → ScriptReader
 after_spawn r after fs c = record r { names = after; functions = fs; processes = r.processes + 1; loaders = onto_last r.loaders (Spawn (target_in after c) (map (argument_in after) c.args)) }
@@ -133,9 +132,6 @@ spawn_fault m r closed c k stands =
     let loaders = few_more m.loaders 8 k.few_loaders in
     let observers = few (length m.observers) 4 k.few_observers in
     λ i. table (not (stands i) || false) (list_any is_wide_term c.args) (list_any is_long_term c.args) (nat_lt 4096 (length (names_after_call m.names c))) false false (exports_after m c) (nat_lt 64 (m.spawns + 1)) (loaders i) (observers i) false (m.count + 1)
-
-abbrev Call : Type 0
-Call = Mfa × List PlainTerm × List (List ℕ)
 
 -- the spawn is done, with these functions
 abbrev with_functions : ScriptReader → Call → List Mfa → Result ScriptReader LineCause

@@ -25,7 +25,7 @@ use Rattle.script_text.specs.Canonical.{code_form}
 use Rattle.script_text.proofs.GrownLines.{module_texts-code, last_of-snoc}
 use Rattle.script_text.proofs.GroupLaws.{onto_last-snoc}
 use Rattle.script_text.proofs.SoundnessTexts.{IsClosed, AreClosed, titled, no_title}
-use Rattle.script_text.proofs.SoundnessTitles.{title_ref, one_title, AreApart}
+use Rattle.script_text.proofs.SoundnessTitles.{title_ref, no_title as untitled, one_title, AreApart}
 use Rattle.script_text.proofs.InOrder.{observer_lines, AreBlocks}
 use Rattle.script_text.proofs.Assembled.{IsBlockLine, code_lines-front}
 use Rattle.script_text.proofs.SoundnessRows.{IsNarrow}
@@ -68,10 +68,6 @@ stands_within end (label name) place = absurd cc
 stands_within end (instr i) place = absurd cc
 stands_within end end place = absurd cc
 stands_within last line place = place
-
-untitled : (last line : LineForm) → may_follow (Some last) line ≡ true → line_titles line ≡ []
-untitled last (title name version) h = absurd cc
-untitled last line h = refl
 
 -- the lines of a text so far are the last of a script's
 record IsLastText (before : List ScriptLine) (texts : List (List LineForm)) (text : List LineForm) (last : LineForm) : Type 0 where

@@ -15,7 +15,7 @@ use Rattle.script_core.specs.declared.script.ScriptCmd.{ScriptCmd}
 use Rattle.script_text.specs.ScriptLine.{ScriptLine, head, observer, loader, go}
 use Rattle.script_text.specs.Groups.{onto_last}
 use Rattle.script_text.specs.ScriptValue.{commands_on, commands_of}
-use Rattle.script_text.specs.LineFaults.{may_stand_behind, or_else, lack_in_texts, lack_in_loads}
+use Rattle.script_text.specs.LineFaults.{may_stand_behind, or_else, lack_in_texts, is_lacking, lack_in_loads}
 use Rattle.script_text.specs.Reading.{is_text_end, closed_by, text_closed}
 use Rattle.script_text.proofs.GrownLines.{flat_map-snoc}
 use Rattle.script_text.proofs.Summaries.{Summary, summary_with}
@@ -27,30 +27,12 @@ more_lines m line e = simp length-append (omega (arith, e))
 
 -- ---- the head, and the end
 
-pub knows_head : (m : Summary) (r : ScriptReader) (closed : List (List LineForm)) (place : Place) → Knows m r closed → Knows (summary_with m head) (record r { place = place }) closed
-knows_head m r closed place k = record {
-  names = k.names;
-  sound = k.sound;
-  texts = k.texts;
-  modules = k.modules;
-  titles = k.titles;
-  titles_held = k.titles_held;
-  functions = k.functions;
-  functions_held = k.functions_held;
-  few_functions = k.few_functions;
-  loaders = k.loaders;
-  blocks = omega (arith, k.blocks);
-  few_loaders = omega (arith, k.few_loaders);
-  observers = k.observers;
-  few_observers = k.few_observers;
-  processes = omega (arith, k.processes);
-  few_processes = omega (arith, k.few_processes);
-  unknown = k.unknown ∙ ap (or_else (lack_in_texts 2 closed)) (sym (same_lack m.titles m.lines head refl));
-  count = more_lines m head k.count;
-}
+-- the summary after a line that only counts
+abbrev quiet_with : Summary → ScriptLine → Summary
+quiet_with m line = record m { lines = m.lines ++ line ∷ []; spawns = m.spawns + 0; loaders = m.loaders + 0; last = Some line; count = m.count + 1 }
 
-pub knows_go : (m : Summary) (r : ScriptReader) (closed : List (List LineForm)) (place : Place) → Knows m r closed → Knows (summary_with m go) (record r { place = place }) closed
-knows_go m r closed place k = record {
+knows_quiet : (m : Summary) (r : ScriptReader) (closed : List (List LineForm)) (line : ScriptLine) (place : Place) → is_lacking m.titles line ≡ false → Knows m r closed → Knows (quiet_with m line) (record r { place = place }) closed
+knows_quiet m r closed line place quiet k = record {
   names = k.names;
   sound = k.sound;
   texts = k.texts;
@@ -67,14 +49,14 @@ knows_go m r closed place k = record {
   few_observers = k.few_observers;
   processes = omega (arith, k.processes);
   few_processes = omega (arith, k.few_processes);
-  unknown = k.unknown ∙ ap (or_else (lack_in_texts 2 closed)) (sym (same_lack m.titles m.lines go refl));
-  count = more_lines m go k.count;
+  unknown = k.unknown ∙ ap (or_else (lack_in_texts 2 closed)) (sym (same_lack m.titles m.lines line quiet));
+  count = more_lines m line k.count;
 }
 
 pub holds_head : (m : Summary) (r : ScriptReader) (closed : List (List LineForm)) → Knows m r closed → IsUnread m r closed → Holds (summary_with m head) (record r { place = Between })
 holds_head m r closed k u = record {
   closed = closed;
-  knows = knows_head m r closed Between k;
+  knows = knows_quiet m r closed head Between refl k;
   stands = record {
     follows = λ line. refl;
     none_open = u.none_open;
@@ -86,7 +68,7 @@ holds_head m r closed k u = record {
 pub holds_go : (m : Summary) (r : ScriptReader) (closed : List (List LineForm)) → Knows m r closed → r.lines ≡ [] → Holds (summary_with m go) (record r { place = Finished })
 holds_go m r closed k none = record {
   closed = closed;
-  knows = knows_go m r closed Finished k;
+  knows = knows_quiet m r closed go Finished refl k;
   stands = record { follows = λ line. refl; last = refl; none_open = none };
 }
 
@@ -167,61 +149,49 @@ or_else_some : {X : Type 0} (o : Option X) (x : X) → or_else o (Some x) ≡ No
 or_else_some None x e = cc
 or_else_some (Some y) x e = cc
 
+-- the text that is open joins those that are closed
+knows_closed : (m : Summary) (r : ScriptReader) (closed : List (List LineForm)) (modules : List Module) (unknown : Option ℕ) → Knows m r closed → IsOpen m r closed → ((more : List (List ℕ)) → lack_in_texts 2 (closed ++ r.lines ∷ []) ≡ None → modules ≡ map (module_of (m.names ++ more)) (closed ++ r.lines ∷ [])) → unknown ≡ or_else (lack_in_texts 2 (closed ++ r.lines ∷ [])) (lack_in_loads m.titles 1 m.lines) → Knows m (record r { modules = modules; unknown = unknown; lines = []; place = Between }) (closed ++ r.lines ∷ [])
+knows_closed m r closed modules unknown k o modules_are unknown_is = record {
+  names = k.names;
+  sound = k.sound;
+  texts = k.texts ∙ ap (λ (l : List (List LineForm)). closed ++ l) (text_is r.lines o.titled) ∙ sym (append-nil (closed ++ r.lines ∷ []));
+  modules = modules_are;
+  titles = k.titles;
+  titles_held = k.titles_held;
+  functions = k.functions;
+  functions_held = k.functions_held;
+  few_functions = k.few_functions;
+  loaders = k.loaders;
+  blocks = k.blocks;
+  few_loaders = k.few_loaders;
+  observers = k.observers;
+  few_observers = k.few_observers;
+  processes = k.processes;
+  few_processes = k.few_processes;
+  unknown = unknown_is;
+  count = k.count;
+}
+
 closed_none : (m : Summary) (r : ScriptReader) (closed : List (List LineForm)) → Knows m r closed → IsOpen m r closed → unsettled_line r.lines ≡ None → Knows m (closed_by r None) (closed ++ r.lines ∷ [])
 closed_none m r closed k o settled =
     let lack : lack_in_texts 2 (closed ++ r.lines ∷ []) ≡ lack_in_texts 2 closed = lack_in_texts-snoc 2 closed r.lines ∙ ap (λ (p : Option ℕ). or_else (lack_in_texts 2 closed) (option_map (λ place. 2 + total closed + place) p)) settled ∙ or_else-none (lack_in_texts 2 closed) in
-    record {
-      names = k.names;
-      sound = k.sound;
-      texts = k.texts ∙ ap (λ (l : List (List LineForm)). closed ++ l) (text_is r.lines o.titled) ∙ sym (append-nil (closed ++ r.lines ∷ []));
-      modules = λ more none.
-          let before : r.modules ≡ map (module_of (m.names ++ more)) closed = k.modules more (sym lack ∙ none) in
-          let here : module_of r.names r.lines ≡ module_of (m.names ++ more) r.lines = ap (λ (ns : List (List ℕ)). module_of ns r.lines) k.names ∙ sym (module_of-more m.names more r.lines o.titled o.held) in
-          ap (λ (ms : List Module). ms ++ module_of r.names r.lines ∷ []) before ∙ ap (λ (x : Module). map (module_of (m.names ++ more)) closed ++ x ∷ []) here ∙ sym (map-append (module_of (m.names ++ more)) closed (r.lines ∷ []));
-      titles = k.titles;
-      titles_held = k.titles_held;
-      functions = k.functions;
-      functions_held = k.functions_held;
-      few_functions = k.few_functions;
-      loaders = k.loaders;
-      blocks = k.blocks;
-      few_loaders = k.few_loaders;
-      observers = k.observers;
-      few_observers = k.few_observers;
-      processes = k.processes;
-      few_processes = k.few_processes;
-      unknown = k.unknown ∙ ap (λ (p : Option ℕ). or_else p (lack_in_loads m.titles 1 m.lines)) (sym lack);
-      count = k.count;
-    }
+    knows_closed m r closed (r.modules ++ module_of r.names r.lines ∷ []) r.unknown k o
+    (λ more none.
+    let before : r.modules ≡ map (module_of (m.names ++ more)) closed = k.modules more (sym lack ∙ none) in
+    let here : module_of r.names r.lines ≡ module_of (m.names ++ more) r.lines = ap (λ (ns : List (List ℕ)). module_of ns r.lines) k.names ∙ sym (module_of-more m.names more r.lines o.titled o.held) in
+    ap (λ (ms : List Module). ms ++ module_of r.names r.lines ∷ []) before ∙ ap (λ (x : Module). map (module_of (m.names ++ more)) closed ++ x ∷ []) here ∙ sym (map-append (module_of (m.names ++ more)) closed (r.lines ∷ [])))
+    (k.unknown ∙ ap (λ (p : Option ℕ). or_else p (lack_in_loads m.titles 1 m.lines)) (sym lack))
 
 closed_some : (m : Summary) (r : ScriptReader) (closed : List (List LineForm)) (place : ℕ) → Knows m r closed → IsOpen m r closed → unsettled_line r.lines ≡ Some place → Knows m (closed_by r (Some place)) (closed ++ r.lines ∷ [])
 closed_some m r closed place k o missing =
     let lack : lack_in_texts 2 (closed ++ r.lines ∷ []) ≡ or_else (lack_in_texts 2 closed) (Some (2 + total closed + place)) = lack_in_texts-snoc 2 closed r.lines ∙ ap (λ (p : Option ℕ). or_else (lack_in_texts 2 closed) (option_map (λ n. 2 + total closed + n) p)) missing in
     let none : lack_in_loads m.titles 1 m.lines ≡ None = o.no_load m.titles 1 in
     let before : r.unknown ≡ lack_in_texts 2 closed = k.unknown ∙ ap (or_else (lack_in_texts 2 closed)) none ∙ or_else-none (lack_in_texts 2 closed) in
-    record {
-      names = k.names;
-      sound = k.sound;
-      texts = k.texts ∙ ap (λ (l : List (List LineForm)). closed ++ l) (text_is r.lines o.titled) ∙ sym (append-nil (closed ++ r.lines ∷ []));
-      modules = λ more e. absurd (or_else_some (lack_in_texts 2 closed) (2 + total closed + place) (sym lack ∙ e));
-      titles = k.titles;
-      titles_held = k.titles_held;
-      functions = k.functions;
-      functions_held = k.functions_held;
-      few_functions = k.few_functions;
-      loaders = k.loaders;
-      blocks = k.blocks;
-      few_loaders = k.few_loaders;
-      observers = k.observers;
-      few_observers = k.few_observers;
-      processes = k.processes;
-      few_processes = k.few_processes;
-      unknown =
-          ap (λ (p : Option ℕ). or_else p (Some (r.title + place))) before
-          ∙ ap (λ (n : ℕ). or_else (lack_in_texts 2 closed) (Some (n + place))) o.title
-          ∙ sym (ap (or_else (lack_in_texts 2 (closed ++ r.lines ∷ []))) none ∙ or_else-none (lack_in_texts 2 (closed ++ r.lines ∷ [])) ∙ lack);
-      count = k.count;
-    }
+    knows_closed m r closed r.modules (or_else r.unknown (Some (r.title + place))) k o
+    (λ more e. absurd (or_else_some (lack_in_texts 2 closed) (2 + total closed + place) (sym lack ∙ e)))
+    (ap (λ (p : Option ℕ). or_else p (Some (r.title + place))) before
+    ∙ ap (λ (n : ℕ). or_else (lack_in_texts 2 closed) (Some (n + place))) o.title
+    ∙ sym (ap (or_else (lack_in_texts 2 (closed ++ r.lines ∷ []))) none ∙ or_else-none (lack_in_texts 2 (closed ++ r.lines ∷ [])) ∙ lack))
 
 stands_closed : (m : Summary) (r : ScriptReader) (closed : List (List LineForm)) (after : ScriptReader) → IsOpen m r closed → is_text_end (last_line r.lines) ≡ true → after.lines ≡ [] → IsBetween m after (closed ++ r.lines ∷ [])
 stands_closed m r closed after o ends none =

@@ -1,35 +1,18 @@
 -- What the texts of atoms, numbers and integers say is written as those texts.
-use Rattle.std.proofs.Common.{◌≡◌, ℕ, ◌<◌, ◌≤◌, ◌^◌, true, ◌&&◌, nat_le, List, [], ◌∷◌, decimal, Option, unwrap_or, bytes_eq, sym, ap, ◌∙◌, arith}
-use Rattle.std.proofs.lemmas.Bool.{and_parts, or_cases}
+use Rattle.std.proofs.Common.{◌≡◌, ℕ, ◌<◌, ◌≤◌, true, ◌&&◌, nat_le, List, [], decimal, Option, unwrap_or, ap, ◌∙◌, arith}
+use Rattle.std.proofs.lemmas.Bool.{and_parts}
 use Rattle.std.proofs.lemmas.Bool.Decides.{nat_tests}
-use Rattle.std.proofs.lemmas.Fmt.{decimal-digits_value, decimal_digit}
-use Rattle.std.proofs.Common.{inl, inr}
 use Rattle.term_core.specs.TermText.{atom_text, number_in}
-use Rattle.term_core.specs.Written.{is_positive_text}
-use Rattle.term_core.proofs.IntegerTexts.{own, Positive-from}
 use Rattle.term_core.proofs.NameTables.{slice_get-number_of}
 use Rattle.term_core.specs.Text.Numbers.{number_value, is_number_text}
 use Rattle.mod_text.specs.ModuleLine.{is_version_text, is_arity_text}
-use Rattle.term_core.proofs.Text.Options.{bytes_are}
+use Rattle.term_core.proofs.Text.Words.{decimal_again}
 use Rattle.script_text.specs.ScriptLine.{is_snapshots_text}
 use Rattle.script_text.proofs.HeldNames.{IsHeldText, number_is}
 
 -- the text of a held atom's number is the atom's
 pub atom_again : (names : List (List ℕ)) (text : List ℕ) → IsHeldText names text → atom_text names (number_in names text) ≡ text
 atom_again names text h = ap (atom_text names) (number_is names text h) ∙ ap (λ (o : Option (List ℕ)). unwrap_or o []) (slice_get-number_of names text h.number h.is)
-
-positive_again : (text : List ℕ) → is_positive_text text ≡ true → number_value text < 2 ^ 64 → decimal (number_value text) ≡ text
-positive_again text h small =
-    let p = Positive-from text h in
-    decimal-digits_value own text p.digits p.some (λ z. absurd (omega (arith, p.low, z))) small
-
--- a number's text is that of its value
-pub number_again : (text : List ℕ) → is_number_text text ≡ true → number_value text < 2 ^ 64 → decimal (number_value text) ≡ text
-number_again text h small =
-    elim (or_cases (bytes_eq text (48 ∷ [])) (is_positive_text text) h) [
-      | inl nought ↦ let is = bytes_are text (48 ∷ []) nought in ap (λ (t : List ℕ). decimal (number_value t)) is ∙ decimal_digit 0 (omega arith) ∙ sym is
-      | inr positive ↦ positive_again text positive small
-    ]
 
 at_most : (n m : ℕ) → nat_le n m ≡ true → n ≤ m
 at_most n m h = grind (arith, nat_tests)
@@ -38,7 +21,7 @@ pub version_again : (text : List ℕ) → is_version_text text ≡ true → deci
 version_again text h =
     let p = and_parts (is_number_text text) (nat_le 1 (number_value text) && nat_le (number_value text) 999999) h in
     let q = and_parts (nat_le 1 (number_value text)) (nat_le (number_value text) 999999) p.1 in
-    number_again text p.0 (omega (arith, at_most (number_value text) 999999 q.1))
+    decimal_again text p.0 (omega (arith, at_most (number_value text) 999999 q.1))
 
 snapshots_number : (text : List ℕ) → is_snapshots_text text ≡ true → (is_number_text text ≡ true) × (1 ≤ number_value text) × (number_value text ≤ 16)
 snapshots_number text h =
@@ -51,10 +34,10 @@ pub snapshots_bounds : (text : List ℕ) → is_snapshots_text text ≡ true →
 snapshots_bounds text h = let p = snapshots_number text h in let some = p.1 in (omega (arith, some), p.2)
 
 pub snapshots_again : (text : List ℕ) → is_snapshots_text text ≡ true → decimal (number_value text) ≡ text
-snapshots_again text h = let p = snapshots_number text h in let few = p.2 in number_again text p.0 (omega (arith, few))
+snapshots_again text h = let p = snapshots_number text h in let few = p.2 in decimal_again text p.0 (omega (arith, few))
 
 few_arguments : (text : List ℕ) → is_arity_text text ≡ true → number_value text ≤ 15
 few_arguments text h = at_most (number_value text) 15 (and_parts (is_number_text text) (nat_le (number_value text) 15) h).1
 
 pub arity_again : (text : List ℕ) → is_arity_text text ≡ true → decimal (number_value text) ≡ text
-arity_again text h = number_again text (and_parts (is_number_text text) (nat_le (number_value text) 15) h).0 (omega (arith, few_arguments text h))
+arity_again text h = decimal_again text (and_parts (is_number_text text) (nat_le (number_value text) 15) h).0 (omega (arith, few_arguments text h))

@@ -42,7 +42,7 @@ use Rattle.script_text.proofs.Holding.{as_text, function_in, IsOpen, IsBetween, 
 use Rattle.script_text.proofs.Steps.{more_lines}
 use Rattle.script_text.proofs.Functions.{functions_held_in}
 use Rattle.script_text.proofs.CodeSteps.{Judges, misplaced, code_fault, names_all-IsNames, at_after, titles_held_in}
-use Rattle.script_text.proofs.BlockSteps.{few}
+use Rattle.script_text.proofs.Choices.{few}
 use Rattle.script_text.proofs.LoadSteps.{among_is}
 
 -- ---- the text of a title

@@ -17,7 +17,7 @@ use Rattle.script_core.specs.declared.script.ScriptCmd.TheVariants.{Load, Delete
 use Rattle.script_core.specs.declared.script.Script.{Script}
 use Rattle.script_text.specs.ScriptLine.{RefForm, delete, soft_purge, purge, check_old, erase, ScriptLine, head, code, observer, loader, load, on_atom, put, trace, spawn, go, script_line_written}
 use Rattle.script_text.specs.ScriptText.{ScriptText}
-use Rattle.script_text.specs.TextLines.{lines_of}
+use Rattle.term_core.specs.Text.Parts.{lines_of}
 
 -- the script is the value of some text
 pub record IsOfSomeText (s : Script) : Type 0 where

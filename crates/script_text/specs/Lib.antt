@@ -3,7 +3,6 @@ pub mod Groups
 pub mod Counts
 pub mod ScriptValue
 pub mod LineFaults
-pub mod TextLines
 pub mod ScriptText
 pub mod FaultText
 pub mod Causes

@@ -1,7 +1,6 @@
 -- How the lines of a script that are in no module's text are read: they are cut at their spaces, and their words are judged from
 -- left to right. The forms and their texts, in ScriptLine, relate whole lines.
-use Rattle.std.specs.Prelude.{ℕ, ◌==◌, ◌&&◌, nat_le, Bool, true, false, List, [], ◌∷◌, length, Option, Some, None, option_map, bytes_eq, codes, if◌then◌else◌}
-use Rattle.std.specs.List.{slice_split}
+use Rattle.std.specs.Prelude.{ℕ, ◌==◌, ◌&&◌, nat_le, Bool, List, [], length, Option, Some, None, option_map, bytes_eq, codes, if◌then◌else◌}
 use Rattle.term_core.specs.Names.{is_atom_text}
 use Rattle.term_core.specs.PlainTerm.{integer_leaf, atom_leaf}
 use Rattle.term_core.specs.TermForms.{is_complex_text, tree_of}
@@ -11,12 +10,9 @@ use Rattle.mod_core.specs.declared.code.TheConstants.{MOST_ARGUMENTS}
 use Rattle.term_core.specs.Text.Numbers.{number_value}
 use Rattle.mod_text.specs.ModuleLine.{is_version_text, is_arity_text}
 use Rattle.term_core.specs.Text.Steps.{◌>>=◌, tested, numbered_reading}
-use Rattle.term_core.specs.Text.Cuts.{cut_at}
+use Rattle.term_core.specs.Text.Parts.{cut_at, parts_of, each_reading}
+use Rattle.term_core.specs.Text.Words.{switch_reading}
 use Rattle.script_text.specs.ScriptLine.{RefForm, AtomCommand, delete, soft_purge, purge, check_old, erase, is_snapshots_text}
-
--- the parts between such bytes
-abbrev pub parts_of : ℕ → List ℕ → List (List ℕ)
-parts_of byte text = slice_split (λ b. b == byte) text
 
 -- the version that digits write
 abbrev pub version_reading : List ℕ → Option ℕ
@@ -33,14 +29,6 @@ ref_reading text = do
   name ← tested is_atom_text parts.0
   version ← tested is_version_text parts.1
   Some (record { name = name; version = version })
-
--- each part as one
-abbrev pub each_reading : {X : Type 0} → (List ℕ → Option X) → List (List ℕ) → Option (List X)
-each_reading read [] = Some []
-each_reading read (part ∷ parts) = do
-  x ← read part
-  xs ← each_reading read parts
-  Some (x ∷ xs)
 
 -- the modules of a load
 abbrev pub refs_reading : List ℕ → Option (List RefForm)
@@ -65,10 +53,6 @@ pub record TraceForm : Type 0 where
 -- the arity that digits write
 abbrev pub arity_reading : List ℕ → Option ℕ
 arity_reading text = if is_arity_text text then Some (number_value text) else None
-
--- whether a breakpoint is set, by its word
-abbrev pub switch_reading : List ℕ → Option Bool
-switch_reading text = if bytes_eq text (codes "on") then Some true else (if bytes_eq text (codes "off") then Some false else None)
 
 -- a breakpoint that is set or taken away, behind the word of its line
 abbrev pub trace_reading : List ℕ → Option TraceForm

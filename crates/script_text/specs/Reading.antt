@@ -6,7 +6,7 @@ use Rattle.term_core.specs.declared.atom.Mfa.{Mfa}
 use Rattle.term_core.specs.Names.{number_of, given_names}
 use Rattle.term_core.specs.Plain.{term_of}
 use Rattle.mod_text.specs.declared.fault.LineFault.TheVariants as line_faults
-use Rattle.mod_text.specs.ModuleLine.{LineForm, title, end}
+use Rattle.mod_text.specs.ModuleLine.{LineForm, end}
 use Rattle.mod_text.specs.LineFaults.{last_line, counted_of}
 use Rattle.term_core.specs.Text.Cuts.{cut_at}
 use Rattle.mod_text.specs.ModuleValue.{IsTitled, module_of, unsettled_line}
@@ -33,7 +33,7 @@ use Rattle.script_text.specs.Naming.{or_syntax, atom_named, refs_named, put_name
 use Rattle.script_text.specs.Causes.{◌>>=◌, fault_at, cause_of_code}
 use Rattle.script_text.specs.Sets.{mfa_added, is_among, ref_added}
 use Rattle.script_text.specs.Adding.{counted_added, passes_counted}
-use Rattle.script_text.specs.TextLines.{lines_of}
+use Rattle.term_core.specs.Text.Parts.{lines_of}
 
 -- ---- the head and the module texts
 

@@ -7,6 +7,7 @@ use Rattle.term_core.specs.PlainTerm.{TermOf, RowOf, integer_leaf, atom_leaf, tu
 use Rattle.term_core.specs.Written.{WrittenTerm, written, parted, is_integer_text}
 use Rattle.mod_core.specs.declared.code.TheConstants.{MOST_ARGUMENTS}
 use Rattle.term_core.specs.Text.Numbers.{is_number_text, number_value}
+use Rattle.term_core.specs.Text.Words.{switch_word}
 use Rattle.mod_text.specs.ModuleLine.{LineForm, parted_by, spaced, function_written, line_written, is_line_form, is_function_form, is_version_text}
 use Rattle.script_core.specs.declared.script.TheConstants.{MOST_SNAPSHOTS}
 
@@ -50,11 +51,6 @@ command_word soft_purge = codes "soft_purge"
 command_word purge = codes "purge"
 command_word check_old = codes "check_old"
 command_word erase = codes "erase"
-
--- `on`, where a breakpoint is set, or `off`
-abbrev pub switch_word : Bool → List ℕ
-switch_word true = codes "on"
-switch_word false = codes "off"
 
 -- `m:main/0 on`
 abbrev pub trace_written : List ℕ → List ℕ → List ℕ → Bool → List ℕ

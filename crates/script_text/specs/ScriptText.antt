@@ -9,7 +9,7 @@ use Rattle.script_text.specs.declared.fault.ScriptFault.TheVariants as faults
 use Rattle.script_text.specs.ScriptLine.{ScriptLine, go, script_line_written, is_script_line, IsLine}
 use Rattle.script_text.specs.ScriptValue.{script_of}
 use Rattle.script_text.specs.LineFaults.{line_fault, last_of, first_lack}
-use Rattle.script_text.specs.TextLines.{lines_of, all_lines}
+use Rattle.term_core.specs.Text.Parts.{lines_of, all_lines}
 
 -- a line is at most 4,096 bytes long
 abbrev pub IsShort : ScriptLine → Type 0

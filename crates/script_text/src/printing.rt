@@ -13,19 +13,20 @@ ghost use Rattle.mod_core.specs.HeldNames.{IsModuleHeld};
 ghost use Rattle.mod_core.specs.Module.{IsModule};
 ghost use Rattle.mod_text.specs.ModuleLine.{spaced, function_written, lines_written};
 ghost use Rattle.script_core.specs.declared.script.Script.{Script as ScriptValue};
-ghost use Rattle.script_text.specs.ScriptLine.{ref_written, switch_word, trace_written, call_written, script_line_written, load};
+ghost use Rattle.term_core.specs.Text.Words.{switch_word};
+ghost use Rattle.script_text.specs.ScriptLine.{ref_written, trace_written, call_written, script_line_written, load};
 ghost use Rattle.script_text.specs.ScriptText.{ScriptText};
-ghost use Rattle.script_text.specs.TextLines.{lines_of};
+ghost use Rattle.term_core.specs.Text.Parts.{lines_of};
 ghost use Rattle.script_text.specs.Canonical.{IsOfSomeText, ref_form, argument_form, command_line, observer_bytes, block_bytes, canonical_text, is_long_line, IsTooLong, IsTooLongToPrint};
 
 use crate::fault::PrintFault;
-use crate::reading::words::cut_at;
 use mod_core::Module;
 use mod_text::print_module;
 use script_core::{CommandList, LONGEST_LINE, LONGEST_SCRIPT, Script, ScriptCmd};
 use server_core::ModRef;
 use term_core::{
-    AtomId, ByteList, Mfa, Names, NoMemory, Term, TermList, print_atom, print_number, print_term,
+    AtomId, ByteList, Mfa, Names, NoMemory, Term, TermList, cut_at, print_atom, print_number,
+    print_term,
 };
 
 /// Appends the canonical text of a script, which reads as an equal script. After a fault nothing is appended.

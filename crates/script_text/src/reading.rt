@@ -20,9 +20,9 @@ ghost use Rattle.script_text.specs.Reading.{opening, bytes_on, script_reading};
 
 use crate::fault::ScriptFault;
 use crate::reading::reader::ScriptReader;
-use crate::reading::words::cut_at;
 use script_core::{LONGEST_SCRIPT, Script};
 use std::alloc::Global;
+use term_core::cut_at;
 
 /// The lines of a text, one after another.
 fn read_lines(alloc: Global, text: &[u8]) -> Result<Script, ScriptFault>

@@ -10,6 +10,7 @@ pub mod IntegerTexts
 pub mod LeafFacts
 pub mod LeafTexts
 pub mod Lefts
+pub mod Lists
 pub mod NameTables
 pub mod Numbers
 pub mod OutsidePlaces

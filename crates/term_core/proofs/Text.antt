@@ -1,4 +1,8 @@
 -- Laws of texts that readers of any format cite.
 pub mod Cuts
+pub mod Items
 pub mod Numbers
 pub mod Options
+pub mod Parts
+pub mod Reads
+pub mod Words

@@ -2,6 +2,7 @@ ghost use Rattle.std.specs.Prelude.{◌≡◌, IsTrue, MatchOption};
 ghost use Rattle.std.specs.Char.{is_ascii_digit};
 ghost use Rattle.std.specs.List.{list_all};
 ghost use Rattle.term_core.specs.Text.Numbers.{is_number_text, small_number};
+ghost use Rattle.term_core.specs.Text.Words.{wide_number, number_reading, narrow_reading};
 ghost use Rattle.term_core.specs.Tokens.{is_outside};
 ghost use Rattle.term_core.specs.Written.{IsTermInteger, is_positive_text, is_integer_text, integer_of};
 
@@ -41,6 +42,36 @@ pub fn small_number(digits: &[u8]) -> Option<u32>
     ensures { result ≡ small_number digits.now }
 {
     ascii_text(digits).parse::<u32>().ok()
+}
+
+// None where the number is 2 ^ 64 or more.
+fn wide_number(digits: &[u8]) -> Option<u64>
+    requires { IsTrue (is_number_text digits.now) }
+    ensures { result ≡ wide_number digits.now }
+{
+    ascii_text(digits).parse::<u64>().ok()
+}
+
+/// The number of 64 bits that a text is.
+pub fn number_of(text: &[u8]) -> Option<u64>
+    ensures { result ≡ number_reading text.now }
+{
+    if is_number_text(text) {
+        wide_number(text)
+    } else {
+        None
+    }
+}
+
+/// The number of 32 bits that a text is.
+pub fn narrow_of(text: &[u8]) -> Option<u32>
+    ensures { result ≡ narrow_reading text.now }
+{
+    if is_number_text(text) {
+        small_number(text)
+    } else {
+        None
+    }
 }
 
 /// Whether this is an integer's text, of any length.

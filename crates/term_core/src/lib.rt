@@ -24,6 +24,7 @@ mod reading;
 mod same;
 mod scan;
 mod stack;
+mod switch;
 mod term;
 mod term_fault;
 mod term_image;
@@ -41,14 +42,16 @@ pub use image_fault::ImageFault;
 pub use image_reading::read_image;
 pub use immediate::{parts_of_word, words_read_back};
 pub use integer::{
-    GREATEST_INTEGER, LEAST_INTEGER, is_integer_text, is_number_text, parsed_integer, small_number,
+    GREATEST_INTEGER, LEAST_INTEGER, is_integer_text, is_number_text, narrow_of, number_of,
+    parsed_integer, small_number,
 };
 pub use items::{AtomList, ByteList, CountList, Items, WordList};
 pub use names::{LONGEST_ATOM, MOST_NAMES, NameFault, Names, is_atom_text};
 pub use naming::name_atoms;
 pub use no_memory::NoMemory;
-pub use parts::{cut_at, cut_term, terms_are_parted};
+pub use parts::{cut_at, cut_first, cut_term, terms_are_parted};
 pub use printing::{print_atom, print_number, print_term};
+pub use switch::switch_of;
 pub use term::{Term, TermList};
 pub use term_fault::TermFault;
 pub use term_image::{image, image_len, images_read_back};

@@ -2,6 +2,7 @@ ghost use Rattle.std.specs.Prelude.{◌≡◌, ◌≤◌, ◌+◌, ◌<◌, ◌^
 ghost use Rattle.term_core.specs.PlainTerm.{tuple_of, terms_of, row_count};
 ghost use Rattle.term_core.specs.TermParts.{cut_part, depth_behind, is_part_end, joined, parts_of_rest, parts_of_terms};
 ghost use Rattle.term_core.specs.Text.Cuts.{cut_at};
+ghost use Rattle.term_core.specs.Text.Parts.{first_part};
 ghost use Rattle.term_core.specs.Written.{WrittenRow, HasLeafTexts, written, parted};
 
 /// What stands before and behind the first such byte, if there is one.
@@ -14,6 +15,17 @@ pub fn cut_at(text: &[u8], byte: u8) -> Option<(&[u8], &[u8])>
         }
     }
     None
+}
+
+/// What stands before the first such byte, and what stands behind it, if there is one.
+pub fn cut_first(text: &[u8], byte: u8) -> (&[u8], Option<&[u8]>)
+    ensures front { result.0.now ≡ (first_part byte text.now).front }
+    ensures rest { option_map (λ rest. rest.now) result.1 ≡ (first_part byte text.now).rest }
+{
+    match cut_at(text, byte) {
+        Some((front, behind)) => (front, Some(behind)),
+        None => (text, None),
+    }
 }
 
 fn depth_behind(depth: usize, byte: u8) -> usize

@@ -5,20 +5,23 @@ ghost use Rattle.term_core.specs.Names.{is_atom_text as is_atom};
 ghost use Rattle.term_core.specs.TermForms.{is_complex_text};
 ghost use Rattle.term_core.specs.TermParts.{parts_of_terms};
 ghost use Rattle.mod_text.specs.ModuleLine.{is_arity_text};
+ghost use Rattle.term_core.specs.Text.Parts.{each_reading};
 ghost use Rattle.term_core.specs.Text.Steps.{tested, numbered_reading};
 ghost use Rattle.script_text.specs.Causes.{Gives};
-ghost use Rattle.script_text.specs.LineReading.{ref_reading, refs_reading, command_reading, switch_reading, put_reading, trace_reading, argument_reading, arguments_reading, each_reading, closed_arguments, call_reading, title_reading};
+ghost use Rattle.script_text.specs.LineReading.{ref_reading, refs_reading, command_reading, put_reading, trace_reading, argument_reading, arguments_reading, closed_arguments, call_reading, title_reading};
 ghost use Rattle.script_text.specs.Naming.{or_syntax};
 ghost use Rattle.script_text.specs.WrittenLine.{ref_words, kept_ref, kept_word, function_words, trace_words, kept_trace, argument_words, is_sound_word, kept_argument, put_words, kept_put, call_words, kept_call};
 
 use crate::reading::cause::LineCause;
-use crate::reading::words::{arity_of, cut_at, integer_of, is_integer_text, version_of};
+use crate::reading::words::{arity_of, integer_of, version_of};
 use crate::reading::written::{
     AtomWord, WrittenArgument, WrittenCall, WrittenPut, WrittenRef, WrittenTrace,
 };
 use mod_core::MOST_ARGUMENTS;
 use std::alloc::Global;
-use term_core::{NoMemory, cut_term, is_atom_text, is_term_text};
+use term_core::{
+    NoMemory, cut_at, cut_first, cut_term, is_atom_text, is_integer_text, is_term_text, switch_of,
+};
 
 fn read_atom(text: &[u8]) -> Option<&[u8]>
     ensures { option_map (λ name. name.now) result ≡ tested is_atom text.now }
@@ -36,17 +39,23 @@ fn read_ref(text: &[u8]) -> Option<WrittenRef<'_>>
     Some(WrittenRef { name, version })
 }
 
+fn read_reference(text: &[u8]) -> Result<WrittenRef<'_>, LineCause>
+    ensures { Gives kept_ref result (or_syntax (option_map ref_words (ref_reading text.now))) }
+{
+    read_ref(text).ok_or(LineCause::Syntax)
+}
+
 /// The modules of a load, behind its word.
 pub fn read_refs(alloc: Global, text: &[u8]) -> Result<Vec<WrittenRef<'_>>, LineCause>
     ensures { Gives (λ refs. map kept_ref refs.items) result (or_syntax (option_map (map ref_words) (refs_reading text.now))) }
 {
     let mut refs = Vec::new(alloc);
-    let mut rest = text;
-    while let Some((part, behind)) = cut_at(rest, b' ') {
-        refs.push(read_ref(part).ok_or(LineCause::Syntax)?)?;
+    let mut rest = Some(text);
+    'references: while let Some(left) = rest {
+        let (part, behind) = cut_first(left, b' ');
+        refs.push(read_reference(part)?)?;
         rest = behind;
     }
-    refs.push(read_ref(rest).ok_or(LineCause::Syntax)?)?;
     Ok(refs)
 }
 
@@ -79,18 +88,6 @@ fn read_function(text: &[u8]) -> Option<(&[u8], u32)>
     Some((name, arity))
 }
 
-fn read_switch(text: &[u8]) -> Option<bool>
-    ensures { result ≡ switch_reading text.now }
-{
-    if text == b"on".as_slice() {
-        Some(true)
-    } else if text == b"off".as_slice() {
-        Some(false)
-    } else {
-        None
-    }
-}
-
 /// A breakpoint that is set or taken away, behind its word, as `m:main/0 on`.
 pub fn read_trace(text: &[u8]) -> Option<WrittenTrace<'_>>
     ensures { option_map kept_trace result ≡ option_map trace_words (trace_reading text.now) }
@@ -99,7 +96,7 @@ pub fn read_trace(text: &[u8]) -> Option<WrittenTrace<'_>>
     let (module, function) = cut_at(target, b':')?;
     let module = read_atom(module)?;
     let (name, arity) = read_function(function)?;
-    let on = read_switch(switch)?;
+    let on = switch_of(switch)?;
     Some(WrittenTrace {
         module,
         name,

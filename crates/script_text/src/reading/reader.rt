@@ -6,7 +6,7 @@ use crate::reading::cause::LineCause;
 use crate::reading::line::{read_call, read_put, read_refs, read_title, read_trace, read_word};
 use crate::reading::naming::{name_atom, name_call, name_put, name_refs, name_trace};
 use crate::reading::sets::{FunctionSet, RefSet};
-use crate::reading::words::{cut_at, snapshots_of};
+use crate::reading::words::snapshots_of;
 use mod_core::ModuleList;
 use mod_text::{FinishFault, LineFault, ModuleReader};
 use script_core::{
@@ -16,7 +16,7 @@ use script_core::{
 use server_core::ModRef;
 use std::alloc::Global;
 use std::mem;
-use term_core::{CountList, Mfa, Names, NoMemory};
+use term_core::{CountList, Mfa, Names, NoMemory, cut_at};
 
 /// Where the next line stands.
 #[derive(Clone, Copy, Debug, PartialEq, Eq)]

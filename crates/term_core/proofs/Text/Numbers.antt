@@ -31,16 +31,16 @@ pub IsAscii-number : (text : List ℕ) → is_number_text text ≡ true → IsAs
 IsAscii-number text h = IsAscii-from_digits text (own.to text (number_digits text h).digits)
 
 -- from the answer of `parse`
-small_by : {E : Type 0} (r : Result ℕ E) (n len : ℕ) (t : Bool) → nat_lt n (2 ^ 32) ≡ t → 0 < len → OkIff r ((0 < len) × (n < 2 ^ 32)) n → result_ok r ≡ cond t (Some n) None
-small_by (Ok m) n len true e some h = ap (λ k. Some k) h.1
-small_by (Ok m) n len false e some h = let below : n < 2 ^ 32 = h.0.1 in absurd (grind (arith, nat_tests))
-small_by (Err f) n len true e some h = let below : n < 2 ^ 32 = grind (arith, nat_tests) in absurd (h (some, below))
-small_by (Err f) n len false e some h = refl
+pub below_by : {E : Type 0} (bound : ℕ) (r : Result ℕ E) (n len : ℕ) (t : Bool) → nat_lt n bound ≡ t → 0 < len → OkIff r ((0 < len) × (n < bound)) n → result_ok r ≡ cond t (Some n) None
+below_by bound (Ok m) n len true e some h = ap (λ k. Some k) h.1
+below_by bound (Ok m) n len false e some h = let below : n < bound = h.0.1 in absurd (grind (arith, nat_tests))
+below_by bound (Err f) n len true e some h = let below : n < bound = grind (arith, nat_tests) in absurd (h (some, below))
+below_by bound (Err f) n len false e some h = refl
 
 pub parsed_number : {E : Type 0} (text : List ℕ) (r : Result ℕ E) → ParsesUnsigned 32 10 text r → is_number_text text ≡ true → result_ok r ≡ small_number text
 parsed_number text r h form =
     let p = number_digits text form in
-    small_by r (number_value text) (length text) (nat_lt (number_value text) (2 ^ 32)) refl p.some (parse_digits own 32 text r h p.digits)
+    below_by (2 ^ 32) r (number_value text) (length text) (nat_lt (number_value text) (2 ^ 32)) refl p.some (parse_digits own 32 text r h p.digits)
 
 -- what a number is written as is its text
 pub record Writes (text : List ℕ) (n : ℕ) : Type 0 where

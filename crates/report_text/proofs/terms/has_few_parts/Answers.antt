@@ -1,7 +1,8 @@
 use Rattle.std.proofs.Common.{length, ap, arith}
 use Rattle.std.specs.Prelude.{option_map}
 use Rattle.term_core.specs.TermParts.{parts_of_terms, parts_of_rest}
-use Rattle.script_text.proofs.TermParts.{left_of, left_behind, parts_cut}
+use Rattle.term_core.proofs.Text.Parts.{left_behind, parts_cut}
+use Rattle.term_core.proofs.Text.Reads.{less_left}
 use Rattle.report_text.proofs.ReadingLoops.{many_parts, some_parts}
 use Rattle.report_text.proofs.terms.has_few_parts.Goals as goal
 
@@ -23,7 +24,4 @@ parts-preserved c =
 
 -- what is behind it is shorter
 pub parts-smaller : goal.parts-smaller
-parts-smaller c =
-    let here = ap (λ o. left_of (option_map (λ rest. rest.now) o)) c.in-Some.is in
-    let less = left_behind c.in-Some.left.now (option_map (λ rest. rest.now) c.cut_term.result.1) c.cut_term.ensures.rest in
-    omega (arith, here, less)
+parts-smaller c = less_left _ _ c.in-Some.left.now (ap (option_map (λ rest. rest.now)) c.in-Some.is) (left_behind c.in-Some.left.now (option_map (λ rest. rest.now) c.cut_term.result.1) c.cut_term.ensures.rest)

@@ -1,9 +1,9 @@
 use Rattle.std.proofs.Common.{◌≡◌}
 use Rattle.std.specs.Prelude.{option_map}
 use Rattle.term_core.specs.TermParts.{parts_of_terms, parts_of_rest}
-use Rattle.script_text.specs.LineReading.{each_reading}
-use Rattle.script_text.proofs.ReadingLoops.{with_read}
-use Rattle.script_text.proofs.TermParts.{left_of}
+use Rattle.term_core.specs.Text.Parts.{each_reading}
+use Rattle.term_core.proofs.Text.Parts.{left_of}
+use Rattle.term_core.proofs.Text.Reads.{with_read}
 use Rattle.report_text.specs.TermReading.{plain_reading}
 use Rattle.report_text.proofs.terms.read_some_terms.Given as goal
 

@@ -2,9 +2,9 @@ use Rattle.std.proofs.Common.{◌≡◌, ◌∙◌, ◌||◌, length, None, true
 use Rattle.std.proofs.lemmas.Bool.{lt-ltb, le-ltb}
 use Rattle.std.specs.List.{list_any}
 use Rattle.term_core.specs.Text.Cuts.{cut_at}
-use Rattle.script_text.specs.TextLines.{lines_of}
+use Rattle.term_core.specs.Text.Parts.{lines_of}
 use Rattle.script_text.specs.Canonical.{is_long_line}
-use Rattle.script_text.proofs.Parts.{shorter_rest}
+use Rattle.term_core.proofs.Text.Parts.{shorter_rest}
 use Rattle.script_text.proofs.PrintedText.{any_long, none_long}
 use Rattle.script_text.proofs.printing.has_long_line.Goals as goal
 

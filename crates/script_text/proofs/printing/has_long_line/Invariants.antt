@@ -1,6 +1,6 @@
 use Rattle.std.proofs.Common.{◌≡◌, length}
 use Rattle.std.specs.List.{list_any}
-use Rattle.script_text.specs.TextLines.{lines_of}
+use Rattle.term_core.specs.Text.Parts.{lines_of}
 use Rattle.script_text.specs.Canonical.{is_long_line}
 use Rattle.script_text.proofs.printing.has_long_line.Given as goal
 

@@ -1,12 +1,13 @@
 -- Items in a row: each is read of its part, and the parts are their texts.
-use Rattle.std.proofs.Common.{◌≡◌, ℕ, ◌<◌, true, false, ◌==◌, List, [], ◌∷◌, length, Option, Some, refl, sym, ap, ◌∙◌, subst, arith}
+use Rattle.std.proofs.Common.{◌≡◌, ℕ, ◌<◌, Bool, true, false, ◌==◌, List, [], ◌∷◌, ◌++◌, length, Option, Some, refl, sym, ap, ◌∙◌, subst, arith, append-nil}
 use Rattle.std.specs.Prelude.{map}
-use Rattle.std.specs.List.{AllByRecursion, join_with_byte}
+use Rattle.std.specs.List.{AllByRecursion, flat_map, join_with_byte, list_all}
+use Rattle.std.proofs.lemmas.Bool.{and_parts, and_from}
 use Rattle.term_core.specs.Text.Steps.{◌>>=◌}
 use Rattle.term_core.proofs.Text.Options.{some, some_is, bind_some, bind_at}
 use Rattle.term_core.proofs.Text.Cuts.{lacks, lacks-append, lacks-cons}
-use Rattle.script_text.specs.LineReading.{parts_of, each_reading}
-use Rattle.script_text.proofs.Parts.{parts_at, parts_whole, parts_are_some, join-parts}
+use Rattle.term_core.specs.Text.Parts.{parts_of, each_reading}
+use Rattle.term_core.proofs.Text.Parts.{parts_at, parts_whole, parts_are_some, join-parts}
 
 -- the bytes are the text of this item, which fits
 pub record IsItem {X : Type 0} (write : X → List ℕ) (Fits : X → Type 0) (text : List ℕ) (x : X) : Type 0 where
@@ -82,3 +83,18 @@ joined_lacks write Fits byte other differs apart (x ∷ []) h = apart x h.0
 joined_lacks write Fits byte other differs apart (x ∷ y ∷ ys) h =
     lacks-append other (write x) (byte ∷ join_with_byte byte (map write (y ∷ ys))) (apart x h.0)
     (lacks-cons other byte (join_with_byte byte (map write (y ∷ ys))) differs (joined_lacks write Fits byte other differs apart (y ∷ ys) h.1))
+
+-- items with this byte in front of each
+pub join-flat : {X : Type 0} (write : X → List ℕ) (byte : ℕ) (x : X) (xs : List X) → byte ∷ join_with_byte byte (map write (x ∷ xs)) ≡ flat_map (λ y. byte ∷ write y) (x ∷ xs)
+join-flat write byte x [] = ap (λ (t : List ℕ). byte ∷ t) (sym (append-nil (write x)))
+join-flat write byte x (y ∷ ys) = ap (λ (t : List ℕ). byte ∷ (write x ++ t)) (join-flat write byte y ys)
+
+-- ---- items that pass a test
+
+pub all_pass : {X : Type 0} (ok : X → Bool) (xs : List X) → list_all ok xs ≡ true → AllByRecursion (λ x. ok x ≡ true) xs
+all_pass ok [] h = tt
+all_pass ok (x ∷ xs) h = let p = and_parts (ok x) (list_all ok xs) h in (p.0, all_pass ok xs p.1)
+
+pub pass_all : {X : Type 0} (ok : X → Bool) (xs : List X) → AllByRecursion (λ x. ok x ≡ true) xs → list_all ok xs ≡ true
+pass_all ok [] h = refl
+pass_all ok (x ∷ xs) h = and_from (ok x) (list_all ok xs) h.0 (pass_all ok xs h.1)
