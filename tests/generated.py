@@ -1,4 +1,4 @@
-"""Cases whose texts are long: each is worked out from a rule, and none from what the program wrote."""
+"""Cases whose texts are long, or differ in one line: each is worked out from a rule, and none from what the program wrote."""
 
 RUN = ["run", "--schedulers", "1"]
 LINES_OF_16_BYTES = "0123456789abcde\n" * 65_536
@@ -24,6 +24,15 @@ def runs(name, lines, generations, told):
 
 def is_refused(name, text, fault):
     return name, RUN, text, f"refused {fault}\n", 3
+
+
+def is_judged(name, text, log, yes):
+    return name, ["check"], text + log, "lawful\n" if yes else "not lawful\n", 0 if yes else 1
+
+
+def changed(text, old, new):
+    assert text.count(old) == 1, old
+    return text.replace(old, new)
 
 
 def texts_over_the_limit():
@@ -203,6 +212,80 @@ def images():
         yield is_refused(f"image_of_{name}_and_a_yield", text, f"{line} limit module")
 
 
+def changes_of_a_lawful_report():
+    """Two loaders, each of which spawns a process, and an observer. The key's area has serial 1, the module 2."""
+    text = script(
+        "module m.1\nexport main/1\nend\nmodule m.2\nend\nobserver 2\n"
+        "loader\nput k {1}\nspawn m:main(1)\nloader\nload m.1\npurge m\nspawn m:main([1])\n"
+    )
+    first, second = "process 0 m:main(1)\nspan 2 1\n", "process 1 m:main([1])\nspan 2 1\nend normal\n"
+    shot = "snapshot 2\nexport m:main/1 2\n"
+    own_purge, own_spawn = "entry L1 purge m = false -\n", "entry L0 spawn m:main(1) = ok -\n"
+    told = report(
+        2,
+        "entry L0 put k {1} = ok @1\nentry L1 load m.1 = ok @2\n"
+        + own_spawn + own_purge + "entry L1 spawn m:main([1]) = ok -\n"
+        + f"{first}end normal\n{second}observer 0\nsnapshot 0\n{shot}",
+    )
+    yield is_judged("none", text, told, True)
+    yield is_judged("generation_seen_twice", text, changed(told, "snapshot 0\n", shot), True)
+    for name, old, new in (
+        ("spawn_with_another_argument", own_spawn, "entry L0 spawn m:main(2) = ok -\n"),
+        ("argument_of_the_other_spawn", own_spawn, "entry L0 spawn m:main([1]) = ok -\n"),
+        ("another_command", own_spawn, "entry L0 check_old m = false -\n"),
+        ("another_version", "load m.1", "load m.2"),
+        ("another_loader", "entry L1 load", "entry L0 load"),
+        ("no_such_loader", "entry L1 load", "entry L7 load"),
+        ("doom_in_place_of_a_load", "load m.1 = ok", "doom m = ok"),
+        ("command_twice", own_purge, own_purge + own_purge),
+        ("command_is_missing", "entry L1 spawn m:main([1]) = ok -\n", ""),
+        ("release_of_what_is_held", own_purge, own_purge + "entry rt release 1 = ok -\n"),
+        ("process_without_a_turn", first, "process 0 m:main(1)\n"),
+        ("process_too_many", second, second + "process 2 m:main(1)\nspan 2 1\nend normal\n"),
+        ("process_with_another_argument", "process 1 m:main([1])", "process 1 m:main([2])"),
+        ("turns_of_falling_generations", first, first + "span 1 1\n"),
+        ("first_turn_before_its_spawn", first, "process 0 m:main(1)\nspan 1 1\n"),
+        ("third_snapshot_of_two", shot, shot + shot),
+    ):
+        yield is_judged(name, text, changed(told, old, new), False)
+    yield is_judged("no_command_was_made", text, EMPTY, False)
+
+
+def between_the_halves_of_a_purge():
+    """A command of another loader: few may stand there. The purge publishes the next generation."""
+    for name, command, reply, published, yes in (
+        ("check_old", "check_old m", "true -", 3, True),
+        ("put", "put k 7", "ok @4", 4, False),
+        ("erase", "erase k", "false -", 3, False),
+        ("trace", "trace m:main/0 on", "false -", 3, False),
+    ):
+        text = script(
+            "module m.1\nexport main/0\nend\nmodule m.2\nend\n"
+            f"loader\nload m.1\nload m.2\npurge m\nloader\n{command}\n"
+        )
+        told = report(
+            published + 1,
+            "entry L0 load m.1 = ok @1\nentry L0 load m.2 = ok @2\nentry L0 doom m = ok @3\n"
+            f"entry L1 {command} = {reply}\nentry L0 purge m = false @{published + 1}\nentry rt release 1 = ok -\n",
+        )
+        yield is_judged(name, text, told, yes)
+        release = "entry rt release 1 = ok -\n"
+        if yes:
+            yield is_judged("release_twice", text, changed(told, release, release + release), False)
+
+
+def counted_turns():
+    """A process has at most 4,294,967,295 turns; one more ends it."""
+    text = script("module n.1\nexport main/0\nlabel a\nyield\njump a\nend\nloader\nload n.1\nspawn n:main()\n")
+    for turns, yes in ((4_294_967_295, False), (4_294_967_296, True), (4_294_967_297, False), (2**64 - 1, False)):
+        told = report(
+            1,
+            "entry L0 load n.1 = ok @1\nentry L0 spawn n:main() = ok -\n"
+            f"process 0 n:main()\nspan 1 {turns}\nend system_limit\n",
+        )
+        yield is_judged(f"{turns}_turns", text, told, yes)
+
+
 GROUPS = (
     texts_over_the_limit,
     lines_at_the_limit,
@@ -216,6 +299,9 @@ GROUPS = (
     names,
     functions,
     images,
+    changes_of_a_lawful_report,
+    between_the_halves_of_a_purge,
+    counted_turns,
 )
 
 
