@@ -1,4 +1,4 @@
-ghost use Rattle.std.specs.Prelude.{◌≡◌, ◌↔◌, ◌<◌, ◌++◌, ◌∷◌, [], ℕ, length, nat_le, IfOk, IfErr, OnOk, OnErr, IsErr, None};
+ghost use Rattle.std.specs.Prelude.{◌≡◌, ◌↔◌, ◌++◌, ◌∷◌, [], length, nat_le, IfOk, IfErr, OnOk, OnErr, IsErr, None};
 ghost use Rattle.std.specs.List.{position};
 ghost use Rattle.later_ops.specs.Later.{first_due, without_due, NoneIsDue};
 
@@ -16,7 +16,7 @@ pub struct Later<T> {
 }
 
 impl<T> Model for Later<T> {
-    ghost use Rattle.std.specs.Prelude.{ℕ, ◌≤◌, length};
+    ghost use Rattle.std.specs.Prelude.{◌≤◌, length};
     ghost use Rattle.std.specs.Coded.{coded_list};
     ghost use Rattle.std.specs.Vec.{vec_capacity};
     ghost use base.Stored.{coded×, coded_ℕ};

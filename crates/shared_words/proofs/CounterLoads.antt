@@ -1,0 +1,120 @@
+-- A load of the counter keeps the rule, whatever seat loads it.
+use Rattle.std.proofs.Common.{◌≡◌, ℕ, zero, suc, ◌≤◌, inl, Bool, false, cond, List, set, refl, sym, ap, subst, ◌∙◌, arith}
+use mathlib.Core.Option.{none, some, some-injective}
+use lib.ListN.{get_elem?}
+use lib.Seq.{set-get_or}
+use Rattle.std.specs.Prelude.{Some, None, slice_get, slice_index}
+use Rattle.std.specs.Option.{option_and_then}
+use Rattle.atomic_table.specs.Table.{State, keeps, step, Allows}
+use Rattle.atomic_table.proofs.Lists.{set_again}
+use Rattle.prgr_core.specs.declared.member.Member as machines
+use Rattle.prgr_core.specs.declared.progress.Progress.{Progress}
+use Rattle.prgr_core.specs.declared.event.PrgrEvent.TheVariants as prgr
+use Rattle.prgr_core.specs.Members as members
+use Rattle.prgr_core.specs.Step.{after, with_member}
+use Rattle.prgr_core.proofs.Sound.{pair_sound}
+use Rattle.term_core.specs.declared.generation.Generation.{Generation}
+use Rattle.area_core.proofs.Fewer.{fewer_count}
+use Rattle.shared_words.specs.declared.table.TheConstants.{COUNTER}
+use Rattle.shared_words.specs.declared.opening.Opening.{Opening}
+use Rattle.shared_words.specs.declared.view.MemberView.{MemberView}
+use Rattle.shared_words.specs.declared.view.View.{View}
+use Rattle.shared_words.specs.declared.view.View.TheVariants.{Writer, Member, Watcher, Note, Spent}
+use Rattle.shared_words.specs.Shown.{progress_of}
+use Rattle.shared_words.specs.Kinds.{Sat, MayLoadCounter, counter_kept, counter_found, counter_loaded}
+use Rattle.shared_words.specs.Rule.{MayBeRead, blocks_shown, Knows, RunningRule}
+use Rattle.shared_words.proofs.ShownMembers.{shown_at, there, still_at}
+use Rattle.shared_words.proofs.Frames.{after_step, same_rest, progress_set, member_step}
+
+-- ---- by a member
+
+-- the record of a member that has loaded the counter
+abbrev with_counter : ℕ → MemberView → MemberView
+with_counter c m = record m { member = members.counter_loaded c m.member }
+
+-- the event that a member's load is
+loaded_event : (p : Progress) (k : ℕ) (a : machines.Member) → slice_get p.members k ≡ Some a → members.is_waiting a.word ≡ false → after p (prgr.LoadCounter k) ≡ Some (with_member p k (members.counter_loaded p.counter a))
+loaded_event p k a at awake =
+    ap (option_and_then (λ (member : machines.Member). cond (members.is_waiting member.word) None (Some (with_member p k (members.counter_loaded p.counter member))))) at
+    ∙ ap (λ (t : Bool). cond t None (Some (with_member p k (members.counter_loaded p.counter a)))) awake
+
+module _ {Served : Generation → Type 0} {opening : Opening} (s : State (Unit {0}) View) (r : RunningRule Served opening s) where
+  member_loads : (k : ℕ) (m : MemberView) → get_elem? r.seats k ≡ some (Member m) → members.is_waiting m.member.word ≡ false → RunningRule Served opening (after_step s s.words (suc k) (Member (with_counter (slice_index s.words COUNTER) m)))
+  member_loads k m at awake =
+      let knows = r.each_seat k (Member m) at in
+      let c : ℕ = slice_index s.words COUNTER in
+      let shown = shown_at r.writer.members r.seats k m knows.made at in
+      let within = there r.seats k (Member m) at in
+      member_step s r s.words k m (with_counter c m) at (record {
+        rest = same_rest s.words;
+        knows = record { numbered = knows.numbered; made = knows.made; seen = knows.seen; holds = knows.holds; noted = knows.noted };
+        moves = inl (prgr.LoadCounter k, loaded_event (progress_of s.words r.writer r.seats) k m.member shown awake ∙ ap (λ (p : Progress). Some p) (sym (progress_set s.words r.writer r.seats k (with_counter c m) knows.made within)));
+        own = r.machine.own_words k m.member shown;
+        others = λ j other. refl;
+      })
+
+  -- ---- by the writer
+
+  -- one more pair leaves fewer generations that may be read
+  fewer : (c : ℕ) → r.writer.counter ≤ c → (g : ℕ) → MayBeRead (counter_kept c r.writer) g → MayBeRead r.writer g
+  fewer c later g may pair among need =
+      may pair (among.0, still_at r.writer.pairs _ among.0 pair among.1) (let n : pair.need ≤ r.writer.counter = need in omega arith)
+
+  -- what each seat knows says nothing of pairs and the counter
+  same_knows : (c place : ℕ) (v : View) → Knows r.writer place v → Knows (counter_kept c r.writer) place v
+  same_knows c place (Writer w) h = h
+  same_knows c place (Member m) h = record { numbered = h.numbered; made = h.made; seen = h.seen; holds = h.holds; noted = h.noted }
+  same_knows c place (Watcher w) h = record { numbered = h.numbered; made = h.made; seen = h.seen }
+  same_knows c place (Note n) h = record { behind = h.behind; seen = h.seen; noted = h.noted; learnt = h.learnt }
+  same_knows c place Spent h = h
+
+  writer_loads : RunningRule Served opening (after_step s s.words 0 (Writer (counter_kept (slice_index s.words COUNTER) r.writer)))
+  writer_loads =
+      let c : ℕ = slice_index s.words COUNTER in record {
+        writer = counter_kept c r.writer;
+        seats = r.seats;
+        views = ap (λ (vs : List View). set vs 0 (Writer (counter_kept c r.writer))) r.views;
+        published = record { made = r.published.made; watched = r.published.watched; some = r.published.some; served = r.published.served; old_stays = r.published.old_stays; retired_stays = r.published.retired_stays; notes_fit = r.published.notes_fit };
+        words = record {
+          all = r.words.all;
+          root = r.words.root;
+          reached = omega arith;
+          blocks = fewer_count (blocks_shown s.words r.writer) (MayBeRead r.writer) (MayBeRead (counter_kept c r.writer)) r.words.blocks (fewer c r.words.reached);
+        };
+        each_seat = λ place v at. same_knows c place v (r.each_seat place v at);
+        machine = record {
+          progress = pair_sound (progress_of s.words r.writer r.seats) r.machine.progress;
+          own_words = r.machine.own_words;
+          others_wait = r.machine.others_wait;
+        };
+        handed = r.handed;
+        at_home = λ k m at. same_knows c k (Member m) (r.at_home k m at);
+      }
+
+  -- ---- by any seat
+
+  pub same_step : (id : ℕ) (v : View) → get_elem? s.views id ≡ some v → RunningRule Served opening (after_step s s.words id v)
+  same_step id v at = subst (λ (vs : List View). RunningRule Served opening (record { words = s.words; homes = s.homes; views = vs })) (sym (set_again s.views id v at)) r
+
+  behind_loads : (k : ℕ) (v : View) → get_elem? s.views (suc k) ≡ some v → get_elem? r.seats k ≡ some v → MayLoadCounter v → RunningRule Served opening (after_step s s.words (suc k) (counter_found (slice_index s.words COUNTER) v))
+  behind_loads k (Writer w) at here may = absurd (r.each_seat k (Writer w) here)
+  behind_loads k (Member m) at here may = member_loads k m here may
+  behind_loads k (Watcher w) at here may = absurd may
+  behind_loads k (Note n) at here may = same_step (suc k) (Note n) at
+  behind_loads k Spent at here may = absurd may
+
+  pub counter_loads : (id : ℕ) (v : View) → get_elem? s.views id ≡ some v → MayLoadCounter v → RunningRule Served opening (after_step s s.words id (counter_found (slice_index s.words COUNTER) v))
+  counter_loads zero v at may =
+      let is : Writer r.writer ≡ v = some-injective (Writer r.writer) v (ap (λ (vs : List View). get_elem? vs 0) (sym r.views) ∙ at) in
+      subst (λ (x : View). RunningRule Served opening (after_step s s.words 0 (counter_found (slice_index s.words COUNTER) x))) is writer_loads
+  counter_loads (suc k) v at may = behind_loads k v at (ap (λ (vs : List View). get_elem? vs (suc k)) (sym r.views) ∙ at) may
+
+-- the load of the counter may be made by each seat that may make it
+pub load_counter_is_allowed : (Served : Generation → Type 0) (opening : Opening) (slots id : ℕ) (me : Sat) → MayLoadCounter me.0 → Allows (RunningRule Served opening) slots id me COUNTER (λ n. n) (counter_loaded (step slots COUNTER 0 0 none) me)
+load_counter_is_allowed Served opening slots id me may s r wide at fits = (
+  counter_found (slice_index s.words COUNTER) me.0,
+  keeps,
+  tt,
+  subst (λ (ws : List ℕ). RunningRule Served opening (after_step s ws id (counter_found (slice_index s.words COUNTER) me.0))) (sym (set-get_or s.words COUNTER 0)) (counter_loads s r id me.0 at may),
+  refl,
+)

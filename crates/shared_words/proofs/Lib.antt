@@ -1,0 +1,11 @@
+pub mod ShownMembers
+pub mod Frames
+pub mod CounterLoads
+pub mod RootLoads
+pub mod MemberStores
+pub mod LeaderSteps
+pub mod LeaderScans
+pub mod OpeningRule
+pub mod WordsBegun
+pub mod Handing
+pub mod SoundState

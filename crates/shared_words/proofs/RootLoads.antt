@@ -1,0 +1,156 @@
+-- A load of the root keeps the rule, whatever seat loads it, and tells of the generations so far.
+use Rattle.std.proofs.Common.{◌≡◌, ℕ, zero, suc, ◌<◌, inl, inr, Bool, true, false, cond, List, [], length, length-append, length-set, append-nil, set, refl, sym, ap, subst, ◌∙◌, arith}
+use mathlib.Core.Option.{none, some, some-injective}
+use lib.ListN.{get_elem?}
+use lib.Seq.{set-get_or}
+use Rattle.std.specs.Prelude.{Some, None, slice_get, slice_index}
+use Rattle.std.specs.Option.{option_and_then}
+use Rattle.atomic_table.specs.Table.{State, keeps, step, Allows}
+use Rattle.prgr_core.specs.declared.member.Member as machines
+use Rattle.prgr_core.specs.declared.progress.Progress.{Progress}
+use Rattle.prgr_core.specs.declared.event.PrgrEvent.TheVariants as prgr
+use Rattle.prgr_core.specs.Members as members
+use Rattle.prgr_core.specs.Step.{with_member, has_loaded, IsSound}
+use Rattle.term_core.specs.declared.generation.Generation.{Generation}
+use Rattle.area_core.specs.Step.{opening_published}
+use Rattle.area_core.specs.declared.table.Published.{Published}
+use Rattle.shared_words.specs.declared.table.TheConstants.{ROOT}
+use Rattle.shared_words.specs.declared.opening.Opening.{Opening}
+use Rattle.shared_words.specs.declared.view.MemberView.{MemberView}
+use Rattle.shared_words.specs.declared.view.NoteView.{NoteView}
+use Rattle.shared_words.specs.declared.view.View.{View}
+use Rattle.shared_words.specs.declared.view.View.TheVariants.{Writer, Member, Watcher, Note, Spent}
+use Rattle.shared_words.specs.Views.{newest, newest_root, published_at, seen}
+use Rattle.shared_words.specs.Shown.{progress_of}
+use Rattle.shared_words.specs.Kinds.{Sat, MayLoadRoot, member_with_root, root_found, RootLoaded, root_loaded}
+use Rattle.shared_words.specs.Rule.{IsBeginning, RunningRule}
+use Rattle.shared_words.proofs.ShownMembers.{shown_at, shown_behind, watchers_behind, there, there_is, set_same}
+use Rattle.shared_words.proofs.Frames.{after_step, same_rest, seats_kept, progress_set, Moves, member_step}
+use Rattle.shared_words.proofs.CounterLoads.{same_step}
+
+-- ---- the record of a member, by whether it has loaded the counter
+
+number_kept : (b : Bool) (g : ℕ) (a : machines.Member) → (cond b (members.root_loaded g a) a).number ≡ a.number
+number_kept true g a = refl
+number_kept false g a = refl
+
+word_kept : (b : Bool) (g : ℕ) (a : machines.Member) → (cond b (members.root_loaded g a) a).word ≡ a.word
+word_kept true g a = refl
+word_kept false g a = refl
+
+within : (b : Bool) (g n : ℕ) (a : machines.Member) → g < n → a.generation < n → (cond b (members.root_loaded g a) a).generation < n
+within true g n a newest old = newest
+within false g n a newest old = old
+
+root_moves : (p : Progress) (k : ℕ) (a : machines.Member) → slice_get p.members k ≡ Some a → (b : Bool) → has_loaded a.loaded ≡ b → Moves p (with_member p k (cond b (members.root_loaded p.generation a) a))
+root_moves p k a at true is = inl (
+  prgr.LoadRoot k,
+  ap (option_and_then (λ (member : machines.Member). cond (has_loaded member.loaded) (Some (with_member p k (members.root_loaded p.generation member))) None)) at
+      ∙ ap (λ (t : Bool). cond t (Some (with_member p k (members.root_loaded p.generation a))) None) is,
+)
+root_moves p k a at false is = inr (λ i. record p { members = set_same p.members k a at i })
+
+-- ---- the generations
+
+-- a list is the beginning of itself
+whole : (published : List Published) → IsBeginning published published
+whole published = ([], sym (append-nil published))
+
+-- a beginning is no longer
+shorter : (few all : List Published) → IsBeginning few all → (n : ℕ) → n < length few → n < length all
+shorter few all is n below = omega (arith, ap length is.1, length-append few is.0)
+
+module _ {Served : Generation → Type 0} {opening : Opening} (s : State (Unit {0}) View) (r : RunningRule Served opening s) where
+  -- the generations so far
+  abbrev all : List Published
+  all = r.writer.published
+
+  -- the newest is among them
+  last : newest all < length all
+  last = (let first = r.published.some in omega arith)
+
+  -- what is told of them
+  told : (v w : View) → seen w ≡ all → IsBeginning (seen v) all → w ≡ root_found all v → RootLoaded Served v w (slice_index s.words ROOT)
+  told v w is learnt same = record {
+    learnt = subst (λ (xs : List Published). IsBeginning (seen v) xs) (sym is) learnt;
+    some = subst (λ (xs : List Published). 0 < length xs) (sym is) r.published.some;
+    root = r.words.root ∙ ap newest_root (sym is);
+    served = subst (λ (xs : List Published). Served (published_at xs (newest xs)).state) (sym is) (r.published.served (published_at all (newest all)) (newest all, there_is all (newest all) opening_published last));
+    view = same ∙ ap (λ (xs : List Published). root_found xs v) (sym is);
+  }
+
+  -- a member
+  member_loads : (k : ℕ) (m : MemberView) → get_elem? r.seats k ≡ some (Member m) → RunningRule Served opening (after_step s s.words (suc k) (root_found all (Member m)))
+  member_loads k m at =
+      let knows = r.each_seat k (Member m) at in
+      let p = progress_of s.words r.writer r.seats in
+      let b = has_loaded m.member.loaded in
+      let g = newest all in
+      let m' : MemberView = record m { member = member_with_root g m.member; seen = all } in
+      let shown = shown_at r.writer.members r.seats k m knows.made at in
+      member_step s r s.words k m m' at (record {
+        rest = same_rest s.words;
+        knows = record {
+          numbered = number_kept b g m.member ∙ knows.numbered;
+          made = knows.made;
+          seen = whole all;
+          holds = within b g (length all) m.member last (shorter m.seen all knows.seen m.member.generation knows.holds);
+          noted = knows.noted;
+        };
+        moves = subst (Moves p) (sym (progress_set s.words r.writer r.seats k m' knows.made (there r.seats k (Member m) at))) (root_moves p k m.member shown b refl);
+        own = r.machine.own_words k m.member shown ∙ sym (word_kept b g m.member);
+        others = λ j other. refl;
+      })
+
+  -- a note
+  note_loads : (k : ℕ) (n : NoteView) → get_elem? r.seats k ≡ some (Note n) → RunningRule Served opening (after_step s s.words (suc k) (root_found all (Note n)))
+  note_loads k n at =
+      let knows = r.each_seat k (Note n) at in
+      let v : View = Note (record n { seen = all }) in
+      let behind = knows.behind in
+      let same = shown_behind r.writer.members r.seats k v (omega (arith, behind)) in record {
+        writer = r.writer;
+        seats = set r.seats k v;
+        views = ap (λ (vs : List View). set vs (suc k) v) r.views;
+        published = r.published;
+        words = r.words;
+        each_seat = seats_kept r.writer r.seats k v r.each_seat (record { behind = behind; seen = whole all; noted = knows.noted; learnt = shorter n.seen all knows.seen n.note.published knows.learnt });
+        machine = record {
+          progress = subst IsSound (λ i. record (progress_of s.words r.writer r.seats) { members = sym same i; watchers = sym (watchers_behind (length r.writer.members) r.writer.watchers r.seats k v behind) i }) r.machine.progress;
+          own_words = λ j a here. r.machine.own_words j a (ap (λ (xs : List machines.Member). slice_get xs j) (sym same) ∙ here);
+          others_wait = r.machine.others_wait;
+        };
+        handed = λ more. length-set r.seats k v ∙ r.handed more;
+        at_home = r.at_home;
+      }
+
+  -- what a load by any seat keeps and tells
+  abbrev Goes : ℕ → View → Type 0
+  Goes id v = RunningRule Served opening (after_step s s.words id (root_found all v)) × RootLoaded Served v (root_found all v) (slice_index s.words ROOT)
+
+  behind_loads : (k : ℕ) (v : View) → get_elem? r.seats k ≡ some v → MayLoadRoot v → Goes (suc k) v
+  behind_loads k (Writer w) here may = absurd (r.each_seat k (Writer w) here)
+  behind_loads k (Member m) here may = (member_loads k m here, told (Member m) (root_found all (Member m)) refl (r.each_seat k (Member m) here).seen refl)
+  behind_loads k (Watcher w) here may = absurd may
+  behind_loads k (Note n) here may = (note_loads k n here, told (Note n) (root_found all (Note n)) refl (r.each_seat k (Note n) here).seen refl)
+  behind_loads k Spent here may = absurd may
+
+  pub root_loads : (id : ℕ) (v : View) → get_elem? s.views id ≡ some v → MayLoadRoot v → Goes id v
+  root_loads zero v at may =
+      let is : Writer r.writer ≡ v = some-injective (Writer r.writer) v (ap (λ (vs : List View). get_elem? vs 0) (sym r.views) ∙ at) in
+      subst (Goes 0) is (
+        same_step s r 0 (Writer r.writer) (ap (λ (vs : List View). get_elem? vs 0) r.views),
+        told (Writer r.writer) (Writer r.writer) refl (whole all) refl,
+      )
+  root_loads (suc k) v at may = behind_loads k v (ap (λ (vs : List View). get_elem? vs (suc k)) (sym r.views) ∙ at) may
+
+-- the load of the root may be made by each seat that may make it
+pub load_root_is_allowed : (Served : Generation → Type 0) (opening : Opening) (slots id : ℕ) (me : Sat) → MayLoadRoot me.0 → Allows (RunningRule Served opening) slots id me ROOT (λ n. n) (root_loaded Served (step slots ROOT 0 0 none) me)
+load_root_is_allowed Served opening slots id me may s r wide at fits =
+    let goes = root_loads s r id me.0 at may in (
+      root_found r.writer.published me.0,
+      keeps,
+      tt,
+      subst (λ (ws : List ℕ). RunningRule Served opening (after_step s ws id (root_found r.writer.published me.0))) (sym (set-get_or s.words ROOT 0)) goes.0,
+      record { told = goes.1; slots = refl },
+    )

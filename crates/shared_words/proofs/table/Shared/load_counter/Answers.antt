@@ -1,0 +1,12 @@
+use Rattle.std.proofs.Common.{◌≡◌, arith}
+use Rattle.area_core.specs.declared.map.TheConstants.{TABLE_WORDS}
+use Rattle.shared_words.proofs.CounterLoads.{load_counter_is_allowed}
+use Rattle.shared_words.proofs.table.Shared.load_counter.Goals as goal
+
+-- the load is one that the rule allows
+pub load-requires : goal.load-requires
+load-requires g c = record {
+  same_table = c.requires.token.same_table;
+  there = (let size : c.args.self.now.table.shared.table_id.words ≡ TABLE_WORDS = c.args.self.now.sized in omega arith);
+  allowed = load_counter_is_allowed g.N.Served.served _ _ _ _ c.requires.may;
+}

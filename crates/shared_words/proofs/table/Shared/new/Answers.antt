@@ -1,0 +1,12 @@
+use Rattle.std.proofs.Common.{◌≡◌, ◌≤◌, List, ℕ, sym, subst, arith}
+use Rattle.prgr_core.specs.declared.watcher.TheConstants.{MOST_WATCHERS}
+use Rattle.shared_words.specs.Making.{AreBegun}
+use Rattle.shared_words.proofs.OpeningRule.{rule_begins}
+use Rattle.shared_words.proofs.table.Shared.new.Goals as goal
+
+-- the rule holds of the table as it begins
+pub of_words-requires : goal.of_words-requires
+of_words-requires g c =
+    let none : c.args.watchers ≡ 0 = c.requires.watchers in
+    let few : c.args.watchers ≤ MOST_WATCHERS = omega arith in
+    rule_begins g.N.Served.served _ c.as_slice.result.now c.requires.members.1 few c.requires.served (subst (λ (ws : List ℕ). AreBegun c.args.members ws) (sym c.as_slice.ensures.value) c.in_ok-words.ensures)

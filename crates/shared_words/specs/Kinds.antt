@@ -1,0 +1,172 @@
+-- The kinds of steps: which view may make each, and what it makes of the view.
+-- Each is an event of the progress machine or of blocks and slots, and says so by the function of that event.
+use Rattle.std.specs.Prelude.{◌≡◌, ℕ, ◌+◌, ◌-◌, ◌<◌, ◌==◌, ◌||◌, if◌then◌else◌, List, [], ◌∷◌, ◌++◌, length, false, IsTrue, Some, None, unwrap_or}
+use Rattle.atomic_table.specs.Table.{Me, Step}
+use Rattle.prgr_core.specs.declared.member.Member as machines
+use Rattle.prgr_core.specs.declared.member.Loaded.TheVariants.{Nothing}
+use Rattle.prgr_core.specs.declared.member.TheConstants.{LAST_VALUE}
+use Rattle.prgr_core.specs.declared.member.Scans.{Scans}
+use Rattle.prgr_core.specs.declared.member.Role.{Role}
+use Rattle.prgr_core.specs.declared.member.Role.TheVariants.{Follows, Leads}
+use Rattle.prgr_core.specs.Members.{IsLeading, no_scans}
+use Rattle.prgr_core.specs.Members as members
+use Rattle.prgr_core.specs.Watchers as watchers
+use Rattle.prgr_core.specs.Step.{has_loaded, follows, scan_of}
+use Rattle.term_core.specs.declared.generation.Generation.{Generation}
+use Rattle.area_core.specs.declared.table.Published.{Published}
+use Rattle.area_core.specs.Step.{confirms}
+use Rattle.shared_words.specs.declared.table.TheConstants.{CONFIRMED}
+use Rattle.shared_words.specs.declared.opening.Opening.{Opening}
+use Rattle.shared_words.specs.declared.view.MemberView.{MemberView}
+use Rattle.shared_words.specs.declared.view.WriterView.{WriterView}
+use Rattle.shared_words.specs.declared.view.View.{View}
+use Rattle.shared_words.specs.declared.view.View.TheVariants.{Writer, Member, Watcher, Note, Spent}
+use Rattle.shared_words.specs.Views.{newest, newest_root, published_at, seen}
+use Rattle.shared_words.specs.Rule.{IsBeginning}
+use Rattle.shared_words.specs.Seats.{member_of}
+
+-- a seat of the table, which has no slots
+abbrev pub Sat : Type 0
+Sat = Me (Unit {0}) View
+
+-- ---- the load of the counter
+
+-- who may load the counter: a member that does not wait, the writer and a note. A watcher makes no step yet
+abbrev pub MayLoadCounter : View → Type 0
+MayLoadCounter (Writer w) = Unit {0}
+MayLoadCounter (Member m) = members.is_waiting m.member.word ≡ false
+MayLoadCounter (Watcher w) = ⊥
+MayLoadCounter (Note n) = Unit {0}
+MayLoadCounter Spent = ⊥
+
+-- the writer keeps from when on what its newest generation replaced is no longer read
+abbrev pub counter_kept : ℕ → WriterView → WriterView
+counter_kept counter w = record w {
+  pairs = w.pairs ++ (record { generation = newest w.published; need = counter + 2 }) ∷ [];
+  counter = counter;
+}
+
+-- what a seat knows once it has found this counter
+abbrev pub counter_found : ℕ → View → View
+counter_found counter (Writer w) = Writer (counter_kept counter w)
+counter_found counter (Member m) = Member (record m { member = members.counter_loaded counter m.member })
+counter_found counter (Watcher w) = Watcher (record w { watcher = watchers.counter_watched counter w.watcher })
+counter_found counter (Note n) = Note n
+counter_found counter Spent = Spent
+
+abbrev pub counter_loaded : Step (Unit {0}) → Sat → ℕ → Sat → Type 0
+counter_loaded st me counter me' = me' ≡ (counter_found counter me.0, me.1)
+
+-- ---- the load of the root
+
+-- who may load the root. A watcher makes no step yet
+abbrev pub MayLoadRoot : View → Type 0
+MayLoadRoot (Writer w) = Unit {0}
+MayLoadRoot (Member m) = Unit {0}
+MayLoadRoot (Watcher w) = ⊥
+MayLoadRoot (Note n) = Unit {0}
+MayLoadRoot Spent = ⊥
+
+-- a member that has loaded the counter holds the newest generation from now on; another goes on as it was
+abbrev pub member_with_root : ℕ → machines.Member → machines.Member
+member_with_root g member = if has_loaded member.loaded then members.root_loaded g member else member
+
+-- what a seat knows once it has found the root of the last of these generations
+abbrev pub root_found : List Published → View → View
+root_found published (Writer w) = Writer w
+root_found published (Member m) = Member (record m { member = member_with_root (newest published) m.member; seen = published })
+root_found published (Watcher w) = Watcher (record w { seen = published })
+root_found published (Note n) = Note (record n { seen = published })
+root_found published Spent = Spent
+
+-- what a load of the root tells: the generations so far are learnt, and the root found is that of the last of them,
+-- which the code server has made
+pub record RootLoaded (Served : Generation → Type 0) (old new : View) (found : ℕ) : Type 0 where
+  pub learnt : IsBeginning (seen old) (seen new)
+  pub some : 0 < length (seen new)
+  pub root : found ≡ newest_root (seen new)
+  pub served : Served (published_at (seen new) (newest (seen new))).state
+  pub view : new ≡ root_found (seen new) old
+
+-- the same of a step, which moves no slot
+pub record root_loaded (Served : Generation → Type 0) (st : Step (Unit {0})) (me : Sat) (found : ℕ) (me' : Sat) : Type 0 where
+  pub told : RootLoaded Served me.0 me'.0 found
+  pub slots : me'.1 ≡ me.1
+
+-- ---- the store of a confirmed word
+
+-- the member has loaded the counter and then the root, and confirms the value after that counter
+abbrev pub MayConfirm : ℕ → MemberView → Type 0
+MayConfirm value m = IsTrue (confirms value m.member.loaded)
+
+-- it has confirmed this value
+abbrev pub value_confirmed : ℕ → MemberView → MemberView
+value_confirmed value m = record m { member = record m.member { word = value; loaded = Nothing } }
+
+abbrev pub confirmed : Step (Unit {0}) → Sat → ℕ → Sat → Type 0
+confirmed st me value me' = me' ≡ (Member (value_confirmed value (member_of me.0)), me.1)
+
+-- ---- the steps of a leader
+
+-- what a leader has scanned; a member that follows has scanned nothing
+abbrev pub scans_of : Role → Scans
+scans_of Follows = no_scans None
+scans_of (Leads scans) = scans
+
+-- the counter that a leader has loaded or raised since it leads, or 0
+abbrev pub known_counter : MemberView → ℕ
+known_counter m = unwrap_or (scans_of m.member.role).counter 0
+
+-- the member leads, and knows the counter
+pub record KnowsAsLeader (m : MemberView) : Type 0 where
+  pub leads : IsLeading m.member.role
+  pub knows : members.KnowsCounter m.member.role (known_counter m)
+
+-- it may look at the word of this member
+pub record MayScan (opening : Opening) (other : ℕ) (m : MemberView) : Type 0 where
+  pub leader : KnowsAsLeader m
+  pub there : other < opening.members
+
+-- it has found this word of a member
+abbrev pub word_scanned : ℕ → ℕ → MemberView → MemberView
+word_scanned other word m = record m { member = members.leading_with (scan_of (known_counter m) (scans_of m.member.role) other word) m.member }
+
+abbrev pub scanned : Step (Unit {0}) → Sat → ℕ → Sat → Type 0
+scanned st me word me' = me' ≡ (Member (word_scanned (st.word - CONFIRMED) word (member_of me.0)), me.1)
+
+-- it has scanned each member, and the delay where there are watchers, and the counter is below its last value
+pub record MayRaise (opening : Opening) (m : MemberView) : Type 0 where
+  pub leader : KnowsAsLeader m
+  pub all : (j : ℕ) → j < opening.members → IsTrue (members.has_scanned (scans_of m.member.role) j)
+  pub delay : IsTrue ((scans_of m.member.role).delay || (opening.watchers == 0))
+  pub below : known_counter m < LAST_VALUE
+
+-- it has raised the counter by one, and scanned nothing since
+abbrev pub counter_raised : MemberView → MemberView
+counter_raised m = record m { member = members.leading_with (members.no_scans (Some (known_counter m + 1))) m.member }
+
+abbrev pub raised : Step (Unit {0}) → Sat → ℕ → Sat → Type 0
+raised st me found me' = me' ≡ (Member (counter_raised (member_of me.0)), me.1)
+
+-- it may try to take the lead
+pub record MayLead (m : MemberView) : Type 0 where
+  pub awake : IsTrue (members.is_value m.member.word)
+  pub follows : IsTrue (follows m.member.role)
+
+-- it leads where it found that nobody does
+abbrev pub lead_found : ℕ → MemberView → MemberView
+lead_found found m = record m { member = if found == 0 then members.leading m.member else m.member }
+
+abbrev pub lead_taken : Step (Unit {0}) → Sat → ℕ → Sat → Type 0
+lead_taken st me found me' = me' ≡ (Member (lead_found found (member_of me.0)), me.1)
+
+-- the member leads
+abbrev pub IsLeader : MemberView → Type 0
+IsLeader m = IsLeading m.member.role
+
+-- it no longer leads
+abbrev pub lead_given : MemberView → MemberView
+lead_given m = record m { member = members.following m.member }
+
+abbrev pub lead_dropped : Step (Unit {0}) → Sat → ℕ → Sat → Type 0
+lead_dropped st me stored me' = me' ≡ (Member (lead_given (member_of me.0)), me.1)

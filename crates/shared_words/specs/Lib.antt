@@ -1,0 +1,9 @@
+pub mod Views
+pub mod Shown
+pub mod Rule
+pub mod Opening
+pub mod Seats
+pub mod Kinds
+pub mod Passes
+pub mod Making
+pub mod Laws

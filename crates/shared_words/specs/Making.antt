@@ -1,0 +1,76 @@
+-- How a table is made: its words at first, and the seats that are taken from the writer's.
+use Rattle.std.specs.Prelude.{◌≡◌, ℕ, ◌+◌, ◌<◌, ◌≤◌, List, length, slice_get, slice_index, Some, unwrap_or}
+use Rattle.prgr_core.specs.declared.member.TheConstants.{WAITING, OPENING_COUNTER, OPENING_WORD, MOST_MEMBERS}
+use Rattle.area_core.specs.declared.map.TheConstants.{TABLE_WORDS, SLOTS_START}
+use Rattle.shared_words.specs.declared.table.TheConstants.{ROOT, COUNTER, LEAD, DELAYS, CONFIRMED}
+use Rattle.shared_words.specs.declared.opening.Opening.{Opening}
+use Rattle.shared_words.specs.declared.view.View.{View}
+use Rattle.shared_words.specs.declared.view.View.TheVariants.{Writer, Member}
+use Rattle.atomic_table.specs.Seated.{TableId}
+use Rattle.shared_words.specs.declared.seats.Member as tokens
+use Rattle.shared_words.specs.declared.view.WriterView.{WriterView}
+use Rattle.shared_words.specs.Opening.{member_begun, writer_begun}
+use Rattle.shared_words.specs.Seats.{Place, IsSeatOf}
+
+-- ---- words
+
+-- the words of a table of so many members as they are at first
+pub record AreBegun (members : ℕ) (words : List ℕ) : Type 0 where
+  pub all : length words ≡ TABLE_WORDS
+  pub root : slice_index words ROOT ≡ 0
+  pub counter : slice_index words COUNTER ≡ OPENING_COUNTER
+  pub lead : slice_index words LEAD ≡ 0
+  pub even : slice_index words DELAYS ≡ 0
+  pub odd : slice_index words (DELAYS + 1) ≡ 0
+  pub awake : (k : ℕ) → k < members → slice_index words (CONFIRMED + k) ≡ OPENING_WORD
+  pub waiting : (k : ℕ) → members ≤ k → k < MOST_MEMBERS → slice_index words (CONFIRMED + k) ≡ WAITING
+  pub behind : (place : ℕ) → SLOTS_START ≤ place → slice_index words place ≡ 0
+
+-- the same while the words of the first members alone are stored
+pub record AreBegunTo (members count : ℕ) (words : List ℕ) : Type 0 where
+  pub all : length words ≡ TABLE_WORDS
+  pub root : slice_index words ROOT ≡ 0
+  pub counter : slice_index words COUNTER ≡ OPENING_COUNTER
+  pub lead : slice_index words LEAD ≡ 0
+  pub even : slice_index words DELAYS ≡ 0
+  pub odd : slice_index words (DELAYS + 1) ≡ 0
+  pub awake : (k : ℕ) → k < members → k < count → slice_index words (CONFIRMED + k) ≡ OPENING_WORD
+  pub waiting : (k : ℕ) → members ≤ k → k < count → slice_index words (CONFIRMED + k) ≡ WAITING
+  pub behind : (place : ℕ) → SLOTS_START ≤ place → slice_index words place ≡ 0
+
+-- ---- seats
+
+-- the view is the writer's, and not all seats of members are handed out
+abbrev pub HasSeatsAtHome : Opening → View → Type 0
+HasSeatsAtHome opening (Writer w) = w.handed < opening.members
+HasSeatsAtHome opening v = ⊥
+
+-- the writer has handed out one seat more
+abbrev pub handed_on : View → View
+handed_on (Writer w) = Writer (record w { handed = w.handed + 1 })
+handed_on v = v
+
+-- the member whose seat is the next
+abbrev pub handed_out : View → View
+handed_out (Writer w) = Member (unwrap_or (slice_get w.members w.handed) (member_begun 0))
+handed_out v = v
+
+-- what the writer knows once so many seats of members are handed out
+abbrev pub writer_handing : Opening → ℕ → WriterView
+writer_handing opening handed = record (writer_begun opening.members opening.watchers) { handed = handed }
+
+-- the writer's seat while seats are handed out
+pub record IsHanding (table : TableId) (opening : Opening) (handed : ℕ) (seat : Place) : Type 0 where
+  pub of_table : IsSeatOf table seat
+  pub view : seat.me.0 ≡ Writer (writer_handing opening handed)
+
+-- the token of a member as it begins
+pub record IsMemberBegun (table : TableId) (number : ℕ) (token : tokens.Member) : Type 0 where
+  pub of_table : IsSeatOf table token.seat
+  pub view : token.seat.me.0 ≡ Member (member_begun number)
+  pub number_is : token.number ≡ number
+
+-- the tokens of the first members, in the order of their numbers
+pub record AreMembersBegun (table : TableId) (count : ℕ) (members : List tokens.Member) : Type 0 where
+  pub all : length members ≡ count
+  pub each : (k : ℕ) (token : tokens.Member) → slice_get members k ≡ Some token → IsMemberBegun table k token

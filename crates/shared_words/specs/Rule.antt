@@ -1,0 +1,153 @@
+-- What holds between any two steps of any threads, of the words and of what all seats know.
+-- Source: Erlang/OTP erts internal documentation, ThreadProgress and CodeLoading. The words and the clauses are this
+-- project's own. The clauses are grouped by what they read: the writer's view alone, the words and the writer's view,
+-- the view of each seat, and the state of the progress machine.
+use Rattle.std.specs.Prelude.{◌≡◌, ℕ, ◌+◌, ◌<◌, ◌≤◌, List, ◌∷◌, ◌++◌, length, slice_index, slice_get, Some, false, IsTrue}
+use mathlib.Core.Option.{some}
+use lib.ListN.{get_elem?}
+use Rattle.atomic_table.specs.Table.{State}
+use Rattle.prgr_core.specs.declared.member.TheConstants.{WAITING, MOST_MEMBERS}
+use Rattle.prgr_core.specs.declared.member.Member as machines
+use Rattle.prgr_core.specs.declared.member.Retirement.{Retirement}
+use Rattle.prgr_core.specs.Step.{IsSound}
+use Rattle.term_core.specs.declared.generation.Generation.{Generation}
+use Rattle.area_core.specs.declared.map.TheConstants.{TABLE_WORDS, PROCESSES}
+use Rattle.area_core.specs.declared.table.Published.{Published}
+use Rattle.area_core.specs.Generations.{is_current, is_used, is_retired, has_serial}
+use Rattle.area_core.specs.Map.{word_at}
+use Rattle.area_core.specs.Blocks.{Blocks, BlockInvariant, Among}
+use Rattle.shared_words.specs.declared.table.TheConstants.{ROOT, COUNTER, CONFIRMED}
+use Rattle.shared_words.specs.declared.opening.Opening.{Opening}
+use Rattle.shared_words.specs.declared.view.NoteNumber.{NoteNumber}
+use Rattle.shared_words.specs.declared.view.NoteView.{NoteView}
+use Rattle.shared_words.specs.declared.view.MemberView.{MemberView}
+use Rattle.shared_words.specs.declared.view.WatcherView.{WatcherView}
+use Rattle.shared_words.specs.declared.view.WriterView.{WriterView}
+use Rattle.shared_words.specs.declared.view.View.{View}
+use Rattle.shared_words.specs.declared.view.View.TheVariants.{Writer, Member, Watcher, Note, Spent}
+use Rattle.shared_words.specs.Views.{newest_root}
+use Rattle.shared_words.specs.Shown.{members_shown, progress_of, block_words}
+
+-- ---- the writer's view alone
+
+-- the first generations of those that were published
+abbrev pub IsBeginning : List Published → List Published → Type 0
+IsBeginning seen published = (rest : List Published) × (published ≡ seen ++ rest)
+
+-- an instance that is old in a generation is current in no later one, nor in that one
+abbrev pub OldStays : List Published → Type 0
+OldStays published =
+    (g later : ℕ) (p q : Published) (serial : ℕ) → g ≤ later → slice_get published g ≡ Some p → slice_get published later ≡ Some q → IsTrue (has_serial p.state.old serial) → is_current q serial ≡ false
+
+-- an area that is retired in a generation is neither current nor old nor a key's in that one or a later one
+abbrev pub RetiredStays : List Published → Type 0
+RetiredStays published =
+    (g later : ℕ) (p q : Published) (serial : ℕ) → g ≤ later → slice_get published g ≡ Some p → slice_get published later ≡ Some q → IsTrue (is_retired p serial) → is_used q serial ≡ false
+
+-- a note tells of a process that has a slot, and of no more generations than were published
+pub record NoteFits (published : List Published) (note : NoteNumber) : Type 0 where
+  pub process : note.process < PROCESSES
+  pub counted : note.published < length published
+
+-- what was published, and what the writer keeps beside it
+pub record PublishedKept (Served : Generation → Type 0) (opening : Opening) (w : WriterView) : Type 0 where
+  -- so many members were made
+  pub made : length w.members ≡ opening.members
+  -- so many watchers were made
+  pub watched : length w.watchers ≡ opening.watchers
+  -- generation 0 is there
+  pub some : 0 < length w.published
+  -- each generation is one that the code server has made
+  pub served : (p : Published) → Among w.published p → Served p.state
+  -- old instances do not become current again
+  pub old_stays : OldStays w.published
+  -- retired areas are not used again
+  pub retired_stays : RetiredStays w.published
+  -- notes tell of processes and of published generations
+  pub notes_fit : (note : NoteNumber) → Among w.notes note → NoteFits w.published note
+
+-- ---- the words and the writer's view
+
+-- the writer does not know of this generation that no thread reads it any more: the need of no later one is reached by
+-- the counter that it has loaded
+abbrev pub MayBeRead : WriterView → ℕ → Type 0
+MayBeRead w g = (pair : Retirement) → Among w.pairs pair → pair.need ≤ w.counter → pair.generation ≤ g
+
+-- the blocks as the words stand
+abbrev pub blocks_shown : List ℕ → WriterView → Blocks
+blocks_shown words w = record { word = word_at (block_words words); published = w.published; kept = w.kept }
+
+-- what the words are, by what the writer knows
+pub record WordsAgree (words : List ℕ) (w : WriterView) : Type 0 where
+  -- all words are there
+  pub all : length words ≡ TABLE_WORDS
+  -- the root is that of the newest generation
+  pub root : slice_index words ROOT ≡ newest_root w.published
+  -- the counter has reached what the writer loaded
+  pub reached : w.counter ≤ slice_index words COUNTER
+  -- blocks, areas and entry words are those of the generations that may be read
+  pub blocks : BlockInvariant (blocks_shown words w) (MayBeRead w)
+
+-- ---- each view
+
+-- what a member in the seat at this place, counted behind the writer's, knows
+pub record MemberKnows (w : WriterView) (place : ℕ) (m : MemberView) : Type 0 where
+  -- it has the number of its place
+  pub numbered : m.member.number ≡ place
+  pub made : place < length w.members
+  -- what it has learnt of are the first generations
+  pub seen : IsBeginning m.seen w.published
+  -- it has learnt of the generation that its record tells
+  pub holds : m.member.generation < length m.seen
+  -- the notes that it joined are those that the writer made
+  pub noted : (note : NoteNumber) → Among m.notes note → Among w.notes note
+
+-- what a watcher knows
+pub record WatcherKnows (w : WriterView) (place : ℕ) (v : WatcherView) : Type 0 where
+  pub numbered : length w.members + v.watcher.number ≡ place
+  pub made : v.watcher.number < length w.watchers
+  pub seen : IsBeginning v.seen w.published
+
+-- what a note knows
+pub record NoteKnows (w : WriterView) (place : ℕ) (n : NoteView) : Type 0 where
+  -- its seat stands behind those of members and watchers
+  pub behind : length w.members + length w.watchers ≤ place
+  pub seen : IsBeginning n.seen w.published
+  -- the writer made it, and it has learnt of the generations that were published then
+  pub noted : Among w.notes n.note
+  pub learnt : n.note.published < length n.seen
+
+-- what the seat at this place knows
+abbrev pub Knows : WriterView → ℕ → View → Type 0
+Knows w place (Writer other) = ⊥
+Knows w place (Member m) = MemberKnows w place m
+Knows w place (Watcher v) = WatcherKnows w place v
+Knows w place (Note n) = NoteKnows w place n
+Knows w place Spent = Unit {0}
+
+-- ---- the machine
+
+-- the state of the progress machine, and the words of its members
+pub record MachineHolds (words : List ℕ) (w : WriterView) (seats : List View) : Type 0 where
+  -- it meets the progress invariant
+  pub progress : IsSound (progress_of words w seats)
+  -- the word of each member is the one in its record
+  pub own_words : (k : ℕ) (a : machines.Member) → slice_get (members_shown w.members seats) k ≡ Some a → slice_index words (CONFIRMED + k) ≡ a.word
+  -- the words of members that were not made are as if they waited
+  pub others_wait : (k : ℕ) → length w.members ≤ k → k < MOST_MEMBERS → slice_index words (CONFIRMED + k) ≡ WAITING
+
+-- ---- the whole
+
+-- the rule of a table that was made for so many members and watchers; seat 0 is the writer's
+pub record RunningRule (Served : Generation → Type 0) (opening : Opening) (s : State (Unit {0}) View) : Type 0 where
+  pub writer : WriterView
+  pub seats : List View
+  pub views : s.views ≡ Writer writer ∷ seats
+  pub published : PublishedKept Served opening writer
+  pub words : WordsAgree s.words writer
+  pub each_seat : (place : ℕ) (v : View) → get_elem? seats place ≡ some v → Knows writer place v
+  pub machine : MachineHolds s.words writer seats
+  -- while seats of members are at home, there are just those that were handed out
+  pub handed : writer.handed < length writer.members → length seats ≡ writer.handed
+  -- a member knows what it must also while its seat is at home
+  pub at_home : (k : ℕ) (m : MemberView) → slice_get writer.members k ≡ Some m → MemberKnows writer k m

@@ -1,0 +1,35 @@
+-- What is true of the seat in each token: it is of one table, has no slot, and its view is of the token's sort.
+use Rattle.std.specs.Prelude.{◌≡◌, ℕ, ◌<◌, []}
+use Rattle.atomic_table.specs.Seated.{TableId}
+use Rattle.atomic_table.specs.declared.shared.Seat.{Seat}
+use Rattle.prgr_core.specs.declared.member.TheConstants.{MOST_MEMBERS}
+use Rattle.shared_words.specs.declared.view.MemberView.{MemberView}
+use Rattle.shared_words.specs.declared.view.View.{View}
+use Rattle.shared_words.specs.declared.view.View.TheVariants.{Member}
+use Rattle.shared_words.specs.Opening.{member_begun}
+
+abbrev pub Place : Type 0
+Place = Seat (Unit {0}) View
+
+-- what the member of a view knows; that of another view is of no account
+abbrev pub member_of : View → MemberView
+member_of (Member m) = m
+member_of _ = member_begun 0
+
+-- the seat is one of this table, and has no slot
+pub record IsSeatOf (table : TableId) (seat : Place) : Type 0 where
+  pub same_table : seat.table_id ≡ table
+  pub no_slots : seat.me.1 ≡ []
+
+-- the same seat of the same table, with or without a new view
+pub record IsSameSeat (old new : Place) : Type 0 where
+  pub same_table : new.table_id ≡ old.table_id
+  pub same_number : new.id ≡ old.id
+  pub same_slots : new.me.1 ≡ old.me.1
+
+-- the seat is that of the member of this number
+pub record IsMemberSeat (table : TableId) (number : ℕ) (seat : Place) : Type 0 where
+  pub few : number < MOST_MEMBERS
+  pub of_table : IsSeatOf table seat
+  pub view : seat.me.0 ≡ Member (member_of seat.me.0)
+  pub numbered : (member_of seat.me.0).member.number ≡ number

@@ -1,0 +1,46 @@
+-- What the seats know, read from their views: the generations that each has learnt of, and the one that it holds.
+-- Source: Erlang/OTP erts internal documentation, ThreadProgress and CodeLoading. Lists and numbers; no value of a
+-- view is made.
+use Rattle.std.specs.Prelude.{ℕ, ◌+◌, ◌-◌, ◌*◌, List, [], length, Option, Some, None, slice_get, unwrap_or}
+use Rattle.area_core.specs.declared.table.Root.{Root}
+use Rattle.area_core.specs.declared.table.Published.{Published}
+use Rattle.area_core.specs.Readers.{held_by_member, held_by_watcher}
+use Rattle.area_core.specs.Step.{opening_published}
+use Rattle.shared_words.specs.declared.view.View.{View}
+use Rattle.shared_words.specs.declared.view.View.TheVariants.{Writer, Member, Watcher, Note, Spent}
+
+-- ---- generations
+
+-- the number of the newest generation
+abbrev pub newest : List Published → ℕ
+newest published = length published - 1
+
+-- what was published under this number; generation 0 where there is none
+abbrev pub published_at : List Published → ℕ → Published
+published_at published g = unwrap_or (slice_get published g) opening_published
+
+-- the root word of a generation
+abbrev pub root_word : Root → ℕ → ℕ
+root_word root g = root.code + 4 * root.bp + 8 * root.term + 32 * g
+
+-- the root word of the newest generation
+abbrev pub newest_root : List Published → ℕ
+newest_root published = root_word (published_at published (newest published)).root (newest published)
+
+-- ---- a pass
+
+-- the generations that a seat has learnt of, from 0 on
+abbrev pub seen : View → List Published
+seen (Writer w) = w.published
+seen (Member m) = m.seen
+seen (Watcher w) = w.seen
+seen (Note n) = n.seen
+seen Spent = []
+
+-- the number of the generation that a seat holds, if it holds one; the writer always holds the newest
+abbrev pub held : View → Option ℕ
+held (Writer w) = Some (newest w.published)
+held (Member m) = held_by_member m.member
+held (Watcher w) = held_by_watcher w.watcher
+held (Note n) = None
+held Spent = None

@@ -1,0 +1,24 @@
+//! The steps on the progress counter.
+
+ghost use Rattle.std.specs.Prelude.{◌≡◌};
+ghost use Rattle.shared_words.specs.Seats.{IsSeatOf, IsSameSeat};
+ghost use Rattle.shared_words.specs.Kinds.{MayLoadCounter, counter_found};
+
+use crate::law::Served;
+use crate::pass::Pass;
+use crate::plays::LoadCounter;
+use crate::table::{COUNTER, Shared};
+
+impl<N: Served> Shared<N> {
+    /// Loads the counter. A member has then loaded it and confirmed nothing since; the writer keeps
+    /// that its newest generation needs two more values.
+    pub fn load_counter<P: Pass>(&self, pass: &mut P) -> u64
+        requires token { IsSeatOf self.now.table.shared.table_id (P.seat pass.old) }
+        requires may { MayLoadCounter (P.seat pass.old).me.0 }
+        ensures token { IsSameSeat (P.seat pass.old) (P.seat pass.new) }
+        ensures number { P.number pass.new ≡ P.number pass.old }
+        ensures view { (P.seat pass.new).me.0 ≡ counter_found result (P.seat pass.old).me.0 }
+    {
+        pass.load::<LoadCounter, N>(&self.table.shared, COUNTER as usize)
+    }
+}

@@ -1,0 +1,11 @@
+//! What holds of every state that meets the rule, not only of those that a run reaches.
+
+ghost use Rattle.shared_words.specs.Laws.{ShowsSound};
+
+use crate::law::Served;
+
+/// Words and views show a state that meets the progress invariant, and the block invariant for the
+/// generations that some thread may read.
+pub fn rule_shows_a_sound_state<N: Served>()
+    ensures { ShowsSound N.served }
+{}

@@ -1,0 +1,105 @@
+//! How a table is made.
+
+ghost use Rattle.std.specs.Prelude.{◌≡◌, ◌≤◌, ◌<◌, IfOk, OnOk};
+ghost use Rattle.prgr_core.specs.declared.member.TheConstants.{MOST_MEMBERS, OPENING_WORD, WAITING};
+ghost use Rattle.area_core.specs.declared.map.TheConstants.{TABLE_WORDS};
+ghost use Rattle.area_core.specs.Step.{empty_generation};
+ghost use Rattle.shared_words.specs.Making.{AreBegun, HasSeatsAtHome, IsHanding, AreMembersBegun, handed_on, handed_out};
+ghost use Rattle.shared_words.specs.Seats.{IsSeatOf, IsSameSeat};
+
+use crate::law::Served;
+use crate::opening::Opening;
+use crate::pass::Words;
+use crate::plays::HandOut;
+use crate::seats::{Member, Parts, Writer};
+use crate::table::{CONFIRMED, COUNTER, Shared};
+use area_core::TABLE_WORDS;
+use atomic_table::Table;
+use prgr_core::{MOST_MEMBERS, OPENING_COUNTER, OPENING_WORD, WAITING};
+use std::alloc::{AllocError, Global};
+use term_core::NoMemory;
+
+/// The word of a member at first; one that is not made is as if it waited.
+fn opening_word(number: usize, members: u32) -> u64
+    ensures made { number < members → result ≡ OPENING_WORD }
+    ensures other { members ≤ number → result ≡ WAITING }
+{
+    if number < members as usize {
+        OPENING_WORD
+    } else {
+        WAITING
+    }
+}
+
+/// The words of a table of so many members as they are at first.
+fn opening_words(alloc: Global, members: u32, count: usize) -> Result<Vec<u64>, AllocError>
+    requires members { members ≤ MOST_MEMBERS }
+    requires count { count ≡ TABLE_WORDS }
+    ensures { IfOk result (λ words. AreBegun members words.items) }
+{
+    let mut words = Vec::from_elem(alloc, 0u64, count)?;
+    words[COUNTER as usize] = OPENING_COUNTER;
+    for number in 0..MOST_MEMBERS {
+        words[CONFIRMED as usize + number] = opening_word(number, members);
+    }
+    Ok(words)
+}
+
+/// The token of the member of this number, whose seat is the next that the writer hands out.
+fn hand_out<N: Served>(table: &Words<N>, writer: &mut Writer, number: u32) -> Member
+    requires token { IsSeatOf table.now.table_id writer.old.seat }
+    requires home { HasSeatsAtHome table.now.key writer.old.seat.me.0 }
+    requires words { 0 < table.now.table_id.words }
+    ensures token { IsSameSeat writer.old.seat writer.new.seat }
+    ensures view { writer.new.seat.me.0 ≡ handed_on writer.old.seat.me.0 }
+    ensures seat { IsSeatOf table.now.table_id result.seat }
+    ensures member { result.seat.me.0 ≡ handed_out writer.old.seat.me.0 }
+    ensures number { result.number ≡ number }
+{
+    let seat = table.split_seat::<HandOut>(&mut writer.seat);
+    Member { seat, number }
+}
+
+/// The tokens of all members.
+fn hand_out_all<N: Served>(
+    alloc: Global,
+    table: &Words<N>,
+    writer: &mut Writer,
+    members: u32,
+) -> Result<Vec<Member>, AllocError>
+    requires token { IsHanding table.now.table_id table.now.key 0 writer.old.seat }
+    requires members { members ≡ table.now.key.members }
+    requires words { 0 < table.now.table_id.words }
+    ensures writer { OnOk result (IsHanding table.now.table_id table.now.key members writer.new.seat) }
+    ensures tokens { IfOk result (λ tokens. AreMembersBegun table.now.table_id members tokens.items) }
+{
+    let mut tokens = Vec::with_capacity(alloc, members as usize)?;
+    for number in 0..members {
+        tokens.push_reserved(hand_out(table, writer, number));
+    }
+    Ok(tokens)
+}
+
+impl<N: Served> Shared<N> {
+    /// A table for 1 to 16 members, all awake and holding generation 0, which is empty. There are no
+    /// watchers yet.
+    pub fn new(alloc: Global, members: u32, watchers: u32) -> Result<(Shared<N>, Parts), NoMemory>
+        requires members { (1 ≤ members) × (members ≤ MOST_MEMBERS) }
+        requires watchers { watchers ≡ 0 }
+        requires served { N.served empty_generation }
+        ensures opening { IfOk result (λ made. (made.0.table.shared.key.members ≡ members) × (made.0.table.shared.key.watchers ≡ watchers)) }
+        ensures writer { IfOk result (λ made. IsHanding made.0.table.shared.table_id made.0.table.shared.key members made.1.writer.seat) }
+        ensures members { IfOk result (λ made. AreMembersBegun made.0.table.shared.table_id members made.1.members.items) }
+    {
+        let words = opening_words(alloc, members, TABLE_WORDS as usize)?;
+        let opening = Opening { members, watchers };
+        let (table, seat) = Table::of_words(alloc, words.as_slice(), &opening)?;
+        let mut writer = Writer { seat };
+        let tokens = hand_out_all(alloc, &table.shared, &mut writer, members)?;
+        let parts = Parts {
+            writer,
+            members: tokens,
+        };
+        Ok((Shared { table }, parts))
+    }
+}

@@ -1,0 +1,28 @@
+//! The steps of a member on its own word.
+
+ghost use Rattle.std.specs.Prelude.{◌≡◌};
+ghost use Rattle.shared_words.specs.declared.view.View.TheVariants as views;
+ghost use Rattle.shared_words.specs.Seats.{IsMemberSeat, IsSameSeat, member_of};
+ghost use Rattle.shared_words.specs.Kinds.{MayConfirm, value_confirmed};
+
+use crate::law::Served;
+use crate::plays::Confirm;
+use crate::seats::Member;
+use crate::table::{CONFIRMED, Shared};
+
+impl<N: Served> Shared<N> {
+    /// Stores the value after the counter that the member has loaded into its word. It has loaded the
+    /// root after the counter.
+    pub fn confirm(&self, member: &mut Member, value: u64)
+        requires token { IsMemberSeat self.now.table.shared.table_id member.old.number member.old.seat }
+        requires may { MayConfirm value (member_of member.old.seat.me.0) }
+        ensures token { IsSameSeat member.old.seat member.new.seat }
+        ensures number { member.new.number ≡ member.old.number }
+        ensures view { member.new.seat.me.0 ≡ views.Member (value_confirmed value (member_of member.old.seat.me.0)) }
+    {
+        let word = CONFIRMED as usize + member.number as usize;
+        self.table
+            .shared
+            .store::<Confirm>(&mut member.seat, word, value);
+    }
+}

@@ -1,0 +1,69 @@
+//! What each kind of step tells. These types are for the proofs alone.
+
+ghost use Rattle.shared_words.specs.Kinds.{counter_loaded, root_loaded, confirmed, scanned, raised, lead_taken, lead_dropped};
+ghost use Rattle.shared_words.specs.Making.{handed_on, handed_out};
+
+use crate::law::Served;
+use crate::view::View;
+use atomic_table::{Play, Split};
+use std::marker::PhantomData;
+
+/// A load of the counter.
+pub struct LoadCounter;
+
+impl Play<(), View> for LoadCounter {
+    ghost then = { counter_loaded };
+}
+
+/// A load of the root.
+pub struct LoadRoot<N> {
+    marker: PhantomData<N>,
+}
+
+impl<N: Served> Play<(), View> for LoadRoot<N> {
+    ghost then = { root_loaded N.served };
+}
+
+/// The store of a member's word after a report.
+pub struct Confirm;
+
+impl Play<(), View> for Confirm {
+    ghost then = { confirmed };
+}
+
+/// A leader's load of the word of a member.
+pub struct LoadConfirmed;
+
+impl Play<(), View> for LoadConfirmed {
+    ghost then = { scanned };
+}
+
+/// The raise of the counter by its leader.
+pub struct StoreCounter;
+
+impl Play<(), View> for StoreCounter {
+    ghost then = { raised };
+}
+
+/// An exchange of the leader's word where nobody leads.
+pub struct TakeLead;
+
+impl Play<(), View> for TakeLead {
+    ghost then = { lead_taken };
+}
+
+/// The store of the leader's word by which nobody leads.
+pub struct DropLead;
+
+impl Play<(), View> for DropLead {
+    ghost then = { lead_dropped };
+}
+
+/// The seat of the next member is taken from that of the writer.
+pub struct HandOut;
+
+impl Split<View> for HandOut {
+    ghost left = { handed_on };
+
+    ghost right = { handed_out };
+}

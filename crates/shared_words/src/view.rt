@@ -1,0 +1,76 @@
+//! What each seat at the table knows. No value of these types is made: they are for clauses alone.
+
+use area_core::{KeptList, PublishedList};
+use prgr_core::{Member, RetirementList, Watcher};
+use term_core::{Items, WordList};
+
+/// A process for which a note was split, and how many generations were published then.
+pub struct NoteNumber {
+    pub process: u32,
+    pub published: u64,
+}
+
+/// The notes of processes in a row.
+pub type NoteNumberList = Items<NoteNumber>;
+
+/// What a member knows.
+pub struct MemberView {
+    /// Its record in the progress machine, with its own word.
+    pub member: Member,
+    /// The generations that it has learnt of, from 0 on.
+    pub seen: PublishedList,
+    /// The notes that it has joined.
+    pub notes: NoteNumberList,
+    /// The words of the slots of its processes. There are none yet.
+    pub slots: WordList,
+}
+
+/// What a watcher knows.
+pub struct WatcherView {
+    pub watcher: Watcher,
+    pub seen: PublishedList,
+}
+
+/// What a note knows.
+pub struct NoteView {
+    pub note: NoteNumber,
+    pub seen: PublishedList,
+}
+
+/// Members in the order of their numbers.
+pub type MemberViewList = Items<MemberView>;
+
+/// Watchers in the order of their numbers.
+pub type WatcherViewList = Items<WatcherView>;
+
+/// What the writer knows.
+pub struct WriterView {
+    /// What was published, from generation 0 on.
+    pub published: PublishedList,
+    /// At each load of the counter, the newest generation with the counter plus 2.
+    pub pairs: RetirementList,
+    /// The counter as the writer last loaded it, or 0.
+    pub counter: u64,
+    /// The areas that were published and not released.
+    pub kept: KeptList,
+    /// Each member, as it is while its seat is not handed out.
+    pub members: MemberViewList,
+    /// How many seats of members were handed out.
+    pub handed: u32,
+    /// Each watcher, as it is while its seat is not handed out. There are none yet.
+    pub watchers: WatcherViewList,
+    /// For each process that a note was split for, how many generations were published then.
+    pub notes: NoteNumberList,
+    /// The entry words that a patch has stored. There are none yet.
+    pub patched: WordList,
+}
+
+/// What a seat knows, whatever seat it is.
+pub enum View {
+    Writer(WriterView),
+    Member(MemberView),
+    Watcher(WatcherView),
+    Note(NoteView),
+    /// The seat was joined to another, which knows what it knew.
+    Spent,
+}
