@@ -1,3 +1,4 @@
 pub mod BriefTexts
 pub mod MadeLines
+pub mod MadeNames
 pub mod MadeTexts
