@@ -9,3 +9,4 @@ pub mod OpeningRule
 pub mod WordsBegun
 pub mod Handing
 pub mod SoundState
+pub mod Waits

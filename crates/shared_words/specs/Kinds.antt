@@ -106,6 +106,31 @@ value_confirmed value m = record m { member = record m.member { word = value; lo
 abbrev pub confirmed : Step (Unit {0}) → Sat → ℕ → Sat → Type 0
 confirmed st me value me' = me' ≡ (Member (value_confirmed value (member_of me.0)), me.1)
 
+-- ---- the stores by which a member begins and ends to wait
+
+-- it may begin to wait: it is awake, and does not lead
+pub record MayWait (m : MemberView) : Type 0 where
+  pub awake : IsTrue (members.is_value m.member.word)
+  pub follows : IsTrue (follows m.member.role)
+
+-- it waits
+abbrev pub now_waiting : MemberView → MemberView
+now_waiting m = record m { member = members.waiting m.member }
+
+abbrev pub waiting_stored : Step (Unit {0}) → Sat → ℕ → Sat → Type 0
+waiting_stored st me stored me' = me' ≡ (Member (now_waiting (member_of me.0)), me.1)
+
+-- it may end its wait
+abbrev pub MayEnter : MemberView → Type 0
+MayEnter m = IsTrue (members.is_waiting m.member.word)
+
+-- it enters
+abbrev pub now_entering : MemberView → MemberView
+now_entering m = record m { member = members.entering m.member }
+
+abbrev pub entering_stored : Step (Unit {0}) → Sat → ℕ → Sat → Type 0
+entering_stored st me stored me' = me' ≡ (Member (now_entering (member_of me.0)), me.1)
+
 -- ---- the steps of a leader
 
 -- what a leader has scanned; a member that follows has scanned nothing

@@ -1,6 +1,6 @@
 //! What each kind of step tells. These types are for the proofs alone.
 
-ghost use Rattle.shared_words.specs.Kinds.{counter_loaded, root_loaded, confirmed, scanned, raised, lead_taken, lead_dropped};
+ghost use Rattle.shared_words.specs.Kinds.{counter_loaded, root_loaded, confirmed, scanned, raised, lead_taken, lead_dropped, waiting_stored, entering_stored};
 ghost use Rattle.shared_words.specs.Making.{handed_on, handed_out};
 
 use crate::law::Served;
@@ -66,4 +66,18 @@ impl Split<View> for HandOut {
     ghost left = { handed_on };
 
     ghost right = { handed_out };
+}
+
+/// The store by which a member begins to wait.
+pub struct StoreWaiting;
+
+impl Play<(), View> for StoreWaiting {
+    ghost then = { waiting_stored };
+}
+
+/// The store by which a member ends its wait.
+pub struct StoreEntering;
+
+impl Play<(), View> for StoreEntering {
+    ghost then = { entering_stored };
 }
