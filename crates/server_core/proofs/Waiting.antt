@@ -1,5 +1,5 @@
 -- What may come between the decision of a change and its making: an area that is released leaves every other change fit.
-use Rattle.std.proofs.Common.{◌≡◌, ℕ, ◌+◌, ◌≤◌, Bool, true, false, nat_eq, not, List, length, Vec, refl, arith}
+use Rattle.std.proofs.Common.{◌≡◌, ℕ, ◌≤◌, Bool, true, false, nat_eq, not, List, length, Vec, refl, arith}
 use Rattle.std.proofs.lemmas.List.Filters.{length-filter_both}
 use Rattle.term_core.specs.PlainTerm.{PlainTerm}
 use Rattle.mod_core.specs.declared.code.Module.{Module}
@@ -7,12 +7,7 @@ use Rattle.server_core.specs.declared.change.Change.{Change}
 use Rattle.server_core.specs.declared.change.Change.TheVariants.{Nothing, BringIn, MakeOld, DropOld, Condemn, HoldWord, HoldArea, Forget, SetTrace, ClearTrace, GiveBack}
 use Rattle.server_core.specs.ServerState.{ServerState}
 use Rattle.server_core.specs.CommandTable.{with_released, without_number}
-use Rattle.server_core.specs.Decided.{CanBeDoomed, CanBeOld, CanGo, CanHold, Fits, FitsIn, RetiredFits}
-
--- a change that does not release an area itself
-abbrev pub IsNoRelease : Change → Type 0
-IsNoRelease (GiveBack serial released) = ⊥
-IsNoRelease change = Unit {0}
+use Rattle.server_core.specs.Decided.{CanBeDoomed, CanBeOld, CanGo, CanHold, Fits, FitsIn, IsNoRelease, RetiredFits}
 
 twice : (b : Bool) → b ≡ not (not b)
 twice true = refl

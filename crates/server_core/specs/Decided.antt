@@ -86,3 +86,12 @@ Fits s (Forget generation key retired) = IsNext s generation × RetiredFits s re
 Fits s (SetTrace generation at traced) = IsNext s generation × IsBlock (length s.traced + 1) traced
 Fits s (ClearTrace generation at) = IsNext s generation
 Fits s (GiveBack serial released) = IsTrue (is_retired s serial) × HasRoom (length s.released) 1 released
+
+-- a change that does not release an area itself
+abbrev pub IsNoRelease : Change → Type 0
+IsNoRelease (GiveBack serial released) = ⊥
+IsNoRelease change = Unit {0}
+
+-- every other change that waits still fits once an area was released
+abbrev pub StayFit : Type 0
+StayFit = (s : ServerState) (serial : ℕ) (change : Change) → IsNoRelease change → Fits s change → Fits (with_released s serial) change
