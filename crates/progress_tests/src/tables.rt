@@ -1,485 +1,243 @@
 //! Events on a state of blocks and slots, one after another: which are enabled and which are not.
 
+mod steps;
+
 use area_core::*;
-use prgr_core::StepFault;
-use std::alloc::Global;
 use std::test::Fail;
-use term_core::{
-    AreaRef, AreaRefList, AreaWords, AreaWordsList, CodeRef, CountList, ExportList, FunctionRef,
-    FunctionRefList, Generation, KeyTermList, NoMemory, WordList,
-};
-
-/// The image of an instance with one function that prints 3.
-const IMAGE: [u64; 16] = [1, 3, 1, 1, 4, 1, 0, 8, 2, 17, 33, 6, 13, 6, 9, 34];
-
-/// The first word of block 9.
-const INSTANCE: u32 = 1493 + 9 * 1024;
-
-/// The function of the instance.
-const MAIN: FunctionRef = FunctionRef {
-    serial: 1,
-    function: 0,
-};
-
-/// The instance.
-const AREA: AreaRef = AreaRef {
-    serial: 1,
-    block: 9,
-};
-
-/// A generation with the instance as current code, whose function is traced or not.
-fn loaded(alloc: Global, traced: bool) -> Result<Generation, NoMemory> {
-    let mut traces = FunctionRefList::new(alloc);
-    if traced {
-        traces.push(MAIN)?;
-    }
-    let mut areas = AreaWordsList::new(alloc);
-    let words = WordList::from_slice(alloc, &IMAGE)?;
-    areas.push(AreaWords { serial: 1, words })?;
-    Ok(Generation {
-        exports: ExportList::from_slice(alloc, &[Some(MAIN)])?,
-        traced: traces,
-        keys: KeyTermList::new(alloc),
-        current: CountList::from_slice(alloc, &[1])?,
-        old: CountList::new(alloc),
-        doomed: CountList::new(alloc),
-        retired: CountList::new(alloc),
-        areas,
-    })
-}
-
-/// The store of the root that publishes this, over code index 1.
-fn root(alloc: Global, bp: u32, traced: bool) -> Result<AreaEvent, NoMemory> {
-    Ok(AreaEvent::StoreRoot {
-        code: 1,
-        bp,
-        term: 0,
-        next: loaded(alloc, traced)?,
-        areas: AreaRefList::from_slice(alloc, &[AREA])?,
-    })
-}
-
-/// A state of two members and a watcher in which generation 1 has the instance as current code.
-fn with_code(alloc: Global) -> Result<AreaState, StepFault> {
-    let mut state = match AreaState::new(alloc, 2, 1) {
-        Ok(state) => state,
-        Err(_) => return Err(StepFault::NoMemory),
-    };
-    for at in 0..16 {
-        let word = INSTANCE + at;
-        let value = IMAGE[at as usize];
-        area_step(&mut state, &AreaEvent::StoreWord { word, value })?;
-    }
-    // Code index 1 leads function name 0 to function 0 of block 9.
-    let event = AreaEvent::StoreWord {
-        word: 1493 + 1024,
-        value: 1 + 9 * 16,
-    };
-    area_step(&mut state, &event)?;
-    make(&mut state, root(alloc, 0, false))?;
-    Ok(state)
-}
-
-/// Makes an event that took memory.
-fn make(state: &mut AreaState, event: Result<AreaEvent, NoMemory>) -> Result<(), StepFault> {
-    match event {
-        Err(_) => Err(StepFault::NoMemory),
-        Ok(event) => area_step(state, &event),
-    }
-}
-
-/// The entry word of the function.
-fn entry(on: bool) -> AreaEvent {
-    let at = CodeRef {
-        area: AREA,
-        function: 0,
-    };
-    AreaEvent::StoreEntry { at, on }
-}
-
-/// Makes the events in turn, each of which is enabled or is not, as is said.
-fn goes_as_told(state: &mut AreaState, events: &[(AreaEvent, bool)]) -> bool {
-    let mut told = true;
-    for (event, enabled) in events {
-        told = told && area_step(state, event).is_ok() == *enabled;
-    }
-    told
-}
+use steps::*;
 
 #[test]
-fn a_function_is_patched_by_phases(rt: HostRuntime) {
+fn members_load_the_counter_and_the_root_and_confirm(rt: HostRuntime) {
     let mut state = with_code(rt.alloc()).expect(&rt, "a state");
-    // The word of the function in breakpoint index 1, which is staged, and in the active one.
-    let staged = 1493 + 4 * 1024;
-    let active = 1493 + 3 * 1024;
-    let on = [
-        (
-            AreaEvent::StoreWord {
-                word: active,
-                value: 1,
-            },
-            false,
-        ),
-        (
-            AreaEvent::StoreWord {
-                word: staged,
-                value: 1,
-            },
-            true,
-        ),
-        (entry(true), true),
-    ];
-    assert!(rt; goes_as_told(&mut state, &on));
-    let switch = root(rt.alloc(), 1, true).expect(&rt, "an event");
-    // The member that reads the new generation calls the function by its entry word.
-    let bad = [
-        (switch, true),
-        (
-            AreaEvent::LoadCounter {
-                seat: SeatName::Member(0),
-            },
-            true,
-        ),
-        (
-            AreaEvent::LoadRoot {
-                seat: SeatName::Member(0),
-            },
-            true,
-        ),
-        (entry(false), false),
-    ];
-    assert!(rt; goes_as_told(&mut state, &bad));
-    let back = root(rt.alloc(), 0, false).expect(&rt, "an event");
-    let off = [
-        (back, true),
-        // Member 0 still reads the generation before.
-        (entry(false), false),
-        (
-            AreaEvent::LoadCounter {
-                seat: SeatName::Member(0),
-            },
-            true,
-        ),
-        (
-            AreaEvent::LoadRoot {
-                seat: SeatName::Member(0),
-            },
-            true,
-        ),
-        (entry(false), true),
-        (
-            AreaEvent::StoreWord {
-                word: staged,
-                value: 0,
-            },
-            true,
-        ),
-    ];
-    assert!(rt; goes_as_told(&mut state, &off));
-}
-
-#[test]
-fn events_are_enabled_and_are_not(rt: HostRuntime) {
-    let mut state = with_code(rt.alloc()).expect(&rt, "a state");
-    let reader = SeatName::Member(0);
     let events = [
+        (counter(SeatName::Writer), true),
+        (counter(SeatName::Member(2)), false),
+        (newest(SeatName::Writer), true),
+        (newest(SeatName::Member(2)), false),
+        (confirm(0, 2), false),
+        (counter(READER), true),
+        (confirm(0, 2), false),
+        (newest(READER), true),
+        (confirm(0, 3), false),
+        (confirm(2, 2), false),
+        (confirm(0, 2), true),
+    ];
+    assert!(rt; first_untold(&mut state, &events) == None);
+}
+
+#[test]
+fn a_leader_raises_the_counter(rt: HostRuntime) {
+    let mut state = with_code(rt.alloc()).expect(&rt, "a state");
+    let events = [
+        (AreaEvent::DropLead { member: 1 }, false),
+        (AreaEvent::TakeLead { member: 2 }, false),
         (AreaEvent::TakeLead { member: 1 }, true),
         (AreaEvent::TakeLead { member: 0 }, false),
-        (AreaEvent::DropLead { member: 0 }, false),
+        (confirmed(0, 1), false),
+        (confirmed(1, 2), false),
+        (confirmed(1, 0), true),
+        (confirmed(1, 1), true),
         (AreaEvent::StoreCounter { member: 1 }, false),
-        (
-            AreaEvent::LoadConfirmed {
-                member: 1,
-                other: 0,
-            },
-            true,
-        ),
-        (
-            AreaEvent::LoadConfirmed {
-                member: 0,
-                other: 1,
-            },
-            false,
-        ),
-        (
-            AreaEvent::LoadConfirmed {
-                member: 1,
-                other: 1,
-            },
-            true,
-        ),
-        (
-            AreaEvent::LoadDelay {
-                member: 1,
-                which: 1,
-            },
-            false,
-        ),
-        (
-            AreaEvent::LoadDelay {
-                member: 1,
-                which: 0,
-            },
-            true,
-        ),
+        (delay(1, 1), false),
+        (delay(0, 0), false),
+        (delay(1, 0), true),
+        (AreaEvent::StoreCounter { member: 0 }, false),
         (AreaEvent::StoreCounter { member: 1 }, true),
         (AreaEvent::DropLead { member: 1 }, true),
-        (
-            AreaEvent::LoadCounter {
-                seat: SeatName::Writer,
-            },
-            true,
-        ),
-        (
-            AreaEvent::LoadCounter {
-                seat: SeatName::Member(2),
-            },
-            false,
-        ),
-        (
-            AreaEvent::LoadRoot {
-                seat: SeatName::Watcher(1),
-            },
-            false,
-        ),
-        (
-            AreaEvent::LoadRoot {
-                seat: SeatName::Watcher(0),
-            },
-            true,
-        ),
-        (
-            AreaEvent::LoadWord {
-                seat: reader,
-                word: INSTANCE,
-            },
-            false,
-        ),
-        (AreaEvent::LoadCounter { seat: reader }, true),
-        (
-            AreaEvent::Confirm {
-                member: 0,
-                value: 3,
-            },
-            false,
-        ),
-        (AreaEvent::LoadRoot { seat: reader }, true),
-        (
-            AreaEvent::Confirm {
-                member: 0,
-                value: 4,
-            },
-            false,
-        ),
-        (
-            AreaEvent::Confirm {
-                member: 0,
-                value: 3,
-            },
-            true,
-        ),
-        (
-            AreaEvent::LoadWord {
-                seat: reader,
-                word: INSTANCE,
-            },
-            true,
-        ),
-        (
-            AreaEvent::LoadWord {
-                seat: reader,
-                word: 83413,
-            },
-            false,
-        ),
-        (
-            AreaEvent::StoreWord {
-                word: INSTANCE,
-                value: 1,
-            },
-            false,
-        ),
-        (
-            AreaEvent::StoreWord {
-                word: 83413,
-                value: 0,
-            },
-            false,
-        ),
-        (
-            AreaEvent::StoreWord {
-                word: 1493 + 2048,
-                value: 7,
-            },
-            true,
-        ),
-        (
-            AreaEvent::StoreWord {
-                word: 1109 + 9,
-                value: 1,
-            },
-            false,
-        ),
-        (
-            AreaEvent::StoreWord {
-                word: 1109 + 9,
-                value: 2,
-            },
-            true,
-        ),
-        (
-            AreaEvent::StoreWord {
-                word: 1429 + 9,
-                value: 1,
-            },
-            false,
-        ),
-        (
-            AreaEvent::StoreSlot {
-                member: 0,
-                process: 2,
-                place: 1,
-                value: 5,
-            },
-            true,
-        ),
-        (
-            AreaEvent::StoreSlot {
-                member: 0,
-                process: 2,
-                place: 2,
-                value: 6,
-            },
-            false,
-        ),
-        (
-            AreaEvent::StoreSlot {
-                member: 0,
-                process: 2,
-                place: 1,
-                value: 7,
-            },
-            true,
-        ),
-        (
-            AreaEvent::StoreSlot {
-                member: 0,
-                process: 2,
-                place: 2,
-                value: 9,
-            },
-            false,
-        ),
-        (
-            AreaEvent::StoreSlot {
-                member: 0,
-                process: 1,
-                place: 1,
-                value: 0,
-            },
-            false,
-        ),
-        (
-            AreaEvent::StoreSlot {
-                member: 0,
-                process: 2,
-                place: 17,
-                value: 0,
-            },
-            false,
-        ),
-        (
-            AreaEvent::StoreSlot {
-                member: 0,
-                process: 2,
-                place: 0,
-                value: 1,
-            },
-            true,
-        ),
-        (
-            AreaEvent::LoadSlot {
-                process: 2,
-                place: 16,
-            },
-            true,
-        ),
-        (
-            AreaEvent::LoadSlot {
-                process: 64,
-                place: 0,
-            },
-            false,
-        ),
+    ];
+    assert!(rt; first_untold(&mut state, &events) == None);
+}
+
+#[test]
+fn a_seat_loads_what_its_generation_reads(rt: HostRuntime) {
+    let mut state = with_code(rt.alloc()).expect(&rt, "a state");
+    let events = [
+        (load(SeatName::Writer, INSTANCE), true),
+        (load(READER, INSTANCE), false),
+        (load(SeatName::Member(2), INSTANCE), false),
+        (load(SeatName::Watcher(0), INSTANCE), false),
+        (counter(READER), true),
+        (newest(READER), true),
+        (load(READER, INSTANCE), true),
+        (load(READER, RETIRE), true),
+        (load(READER, EXPORT), true),
+        (load(READER, TERM), false),
+        (load(READER, PAST), false),
+    ];
+    assert!(rt; first_untold(&mut state, &events) == None);
+}
+
+#[test]
+fn words_that_are_read_are_not_stored(rt: HostRuntime) {
+    let mut state = with_code(rt.alloc()).expect(&rt, "a state");
+    let unread = 1493 + 2048;
+    let events = [
+        (store(unread, 7), true),
+        (store(INSTANCE, 1), false),
+        (store(EXPORT, 0), false),
+        (store(TERM, 5), true),
+        // The root, a word of a slot, and a word that there is not.
+        (store(0, 0), false),
+        (store(21, 0), false),
+        (store(PAST, 0), false),
+    ];
+    assert!(rt; first_untold(&mut state, &events) == None);
+}
+
+#[test]
+fn retire_and_doom_words_tell_of_what_is_read(rt: HostRuntime) {
+    let mut state = with_code(rt.alloc()).expect(&rt, "a state");
+    let events = [
+        (store(RETIRE, 1), false),
+        (store(RETIRE, 2), true),
+        (store(DOOM, 1), false),
+        (store(DOOM, 2), true),
+        (store(RETIRE, 0), true),
+    ];
+    assert!(rt; first_untold(&mut state, &events) == None);
+}
+
+#[test]
+fn a_slot_newly_names_what_its_process_reaches(rt: HostRuntime) {
+    let mut state = with_code(rt.alloc()).expect(&rt, "a state");
+    let events = [
+        // Member 0 does not read the instance yet.
+        (slot(2, 1, 5), false),
+        (counter(READER), true),
+        (newest(READER), true),
+        (slot(2, 1, 5), true),
+        // The area stands in one anchor, which may name it for a literal too.
+        (slot(2, 2, 6), false),
+        (slot(2, 1, 7), true),
+        // There is no instance 2.
+        (slot(2, 2, 9), false),
+        // Process 1 is of the other member, and there is no place 17.
+        (slot(1, 1, 0), false),
+        (slot(2, 17, 0), false),
+        (slot(64, 1, 0), false),
+        (slot(2, 0, 1), true),
+        (look(2, 16), true),
+        (look(2, 17), false),
+        (look(64, 0), false),
+    ];
+    assert!(rt; first_untold(&mut state, &events) == None);
+}
+
+#[test]
+fn notes_go_to_processes_and_members(rt: HostRuntime) {
+    let mut state = with_code(rt.alloc()).expect(&rt, "a state");
+    let events = [
         (AreaEvent::SplitNote { process: 63 }, true),
         (AreaEvent::SplitNote { process: 64 }, false),
         (AreaEvent::JoinNote { member: 1 }, true),
         (AreaEvent::JoinNote { member: 2 }, false),
+    ];
+    assert!(rt; first_untold(&mut state, &events) == None);
+}
+
+#[test]
+fn members_wait_and_enter(rt: HostRuntime) {
+    let mut state = with_code(rt.alloc()).expect(&rt, "a state");
+    let events = [
+        (AreaEvent::StoreEntering { member: 1 }, false),
         (AreaEvent::StoreWaiting { member: 1 }, true),
         (AreaEvent::StoreWaiting { member: 1 }, false),
-        (AreaEvent::StoreEntering { member: 0 }, false),
         (AreaEvent::StoreEntering { member: 1 }, true),
-        (
-            AreaEvent::AddDelay {
-                watcher: 0,
-                which: 0,
-            },
-            false,
-        ),
-        (
-            AreaEvent::LoadCounter {
-                seat: SeatName::Watcher(0),
-            },
-            true,
-        ),
-        (
-            AreaEvent::AddDelay {
-                watcher: 0,
-                which: 0,
-            },
-            true,
-        ),
-        (
-            AreaEvent::SubDelay {
-                watcher: 0,
-                which: 0,
-            },
-            false,
-        ),
-        (
-            AreaEvent::LoadCounter {
-                seat: SeatName::Watcher(0),
-            },
-            true,
-        ),
-        (
-            AreaEvent::SubDelay {
-                watcher: 0,
-                which: 0,
-            },
-            true,
-        ),
+        (AreaEvent::StoreWaiting { member: 2 }, false),
     ];
-    for (place, (event, enabled)) in events.iter().enumerate() {
-        let made = area_step(&mut state, event);
-        assert!(rt; made.is_ok() == *enabled, "event {place}");
-    }
-    // A code index that does not lead to the instance.
-    let wrong = match root(rt.alloc(), 0, false).expect(&rt, "an event") {
-        AreaEvent::StoreRoot {
-            bp,
-            term,
-            next,
-            areas,
-            ..
-        } => AreaEvent::StoreRoot {
-            code: 0,
-            bp,
-            term,
-            next,
-            areas,
-        },
-        other => other,
-    };
-    assert!(rt; area_step(&mut state, &wrong) == Err(StepFault::NotEnabled));
+    assert!(rt; first_untold(&mut state, &events) == None);
+}
+
+#[test]
+fn a_watcher_delays_the_counter(rt: HostRuntime) {
+    let mut state = with_code(rt.alloc()).expect(&rt, "a state");
+    let watcher = SeatName::Watcher(0);
+    let events = [
+        (newest(SeatName::Watcher(1)), false),
+        (newest(watcher), true),
+        (add(0, 1), false),
+        (counter(watcher), true),
+        (add(1, 1), false),
+        (add(0, 1), true),
+        (subtract(0, 1), false),
+        (counter(watcher), true),
+        (subtract(0, 1), true),
+    ];
+    assert!(rt; first_untold(&mut state, &events) == None);
+}
+
+#[test]
+fn a_root_stands_for_its_generation(rt: HostRuntime) {
+    let alloc = rt.alloc();
+    let mut state = with_code(alloc).expect(&rt, "a state");
+    let events = [
+        // Code index 0 does not lead to the instance.
+        (
+            root_in(alloc, 9, 0, 0, false).expect(&rt, "an event"),
+            false,
+        ),
+        // No word tells that the function is traced.
+        (root(alloc, 0, true).expect(&rt, "an event"), false),
+        // There is no third breakpoint index.
+        (root(alloc, 2, false).expect(&rt, "an event"), false),
+        (root(alloc, 1, false).expect(&rt, "an event"), true),
+    ];
+    assert!(rt; first_untold(&mut state, &events) == None);
+}
+
+#[test]
+fn an_instance_stands_in_a_block_for_instances(rt: HostRuntime) {
+    let alloc = rt.alloc();
+    // Its image stands in block 64, to which the code index leads.
+    let mut state = staged(alloc, TERM, 1 + 64 * 16).expect(&rt, "a state");
+    let events = [(
+        root_in(alloc, 64, 1, 0, false).expect(&rt, "an event"),
+        false,
+    )];
+    assert!(rt; first_untold(&mut state, &events) == None);
+}
+
+#[test]
+fn a_function_is_patched_by_phases(rt: HostRuntime) {
+    let alloc = rt.alloc();
+    let mut state = with_code(alloc).expect(&rt, "a state");
+    // The word of the function in breakpoint index 1, which is staged, and in the active one.
+    let decision = 1493 + 4 * 1024;
+    let active = 1493 + 3 * 1024;
+    let events = [
+        (store(active, 1), false),
+        (store(decision, 1), true),
+        // Too early: a member that reads the new generation would not ask for the decision.
+        (root(alloc, 1, true).expect(&rt, "an event"), false),
+        // There is no function 1.
+        (entry(1, true), false),
+        (entry(0, true), true),
+        (root(alloc, 1, true).expect(&rt, "an event"), true),
+    ];
+    assert!(rt; first_untold(&mut state, &events) == None);
+}
+
+#[test]
+fn bad_patch(rt: HostRuntime) {
+    let alloc = rt.alloc();
+    let mut state = with_code(alloc).expect(&rt, "a state");
+    let decision = 1493 + 4 * 1024;
+    let events = [
+        (store(decision, 1), true),
+        (entry(0, true), true),
+        (root(alloc, 1, true).expect(&rt, "an event"), true),
+        (counter(READER), true),
+        (newest(READER), true),
+        // The newest generation traces the function.
+        (entry(0, false), false),
+        (root(alloc, 0, false).expect(&rt, "an event"), true),
+        // Too early: member 0 still reads the generation before.
+        (entry(0, false), false),
+        (store(decision, 0), false),
+        (counter(READER), true),
+        (newest(READER), true),
+        (entry(0, false), true),
+        (store(decision, 0), true),
+    ];
+    assert!(rt; first_untold(&mut state, &events) == None);
 }
