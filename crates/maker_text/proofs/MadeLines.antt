@@ -8,13 +8,13 @@ use Rattle.mod_text.specs.Canonical.{canonical as module_lines}
 use Rattle.mod_text.specs.ModuleLine.{LineForm, line_written}
 use Rattle.script_core.specs.declared.script.ScriptCmd.{ScriptCmd}
 use Rattle.script_core.specs.declared.script.ScriptCmd.TheVariants.{Spawn, Trace}
+use Rattle.term_core.proofs.Lists.{each_append}
 use Rattle.script_maker.proofs.MadeCommands.{either}
 use Rattle.script_maker.specs.declared.subject.Subject.{Subject}
 use Rattle.script_maker.specs.Generator.{number_after, picked}
 use Rattle.script_maker.specs.MadeScript.{command_at, command_of, command_of_kind, load_of, made_commands, made_module, made_names, main_of, put_of, spawns_at, subject_of, version_at, version_of}
 use Rattle.script_text.specs.Canonical.{block_form, code_form, command_line}
 use Rattle.script_text.specs.ScriptLine.{ScriptLine, code, script_line_written}
-use Rattle.script_text.proofs.SoundnessGroups.{each_append}
 use Rattle.maker_text.proofs.BriefTexts.{IsBrief, brief_behind, brief_both, brief_line, brief_number, brief_parted, brief_word}
 
 -- a line of at most a hundred bytes

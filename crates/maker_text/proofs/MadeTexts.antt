@@ -3,12 +3,11 @@ use Rattle.std.proofs.Common.{◌≡◌, ℕ, ◌+◌, ◌*◌, ◌/◌, ◌<◌
 use Rattle.std.proofs.lemmas.Bool.{le-ltb}
 use Rattle.std.specs.List.{AllByRecursion, flat_map, list_any}
 use Rattle.mod_text.specs.Canonical.{canonical as module_lines}
-use Rattle.term_core.specs.Text.Cuts.{Lines}
+use Rattle.term_core.specs.Text.Cuts.{Lines, lines_of}
 use Rattle.term_core.proofs.Text.Cuts.{lacks}
 use Rattle.script_maker.specs.MadeScript.{made_commands, made_names, made_script, made_versions, subject_of}
 use Rattle.script_text.specs.Canonical.{IsTooLongToPrint, block_form, canonical, canonical_text, code_form, is_long_line, script_line_bytes}
 use Rattle.script_text.specs.ScriptLine.{ScriptLine, go, script_line_written}
-use Rattle.script_text.specs.TextLines.{lines_of}
 use Rattle.script_text.proofs.LinesJoined.{lines_of_bytes}
 use Rattle.std.proofs.lemmas.Grind.{flat_map-append}
 use Rattle.mod_text.specs.ModuleLine.{line_written}
