@@ -16,8 +16,9 @@ use Rattle.mod_text.specs.LineFaults.{is_open, is_in_function, may_follow, last_
 use Rattle.mod_text.specs.ModuleLine.{InstrForm, LineForm, title, header, label, instr, end, is_version_text, is_line_form, line_written}
 use Rattle.mod_text.specs.ModuleText.{FollowOn, names_behind}
 use Rattle.mod_text.specs.ModuleValue.{HeaderForm, headers_in, is_header}
-use Rattle.mod_text.proofs.Keepings.{list_any-map, headers_in-append, labels_on-append, last_line-push}
+use Rattle.mod_text.proofs.Keepings.{headers_in-append, labels_on-append, last_line-push}
 use Rattle.term_core.proofs.Text.Options.{failed}
+use Rattle.term_core.proofs.Lists.{any_map}
 use Rattle.mod_text.proofs.CanonicalParts.{list_any-none, held_atom, no_new_name, version_writes, label_form}
 use Rattle.mod_text.proofs.CanonicalInstrs.{IsInstrBack, name_form}
 use Rattle.mod_text.proofs.CanonicalBodies.{lines_are_body, headers_in-body, in_function-body, NewFrom, new_label}
@@ -164,7 +165,7 @@ functions_rows names fs done (g ∷ gs) before sound apart named few whole plain
     let room : length (headers_in before) < 16 = omega (arith, few, ap length are, length-map done (header_form names), ap length whole, length-append done (g ∷ gs)) in
     let here : slice_get fs (length done) ≡ Some g = ap (λ l. slice_get l (length done)) whole ∙ slice_get-behind done g gs in
     let new : list_any test (headers_in before) ≡ false =
-    ap (list_any test) are ∙ list_any-map test (header_form names) done
+    ap (list_any test) are ∙ any_map test (header_form names) done
     ∙ list_any-none (λ f. test (header_form names f)) done (λ j f there.
     let less = slice_get_within done j f there in
     other_header names fs j (length done) f g sound apart named less (ap (λ l. slice_get l j) whole ∙ slice_get-append done (g ∷ gs) j less ∙ there) here) in

@@ -1,10 +1,11 @@
 -- What a reader keeps after one line more.
-use Rattle.std.proofs.Common.{◌≡◌, ℕ, ◌<◌, ◌≤◌, length-append, Bool, true, false, cond, ◌||◌, List, [], ◌∷◌, ◌++◌, length, map, Option, Some, None, Result, Ok, Err, bytes_eq, refl, sym, ap, ◌∙◌, subst, arith}
+use Rattle.std.proofs.Common.{◌≡◌, ℕ, ◌<◌, ◌≤◌, length-append, Bool, true, false, cond, List, [], ◌∷◌, ◌++◌, length, Option, Some, None, Result, Ok, Err, bytes_eq, refl, sym, ap, ◌∙◌, subst, arith}
 use Rattle.std.specs.Prelude.{All, OnOk, IfErr, is_err, not, nat_le, unwrap_or}
 use Rattle.std.specs.Borrow.{Bor}
 use Rattle.std.specs.List.{list_any}
 use Rattle.std.proofs.lemmas.List.{append-nil, length-map, map-append}
 use Rattle.std.proofs.lemmas.List.Elements.{All-push}
+use Rattle.term_core.proofs.Lists.{any_map}
 use Rattle.mod_text.specs.declared.fault.LineFault.{LineFault}
 use Rattle.mod_text.specs.declared.fault.LineFault.TheVariants as faults
 use Rattle.mod_text.specs.declared.written.WrittenLine.{WrittenLine}
@@ -20,10 +21,6 @@ use Rattle.mod_text.proofs.LineWords.{too_long_is, kept_sound}
 use Rattle.mod_text.proofs.LineNames.{ok_fails}
 
 -- ---- lists
-
-pub list_any-map : {X Y : Type 0} (p : Y → Bool) (f : X → Y) (xs : List X) → list_any p (map f xs) ≡ list_any (λ x. p (f x)) xs
-list_any-map p f [] = refl
-list_any-map p f (x ∷ xs) = ap (λ t. p (f x) || t) (list_any-map p f xs)
 
 pub headers_in-append : (xs ys : List LineForm) → headers_in (xs ++ ys) ≡ headers_in xs ++ headers_in ys
 headers_in-append [] ys = refl
@@ -105,7 +102,7 @@ kept_other lines after text last line functions labels kept is place form said p
 -- a text that is new goes last
 pub added_last : (keys new_keys : List (Bor (List ℕ))) (name : Bor (List ℕ)) → new_keys ≡ cond (list_any (λ k. bytes_eq name.now k.now) keys) keys (keys ++ name ∷ []) → list_any (bytes_eq name.now) (words_of keys) ≡ false → words_of new_keys ≡ words_of keys ++ name.now ∷ []
 added_last keys new_keys name added new =
-    let none : list_any (λ k. bytes_eq name.now k.now) keys ≡ false = sym (list_any-map (bytes_eq name.now) (λ k. k.now) keys) ∙ new in
+    let none : list_any (λ k. bytes_eq name.now k.now) keys ≡ false = sym (any_map (bytes_eq name.now) (λ k. k.now) keys) ∙ new in
     ap words_of (added ∙ ap (λ t. cond t keys (keys ++ name ∷ [])) none) ∙ map-append (λ k. k.now) keys (name ∷ [])
 
 -- ---- answers

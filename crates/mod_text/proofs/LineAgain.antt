@@ -65,7 +65,7 @@ operand_lacks byte (complex text) out h = complex_lacks byte text out.term h
 arity_number : (text : List ℕ) → is_arity_text text ≡ true → is_number_text text ≡ true
 arity_number text h = (and_parts (is_number_text text) _ h).0
 
-version_number : (text : List ℕ) → is_version_text text ≡ true → is_number_text text ≡ true
+pub version_number : (text : List ℕ) → is_version_text text ≡ true → is_number_text text ≡ true
 version_number text h = (and_parts (is_number_text text) _ h).0
 
 -- ---- words

@@ -144,7 +144,7 @@ target_within wanted body = target_by wanted body (label_number wanted body) ref
 -- ---- functions
 
 -- the header of a function's form
-abbrev head_of : FunctionForm → HeaderForm
+abbrev pub head_of : FunctionForm → HeaderForm
 head_of f = (f.name, f.arity)
 
 pub heads_are : (lines : List LineForm) → headers_in lines ≡ map head_of (functions_in lines)

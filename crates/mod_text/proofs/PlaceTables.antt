@@ -5,14 +5,11 @@ use Rattle.std.specs.HashMap.{UpdatesBy}
 use Rattle.std.proofs.lemmas.Map.Text.{hash_map_updates_str}
 use Rattle.std.proofs.lemmas.List.{take_more, map-append}
 use Rattle.std.proofs.lemmas.Slice.Eq.{bytes_eq-Decides}
+use Rattle.term_core.proofs.Truths.{none_by}
 use Rattle.mod_text.specs.LineViews.{form_of, forms_of}
 use Rattle.mod_text.specs.ModuleLine.{LineForm, title, label, instr}
 use Rattle.mod_text.specs.ModuleValue.{instrs_in, label_number, earlier}
 use Rattle.mod_text.specs.Settling.{Places, place_in, ArePlaces, HasPlace, label_at, TakesLine, number_after}
-
-no_place : (o : Option ℕ) → is_some o ≡ false → o ≡ None
-no_place None h = refl
-no_place (Some n) h = absurd cc
 
 earlier-none : (o : Option ℕ) → earlier o None ≡ o
 earlier-none None = refl
@@ -21,7 +18,7 @@ earlier-none (Some n) = refl
 -- a label that was added has its number, and each other one what it had
 pub place_added : (old new : Places) (name : Bor (List ℕ)) (number : ℕ) (o : Option ℕ) → o ≡ place_in old name.now → is_some o ≡ false → UpdatesBy (λ x y. bytes_eq x.now y.now) (λ k. bytes_eq name.now k.now) old new (Some number) → HasPlace old new name.now number
 place_added old new name number o is none updates = λ wanted.
-    hash_map_updates_str name.now old new (Some number) updates wanted ∙ by_test wanted (bytes_eq name.now wanted) refl (sym is ∙ no_place o none)
+    hash_map_updates_str name.now old new (Some number) updates wanted ∙ by_test wanted (bytes_eq name.now wanted) refl (sym is ∙ none_by o none)
   where
     by_test : (wanted : List ℕ) (t : Bool) → bytes_eq name.now wanted ≡ t → place_in old name.now ≡ None → cond t (Some number) (place_in old wanted) ≡ earlier (place_in old wanted) (cond t (Some number) None)
     by_test wanted true e before = ap (λ p. earlier p (Some number)) (sym (ap (place_in old) (sym ((bytes_eq-Decides name.now wanted).0 e)) ∙ before))

@@ -95,7 +95,7 @@ added_holds phase d even odd may held = absurd (cc)
 
 -- ---- the root, and a count lowered
 
-is_claimed_true : (phase : Phase) → is_claimed phase ≡ true → IsClaimed phase
+pub is_claimed_true : (phase : Phase) → is_claimed phase ≡ true → IsClaimed phase
 is_claimed_true (Claimed x) e = (x, refl)
 is_claimed_true phase e = absurd (cc)
 

@@ -11,10 +11,10 @@ mod reading;
 mod state;
 mod watcher;
 
-pub use event::{EventList, Events, PrgrEvent};
+pub use event::{Events, PrgrEvent};
 pub use fault::{EventFault, NoMemory, ReplayFault, StepFault};
 pub use laws::{breaking_runs_stop, events_keep_the_invariant, grace_follows};
-pub use lists::{MemberList, NeedMap, RetirementList, WatcherList};
+pub use lists::{EventList, Items, MemberList, NeedMap, RetirementList, WatcherList};
 pub use member::{
     ENTERING, LAST_VALUE, Loaded, MOST_MEMBERS, Member, OPENING_COUNTER, OPENING_WORD, Retirement,
     Role, Scans, WAITING,

@@ -2,177 +2,97 @@
 
 ghost use Rattle.std.specs.Prelude.{◌≡◌, ◌++◌, ◌∷◌, [], ◌<◌, length, slice_get, slice_set, take, OnOk, OnErr, ◌-◌};
 ghost use Rattle.prgr_core.specs.Needs.{need_of, with_need, without_need};
-ghost use Rattle.prgr_core.specs.Members.{have_scanned_all};
 
+use crate::event::PrgrEvent;
 use crate::fault::NoMemory;
-use crate::member::{Member, Retirement, Scans};
+use crate::member::{Member, Retirement};
 use crate::watcher::Watcher;
 use std::alloc::Global;
 use std::collections::BTreeMap;
 use std::marker::Model;
 
-/// The members, in the order of their numbers.
+/// A `Vec` that contracts see as the list of its elements, so that records that hold it can be compared.
 #[derive(Debug, Drop)]
-pub struct MemberList {
-    members: Vec<Member>,
+pub struct Items<T> {
+    items: Vec<T>,
 }
 
-impl Model for MemberList {
-    ghost use Rattle.std.specs.Prelude.{List};
-    ghost use Rattle.prgr_core.specs.declared.member.Member.{Member};
-
-    ghost Value = { List Member };
-
-    ghost view = { λ l. l.members.items };
-}
-
-impl MemberList {
-    pub fn new(alloc: Global) -> MemberList
-        ensures { result ≡ [] }
-    {
-        MemberList {
-            members: Vec::new(alloc),
-        }
-    }
-
-    pub fn len(&self) -> usize
-        ensures { result ≡ length self.now }
-    {
-        self.members.len()
-    }
-
-    pub fn push(&mut self, member: Member) -> Result<(), NoMemory>
-        ensures ok { OnOk result (self.new ≡ self.old ++ member ∷ []) }
-        ensures err { OnErr result (self.new ≡ self.old) }
-    {
-        self.members.push(member)?;
-        Ok(())
-    }
-
-    /// The member at a place, if there is one.
-    pub fn get(&self, place: u32) -> Option<Member>
-        ensures { result ≡ slice_get self.now place }
-    {
-        self.members.get(place as usize).copied()
-    }
-
-    pub fn set(&mut self, place: u32, member: Member)
-        requires { place < length self.old }
-        ensures { self.new ≡ slice_set self.old place member }
-    {
-        self.members[place as usize] = member;
-    }
-
-    pub fn as_slice(&self) -> &[Member]
-        ensures { result.now ≡ self.now }
-    {
-        self.members.as_slice()
-    }
-
-    /// Whether each of the members is scanned.
-    pub fn are_all_scanned(&self, scans: &Scans) -> bool
-        ensures { result ≡ have_scanned_all scans.now self.now }
-    {
-        self.members.iter().all(|member| scans.has(member.number))
-    }
-}
+/// The members, in the order of their numbers.
+pub type MemberList = Items<Member>;
 
 /// The watchers, in the order of their numbers.
-#[derive(Debug, Drop)]
-pub struct WatcherList {
-    watchers: Vec<Watcher>,
-}
+pub type WatcherList = Items<Watcher>;
 
-impl Model for WatcherList {
+/// The retirements that were ever made, oldest first.
+pub type RetirementList = Items<Retirement>;
+
+/// Events, first to last.
+pub type EventList = Items<PrgrEvent>;
+
+impl<T> Model for Items<T> {
     ghost use Rattle.std.specs.Prelude.{List};
-    ghost use Rattle.prgr_core.specs.declared.watcher.Watcher.{Watcher};
+    ghost use Rattle.std.specs.Coded.{coded_list};
 
-    ghost Value = { List Watcher };
+    ghost Value = { List T };
 
-    ghost view = { λ l. l.watchers.items };
+    ghost coded = { coded_list T.code };
+
+    ghost view = { λ l. l.items.items };
 }
 
-impl WatcherList {
-    pub fn new(alloc: Global) -> WatcherList
+impl<T> Items<T> {
+    pub fn new(alloc: Global) -> Items<T>
         ensures { result ≡ [] }
     {
-        WatcherList {
-            watchers: Vec::new(alloc),
+        Items {
+            items: Vec::new(alloc),
         }
     }
 
     pub fn len(&self) -> usize
         ensures { result ≡ length self.now }
     {
-        self.watchers.len()
+        self.items.len()
     }
 
-    pub fn push(&mut self, watcher: Watcher) -> Result<(), NoMemory>
-        ensures ok { OnOk result (self.new ≡ self.old ++ watcher ∷ []) }
-        ensures err { OnErr result (self.new ≡ self.old) }
-    {
-        self.watchers.push(watcher)?;
-        Ok(())
-    }
-
-    pub fn as_slice(&self) -> &[Watcher]
+    pub fn as_slice(&self) -> &[T]
         ensures { result.now ≡ self.now }
     {
-        self.watchers.as_slice()
-    }
-
-    /// The watcher at a place, if there is one.
-    pub fn get(&self, place: u32) -> Option<Watcher>
-        ensures { result ≡ slice_get self.now place }
-    {
-        self.watchers.get(place as usize).copied()
-    }
-
-    pub fn set(&mut self, place: u32, watcher: Watcher)
-        requires { place < length self.old }
-        ensures { self.new ≡ slice_set self.old place watcher }
-    {
-        self.watchers[place as usize] = watcher;
+        self.items.as_slice()
     }
 }
 
-/// The retirements that were ever made, oldest first.
-#[derive(Debug, Drop)]
-pub struct RetirementList {
-    retirements: Vec<Retirement>,
-}
-
-impl Model for RetirementList {
-    ghost use Rattle.std.specs.Prelude.{List};
-    ghost use Rattle.prgr_core.specs.declared.member.Retirement.{Retirement};
-
-    ghost Value = { List Retirement };
-
-    ghost view = { λ l. l.retirements.items };
-}
-
-impl RetirementList {
-    pub fn new(alloc: Global) -> RetirementList
-        ensures { result ≡ [] }
-    {
-        RetirementList {
-            retirements: Vec::new(alloc),
-        }
-    }
-
-    pub fn push(&mut self, retirement: Retirement) -> Result<(), NoMemory>
-        ensures ok { OnOk result (self.new ≡ self.old ++ retirement ∷ []) }
+impl<T: Drop> Items<T> {
+    /// Appends an element.
+    pub fn push(&mut self, item: T) -> Result<(), NoMemory>
+        ensures ok { OnOk result (self.new ≡ self.old ++ item ∷ []) }
         ensures err { OnErr result (self.new ≡ self.old) }
     {
-        self.retirements.push(retirement)?;
+        self.items.push(item)?;
         Ok(())
     }
 
-    /// Takes the newest retirement away.
+    /// Takes the last element away.
     pub fn remove_last(&mut self)
         ensures { self.new ≡ take (length self.old - 1) self.old }
     {
-        let _ = self.retirements.pop();
+        let _ = self.items.pop();
+    }
+}
+
+impl<T: Copy> Items<T> {
+    /// The element at a place, if there is one.
+    pub fn get(&self, place: u32) -> Option<T>
+        ensures { result ≡ slice_get self.now place }
+    {
+        self.items.get(place as usize).copied()
+    }
+
+    pub fn set(&mut self, place: u32, item: T)
+        requires { place < length self.old }
+        ensures { self.new ≡ slice_set self.old place item }
+    {
+        self.items[place as usize] = item;
     }
 }
 

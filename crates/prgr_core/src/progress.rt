@@ -66,7 +66,7 @@ impl Progress {
     pub fn may_advance(&self, scans: &Scans) -> bool
         ensures { result ≡ may_advance self.now scans.now }
     {
-        self.members.are_all_scanned(scans)
+        scans.has_all(self.members.as_slice())
             && (scans.delay || self.watchers.len() == 0)
             && self.counter < LAST_VALUE
     }

@@ -6,8 +6,9 @@ ghost use Rattle.prgr_core.specs.EventText.{EventText};
 ghost use Rattle.prgr_core.specs.Faults.{IsFaultOf};
 ghost use Rattle.prgr_core.specs.Reading.{Gives, Fails, cut_at, with_digit, number_of, number_below, numbers_below, member_words, by_word, worded_event, event_of, count_by, line_at, expected, count_at, event_at, list_at, reading};
 
-use crate::event::{EventList, Events, PrgrEvent};
+use crate::event::{Events, PrgrEvent};
 use crate::fault::EventFault;
+use crate::lists::EventList;
 use crate::member::MOST_MEMBERS;
 use crate::watcher::{DELAY_COUNTS, MOST_WATCHERS};
 use std::alloc::Global;

@@ -5,9 +5,9 @@ ghost use Rattle.prgr_core.specs.declared.fault.StepFault.TheVariants.{NotEnable
 ghost use Rattle.prgr_core.specs.declared.fault.StepFault.TheVariants as steps;
 ghost use Rattle.prgr_core.specs.Step.{LacksMemory, after, after_all, opening, opening_members, opening_watchers, StopsBy, IsSound, with_pair};
 
-use crate::event::{EventList, PrgrEvent};
+use crate::event::PrgrEvent;
 use crate::fault::{NoMemory, ReplayFault, StepFault};
-use crate::lists::{MemberList, NeedMap, RetirementList, WatcherList};
+use crate::lists::{EventList, MemberList, NeedMap, RetirementList, WatcherList};
 use crate::member::{Member, OPENING_COUNTER};
 use crate::progress::{Progress, apply, keep_need};
 use crate::watcher::Watcher;

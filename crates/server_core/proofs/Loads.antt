@@ -1,5 +1,5 @@
 -- What a load of modules leaves: their instances behind those before, their versions, and a sound state.
-use Rattle.std.proofs.Common.{◌≡◌, ℕ, suc, map, ◌+◌, ◌<◌, ◌≤◌, Bool, true, false, cond, nat_eq, List, [], ◌∷◌, ◌++◌, length, Option, Some, None, IfSome, IsSomeAnd, All, refl, sym, ap, ◌∙◌, inl, inr, arith, append-nil, append_assoc, length-append}
+use Rattle.std.proofs.Common.{◌≡◌, ℕ, suc, map, ◌+◌, ◌<◌, ◌≤◌, Bool, true, false, cond, nat_eq, List, [], ◌∷◌, ◌++◌, length, Option, Some, None, IfSome, IsSomeAnd, All, refl, sym, ap, ◌∙◌, arith, append-nil, append_assoc, length-append}
 use Rattle.std.proofs.lemmas.List.{length-map}
 use Rattle.std.proofs.lemmas.Bool.Decides.{nat_tests}
 use Rattle.std.proofs.lemmas.Option.{IfSome_then}
@@ -14,7 +14,7 @@ use Rattle.server_core.specs.declared.areas.Area.TheVariants.{Loaded, Stored}
 use Rattle.server_core.specs.Areas.{instances_in, numbered, terms_in}
 use Rattle.server_core.proofs.CurrentCode.{live_after, names_of_modules}
 use Rattle.server_core.proofs.SoundParts.{sound_terms, sound_whole, terms_kept}
-use Rattle.server_core.proofs.Soundness.{IsFit, IsGone, at_some, instance_known, some_same, sound_versions, with_instance}
+use Rattle.server_core.proofs.Soundness.{IsFit, at_some, instance_known, some_same, sound_versions, with_instance, gone_dropped}
 
 -- instances that were loaded, behind those before
 pub instances_loaded : (n : ℕ) (areas : List Area) (ms : List Module) → instances_in n (areas ++ map Loaded ms) ≡ instances_in n areas ++ numbered (n + length areas) ms
@@ -119,18 +119,14 @@ sound_instance s m sound module_sound = sound_whole (with_instance s m) (record 
 some_known : (s : ServerState) (name serial : ℕ) → IsSound s → current_of s name ≡ Some serial → serial < s.next_serial
 some_known s name serial sound e = instance_known s sound name serial (at_some (IsInstanceOf s name) (current_of s name) serial e (sound.current name))
 
-gone_known : (s : ServerState) (serial : ℕ) → IsSound s → IsGone s serial → IsDropped s serial
-gone_known s serial sound (inl h) = sound.retired serial h
-gone_known s serial sound (inr h) = sound.released serial h
-
 -- the new instance as current code, and what was current as old
 loaded_fits : (s : ServerState) (m : Module) → IsSound s → IsFit (with_instance s m) (record { name = m.name.0; current = Some s.next_serial; old = current_of s m.name.0 })
 loaded_fits s m sound = record {
   current = instance_new s.instances s.next_serial m (λ x. x.name.0 ≡ m.name.0) (sound.modules s.next_serial) refl;
   old = stays s m m.name.0 (current_of s m.name.0) (sound.current m.name.0);
   apart = λ serial c o. let known = some_known s m.name.0 serial sound o in absurd (omega (arith, known, some_same s.next_serial serial c));
-  current_stands = λ serial gone c. let d = gone_known s serial sound gone in absurd (omega (arith, d.known, some_same s.next_serial serial c));
-  old_stands = λ serial gone. (gone_known s serial sound gone).not_current m.name.0;
+  current_stands = λ serial gone c. let d = gone_dropped s serial sound gone in absurd (omega (arith, d.known, some_same s.next_serial serial c));
+  old_stands = λ serial gone. (gone_dropped s serial sound gone).not_current m.name.0;
 }
 
 -- one load keeps a state sound

@@ -208,7 +208,7 @@ sound_published s generation sound = sound_whole (record s { generation = genera
     dropped_as : {k : ℕ} → IsDropped s k → IsDropped (record s { generation = generation }) k
     dropped_as d = record { known = d.known; not_current = d.not_current; not_old = d.not_old; not_held = d.not_held }
 
-gone_dropped : (s : ServerState) (serial : ℕ) → IsSound s → IsGone s serial → IsDropped s serial
+pub gone_dropped : (s : ServerState) (serial : ℕ) → IsSound s → IsGone s serial → IsDropped s serial
 gone_dropped s serial sound (inl h) = sound.retired serial h
 gone_dropped s serial sound (inr h) = sound.released serial h
 

@@ -3,17 +3,9 @@ use Rattle.std.proofs.Common.{◌≡◌, ◌≤◌, ◌<◌, ◌+◌, ◌-◌, �
 use Rattle.std.proofs.lemmas.List.{take_all}
 use Rattle.std.proofs.lemmas.Option.{none-some, same_Some, slice_get_read}
 use Rattle.std.specs.List.{AllByRecursion}
+use Rattle.term_core.proofs.Lists.{none_dropped}
 use Rattle.script_core.proofs.JoinedPlaces.{take_next}
 use Rattle.run_log.proofs.ListPlaces.{get_within}
-
--- what holds of each of a list holds of each of its front, and of what is behind
-pub all_front : {X : Type 0} (P : X → Type 0) (xs ys : List X) → AllByRecursion P (xs ++ ys) → AllByRecursion P xs
-all_front P [] ys h = tt
-all_front P (x ∷ xs) ys h = (h.0, all_front P xs ys h.1)
-
-pub all_behind : {X : Type 0} (P : X → Type 0) (xs ys : List X) → AllByRecursion P (xs ++ ys) → AllByRecursion P ys
-all_behind P [] ys h = h
-all_behind P (x ∷ xs) ys h = all_behind P xs ys h.1
 
 -- what holds of each in two ways holds so together
 pub all_both : {X : Type 0} (P Q R : X → Type 0) (xs : List X) → ((x : X) → P x → Q x → R x) → AllByRecursion P xs → AllByRecursion Q xs → AllByRecursion R xs
@@ -35,10 +27,6 @@ split_here (y ∷ xs) (suc i) x h = rw add-one (ap (λ t. y ∷ t) (rw add-one a
 -- an element that was read at a place below the length stands there
 pub read_at : {X : Type 0} (xs : List X) (i : ℕ) (x : X) → i < length xs → x ≡ get_or xs i x → slice_get xs i ≡ Some x
 read_at xs i x within is = slice_get_read xs (length xs) i x refl within is
-
-none_dropped : {X : Type 0} (n : ℕ) → drop {A = X} n [] ≡ []
-none_dropped zero = refl
-none_dropped (suc n) = refl
 
 -- what is left of a list when more of it is dropped
 pub drop_more : {X : Type 0} (a b : ℕ) (xs : List X) → drop (a + b) xs ≡ drop b (drop a xs)

@@ -1,5 +1,5 @@
 -- How far a log was judged after its spans of a generation were.
-use Rattle.std.proofs.Common.{◌≡◌, ◌≤◌, ◌+◌, ◌-◌, ◌∙◌, ◌==◌, ℕ, zero, suc, refl, sym, ap, subst, arith, Bool, true, false, cond, List, [], ◌∷◌, length, take, drop, Option, Some, None, is_some, IfSome}
+use Rattle.std.proofs.Common.{◌≡◌, ◌≤◌, ◌+◌, ◌-◌, ◌∙◌, ◌==◌, ℕ, zero, suc, refl, sym, ap, subst, arith, Bool, true, false, cond, List, [], ◌∷◌, length, take, drop, Option, Some, None, IfSome}
 use Rattle.std.proofs.Math.Seq.{drop-length}
 use Rattle.std.proofs.lemmas.Bool.{eqb-true, eqb-false}
 use Rattle.std.proofs.lemmas.List.{length-drop, length-take-le, take_all}
@@ -18,10 +18,6 @@ taken_is log spans gone here e = let n : gone + here - gone ≡ here = omega ari
 -- there are as many
 pub taken_length : (log : ProcessLog) (gone here : ℕ) → gone + here ≤ length log.spans → length (spans_from log gone here) ≡ here
 taken_length log gone here room = length-take-le here (drop gone log.spans) (omega (arith, length-drop gone log.spans, room))
-
-pub none_by : {X : Type 0} (o : Option X) → is_some o ≡ false → o ≡ None
-none_by None h = refl
-none_by (Some x) h = cc
 
 -- spans that never fall are under no earlier generation than the first
 rising_from : (spans : List Span) (k : ℕ) → IfSome (first_generation spans) (λ g. k ≤ g) → NeverFall spans → AllByRecursion (λ x. k ≤ x.generation) spans

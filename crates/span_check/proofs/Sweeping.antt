@@ -6,6 +6,7 @@ use Rattle.std.proofs.lemmas.List.{append-nil, length-drop, length-take-le, take
 use Rattle.std.proofs.lemmas.List.Sums.{prefix_len-le-length}
 use Rattle.std.proofs.lemmas.Option.{none-some, same_Some}
 use Rattle.std.specs.List.{AllByRecursion, list_all}
+use Rattle.term_core.proofs.Lists.{all_behind}
 use Rattle.server_core.specs.ServerState.{ServerState}
 use Rattle.machine_core.specs.declared.process.End.{End}
 use Rattle.machine_core.specs.Process.{PlainProcess, process_of}
@@ -19,7 +20,7 @@ use Rattle.span_check.specs.declared.watch.Watch.{Watch}
 use Rattle.span_check.specs.Standings.{AreTold, HasItsNames, IsOver, IsReached, IsReady, NeverFall, StandsAt, StandsSo, first_of}
 use Rattle.span_check.specs.Sweeps.{AreJudgedSo, AreNotTaken, IsMoved, IsRefused, IsTaken, count_under, end_at, spans_from, turns_in}
 use Rattle.span_check.specs.Watches.{AreFrom, AreInOrder, AreLater, AreSeen, AreSeenToEnd, Sees, due_count, stands_in}
-use Rattle.span_check.proofs.Lists.{all_behind, all_both, all_take, drop_more}
+use Rattle.span_check.proofs.Lists.{all_both, all_take, drop_more}
 use Rattle.span_check.proofs.Lingering.{SeesWithin, lingers_sees, sees_lingers}
 use Rattle.span_check.proofs.MarkPlaces.{process_join, process_under}
 use Rattle.span_check.proofs.Moving.{falls_drop, under_split}

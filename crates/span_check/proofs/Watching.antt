@@ -3,13 +3,14 @@ use Rattle.std.proofs.Common.{◌≡◌, ◌+◌, ◌-◌, ◌≤◌, ◌<◌, �
 use Rattle.std.proofs.lemmas.Bool.{leb-true, leb-false}
 use Rattle.std.proofs.lemmas.List.{take-append-drop}
 use Rattle.std.specs.List.{AllByRecursion, list_all}
+use Rattle.term_core.proofs.Lists.{all_front, all_behind}
 use Rattle.server_core.specs.ServerState.{ServerState}
 use Rattle.machine_core.specs.Process.{PlainFrame, PlainProcess, frame_names}
 use Rattle.machine_core.specs.Holds.{is_among}
 use Rattle.run_log.specs.Legal.{after_turns}
 use Rattle.span_check.specs.declared.watch.Watch.{Watch}
 use Rattle.span_check.specs.Watches.{AreFrom, AreInOrder, AreLater, AreSeen, AreSeenToEnd, Sees, due_count, first_turn, stands_in}
-use Rattle.span_check.proofs.Lists.{all_front, all_behind, all_both}
+use Rattle.span_check.proofs.Lists.{all_both}
 use Rattle.span_check.proofs.TurnRows.{after_add}
 use Rattle.run_log.proofs.ListPlaces.{all_weaker, all_join}
 

@@ -1,6 +1,5 @@
 -- The fault with which a text is refused has its cause.
 use Rattle.std.proofs.Common.{◌≡◌, ℕ, ◌<◌, ◌≤◌, inl, inr, Bool, true, false, cond, nat_lt, List, [], length, Option, None, Some, Result, Ok, Err, IfOk, IfErr, refl, sym, ◌∙◌, subst, arith}
-use Rattle.std.proofs.lemmas.Bool.Decides.{nat_tests}
 use Rattle.term_core.specs.declared.term.Term.{Term}
 use Rattle.term_core.specs.declared.term_fault.TermFault.{TermFault}
 use Rattle.term_core.specs.declared.term_fault.TermFault.TheVariants as faults
@@ -18,6 +17,7 @@ use Rattle.term_core.proofs.ReadingLaws.{text_names, reading_again, reading_is, 
 use Rattle.term_core.proofs.Readings.{readable_if}
 use Rattle.term_core.proofs.Scanning.Faults.{text_if, SyntaxAt-fault}
 use Rattle.term_core.proofs.TextForms.{text_words, text_outside}
+use Rattle.term_core.proofs.Truths.{test_lt, test_not_lt}
 
 -- one fault
 same_fault : (e f : TermFault) → ◌≡◌ {A = Outcome} (Err e) (Err f) → e ≡ f
@@ -32,14 +32,6 @@ read_cause : (names : List (List ℕ)) (text : List ℕ) (o : Option PlainTerm) 
 read_cause names text None after f h = cause_at names text faults.NoMemory f h tt
 read_cause names text (Some p) after f h = cc
 
--- by the tests
-large : (limit n : ℕ) → nat_lt limit n ≡ true → limit < n
-large limit n h = grind (arith, nat_tests)
-
--- or else not above the limit
-small : (limit n : ℕ) → nat_lt limit n ≡ false → n ≤ limit
-small limit n h = grind (arith, nat_tests)
-
 -- the cause of too many names
 names_cause : (names : List (List ℕ)) (text : List ℕ) (f : TermFault) → syntax_fault at_start text ≡ None → outside_at false text ≡ None → starts (tokens_in false text) ≤ 64 → (o : Option PlainTerm) (b : Bool) → nat_lt 4096 (length (names_after names text)) ≡ b →
     cond b (Err faults.Names) (read_as o (names_after names text)) ≡ Err f → HasCause names text f
@@ -50,7 +42,7 @@ names_cause names text f h k short o true test e =
       is_text = r.is_text;
       fits = r.fits;
       short = omega (arith, text_words text r.form r.is_text, short);
-      over = subst (λ (ns : List (List ℕ)). 4096 < length ns) (text_names names text r.form r.is_text) (large 4096 (length (names_after names text)) test);
+      over = subst (λ (ns : List (List ℕ)). 4096 < length ns) (text_names names text r.form r.is_text) (test_lt 4096 (length (names_after names text)) test);
     })
 names_cause names text f h k short o false test e = read_cause names text o (names_after names text) f e
 
@@ -59,8 +51,8 @@ length_cause : (names : List (List ℕ)) (text : List ℕ) (f : TermFault) → s
     cond b (Err faults.TooLong) (judge_names (names_after names text) (read_as o (names_after names text))) ≡ Err f → HasCause names text f
 length_cause names text f h k o true test e =
     let r = readable_if text h k in
-    cause_at names text faults.TooLong f e (record { form = r.form; is_text = r.is_text; fits = r.fits; long = omega (arith, text_words text r.form r.is_text, large 64 (starts (tokens_in false text)) test) })
-length_cause names text f h k o false test e = names_cause names text f h k (small 64 (starts (tokens_in false text)) test) o (nat_lt 4096 (length (names_after names text))) refl e
+    cause_at names text faults.TooLong f e (record { form = r.form; is_text = r.is_text; fits = r.fits; long = omega (arith, text_words text r.form r.is_text, test_lt 64 (starts (tokens_in false text)) test) })
+length_cause names text f h k o false test e = names_cause names text f h k (test_not_lt 64 (starts (tokens_in false text)) test) o (nat_lt 4096 (length (names_after names text))) refl e
 
 -- the cause of an integer out of range
 range_cause : (names : List (List ℕ)) (text : List ℕ) (f : TermFault) → syntax_fault at_start text ≡ None → (o : Option PlainTerm) (r : Option ℕ) → outside_at false text ≡ r →

@@ -24,18 +24,13 @@ use Rattle.term_core.proofs.Scanning.Faults.{text_if}
 use Rattle.term_core.proofs.Scanning.Sound.{FormOf}
 use Rattle.term_core.proofs.TermBytes.{is_term_byte, term_bytes-written, nonempty-written}
 use Rattle.term_core.proofs.TextForms.{text_words as words_of_text, text_atoms, text_built, text_outside, text_no_fault}
-use Rattle.term_core.proofs.Truths.{false_is_no_true, is_some_at}
+use Rattle.term_core.proofs.Truths.{false_is_no_true, is_some_at, none_by}
 use Rattle.std.proofs.lemmas.Bool.{and_parts, false_from_ne_true}
 
 -- what is none
 none_if : {X : Type 0} (o : Option X) → is_none o ≡ true → o ≡ None
 none_if None h = refl
 none_if (Some x) h = cc
-
--- or is no value
-none_unless : {X : Type 0} (o : Option X) → is_some o ≡ false → o ≡ None
-none_unless None h = refl
-none_unless (Some x) h = cc
 
 -- a term's text has no fault
 pub no_fault_if : (text : List ℕ) → IsTrue (is_term_text text) → syntax_fault at_start text ≡ None
@@ -45,7 +40,7 @@ no_fault_if text h = none_if (syntax_fault at_start text) h
 -- one that is not wide has no integer out of range
 pub none_outside_if : (text : List ℕ) → is_wide_text text ≡ false → outside_at false text ≡ None
 unfolding is_wide_text
-none_outside_if text h = none_unless (outside_at false text) h
+none_outside_if text h = none_by (outside_at false text) h
 
 -- what is built is what the text says
 pub one_term : {E : Type 0} (names : List (List ℕ)) (text : List ℕ) (r : Result Term E) → IfOk r (λ term. built integer_of (number_in names) (tokens_in false text) [] [] ≡ plain term ∷ []) → IfOk r (λ term. plain term ≡ term_in names text)

@@ -5,4 +5,5 @@ pub mod Numbers
 pub mod Options
 pub mod Parts
 pub mod Reads
+pub mod Starts
 pub mod Words

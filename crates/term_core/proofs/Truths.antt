@@ -1,5 +1,6 @@
 -- Small facts on tests and options.
-use Rattle.std.proofs.Common.{◌≡◌, ℕ, ◌<◌, ◌⊎◌, Bool, true, false, Option, None, Some, is_some, IsSome, refl, ap, arith}
+use Rattle.std.proofs.Common.{◌≡◌, ℕ, ◌<◌, ◌≤◌, ◌⊎◌, Bool, true, false, nat_lt, nat_le, Option, None, Some, is_some, IsSome, refl, ap, arith}
+use Rattle.std.proofs.lemmas.Bool.Decides.{nat_tests}
 
 -- no test is true and false
 pub not_both : (b : Bool) → b ≡ true → b ≡ false → ⊥
@@ -15,6 +16,10 @@ none_is_not_some (Some y) x e h = cc
 pub none_unless : {X : Type 0} (o : Option X) → ((x : X) → o ≡ Some x → ⊥) → o ≡ None
 none_unless None h = refl
 none_unless (Some x) h = absurd (h x refl)
+
+pub none_by : {X : Type 0} (o : Option X) → is_some o ≡ false → o ≡ None
+none_by None h = refl
+none_by (Some x) h = cc
 
 -- what is false is not true
 pub false_is_no_true : false ≡ true → ⊥
@@ -32,3 +37,16 @@ some_inside (Some x) h = (x, refl)
 -- two numbers are in one of two orders or equal
 pub three_ways : (m n : ℕ) → (m < n) ⊎ ((n < m) ⊎ (m ≡ n))
 three_ways m n = grind arith
+
+-- numbers by their tests
+pub passes_lt : (m n : ℕ) → m < n → nat_lt m n ≡ true
+passes_lt m n h = grind (arith, nat_tests)
+
+pub test_lt : (m n : ℕ) → nat_lt m n ≡ true → m < n
+test_lt m n h = grind (arith, nat_tests)
+
+pub test_not_lt : (m n : ℕ) → nat_lt m n ≡ false → n ≤ m
+test_not_lt m n h = grind (arith, nat_tests)
+
+pub test_le : (m n : ℕ) → nat_le m n ≡ true → m ≤ n
+test_le m n h = grind (arith, nat_tests)

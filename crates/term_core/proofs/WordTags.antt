@@ -8,6 +8,7 @@ use Rattle.term_core.specs.PlainTerm.{PlainTerm, integer_leaf, atom_leaf, tuple_
 use Rattle.term_core.specs.Written.{IsTermInteger}
 use Rattle.term_core.proofs.IntegerTexts.{range_pos}
 use Rattle.term_core.proofs.Words.{tagged, bits_back}
+use Rattle.term_core.proofs.Truths.{passes_lt, test_lt, test_not_lt}
 
 -- what is said of a word by its tag and its bits
 by_tag : {X : Type 0} (f : ℕ → ℕ → X) (bits tag : ℕ) → tag < 16 → f ((bits * 16 + tag) % 16) ((bits * 16 + tag) / 16) ≡ f tag bits
@@ -64,10 +65,6 @@ pub low_bits-small : (z : ℤ) → IsTermInteger z → low_bits z < 115292150460
 low_bits-small (pos n) range = let small = range_pos n range in omega arith
 low_bits-small (negsuc n) range = omega arith
 
--- by the test of a number
-passes_lt : (n limit : ℕ) → n < limit → nat_lt n limit ≡ true
-passes_lt n limit h = grind (arith, nat_tests)
-
 -- or of a limit
 passes_le : (n limit : ℕ) → n ≤ limit → nat_le n limit ≡ true
 passes_le n limit h = grind (arith, nat_tests)
@@ -104,10 +101,6 @@ by_test false a b f g h = g refl h
 test_eq : (m n : ℕ) → (m == n) ≡ true → m ≡ n
 test_eq m n h = grind (arith, nat_tests)
 
--- or below a limit
-test_lt : (m n : ℕ) → nat_lt m n ≡ true → m < n
-test_lt m n h = grind (arith, nat_tests)
-
 -- a word has its tag and its bits
 word_again : (word tag : ℕ) → word % 16 ≡ tag → word ≡ word / 16 * 16 + tag
 word_again word tag e = omega arith
@@ -132,10 +125,6 @@ bits_of bits false small = omega arith
 -- the bits of the integer with these bits
 pub low_bits-back : (bits : ℕ) → bits < 1152921504606846976 → low_bits (integer_of_bits bits) ≡ bits
 low_bits-back bits small = bits_of bits (nat_lt bits 576460752303423488) small
-
--- by the test
-test_not_lt : (m n : ℕ) → nat_lt m n ≡ false → n ≤ m
-test_not_lt m n h = grind (arith, nat_tests)
 
 -- by whether the integer is below zero
 range_of : (bits : ℕ) (b : Bool) → nat_lt bits 576460752303423488 ≡ b → bits < 1152921504606846976 → IsTermInteger (cond b (pos bits) (negsuc (1152921504606846975 - bits)))

@@ -2,7 +2,7 @@
 
 ghost use Rattle.std.specs.Prelude.{◌≡◌, ◌<◌, ◌^◌, Some, not};
 ghost use Rattle.prgr_core.specs.declared.member.Loaded.TheVariants.{Nothing};
-ghost use Rattle.prgr_core.specs.Members.{has_scanned, no_scans, counter_loaded, root_loaded, is_value};
+ghost use Rattle.prgr_core.specs.Members.{has_scanned, have_scanned_all, no_scans, counter_loaded, root_loaded, is_value};
 ghost use Rattle.prgr_core.specs.Step.{scan_of, delay_scan_of, opening_member, has_loaded, follows};
 
 use crate::member::{ENTERING, Loaded, MOST_MEMBERS, Member, OPENING_WORD, Role, Scans, WAITING};
@@ -32,6 +32,13 @@ impl Scans {
         ensures { result ≡ has_scanned self.now number }
     {
         self.members.get(number as usize).copied().unwrap_or(false)
+    }
+
+    /// Whether each of these members is among those scanned.
+    pub fn has_all(&self, members: &[Member]) -> bool
+        ensures { result ≡ have_scanned_all self.now members.now }
+    {
+        members.iter().all(|member| self.has(member.number))
     }
 
     /// The scans with this one, if the member's word shows that it is done.

@@ -1,11 +1,12 @@
 -- The log stands behind the spans, with what its process then names.
 use Rattle.std.proofs.Common.{◌≡◌, ◌<◌, ◌∙◌, is_some, refl, sym, ap, subst, arith, drop, length}
 use Rattle.std.specs.List.{AllByRecursion}
+use Rattle.term_core.proofs.Truths.{none_by}
 use Rattle.machine_core.specs.Process.{process_of}
 use Rattle.machine_core.specs.View.{server_words}
 use Rattle.span_check.specs.Standings.{AreNames}
 use Rattle.span_check.specs.Sweeps.{AreJudgedSo, spans_from}
-use Rattle.span_check.proofs.Moving.{none_by, taken_is, taken_length}
+use Rattle.span_check.proofs.Moving.{taken_is, taken_length}
 use Rattle.span_check.proofs.standing.move_on.Goals as goal
 
 pub take_all-requires : goal.take_all-requires
