@@ -3,6 +3,7 @@ use Rattle.std.proofs.Common.{◌≡◌, ◌↔◌, ◌||◌, ℕ, zero, suc, �
 use Rattle.std.proofs.lemmas.Bool.{false≢true}
 use Rattle.std.proofs.lemmas.Option.{none-some, same_Some, slice_get_within}
 use Rattle.std.specs.List.{list_any}
+use Rattle.term_core.proofs.Lists.{none_passes}
 use Rattle.server_core.specs.declared.command.Cmd.{Cmd}
 use Rattle.server_core.specs.declared.command.Cmd.TheVariants as cmds
 use Rattle.server_core.specs.ServerState.{ServerState, empty_state, old_of}
@@ -16,6 +17,7 @@ use Rattle.run_log.specs.declared.logs.ProcessLog.{ProcessLog}
 use Rattle.run_log.specs.declared.logs.RunLog.{RunLog}
 use Rattle.run_log.specs.Journal.{state_at}
 use Rattle.run_log.specs.Legal.{EntryFollows, Lingers, MayStand, NamesNot, PurgedUnnamed, StandsNotIn, dropped_by, last_up_to, published_to, state_before, turns_in_log}
+use Rattle.run_log.proofs.ListPlaces.{get_within}
 use Rattle.span_check.specs.declared.standing.Standing.{Standing}
 use Rattle.span_check.proofs.StandingLaws.{names_not, stands_not}
 use Rattle.legality.specs.Breaches.{ClauseHolds}
@@ -34,17 +36,6 @@ pub none_each : {X : Type 0} (f : X → Bool) (xs : List X) (k : ℕ) (x : X) �
 none_each f [] k x h at = absurd (none-some x at)
 none_each f (y ∷ xs) zero x h at = ap f (sym (same_Some y x at)) ∙ (either_false (f y) (list_any f xs) h).0
 none_each f (y ∷ xs) (suc k) x h at = none_each f xs k x (either_false (f y) (list_any f xs) h).1 at
-
--- where each fails, none passes
-pub none_passes : {X : Type 0} (f : X → Bool) (xs : List X) → ((k : ℕ) (x : X) → slice_get xs k ≡ Some x → f x ≡ false) → list_any f xs ≡ false
-none_passes f [] h = refl
-none_passes f (x ∷ xs) h = ap (λ b. b || list_any f xs) (h 0 x refl) ∙ none_passes f xs (λ k y e. h (suc k) y e)
-
--- what stands within a list
-pub get_within : {X : Type 0} (xs : List X) (i : ℕ) → i < length xs → (x : X) × (slice_get xs i ≡ Some x)
-get_within [] i h = absurd (omega (arith, h))
-get_within (x ∷ xs) zero h = (x, refl)
-get_within (x ∷ xs) (suc i) h = get_within xs i (omega (arith, h))
 
 -- ---- one process
 
@@ -137,18 +128,9 @@ within_some (x ∷ xs) (suc k) P h = let rest = within_some xs k P h in omega (a
 
 -- where an instance is dropped, no process stands in it
 dropped_told : (server : ServerState) (standings : List Standing) (processes : List ProcessLog) (cmd : Cmd) (serial : ℕ) → IsTold server standings processes cmd → dropped_by server cmd ≡ Some serial → some_stands serial standings ≡ false
-dropped_told server standings processes (cmds.Load refs) serial told h = absurd (none-some serial h)
-dropped_told server standings processes (cmds.Delete name) serial told h = absurd (none-some serial h)
 dropped_told server standings processes (cmds.SoftPurge name None) serial told h = if_some_at (old_of server name.0) (λ n. some_stands n standings ≡ false) serial h told
-dropped_told server standings processes (cmds.SoftPurge name (Some linger)) serial told h = absurd (none-some serial h)
-dropped_told server standings processes (cmds.Doom name) serial told h = absurd (none-some serial h)
 dropped_told server standings processes (cmds.Purge name killed) serial told h = (if_some_at (old_of server name.0) (IsPurged standings processes killed) serial h told).unnamed
-dropped_told server standings processes (cmds.CheckOld name) serial told h = absurd (none-some serial h)
-dropped_told server standings processes (cmds.Put key term) serial told h = absurd (none-some serial h)
-dropped_told server standings processes (cmds.Erase key) serial told h = absurd (none-some serial h)
-dropped_told server standings processes (cmds.Trace target on) serial told h = absurd (none-some serial h)
-dropped_told server standings processes (cmds.Spawn target args) serial told h = absurd (none-some serial h)
-dropped_told server standings processes (cmds.Release other) serial told h = absurd (none-some serial h)
+dropped_told server standings processes cmd serial told h = absurd (none-some serial h)
 
 module _ (s : Script) (log : RunLog) (place : ℕ) (server : ServerState) (standings : List Standing) (are : AreStanding s log server (server.generation + 1) standings) (now_is : published_to place log.journal ≡ server.generation)
     (server_is : server ≡ state_before s.modules place log.journal) (e : Entry) where
@@ -186,25 +168,18 @@ module _ (s : Script) (log : RunLog) (place : ℕ) (server : ServerState) (stand
         (λ number process known. holds.unnamed place serial number e process at (ap (dropped_by (state_before s.modules place log.journal)) is ∙ sym (ap (λ x. dropped_by x cmd) server_is) ∙ drops) known)
 
     so_told : (cmd : Cmd) → e.cmd ≡ cmd → ClauseHolds (told_by cmd) s log → IsTold server standings log.processes cmd
-    so_told (cmds.Load refs) is holds = tt
-    so_told (cmds.Delete name) is holds = tt
     so_told (cmds.SoftPurge name None) is holds = if_some_by (old_of server name.0) (λ serial. some_stands serial standings ≡ false) (λ serial old. none_then serial holds (cmds.SoftPurge name None) is old)
     so_told (cmds.SoftPurge name (Some linger)) is holds =
         if_some_by (old_of server name.0) (λ serial. linger.process < length log.processes)
         (λ serial old. within_some log.processes linger.process _ (holds place serial e name linger at is (sym (before_is name.0) ∙ old)))
-    so_told (cmds.Doom name) is holds = tt
     so_told (cmds.Purge name killed) is holds =
         if_some_by (old_of server name.0) (IsPurged standings log.processes killed)
         (λ serial old. record {
           unnamed = none_then serial holds (cmds.Purge name killed) is old;
           told = holds.told place serial e name killed at is (sym (before_is name.0) ∙ old);
         })
-    so_told (cmds.CheckOld name) is holds = tt
-    so_told (cmds.Put key term) is holds = tt
-    so_told (cmds.Erase key) is holds = tt
-    so_told (cmds.Trace target on) is holds = tt
-    so_told (cmds.Spawn target args) is holds = tt
     so_told (cmds.Release serial) is holds = none_names s log place server standings are now_is serial (λ number process known. holds place serial number e process at is known)
+    so_told cmd is holds = tt
 
     pub is_told_where : ClauseHolds (told_by e.cmd) s log → IsTold server standings log.processes e.cmd
     is_told_where holds = so_told e.cmd refl holds

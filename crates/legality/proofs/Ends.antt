@@ -15,6 +15,7 @@ use Rattle.run_log.specs.declared.logs.Snapshot.{Snapshot}
 use Rattle.run_log.specs.declared.logs.Span.{Span}
 use Rattle.run_log.specs.Journal.{newest_state, published_count, state_at}
 use Rattle.run_log.specs.Legal.{PurgesGo, Replays, SpansFollow, TurnsFollow}
+use Rattle.run_log.proofs.ListPlaces.{get_within}
 use Rattle.legality.specs.Shape.{IsShaped}
 use Rattle.span_check.specs.declared.standing.Standing.{Standing}
 use Rattle.span_check.specs.Standings.{StandsSo, first_of}
@@ -25,7 +26,6 @@ use Rattle.legality.specs.declared.breach.Clause.TheVariants as clauses
 use Rattle.legality.specs.Breaches.{ClauseHolds, ClausesHold}
 use Rattle.legality.specs.Entries.{half_before, half_over}
 use Rattle.legality.specs.Sweeps.{HasEnded, IsLeft, IsSeen, IsSwept, IsTrueShot}
-use Rattle.legality.proofs.Answers.{get_within}
 use Rattle.legality.proofs.Locals.{half_last, purges_before, replays_before}
 use Rattle.legality.proofs.Places.{published_now}
 
@@ -118,19 +118,13 @@ module _ (s : Script) (log : RunLog) (watched : Bool) (sweep : Sweep) (swept : I
 
   -- where something waits a clause does not hold
   pub left_broken : (clause : Clause) → IsLeft sweep clause → ClauseHolds clause s log → ⊥
-  left_broken clauses.Replays left holds = left
   left_broken clauses.LoadersInOrder left holds = left (swept.here.half_is ∙ ap (half_over None) whole ∙ half_last s.modules empty_state None None log.journal holds.purges)
-  left_broken clauses.SpawnBeforeTurns left holds = left
   left_broken clauses.TurnsFollow left holds =
       left
       (All-from_recursion (λ (x : Standing). x.ended ≡ true) sweep.standings.items
       (all_from (λ (x : Standing). x.ended ≡ true) sweep.standings.items (λ number standing is. not_going standing.ended (has_ended holds number standing is))))
-  left_broken clauses.ReleasedUnnamed left holds = left
-  left_broken clauses.LingersTold left holds = left
-  left_broken clauses.PurgedUnnamed left holds = left
-  left_broken clauses.SnapshotsTrue left holds = left
   left_broken clauses.NothingRetired left holds = left (ap (λ x. x.retired) newest_is ∙ holds)
-  left_broken clauses.Complete left holds = left
+  left_broken clause left holds = left
 
   -- where nothing waits and each process has ended each clause holds that was watched
   module _ (over : HasEnded sweep) where

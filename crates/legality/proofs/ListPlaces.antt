@@ -1,5 +1,5 @@
 -- Elements by their places, and what is left of a list from a place on.
-use Rattle.std.proofs.Common.{◌≡◌, ℕ, zero, suc, ◌+◌, ◌<◌, List, [], ◌∷◌, length, drop, get_or, replicate, slice_get, Some, refl, sym, ap, arith, add-one}
+use Rattle.std.proofs.Common.{◌≡◌, ℕ, zero, suc, ◌+◌, ◌<◌, List, [], ◌∷◌, length, drop, slice_get, Some, sym, ap, arith, add-one}
 use Rattle.std.proofs.lemmas.Option.{none-some, same_Some}
 
 -- what stands at a place is within the list
@@ -20,9 +20,3 @@ drop_begins [] zero x rest h = cc
 drop_begins [] (suc i) x rest h = cc
 drop_begins (y ∷ xs) zero x rest h = let e : x ≡ y = cc in ap Some (sym e)
 drop_begins (y ∷ xs) (suc i) x rest h = drop_begins xs i x rest h
-
--- a list of zeros has zero everywhere
-pub zeros : (n k : ℕ) → ◌≡◌ {A = ℕ} (get_or (replicate n 0) k 0) 0
-zeros zero k = refl
-zeros (suc n) zero = refl
-zeros (suc n) (suc k) = zeros n k

@@ -7,6 +7,7 @@ use Rattle.script_core.specs.declared.script.Script.{Script}
 use Rattle.run_log.specs.declared.logs.Entry.{Entry}
 use Rattle.run_log.specs.declared.logs.RunLog.{RunLog}
 use Rattle.run_log.specs.Legal.{EntryFollows, LoadersInOrder, MayStand, Replays, half_after, published_to, state_before}
+use Rattle.run_log.proofs.ListPlaces.{get_within}
 use Rattle.span_check.specs.declared.standing.Standing.{Standing}
 use Rattle.span_check.specs.Standings.{HasItsNames}
 use Rattle.legality.specs.declared.sweep.Sweep.{Sweep}
@@ -14,7 +15,7 @@ use Rattle.legality.specs.Breaches.{ClauseHolds}
 use Rattle.legality.specs.Entries.{EntryLingers, EntryMeets}
 use Rattle.legality.specs.Looks.{IsTold}
 use Rattle.legality.specs.Sweeps.{AfterEntry, AfterPlace, AreStanding, HasFollowed, IsSwept, MayBeMade, told_by}
-use Rattle.legality.proofs.Answers.{get_within, is_told_where, lingers_here, meets_by}
+use Rattle.legality.proofs.Answers.{is_told_where, lingers_here, meets_by}
 use Rattle.legality.proofs.Ends.{all_from}
 use Rattle.legality.proofs.Locals.{follows_at, stands_at}
 use Rattle.legality.proofs.Places.{published_now}

@@ -1,10 +1,11 @@
 -- The state, the generation and the purge that waits before a place of a journal, and before the next place.
-use Rattle.std.proofs.Common.{◌≡◌, ℕ, zero, suc, ◌+◌, ◌<◌, ◌==◌, List, [], ◌∷◌, ◌++◌, take, slice_get, Option, Some, None, refl, ap, ◌∙◌, arith, add-one}
+use Rattle.std.proofs.Common.{◌≡◌, ℕ, zero, suc, ◌+◌, ◌<◌, ◌==◌, List, [], ◌∷◌, ◌++◌, take, slice_get, Option, Some, None, refl, ap, ◌∙◌, arith}
 use Rattle.std.proofs.lemmas.Bool.{cond-true, cond-false, eq-eqb, ne_eqb}
 use Rattle.std.proofs.lemmas.Option.{none-some, same_Some}
 use Rattle.mod_core.specs.declared.code.Module.{Module}
 use Rattle.server_core.specs.ServerState.{ServerState, empty_state}
 use Rattle.script_core.specs.declared.script.Script.{Script}
+use Rattle.script_core.proofs.JoinedPlaces.{take_next}
 use Rattle.run_log.specs.declared.logs.Entry.{Entry}
 use Rattle.run_log.specs.declared.logs.RunLog.{RunLog}
 use Rattle.run_log.specs.Journal.{next_state, newest_state, state_at}
@@ -13,12 +14,6 @@ use Rattle.run_log.specs.Legal.{half_after, published_to, state_before}
 use Rattle.run_log.proofs.Journals.{counted, later, never_falls, newest_more}
 use Rattle.legality.specs.Entries.{MeetBefore, half_before, half_over}
 use Rattle.legality.proofs.Locals.{replays_before}
-
--- a front that grows by the element at its end
-pub take_next : {X : Type 0} (xs : List X) (i : ℕ) (x : X) → slice_get xs i ≡ Some x → take (i + 1) xs ≡ take i xs ++ x ∷ []
-take_next [] i x h = absurd (none-some x h)
-take_next (y ∷ xs) zero x h = ap (λ z. z ∷ []) (same_Some y x h)
-take_next (y ∷ xs) (suc i) x h = rw add-one (ap (λ t. y ∷ t) (rw add-one at (take_next xs i x h)))
 
 half_more : (half : Option HalfPurge) (journal : List Entry) (e : Entry) → half_over half (journal ++ e ∷ []) ≡ half_after (half_over half journal) e.who e.cmd
 half_more half [] e = refl

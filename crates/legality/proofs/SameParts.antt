@@ -5,7 +5,7 @@ use Rattle.std.proofs.lemmas.Bool.Decides.{Decides-like, Decides-and, Decides-eq
 use Rattle.term_core.specs.declared.atom.AtomId.{AtomId}
 use Rattle.term_core.specs.declared.atom.Mfa.{Mfa}
 use Rattle.server_core.specs.declared.command.Reply.{Reply}
-use Rattle.server_core.specs.declared.command.Reply.TheVariants.{Ok, True, False, FalseBy, NotPurged, Duplicated, SystemLimit}
+use Rattle.server_core.specs.declared.command.Reply.TheVariants.{NotPurged}
 
 -- the numbers of two atoms are one where the atoms are
 pub same_atom : (a b : AtomId) → Decides (eqb a.0 b.0) (a ≡ b)
@@ -24,13 +24,8 @@ same_export a b =
     (Decides-and (eqb a.0.«module».0 b.0.«module».0 && (eqb a.0.name.0 b.0.name.0 && eqb a.0.arity b.0.arity)) (eqb a.1 b.1) (same_mfa a.0 b.0) (Decides-eqb a.1 b.1))
 
 told_in : List AtomId → Reply → List AtomId
-told_in modules Ok = modules
-told_in modules True = modules
-told_in modules False = modules
-told_in modules (FalseBy linger) = modules
 told_in modules (NotPurged told) = told
-told_in modules (Duplicated name) = modules
-told_in modules (SystemLimit limit) = modules
+told_in modules reply = modules
 
 -- the modules that a reply tells
 pub modules_told : (modules told : List AtomId) → NotPurged modules ≡ NotPurged told → modules ≡ told

@@ -10,9 +10,10 @@ use Rattle.run_log.specs.declared.logs.Snapshot.{Snapshot}
 use Rattle.run_log.specs.Journal.{state_at}
 use Rattle.run_log.specs.Legal.{AreRising, SnapshotsTrue}
 use Rattle.run_log.specs.Snapshots.{AreExports}
+use Rattle.run_log.proofs.ListPlaces.{get_within}
 use Rattle.legality.specs.Observers.{AllSee, IsSnapshotOf, OneErrs, SeesMore}
 use Rattle.legality.specs.Sweeps.{AreSeen, IsSeen, IsTrueShot}
-use Rattle.legality.proofs.Answers.{get_within, if_some_at}
+use Rattle.legality.proofs.Answers.{if_some_at}
 use Rattle.legality.proofs.Ends.{all_at}
 
 -- ---- generations that never fall

@@ -6,6 +6,7 @@ use Rattle.std.proofs.lemmas.List.Sums.{sum_by-cons}
 use Rattle.std.proofs.lemmas.Option.{none-some, same_Some}
 use Rattle.term_core.specs.declared.atom.Mfa.{Mfa}
 use Rattle.term_core.specs.PlainTerm.{PlainTerm}
+use Rattle.term_core.proofs.Truths.{not_both}
 use Rattle.server_core.specs.declared.command.Cmd.{Cmd}
 use Rattle.server_core.specs.declared.command.Cmd.TheVariants as cmds
 use Rattle.script_core.specs.declared.script.Script.{Script}
@@ -159,10 +160,6 @@ no_spawn_by (Loader number) b loader h own = none_of b number h
 pub no_spawn : (processes : List ProcessLog) (published : ℕ) (numbers : List ℕ) (e : Entry) → spawning_loader e ≡ None
     → (journal : List Entry) → LaterSpawnsFit processes published numbers (e ∷ journal) ↔ (IsTrue true × LaterSpawnsFit processes (published + publishes e) numbers journal)
 no_spawn processes published numbers e h = no_spawn_step processes published numbers e (λ loader less own. no_spawn_by e.who (is_spawn e.cmd) loader h own)
-
--- a test has one answer
-not_both : (b : Bool) → b ≡ true → b ≡ false → ⊥
-not_both b t f = cc
 
 -- a spawn of a loader that has no number
 pub spawn_beyond : (processes : List ProcessLog) (published : ℕ) (numbers : List ℕ) (e : Entry) (loader : ℕ) → spawning_loader e ≡ Some loader → length numbers ≤ loader

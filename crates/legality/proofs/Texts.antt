@@ -1,5 +1,5 @@
 -- What a script says of the commands of a journal that are its loaders', and of the processes of a complete log.
-use Rattle.std.proofs.Common.{◌≡◌, ℕ, zero, suc, ◌^◌, ◌<◌, ◌≤◌, Bool, true, false, cond, List, [], ◌∷◌, ◌++◌, length, filter, slice_get, Some, unwrap_or, All, refl, sym, ap, subst, ◌∙◌, arith}
+use Rattle.std.proofs.Common.{◌≡◌, ℕ, zero, suc, ◌^◌, ◌<◌, ◌≤◌, Bool, true, false, cond, List, [], ◌∷◌, length, filter, slice_get, Some, unwrap_or, All, refl, sym, ap, subst, ◌∙◌, arith}
 use Rattle.std.proofs.lemmas.Bool.{eq-eqb, false≢true}
 use Rattle.std.proofs.lemmas.Option.{none-some, same_Some}
 use Rattle.std.proofs.lemmas.List.Elements.{All-from_recursion}
@@ -9,6 +9,7 @@ use Rattle.term_core.specs.Plain.{plain}
 use Rattle.term_core.specs.PlainTerm.{PlainTerm}
 use Rattle.term_core.specs.Written.{IsTermInteger}
 use Rattle.term_core.proofs.LeafFacts.{EachLeaf-weaker}
+use Rattle.term_core.proofs.Lists.{all_front, all_behind, each_append}
 use Rattle.server_core.specs.declared.command.Cmd.{Cmd}
 use Rattle.server_core.specs.declared.command.Cmd.TheVariants as cmds
 use Rattle.server_core.specs.ServerState.{IsShortTerm}
@@ -35,20 +36,12 @@ short_term names term room h = record {
   short = h.short;
 }
 
-all_in_front : {X : Type 0} (P : X → Type 0) (xs ys : List X) → AllByRecursion P (xs ++ ys) → AllByRecursion P xs
-all_in_front P [] ys h = tt
-all_in_front P (x ∷ xs) ys h = (h.0, all_in_front P xs ys h.1)
-
-all_in_rest : {X : Type 0} (P : X → Type 0) (xs ys : List X) → AllByRecursion P (xs ++ ys) → AllByRecursion P ys
-all_in_rest P [] ys h = h
-all_in_rest P (x ∷ xs) ys h = all_in_rest P xs ys h.1
-
 own_first : (P : ScriptCmd → Type 0) (own : Bool) (x : Entry) (xs : List Entry) → own ≡ true → AllByRecursion P (flat_map (λ (e : Entry). ended_by e.cmd) (cond own (x ∷ xs) xs)) → AllByRecursion P (ended_by x.cmd)
-own_first P true x xs is h = all_in_front P (ended_by x.cmd) (flat_map (λ (e : Entry). ended_by e.cmd) xs) h
+own_first P true x xs is h = all_front P (ended_by x.cmd) (flat_map (λ (e : Entry). ended_by e.cmd) xs) h
 own_first P false x xs is h = absurd (false≢true is)
 
 own_rest : (P : ScriptCmd → Type 0) (own : Bool) (x : Entry) (xs : List Entry) → AllByRecursion P (flat_map (λ (e : Entry). ended_by e.cmd) (cond own (x ∷ xs) xs)) → AllByRecursion P (flat_map (λ (e : Entry). ended_by e.cmd) xs)
-own_rest P true x xs h = all_in_rest P (ended_by x.cmd) (flat_map (λ (e : Entry). ended_by e.cmd) xs) h
+own_rest P true x xs h = all_behind P (ended_by x.cmd) (flat_map (λ (e : Entry). ended_by e.cmd) xs) h
 own_rest P false x xs h = h
 
 -- what holds of each command that a loader's entries end holds of what one of them ends
@@ -68,32 +61,14 @@ commands_fit P (commands ∷ loaders) (suc loader) h = commands_fit P loaders lo
 
 -- a release has no term
 release_of_text : (cmd : Cmd) → true ≡ is_release cmd → IsOfText cmd
-release_of_text (cmds.Load refs) h = tt
-release_of_text (cmds.Delete name) h = tt
-release_of_text (cmds.SoftPurge name lingers) h = tt
-release_of_text (cmds.Doom name) h = tt
-release_of_text (cmds.Purge name killed) h = tt
-release_of_text (cmds.CheckOld name) h = tt
 release_of_text (cmds.Put key term) h = absurd (false≢true (sym h))
-release_of_text (cmds.Erase key) h = tt
-release_of_text (cmds.Trace target on) h = tt
-release_of_text (cmds.Spawn target args) h = tt
-release_of_text (cmds.Release serial) h = tt
+release_of_text cmd h = tt
 
 module _ (s : Script) (sound : IsScript s) where
   -- what ends a command of the script has a term that a text can say
   ended_of_text : (cmd : Cmd) → AllByRecursion (IsCmdOf s.names s.modules) (ended_by cmd) → IsOfText cmd
-  ended_of_text (cmds.Load refs) h = tt
-  ended_of_text (cmds.Delete name) h = tt
-  ended_of_text (cmds.SoftPurge name lingers) h = tt
-  ended_of_text (cmds.Doom name) h = tt
-  ended_of_text (cmds.Purge name killed) h = tt
-  ended_of_text (cmds.CheckOld name) h = tt
   ended_of_text (cmds.Put key term) h = short_term s.names (plain term) sound.names.room h.0.is_term
-  ended_of_text (cmds.Erase key) h = tt
-  ended_of_text (cmds.Trace target on) h = tt
-  ended_of_text (cmds.Spawn target args) h = tt
-  ended_of_text (cmds.Release serial) h = tt
+  ended_of_text cmd h = tt
 
   module _ (journal : List Entry) (commands : (loader : ℕ) → commands_in loader journal ≡ commands_of s loader) (place : ℕ) (e : Entry) (at : slice_get journal place ≡ Some e) where
     loader_of_text : (number : ℕ) → e.who ≡ Loader number → IsOfText e.cmd
@@ -121,14 +96,10 @@ arities_from names texts loader place [] h = tt
 arities_from names texts loader place (script.Spawn target args ∷ commands) h = (sym h.0.arity_is, arities_from names texts loader (suc place) commands h.1)
 arities_from names texts loader place (cmd ∷ commands) h = arities_from names texts loader (suc place) commands h.1
 
-all_joined : {X : Type 0} (P : X → Type 0) (xs ys : List X) → AllByRecursion P xs → AllByRecursion P ys → AllByRecursion P (xs ++ ys)
-all_joined P [] ys h k = k
-all_joined P (x ∷ xs) ys h k = (h.0, all_joined P xs ys h.1 k)
-
 arities_of : (names : List (List ℕ)) (texts : List Module) (loader : ℕ) (loaders : List (List ScriptCmd)) → AllByRecursion (λ commands. AllByRecursion (IsCmdOf names texts) commands) loaders → AllByRecursion HasArity (spawns_of loader loaders)
 arities_of names texts loader [] h = tt
 arities_of names texts loader (commands ∷ loaders) h =
-    all_joined HasArity (spawns_from loader 0 commands) (spawns_of (suc loader) loaders) (arities_from names texts loader 0 commands h.0) (arities_of names texts (suc loader) loaders h.1)
+    each_append HasArity (spawns_from loader 0 commands) (spawns_of (suc loader) loaders) (arities_from names texts loader 0 commands h.0) (arities_of names texts (suc loader) loaders h.1)
 
 arities_matched : (lines : List SpawnLine) (processes : List ProcessLog) → AllByRecursion HasArity lines → LogsMatch lines processes → AllByRecursion (λ process. length process.args ≡ process.target.arity) processes
 arities_matched [] [] h match = tt

@@ -11,12 +11,12 @@ use Rattle.run_log.specs.declared.logs.ProcessLog.{ProcessLog}
 use Rattle.run_log.specs.declared.logs.RunLog.{RunLog}
 use Rattle.run_log.specs.Journal.{state_at}
 use Rattle.run_log.specs.Legal.{Legal, Lingers, TurnsFollow, published_to, state_before, turns_in_log}
+use Rattle.run_log.proofs.ListPlaces.{get_within}
 use Rattle.span_check.specs.declared.standing.Standing.{Standing}
 use Rattle.span_check.specs.declared.watch.Watch.{Watch}
 use Rattle.legality.specs.declared.sweep.Sweep.{Sweep}
 use Rattle.legality.specs.Entries.{MeetBefore}
 use Rattle.legality.specs.Sweeps.{AllTaken, AreStanding, IsMade, IsStanding, IsTakenWith, LingersAhead, SomeRefused, stretch, watch_in}
-use Rattle.legality.proofs.Answers.{get_within}
 use Rattle.legality.proofs.Locals.{legal_meets}
 use Rattle.legality.proofs.Places.{published_now}
 use Rattle.legality.proofs.Watching.{IsAhead, IsWatched, ahead_has, ahead_only, all_given, given_at, old_stays, watch_is, watch_made, watches_hold, watches_told}

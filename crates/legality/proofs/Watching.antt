@@ -179,18 +179,8 @@ watch_by s number name linger watch true (Some serial) is at h =
 watch_by s number name linger watch false old is at h = absurd (none-some watch h)
 
 pub watch_is : (s : ServerState) (number : ℕ) (cmd : Cmd) (watch : Watch) → watch_in s number cmd ≡ Some watch → IsWatched s number cmd watch
-watch_is s number (cmds.Load refs) watch h = absurd (none-some watch h)
-watch_is s number (cmds.Delete name) watch h = absurd (none-some watch h)
-watch_is s number (cmds.SoftPurge name None) watch h = absurd (none-some watch h)
 watch_is s number (cmds.SoftPurge name (Some linger)) watch h = watch_by s number name linger watch (linger.process == number) (old_of s name.0) refl refl h
-watch_is s number (cmds.Doom name) watch h = absurd (none-some watch h)
-watch_is s number (cmds.Purge name killed) watch h = absurd (none-some watch h)
-watch_is s number (cmds.CheckOld name) watch h = absurd (none-some watch h)
-watch_is s number (cmds.Put key term) watch h = absurd (none-some watch h)
-watch_is s number (cmds.Erase key) watch h = absurd (none-some watch h)
-watch_is s number (cmds.Trace target on) watch h = absurd (none-some watch h)
-watch_is s number (cmds.Spawn target args) watch h = absurd (none-some watch h)
-watch_is s number (cmds.Release serial) watch h = absurd (none-some watch h)
+watch_is s number cmd watch h = absurd (none-some watch h)
 
 -- a lingering answer makes its turn to be watched
 pub watch_made : (s : ServerState) (cmd : Cmd) (name : AtomId) (linger : Linger) (serial : ℕ) → cmd ≡ cmds.SoftPurge name (Some linger) → old_of s name.0 ≡ Some serial → watch_in s linger.process cmd ≡ Some (record { turn = linger.turn; serial = serial })

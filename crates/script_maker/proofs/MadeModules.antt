@@ -153,24 +153,10 @@ texts_are = record {
 
 -- each version of the first module is given
 pub first_given : (v : ℕ) → v < 8 → IsTrue (is_some (text_of (made_versions (subject_of 0) ++ made_versions (subject_of 1)) (record { name = (subject_of 0).«module»; version = 1 + v })))
-first_given zero below = refl
-first_given (suc zero) below = refl
-first_given (suc (suc zero)) below = refl
-first_given (suc (suc (suc zero))) below = refl
-first_given (suc (suc (suc (suc zero)))) below = refl
-first_given (suc (suc (suc (suc (suc zero))))) below = refl
-first_given (suc (suc (suc (suc (suc (suc zero)))))) below = refl
-first_given (suc (suc (suc (suc (suc (suc (suc zero))))))) below = refl
 first_given (suc (suc (suc (suc (suc (suc (suc (suc v)))))))) below = absurd (omega (arith, below))
+first_given v below = refl
 
 -- and each of the second
 pub second_given : (v : ℕ) → v < 8 → IsTrue (is_some (text_of (made_versions (subject_of 0) ++ made_versions (subject_of 1)) (record { name = (subject_of 1).«module»; version = 1 + v })))
-second_given zero below = refl
-second_given (suc zero) below = refl
-second_given (suc (suc zero)) below = refl
-second_given (suc (suc (suc zero))) below = refl
-second_given (suc (suc (suc (suc zero)))) below = refl
-second_given (suc (suc (suc (suc (suc zero))))) below = refl
-second_given (suc (suc (suc (suc (suc (suc zero)))))) below = refl
-second_given (suc (suc (suc (suc (suc (suc (suc zero))))))) below = refl
 second_given (suc (suc (suc (suc (suc (suc (suc (suc v)))))))) below = absurd (omega (arith, below))
+second_given v below = refl

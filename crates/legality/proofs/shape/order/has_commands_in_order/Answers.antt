@@ -1,9 +1,9 @@
 use Rattle.std.proofs.Common.{ℕ, ◌+◌, drop, replicate, sym}
 use Rattle.std.proofs.lemmas.List.{drop_all}
 use Rattle.term_core.proofs.Lefts.{left_from}
+use Rattle.term_core.proofs.Lists.{zeros}
 use Rattle.legality.specs.Places.{AreLeft}
 use Rattle.legality.proofs.Equivalences.{through, of_equal, never, stepped, refused}
-use Rattle.legality.proofs.ListPlaces.{zeros}
 use Rattle.legality.proofs.CommandPlaces.{begins_with_all}
 use Rattle.legality.proofs.shape.order.has_commands_in_order.Goals as goal
 
