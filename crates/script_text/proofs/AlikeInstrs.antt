@@ -18,20 +18,17 @@ use Rattle.mod_text.specs.LineFaults.{operand_atoms, instr_atoms, is_wide_operan
 use Rattle.term_core.specs.Text.Numbers.{number_value, is_number_text}
 use Rattle.mod_text.specs.ModuleLine.{OperandForm, register, integer, atom, complex, InstrForm, move, add, sub, eq, less, jump, call, call_ext, ret, pget, pget_or, elem, print, yield, LineForm, header, is_arity_text, is_operand_form, is_function_form, is_instr_form}
 use Rattle.mod_text.specs.ModuleValue.{FunctionForm, HeaderForm, functions_in, headers_in, is_header, function_number, callee_in, operand_in, instr_in, function_in, is_settled}
+use Rattle.mod_text.proofs.ModuleSound.{head_of}
 use Rattle.term_core.proofs.Text.Options.{map_some, some_is, bytes_are}
+use Rattle.term_core.proofs.GrownTerms.{HasNumber}
 use Rattle.script_text.specs.Counts.{instr_functions}
-use Rattle.script_text.proofs.HeldNames.{IsHeldText}
 use Rattle.script_text.proofs.ModuleNames.{AreHeld, held_first, held_second}
 use Rattle.script_text.proofs.TermNames.{text_again}
 use Rattle.script_text.proofs.TextsBack.{atom_again, arity_again}
 
 -- ---- a function that is called
 
--- the name and arity of a function, as its header has them
-abbrev pub header_of : FunctionForm → HeaderForm
-header_of f = (f.name, f.arity)
-
-pub headers_are : (lines : List LineForm) → headers_in lines ≡ map header_of (functions_in lines)
+pub headers_are : (lines : List LineForm) → headers_in lines ≡ map head_of (functions_in lines)
 headers_are [] = refl
 headers_are (header exported name arity ∷ lines) = ap (λ (hs : List HeaderForm). (name, arity) ∷ hs) (headers_are lines)
 headers_are (line ∷ lines) = headers_are lines
@@ -42,7 +39,7 @@ record HasName (forms : List FunctionForm) (k : ℕ) (name : List ℕ) : Type 0 
   at : slice_get forms k ≡ Some form
   name_is : form.name ≡ name
 
-named_by : (forms : List FunctionForm) (form : FunctionForm) (name arity : List ℕ) (k : ℕ) (t : Bool) → is_header name arity (header_of form) ≡ t → cond t (Some 0) (option_map (λ i. i + 1) (function_number name arity (map header_of forms))) ≡ Some k → ((j : ℕ) → function_number name arity (map header_of forms) ≡ Some j → HasName forms j name) → HasName (form ∷ forms) k name
+named_by : (forms : List FunctionForm) (form : FunctionForm) (name arity : List ℕ) (k : ℕ) (t : Bool) → is_header name arity (head_of form) ≡ t → cond t (Some 0) (option_map (λ i. i + 1) (function_number name arity (map head_of forms))) ≡ Some k → ((j : ℕ) → function_number name arity (map head_of forms) ≡ Some j → HasName forms j name) → HasName (form ∷ forms) k name
 named_by forms form name arity k true same is more =
     let here : 0 ≡ k = some_is 0 k is in
     record {
@@ -51,16 +48,16 @@ named_by forms form name arity k true same is more =
       name_is = bytes_are form.name name (and_parts (bytes_eq form.name name) (bytes_eq form.arity arity) same).0;
     }
 named_by forms form name arity k false same is more =
-    let later = map_some (λ i. i + 1) (function_number name arity (map header_of forms)) k is in
+    let later = map_some (λ i. i + 1) (function_number name arity (map head_of forms)) k is in
     let found = more later.0 later.1 in
     record { form = found.form; at = ap (slice_get (form ∷ forms)) (sym later.2 ∙ add-one later.0) ∙ found.at; name_is = found.name_is }
 
-named_at : (forms : List FunctionForm) (name arity : List ℕ) (k : ℕ) → function_number name arity (map header_of forms) ≡ Some k → HasName forms k name
+named_at : (forms : List FunctionForm) (name arity : List ℕ) (k : ℕ) → function_number name arity (map head_of forms) ≡ Some k → HasName forms k name
 named_at [] name arity k is = absurd cc
 named_at (form ∷ forms) name arity k is =
-    named_by forms form name arity k (is_header name arity (header_of form)) refl (sym (position-cons (is_header name arity) (header_of form) (map header_of forms)) ∙ is) (named_at forms name arity)
+    named_by forms form name arity k (is_header name arity (head_of form)) refl (sym (position-cons (is_header name arity) (head_of form) (map head_of forms)) ∙ is) (named_at forms name arity)
 
-called_by : (names : List (List ℕ)) (hs : List HeaderForm) (forms : List FunctionForm) (name arity : List ℕ) (at : ℕ) (o : Option ℕ) → function_number name arity (map header_of forms) ≡ o → is_some o ≡ true → IsHeldText names name → instr_atoms (written_call names (slice_get (map (function_in names hs) forms) (unwrap_or o 0)) at) ≡ name ∷ []
+called_by : (names : List (List ℕ)) (hs : List HeaderForm) (forms : List FunctionForm) (name arity : List ℕ) (at : ℕ) (o : Option ℕ) → function_number name arity (map head_of forms) ≡ o → is_some o ≡ true → HasNumber names name → instr_atoms (written_call names (slice_get (map (function_in names hs) forms) (unwrap_or o 0)) at) ≡ name ∷ []
 called_by names hs forms name arity at None is some held = absurd cc
 called_by names hs forms name arity at (Some k) is some held =
     let found = named_at forms name arity k is in
@@ -131,7 +128,7 @@ external_arity name function arity at h =
     (and_parts (is_atom_text function) (is_arity_text arity) second.0).1
 
 -- an instruction is written as one that names the same
-pub instr_like : (names : List (List ℕ)) (hs : List HeaderForm) (forms : List FunctionForm) (body : List LineForm) (i : InstrForm) → hs ≡ map header_of forms → IsGoodInstr names hs body i → IsInstrLike (written_instr names (map (function_in names hs) forms) (instr_in names hs body i)) i
+pub instr_like : (names : List (List ℕ)) (hs : List HeaderForm) (forms : List FunctionForm) (body : List LineForm) (i : InstrForm) → hs ≡ map head_of forms → IsGoodInstr names hs body i → IsInstrLike (written_instr names (map (function_in names hs) forms) (instr_in names hs body i)) i
 instr_like names hs forms body (move from to) are g = record { atoms = operand_again names from (record { sound = (and_parts (is_operand_form from) (is_number_text to) g.sound).0; narrow = g.narrow; held = g.held }); functions = refl }
 instr_like names hs forms body (add a b to) are g = record { atoms = two_again names a b (two_good names a b (is_number_text to) g.sound g.narrow g.held); functions = refl }
 instr_like names hs forms body (sub a b to) are g = record { atoms = two_again names a b (two_good names a b (is_number_text to) g.sound g.narrow g.held); functions = refl }

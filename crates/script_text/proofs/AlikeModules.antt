@@ -10,16 +10,17 @@ use Rattle.mod_text.specs.declared.fault.LineFault.TheVariants as faults
 use Rattle.mod_text.specs.Canonical.{label_text, written_instr, goes_to, labels_at, lines_from, function_lines, canonical}
 use Rattle.mod_text.specs.LineFaults.{is_open, may_follow, last_line, has_high_register, has_wide_integer, names_after}
 use Rattle.term_core.specs.Text.Numbers.{number_value}
+use Rattle.term_core.proofs.GrownTerms.{HasNumber}
 use Rattle.mod_text.specs.ModuleLine.{InstrForm, LineForm, title, header, label, instr, end, is_version_text, is_arity_text, is_line_form}
 use Rattle.mod_text.specs.ModuleText.{FollowOn, names_behind}
 use Rattle.mod_text.specs.ModuleValue.{FunctionForm, HeaderForm, body_of, functions_in, headers_in, instrs_in, instr_in, function_in, module_of, IsTitled, is_settled_line, unsettled_at, unsettled_below, earlier, first_unsettled, unsettled_line}
 use Rattle.mod_text.proofs.Keepings.{last_line-push}
+use Rattle.mod_text.proofs.ModuleSound.{head_of}
 use Rattle.script_text.proofs.CodeSteps.{have_held_in}
-use Rattle.script_text.proofs.HeldNames.{IsHeldText}
 use Rattle.script_text.proofs.ModuleNames.{HaveHeld, held_body}
 use Rattle.script_text.proofs.TextsBack.{atom_again, version_again, arity_again}
 use Rattle.script_text.proofs.Alike.{Alike, alike_same, alike_back, alike_then, alike_append, alike_label, alike_labels, alike_line}
-use Rattle.script_text.proofs.AlikeInstrs.{header_of, headers_are, IsGoodInstr, instr_like}
+use Rattle.script_text.proofs.AlikeInstrs.{headers_are, IsGoodInstr, instr_like}
 use Rattle.script_text.proofs.SoundnessTexts.{IsClosed, titled, held_behind, unmapped}
 
 -- ---- what the lines behind a title have
@@ -103,7 +104,7 @@ good_instrs names hs body (line ∷ lines) sound held none = good_instrs names h
 abbrev instr_lines : List InstrForm → List LineForm
 instr_lines is = map (λ i. instr i) is
 
-module _ (names : List (List ℕ)) (hs : List HeaderForm) (forms : List FunctionForm) (are : hs ≡ map header_of forms) where
+module _ (names : List (List ℕ)) (hs : List HeaderForm) (forms : List FunctionForm) (are : hs ≡ map head_of forms) where
   instr_alike : (body : List LineForm) (i : InstrForm) → IsGoodInstr names hs body i → Alike (instr (written_instr names (map (function_in names hs) forms) (instr_in names hs body i)) ∷ []) (instr i ∷ [])
   instr_alike body i g =
       let like = instr_like names hs forms body i are g in
@@ -126,7 +127,7 @@ module _ (names : List (List ℕ)) (hs : List HeaderForm) (forms : List Function
   abbrev to_end : List FunctionForm → List LineForm
   to_end fs = flat_map (function_lines names (map (function_in names hs) forms)) (map (function_in names hs) fs) ++ end ∷ []
 
-  header_alike : (exported : Bool) (name arity : List ℕ) → is_line_form (header exported name arity) ≡ true → IsHeldText names name → Alike (header exported (atom_text names (number_in names name)) (decimal (number_value arity)) ∷ []) (header exported name arity ∷ [])
+  header_alike : (exported : Bool) (name arity : List ℕ) → is_line_form (header exported name arity) ≡ true → HasNumber names name → Alike (header exported (atom_text names (number_in names name)) (decimal (number_value arity)) ∷ []) (header exported name arity ∷ [])
   header_alike exported name arity sound held =
       let n = atom_again names name held in
       let a = arity_again arity (and_parts (is_atom_text name) (is_arity_text arity) sound).1 in
@@ -159,7 +160,7 @@ module _ (names : List (List ℕ)) (hs : List HeaderForm) (forms : List Function
 
 -- ---- modules
 
-title_alike : (names : List (List ℕ)) (name version : List ℕ) → is_line_form (title name version) ≡ true → IsHeldText names name → Alike (title (atom_text names (number_in names name)) (decimal (number_value version)) ∷ []) (title name version ∷ [])
+title_alike : (names : List (List ℕ)) (name version : List ℕ) → is_line_form (title name version) ≡ true → HasNumber names name → Alike (title (atom_text names (number_in names name)) (decimal (number_value version)) ∷ []) (title name version ∷ [])
 title_alike names name version sound held =
     let n = atom_again names name held in
     let v = version_again version (and_parts (is_atom_text name) (is_version_text version) sound).1 in

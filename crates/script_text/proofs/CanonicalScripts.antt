@@ -24,7 +24,6 @@ use Rattle.script_text.specs.LineFaults.{last_of, or_else, lack_in_texts, is_lac
 use Rattle.script_text.specs.ScriptText.{IsShort, HaveNoFault, ScriptText}
 use Rattle.script_text.specs.ScriptValue.{commands_of, script_of}
 use Rattle.script_text.specs.Canonical.{IsOfSomeText, observer_form, code_form, block_form, canonical_text, script_line_bytes, is_long_line, IsTooLong, IsTooLongToPrint}
-use Rattle.script_text.proofs.Choices.{not_over}
 use Rattle.script_text.proofs.InOrder.{assemble, observer_lines, AreInOrder, in_order}
 use Rattle.script_text.proofs.Assembled.{block_lines_are, no_codes, code_lines-assemble, code_lines-front, block_lines-assemble, observers_of-assemble, count-assemble, each-assemble, each_of_others, each_of_blocks, last_of-assemble}
 use Rattle.script_text.proofs.Alike.{Alike, names-alike, functions-alike}
@@ -38,6 +37,7 @@ use Rattle.script_text.proofs.HeldModules.{held_modules}
 use Rattle.script_text.proofs.Soundness.{sound_of}
 use Rattle.script_text.proofs.SoundnessGroups.{gathered, each_weaker}
 use Rattle.term_core.proofs.Lists.{each_append}
+use Rattle.term_core.proofs.Truths.{test_not_lt}
 use Rattle.script_text.proofs.SoundnessRows.{all_narrow, IsNarrow}
 use Rattle.script_text.proofs.SoundnessNames.{names_sound, lines_held}
 use Rattle.script_text.proofs.SoundnessTexts.{AreClosed, texts_closed, none_first}
@@ -88,7 +88,7 @@ all_short : (forms : List ScriptLine) → list_any is_long_line (map script_line
 all_short [] none = tt
 all_short (line ∷ forms) none =
     let p = or_parts (is_long_line (script_line_written line)) (list_any is_long_line (map script_line_written forms)) none in
-    (not_over 4096 (length (script_line_written line)) p.0, all_short forms p.1)
+    (test_not_lt 4096 (length (script_line_written line)) p.0, all_short forms p.1)
 
 given_all : (titles : List RefForm) (number : ℕ) (forms : List ScriptLine) → AllByRecursion (λ line. is_lacking titles line ≡ false) forms → lack_in_loads titles number forms ≡ None
 given_all titles number [] h = refl

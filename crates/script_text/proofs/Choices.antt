@@ -7,9 +7,6 @@ use Rattle.term_core.proofs.Text.Options.{some_is, same_bytes}
 pub ok_is : {A E : Type 0} (x y : A) → ◌≡◌ {A = Result A E} (Ok x) (Ok y) → x ≡ y
 ok_is x y e = cc
 
-pub not_over : (most n : ℕ) → nat_lt most n ≡ false → n ≤ most
-not_over most n h = grind (arith, nat_tests)
-
 pub few : (n bound : ℕ) → n ≤ bound → nat_lt bound n ≡ false
 few n bound h = grind (arith, nat_tests)
 

@@ -6,6 +6,7 @@ use Rattle.term_core.specs.declared.atom.Mfa.{Mfa}
 use Rattle.term_core.specs.Names.{IsNames, Extends, is_atom_text, names_with}
 use Rattle.term_core.specs.TermText.{names_with_all}
 use Rattle.term_core.proofs.NameTables.{names_with-IsNames}
+use Rattle.term_core.proofs.GrownTerms.{HasNumber}
 use Rattle.mod_text.specs.ModuleLine.{LineForm, title}
 use Rattle.mod_text.specs.LineFaults.{has_high_register, has_wide_integer, has_long_term, line_atoms, names_after, overfills_names, is_seventeenth, ends_too_long, is_repeated, fault_of_line}
 use Rattle.mod_text.specs.ModuleValue.{IsTitled, title_of}
@@ -19,7 +20,7 @@ use Rattle.script_text.specs.ScriptLine.{RefForm, ScriptLine, code, IsLine}
 use Rattle.script_text.specs.Groups.{last_group}
 use Rattle.script_text.specs.LineFaults.{may_stand, is_given_again}
 use Rattle.script_text.proofs.Choices.{few, few_more}
-use Rattle.script_text.proofs.HeldNames.{IsHeldText, held_in, all_held_in}
+use Rattle.script_text.proofs.HeldNames.{held_in, all_held_in}
 use Rattle.script_text.proofs.ModuleNames.{AreHeld, HaveHeld}
 use Rattle.script_text.proofs.Summaries.{Summary, summary_with, table, fault_by}
 use Rattle.script_text.proofs.FaultTables.{with_counts, code_table, misplaced_table}
@@ -77,7 +78,7 @@ names_all-IsNames names (text ∷ texts) sound h room =
 pub at_after : (P : List (List ℕ) → Type 0) (names after : List (List ℕ)) → Extends names after → ((more : List (List ℕ)) → P (names ++ more)) → P after
 at_after P names after e h = subst P (sym e.whole) (h e.more)
 
-pub titles_held_in : (names after : List (List ℕ)) (titles : List RefForm) → Extends names after → AllByRecursion (λ t. IsHeldText names t.name) titles → AllByRecursion (λ (t : RefForm). IsHeldText after t.name) titles
+pub titles_held_in : (names after : List (List ℕ)) (titles : List RefForm) → Extends names after → AllByRecursion (λ t. HasNumber names t.name) titles → AllByRecursion (λ (t : RefForm). HasNumber after t.name) titles
 titles_held_in names after [] e h = tt
 titles_held_in names after (t ∷ ts) e h = (held_in names after t.name e h.0, titles_held_in names after ts e h.1)
 

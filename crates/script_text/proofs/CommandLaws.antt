@@ -3,7 +3,7 @@ use Rattle.std.proofs.Common.{◌≡◌, ℕ, ◌<◌, Bool, true, false, cond, 
 use Rattle.std.specs.Prelude.{map}
 use Rattle.std.specs.List.{list_all, flat_map, join_with_byte}
 use Rattle.std.proofs.lemmas.Bool.{and_parts, and_from}
-use Rattle.std.proofs.lemmas.Bool.Decides.{nat_tests, Decides-eqb}
+use Rattle.std.proofs.lemmas.Bool.Decides.{nat_tests}
 use Rattle.term_core.specs.Names.{is_atom_text}
 use Rattle.term_core.specs.PlainTerm.{row_of}
 use Rattle.term_core.specs.TermParts.{parts_of_terms, joined}
@@ -11,23 +11,20 @@ use Rattle.term_core.specs.Written.{WrittenTerm, written, parted, behind}
 use Rattle.term_core.proofs.PartedTerms.{joined_parts_of_terms, joined_written}
 use Rattle.term_core.proofs.TermBytes.{is_term_byte}
 use Rattle.term_core.proofs.TermForms.{is_term_text-form, nonempty-is_term_text}
-use Rattle.term_core.specs.Text.Numbers.{is_number_text}
 use Rattle.mod_text.specs.ModuleLine.{is_version_text}
 use Rattle.term_core.specs.Text.Steps.{◌>>=◌, tested}
 use Rattle.term_core.specs.Text.Parts.{cut_at, each_reading}
 use Rattle.term_core.proofs.Text.Options.{some, some_is, bind_some, bind_at, guard_some, passed, failed, tested_is, tested_at}
 use Rattle.term_core.proofs.Text.Cuts.{lacks, lacks-append, lacks-cons, cut_here, cut_is, atom_lacks, number_lacks}
-use Rattle.mod_text.proofs.LineAgain.{IsApart, space_apart}
+use Rattle.mod_text.proofs.LineAgain.{IsApart, space_apart, version_number}
 use Rattle.script_text.specs.ScriptLine.{RefForm, load, spawn, ref_written, call_written, is_ref_form, is_term_form, is_script_line, IsLine}
 use Rattle.script_text.specs.LineReading.{ref_reading, refs_reading, argument_reading, arguments_reading, CallForm, closed_arguments, call_reading}
 use Rattle.script_text.proofs.TermLines.{text_of_form, term_lacks, argument_again, argument_is}
 use Rattle.term_core.proofs.Text.Items.{IsItem, each_again, each_is, joined_again, joined_is, AreJoined, join-flat, all_pass, pass_all}
+use Rattle.term_core.proofs.Lists.{nothing}
 use Rattle.script_text.proofs.TermParts.{parts_of_written}
 
 -- ---- a version of a module
-
-version_number : (text : List ℕ) → is_version_text text ≡ true → is_number_text text ≡ true
-version_number text h = (and_parts (is_number_text text) _ h).0
 
 pub ref_again : (r : RefForm) → is_ref_form r ≡ true → ref_reading (ref_written r) ≡ Some r
 ref_again r h =
@@ -109,10 +106,6 @@ arguments_again (t ∷ ts) h =
     failed (length (parted (row_of (t ∷ ts))) == 0) (some []) _ long
     ∙ ap (each_reading argument_reading) (parts_of_written t ts h)
     ∙ each_again written argument_reading IsTermForm argument_again (t ∷ ts) (all_pass is_term_form (t ∷ ts) h)
-
-nothing : (text : List ℕ) → (length text == 0) ≡ true → text ≡ []
-nothing [] h = refl
-nothing (c ∷ rest) h = absurd (omega (arith, (Decides-eqb (length (c ∷ rest)) 0).0 h))
 
 arguments_cases : (text : List ℕ) (ts : List WrittenTerm) (b : Bool) → (length text == 0) ≡ b → cond b (Some []) (each_reading argument_reading (parts_of_terms text)) ≡ Some ts → (text ≡ parted (row_of ts)) × (list_all is_term_form ts ≡ true)
 arguments_cases text ts true is e = let none : [] ≡ ts = some_is [] ts e in subst (λ us. (text ≡ parted (row_of us)) × (list_all is_term_form us ≡ true)) none (nothing text is, refl)

@@ -11,6 +11,7 @@ use Rattle.term_core.proofs.PlainTerms.{plain-term_of}
 use Rattle.mod_text.specs.ModuleLine.{is_version_text, is_arity_text, is_function_form}
 use Rattle.mod_text.specs.ModuleValue.{atom_in}
 use Rattle.term_core.specs.Names.{is_atom_text}
+use Rattle.term_core.proofs.GrownTerms.{HasNumber}
 use Rattle.script_core.specs.declared.script.ScriptCmd.{ScriptCmd}
 use Rattle.script_text.specs.ScriptLine.{RefForm, AtomCommand, delete, ScriptLine, loader, load, on_atom, put, trace, spawn, is_ref_form, is_term_form, is_script_line}
 use Rattle.script_text.specs.Groups.{onto_last, groups_with, groups_of}
@@ -19,7 +20,6 @@ use Rattle.script_text.specs.LineFaults.{is_wide_term}
 use Rattle.script_text.specs.ScriptValue.{ref_in, argument_in, command_of, commands_on, commands_of}
 use Rattle.script_text.specs.Canonical.{ref_form, argument_form, command_line, block_form}
 use Rattle.script_text.proofs.GrownLines.{flat_map-snoc}
-use Rattle.script_text.proofs.HeldNames.{IsHeldText}
 use Rattle.script_text.proofs.ModuleNames.{AreHeld}
 use Rattle.script_text.proofs.TermNames.{narrow_fits, term_again}
 use Rattle.script_text.proofs.TextsBack.{atom_again, version_again, arity_again}
@@ -57,7 +57,7 @@ some_refs : (refs : List RefForm) → is_script_line (load refs) ≡ true → li
 some_refs [] h = absurd cc
 some_refs (r ∷ refs) h = h
 
-command_again : (names : List (List ℕ)) (command : AtomCommand) (name : List ℕ) → IsHeldText names name → command_line names (command_of command (atom_in names name)) ≡ on_atom command name
+command_again : (names : List (List ℕ)) (command : AtomCommand) (name : List ℕ) → HasNumber names name → command_line names (command_of command (atom_in names name)) ≡ on_atom command name
 command_again names delete name held = ap (on_atom delete) (atom_again names name held)
 command_again names command name held = ap (on_atom command) (atom_again names name held)
 

@@ -11,13 +11,15 @@ use Rattle.mod_text.specs.ModuleLine.{InstrForm, move, call_ext, LineForm, heade
 use Rattle.mod_text.specs.LineFaults.{line_atoms, called_name, counted_name}
 use Rattle.mod_text.specs.ModuleValue.{title_of}
 use Rattle.term_core.proofs.Text.Options.{failed}
+use Rattle.term_core.proofs.GrownTerms.{HasNumber}
+use Rattle.server_core.specs.Generations.{is_same_name}
 use Rattle.script_text.specs.declared.fault.Which.TheVariants as which
 use Rattle.script_text.specs.declared.reading.cause.LineCause.{LineCause}
 use Rattle.script_text.specs.declared.reading.cause.LineCause.TheVariants as causes
 use Rattle.script_text.specs.Counts.{FunctionForm, is_same_function, instr_functions, line_functions, functions_with}
-use Rattle.script_text.specs.Sets.{is_same_mfa, mfas_with, passes_functions}
+use Rattle.script_text.specs.Sets.{mfas_with, passes_functions}
 use Rattle.script_text.specs.Adding.{counted_added, passes_counted}
-use Rattle.script_text.proofs.HeldNames.{IsHeldText, held_in, number_in-more, same_number}
+use Rattle.script_text.proofs.HeldNames.{held_in, number_in-more, same_number}
 use Rattle.script_text.proofs.ModuleNames.{AreHeld}
 use Rattle.script_text.proofs.Holding.{function_in, IsFunctionHeld}
 
@@ -26,13 +28,13 @@ AreFunctionsHeld names fs = AllByRecursion (IsFunctionHeld names) fs
 
 -- ---- one function
 
-same_function : (names : List (List ℕ)) (f g : FunctionForm) → IsFunctionHeld names f → IsFunctionHeld names g → is_same_mfa (function_in names f) (function_in names g) ≡ is_same_function f g
+same_function : (names : List (List ℕ)) (f g : FunctionForm) → IsFunctionHeld names f → IsFunctionHeld names g → is_same_name (function_in names f) (function_in names g) ≡ is_same_function f g
 same_function names f g h k =
     let m = same_number names f.«module» g.«module» h.module_held k.module_held in
     let n = same_number names f.name g.name h.name_held k.name_held in
     λ i. m i && (n i && f.arity == g.arity)
 
-any_same : (names : List (List ℕ)) (f : FunctionForm) (fs : List FunctionForm) → IsFunctionHeld names f → AreFunctionsHeld names fs → list_any (is_same_mfa (function_in names f)) (map (function_in names) fs) ≡ list_any (is_same_function f) fs
+any_same : (names : List (List ℕ)) (f : FunctionForm) (fs : List FunctionForm) → IsFunctionHeld names f → AreFunctionsHeld names fs → list_any (is_same_name (function_in names f)) (map (function_in names) fs) ≡ list_any (is_same_function f) fs
 any_same names f [] h k = refl
 any_same names f (g ∷ gs) h k =
     let here = same_function names f g h k.0 in
@@ -162,7 +164,7 @@ line_counted names lines (header exported name arity) = header_counted names (ti
 line_counted names lines (instr i) = instr_counted names i
 line_counted names lines line = refl
 
-header_held : (names : List (List ℕ)) (home name : List ℕ) (arity : ℕ) (exported : Bool) → IsHeldText names home → IsHeldText names name → AreFunctionsHeld names (cond exported (record { «module» = home; name = name; arity = arity } ∷ []) [])
+header_held : (names : List (List ℕ)) (home name : List ℕ) (arity : ℕ) (exported : Bool) → HasNumber names home → HasNumber names name → AreFunctionsHeld names (cond exported (record { «module» = home; name = name; arity = arity } ∷ []) [])
 header_held names home name arity true h k = (record { module_held = h; name_held = k }, tt)
 header_held names home name arity false h k = tt
 
@@ -171,7 +173,7 @@ instr_held names (call_ext m name arity at) h = (record { module_held = h.0; nam
 instr_held names i h = tt
 
 -- the names of a line's function are held where its atoms and its module's name are
-pub line_held : (names : List (List ℕ)) (home : List ℕ) (line : LineForm) → IsHeldText names home → AreHeld names (line_atoms line) → AreFunctionsHeld names (line_functions home line)
+pub line_held : (names : List (List ℕ)) (home : List ℕ) (line : LineForm) → HasNumber names home → AreHeld names (line_atoms line) → AreFunctionsHeld names (line_functions home line)
 line_held names home (header exported name arity) h k = header_held names home name (number_value arity) exported h k.0
 line_held names home (instr i) h k = instr_held names i k
 line_held names home line h k = tt

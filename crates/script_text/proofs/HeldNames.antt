@@ -9,31 +9,27 @@ use Rattle.term_core.proofs.Places.{position-append_found, position-append_one}
 use Rattle.term_core.proofs.NameTables.{slice_get-number_of}
 use Rattle.term_core.proofs.GrownNames.{Extends-refl, Extends-trans, names_with-Extends}
 use Rattle.term_core.proofs.Text.Options.{some_is, same_bytes}
+use Rattle.term_core.proofs.GrownTerms.{HasNumber}
 
--- the table holds the text
-pub record IsHeldText (names : List (List ℕ)) (text : List ℕ) : Type 0 where
-  pub number : ℕ
-  pub is : number_of names text ≡ Some number
-
-pub held_more : (names more : List (List ℕ)) (text : List ℕ) → IsHeldText names text → IsHeldText (names ++ more) text
+pub held_more : (names more : List (List ℕ)) (text : List ℕ) → HasNumber names text → HasNumber (names ++ more) text
 held_more names more text h = record { number = h.number; is = position-append_found (bytes_eq text) names more h.number h.is }
 
-pub held_in : (names after : List (List ℕ)) (text : List ℕ) → Extends names after → IsHeldText names text → IsHeldText after text
-held_in names after text e h = subst (λ (ns : List (List ℕ)). IsHeldText ns text) (sym e.whole) (held_more names e.more text h)
+pub held_in : (names after : List (List ℕ)) (text : List ℕ) → Extends names after → HasNumber names text → HasNumber after text
+held_in names after text e h = subst (λ (ns : List (List ℕ)). HasNumber ns text) (sym e.whole) (held_more names e.more text h)
 
 -- and keeps its number
-pub number_in-more : (names more : List (List ℕ)) (text : List ℕ) → IsHeldText names text → number_in (names ++ more) text ≡ number_in names text
+pub number_in-more : (names more : List (List ℕ)) (text : List ℕ) → HasNumber names text → number_in (names ++ more) text ≡ number_in names text
 number_in-more names more text h = ap (λ (o : Option ℕ). unwrap_or o 0) (position-append_found (bytes_eq text) names more h.number h.is ∙ sym h.is)
 
-pub number_in-after : (names after : List (List ℕ)) (text : List ℕ) → Extends names after → IsHeldText names text → number_in after text ≡ number_in names text
+pub number_in-after : (names after : List (List ℕ)) (text : List ℕ) → Extends names after → HasNumber names text → number_in after text ≡ number_in names text
 number_in-after names after text e h = ap (λ (ns : List (List ℕ)). number_in ns text) e.whole ∙ number_in-more names e.more text h
 
-held_by : (names : List (List ℕ)) (text : List ℕ) (o : Option ℕ) → number_of names text ≡ o → IsHeldText (cond (is_some o) names (names ++ text ∷ [])) text
+held_by : (names : List (List ℕ)) (text : List ℕ) (o : Option ℕ) → number_of names text ≡ o → HasNumber (cond (is_some o) names (names ++ text ∷ [])) text
 held_by names text (Some n) e = record { number = n; is = e }
 held_by names text None e = record { number = length names; is = position-append_one (bytes_eq text) names text e (same_bytes text) }
 
 -- a text is held once it was named
-pub held_with : (names : List (List ℕ)) (text : List ℕ) → IsHeldText (names_with names text) text
+pub held_with : (names : List (List ℕ)) (text : List ℕ) → HasNumber (names_with names text) text
 held_with names text = held_by names text (number_of names text) refl
 
 pub Extends-all : (names texts : List (List ℕ)) → Extends names (names_with_all names texts)
@@ -41,18 +37,18 @@ Extends-all names [] = Extends-refl names
 Extends-all names (text ∷ texts) = Extends-trans names (names_with names text) _ (names_with-Extends names text) (Extends-all (names_with names text) texts)
 
 -- all texts are, once they were named
-pub held_all : (names texts : List (List ℕ)) → AllByRecursion (IsHeldText (names_with_all names texts)) texts
+pub held_all : (names texts : List (List ℕ)) → AllByRecursion (HasNumber (names_with_all names texts)) texts
 held_all names [] = tt
 held_all names (text ∷ texts) = (held_in (names_with names text) (names_with_all (names_with names text) texts) text (Extends-all (names_with names text) texts) (held_with names text), held_all (names_with names text) texts)
 
-pub all_held_in : (names after texts : List (List ℕ)) → Extends names after → AllByRecursion (IsHeldText names) texts → AllByRecursion (IsHeldText after) texts
+pub all_held_in : (names after texts : List (List ℕ)) → Extends names after → AllByRecursion (HasNumber names) texts → AllByRecursion (HasNumber after) texts
 all_held_in names after [] e h = tt
 all_held_in names after (text ∷ texts) e h = (held_in names after text e h.0, all_held_in names after texts e h.1)
 
-pub number_is : (names : List (List ℕ)) (text : List ℕ) (h : IsHeldText names text) → number_in names text ≡ h.number
+pub number_is : (names : List (List ℕ)) (text : List ℕ) (h : HasNumber names text) → number_in names text ≡ h.number
 number_is names text h = ap (λ (o : Option ℕ). unwrap_or o 0) h.is
 
-one_text : (names : List (List ℕ)) (t u : List ℕ) → IsHeldText names t → IsHeldText names u → number_in names t ≡ number_in names u → t ≡ u
+one_text : (names : List (List ℕ)) (t u : List ℕ) → HasNumber names t → HasNumber names u → number_in names t ≡ number_in names u → t ≡ u
 one_text names t u h k e =
     let same : h.number ≡ k.number = sym (number_is names t h) ∙ e ∙ number_is names u k in
     some_is t u (sym (slice_get-number_of names t h.number h.is) ∙ ap (slice_get names) same ∙ slice_get-number_of names u k.number k.is)
@@ -64,5 +60,5 @@ by_tests a b t u true false e f to from = let same = (bytes_eq-Decides t u).1 (t
 by_tests a b t u false true e f to from = let same = (Decides-eqb a b).1 (from ((bytes_eq-Decides t u).0 f)) in absurd cc
 
 -- two texts are one exactly where their numbers are
-pub same_number : (names : List (List ℕ)) (t u : List ℕ) → IsHeldText names t → IsHeldText names u → (number_in names t == number_in names u) ≡ bytes_eq t u
+pub same_number : (names : List (List ℕ)) (t u : List ℕ) → HasNumber names t → HasNumber names u → (number_in names t == number_in names u) ≡ bytes_eq t u
 same_number names t u h k = by_tests (number_in names t) (number_in names u) t u (number_in names t == number_in names u) (bytes_eq t u) refl refl (one_text names t u h k) (λ e. ap (number_in names) e)

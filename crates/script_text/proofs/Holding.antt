@@ -5,6 +5,7 @@ use Rattle.std.specs.List.{AllByRecursion}
 use Rattle.term_core.specs.declared.atom.Mfa.{Mfa}
 use Rattle.term_core.specs.Names.{IsNames, Extends}
 use Rattle.term_core.specs.Text.Numbers.{number_value}
+use Rattle.term_core.proofs.GrownTerms.{HasNumber}
 use Rattle.mod_text.specs.ModuleLine.{LineForm}
 use Rattle.mod_text.specs.LineFaults.{last_line, line_atoms}
 use Rattle.mod_text.specs.ModuleValue.{atom_in, title_of, IsTitled, module_of, unsettled_line}
@@ -16,7 +17,6 @@ use Rattle.script_text.specs.Counts.{FunctionForm}
 use Rattle.script_text.specs.ScriptValue.{ref_in, commands_of}
 use Rattle.script_text.specs.LineFaults.{may_stand_between, may_stand_behind, may_stand_observing, may_stand_loading, may_stand, or_else, lack_in_texts, is_lacking, lack_in_loads}
 use Rattle.script_text.specs.Reading.{is_text_end}
-use Rattle.script_text.proofs.HeldNames.{IsHeldText}
 use Rattle.script_text.proofs.Summaries.{Summary}
 
 -- lines as a text, unless there are none
@@ -34,8 +34,8 @@ abbrev pub function_in : List (List ℕ) → FunctionForm → Mfa
 function_in names f = record { «module» = atom_in names f.«module»; name = atom_in names f.name; arity = f.arity }
 
 pub record IsFunctionHeld (names : List (List ℕ)) (f : FunctionForm) : Type 0 where
-  pub module_held : IsHeldText names f.«module»
-  pub name_held : IsHeldText names f.name
+  pub module_held : HasNumber names f.«module»
+  pub name_held : HasNumber names f.name
 
 -- none of the lines is a load
 abbrev pub HasNoLoad : List ScriptLine → Type 0
@@ -63,8 +63,8 @@ pub record IsOpen (m : Summary) (r : ScriptReader) (closed : List (List LineForm
   pub counted : m.count ≡ 1 + (total closed + length r.lines)
   pub no_load : HasNoLoad m.lines
   pub home : m.home ≡ (title_of r.lines).0
-  pub home_held : IsHeldText m.names m.home
-  pub held : AllByRecursion (λ line. AllByRecursion (IsHeldText m.names) (line_atoms line)) r.lines
+  pub home_held : HasNumber m.names m.home
+  pub held : AllByRecursion (λ line. AllByRecursion (HasNumber m.names) (line_atoms line)) r.lines
 
 pub record IsWithin (m : Summary) (r : ScriptReader) (closed : List (List LineForm)) : Type 0 where
   pub is_open : IsOpen m r closed
@@ -100,7 +100,7 @@ pub record Knows (m : Summary) (r : ScriptReader) (closed : List (List LineForm)
   pub texts : m.texts ≡ closed ++ as_text r.lines
   pub modules : (more : List (List ℕ)) → lack_in_texts 2 closed ≡ None → r.modules ≡ map (module_of (m.names ++ more)) closed
   pub titles : (more : List (List ℕ)) → r.titles ≡ map (ref_in (m.names ++ more)) m.titles
-  pub titles_held : AllByRecursion (λ t. IsHeldText m.names t.name) m.titles
+  pub titles_held : AllByRecursion (λ t. HasNumber m.names t.name) m.titles
   pub functions : (more : List (List ℕ)) → r.functions ≡ map (function_in (m.names ++ more)) m.functions
   pub functions_held : AllByRecursion (IsFunctionHeld m.names) m.functions
   pub few_functions : length m.functions ≤ 1024

@@ -6,10 +6,11 @@ use Rattle.std.proofs.lemmas.Bool.Decides.{nat_tests}
 use Rattle.std.proofs.lemmas.List.{map-append, length-map}
 use Rattle.term_core.specs.declared.atom.Mfa.{Mfa}
 use Rattle.server_core.specs.declared.command.ModRef.{ModRef}
+use Rattle.server_core.specs.Generations.{is_same_name}
 use Rattle.term_core.proofs.Text.Options.{failed}
 use Rattle.script_text.specs.declared.reading.sets.FunctionKey.{FunctionKey}
 use Rattle.script_text.specs.declared.reading.sets.RefKey.{RefKey}
-use Rattle.script_text.specs.Sets.{mfa_of_key, ref_of_key, is_same_mfa, is_same_mod_ref, passes_functions, mfa_added, is_among, ref_added}
+use Rattle.script_text.specs.Sets.{mfa_of_key, ref_of_key, is_same_mod_ref, passes_functions, mfa_added, is_among, ref_added}
 
 pub any-map : {A B : Type 0} (f : A → Bool) (g : B → Bool) (h : A → B) → ((x : A) → f x ≡ g (h x)) → (xs : List A) → list_any f xs ≡ list_any g (map h xs)
 any-map f g h same [] = refl
@@ -25,8 +26,8 @@ is_function_key k x = k.«module» == x.«module» && (k.name == x.name && k.ari
 pub any-ref_keys : (k : RefKey) (ks : List RefKey) → list_any (λ x. k.name == x.name && k.version == x.version) ks ≡ list_any (is_same_mod_ref (ref_of_key k)) (map ref_of_key ks)
 any-ref_keys k ks = any-map (is_ref_key k) (is_same_mod_ref (ref_of_key k)) ref_of_key (λ x. refl) ks
 
-pub any-function_keys : (k : FunctionKey) (ks : List FunctionKey) → list_any (λ x. k.«module» == x.«module» && (k.name == x.name && k.arity == x.arity)) ks ≡ list_any (is_same_mfa (mfa_of_key k)) (map mfa_of_key ks)
-any-function_keys k ks = any-map (is_function_key k) (is_same_mfa (mfa_of_key k)) mfa_of_key (λ x. refl) ks
+pub any-function_keys : (k : FunctionKey) (ks : List FunctionKey) → list_any (λ x. k.«module» == x.«module» && (k.name == x.name && k.arity == x.arity)) ks ≡ list_any (is_same_name (mfa_of_key k)) (map mfa_of_key ks)
+any-function_keys k ks = any-map (is_function_key k) (is_same_name (mfa_of_key k)) mfa_of_key (λ x. refl) ks
 
 -- a key that is new stands behind the others
 pub ref_key_added : (k : RefKey) (ks new : List RefKey) → false ≡ is_among (map ref_of_key ks) (ref_of_key k) → new ≡ cond (list_any (λ x. k.name == x.name && k.version == x.version) ks) ks (ks ++ k ∷ []) → ref_added (map ref_of_key ks) (ref_of_key k) ≡ Ok (map ref_of_key new)
@@ -49,4 +50,4 @@ pub full_for : (k : FunctionKey) (ks : List FunctionKey) (len : ℕ) (t : Bool) 
 full_for k ks len t has is full =
     let many : 1024 ≤ length (map mfa_of_key ks) = omega (arith, length-map ks mfa_of_key, is) in
     let test : nat_le 1024 (length (map mfa_of_key ks)) ≡ true = grind (arith, nat_tests) in
-    ap not (has ∙ any-function_keys k ks) ∙ sym (ap (λ b. b && not (list_any (is_same_mfa (mfa_of_key k)) (map mfa_of_key ks))) test)
+    ap not (has ∙ any-function_keys k ks) ∙ sym (ap (λ b. b && not (list_any (is_same_name (mfa_of_key k)) (map mfa_of_key ks))) test)

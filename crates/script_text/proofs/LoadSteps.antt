@@ -14,6 +14,7 @@ use Rattle.mod_text.specs.ModuleValue.{module_of}
 use Rattle.term_core.proofs.Text.Cuts.{cut_is}
 use Rattle.mod_text.proofs.LineNames.{are_atoms}
 use Rattle.term_core.proofs.Text.Options.{some_is}
+use Rattle.term_core.proofs.GrownTerms.{HasNumber}
 use Rattle.server_core.specs.declared.command.ModRef.{ModRef}
 use Rattle.script_text.specs.declared.fault.Which.TheVariants as which
 use Rattle.script_text.specs.declared.fault.ScriptFault.TheVariants as faults
@@ -36,7 +37,7 @@ use Rattle.script_text.specs.Reading.{with_command, noted, load_step}
 use Rattle.script_text.proofs.CommandLaws.{refs_is, load_cut, spawn_cut}
 use Rattle.script_text.proofs.PutLaws.{no_put_text}
 use Rattle.script_text.proofs.NamedLaws.{no_atom_command, no_trace_text}
-use Rattle.script_text.proofs.HeldNames.{IsHeldText, held_all, Extends-all, number_in-more, same_number}
+use Rattle.script_text.proofs.HeldNames.{held_all, Extends-all, number_in-more, same_number}
 use Rattle.script_text.proofs.ModuleNames.{AreHeld}
 use Rattle.script_text.proofs.Namings.{or_full, refs_named-is}
 use Rattle.script_text.proofs.Summaries.{Summary, summary_with, table, fault_by}
@@ -49,19 +50,19 @@ use Rattle.script_text.proofs.BlockSteps.{no_command}
 
 -- ---- what is given
 
-same_ref : (names : List (List ℕ)) (r t : RefForm) → IsHeldText names r.name → IsHeldText names t.name → is_same_mod_ref (ref_in names r) (ref_in names t) ≡ is_same_ref r t
+same_ref : (names : List (List ℕ)) (r t : RefForm) → HasNumber names r.name → HasNumber names t.name → is_same_mod_ref (ref_in names r) (ref_in names t) ≡ is_same_ref r t
 same_ref names r t h k =
     let same = same_number names r.name t.name h k in
     λ i. same i && number_value r.version == number_value t.version
 
-pub among_is : (names : List (List ℕ)) (titles : List RefForm) (r : RefForm) → IsHeldText names r.name → AllByRecursion (λ (t : RefForm). IsHeldText names t.name) titles → is_among (map (ref_in names) titles) (ref_in names r) ≡ is_given titles r
+pub among_is : (names : List (List ℕ)) (titles : List RefForm) (r : RefForm) → HasNumber names r.name → AllByRecursion (λ (t : RefForm). HasNumber names t.name) titles → is_among (map (ref_in names) titles) (ref_in names r) ≡ is_given titles r
 among_is names [] r h k = refl
 among_is names (t ∷ titles) r h k =
     let here = same_ref names r t h k.0 in
     let rest = among_is names titles r h k.1 in
     λ i. here i || rest i
 
-all_among : (names : List (List ℕ)) (titles : List RefForm) → AllByRecursion (λ (t : RefForm). IsHeldText names t.name) titles → (refs : List RefForm) → AreHeld names (map (λ (r : RefForm). r.name) refs) → list_all (is_among (map (ref_in names) titles)) (map (ref_in names) refs) ≡ list_all (is_given titles) refs
+all_among : (names : List (List ℕ)) (titles : List RefForm) → AllByRecursion (λ (t : RefForm). HasNumber names t.name) titles → (refs : List RefForm) → AreHeld names (map (λ (r : RefForm). r.name) refs) → list_all (is_among (map (ref_in names) titles)) (map (ref_in names) refs) ≡ list_all (is_given titles) refs
 all_among names titles k [] h = refl
 all_among names titles k (r ∷ refs) h =
     let here = among_is names titles r h.0 k in

@@ -8,21 +8,22 @@ use Rattle.term_core.specs.Plain.{term_of}
 use Rattle.mod_core.specs.declared.code.Operand.TheVariants.{Const}
 use Rattle.mod_core.specs.declared.code.Instr.TheVariants.{Move, Add, Sub, Eq, Less, CallExt, Ret, Pget, PgetOr, Elem, Print}
 use Rattle.term_core.specs.Text.Numbers.{number_value}
+use Rattle.term_core.proofs.GrownTerms.{HasNumber}
 use Rattle.mod_text.specs.ModuleLine.{OperandForm, register, integer, atom, complex, InstrForm, move, add, sub, eq, less, call_ext, ret, pget, pget_or, elem, print, LineForm, title, header, label, instr}
 use Rattle.mod_text.specs.LineFaults.{operand_atoms, instr_atoms, line_atoms}
 use Rattle.mod_text.specs.ModuleValue.{body_of, functions_in, HeaderForm, headers_in, instrs_in, atom_in, operand_in, target_in, instr_in, function_in, title_of, IsTitled, module_of}
-use Rattle.script_text.proofs.HeldNames.{IsHeldText, number_in-more}
+use Rattle.script_text.proofs.HeldNames.{number_in-more}
 use Rattle.script_text.proofs.TermNames.{term_in-more}
 
 -- each text is held
 abbrev pub AreHeld : List (List ℕ) → List (List ℕ) → Type 0
-AreHeld names texts = AllByRecursion (IsHeldText names) texts
+AreHeld names texts = AllByRecursion (HasNumber names) texts
 
 -- each atom of the lines is
 abbrev pub HaveHeld : List (List ℕ) → List LineForm → Type 0
 HaveHeld names lines = AllByRecursion (λ line. AreHeld names (line_atoms line)) lines
 
-same_atom : (names more : List (List ℕ)) (text : List ℕ) → IsHeldText names text → atom_in (names ++ more) text ≡ atom_in names text
+same_atom : (names more : List (List ℕ)) (text : List ℕ) → HasNumber names text → atom_in (names ++ more) text ≡ atom_in names text
 same_atom names more text h = ap (λ (n : ℕ). let a : AtomId = record { 0 = n } in a) (number_in-more names more text h)
 
 pub held_first : (names xs ys : List (List ℕ)) → AreHeld names (xs ++ ys) → AreHeld names xs

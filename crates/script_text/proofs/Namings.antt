@@ -14,6 +14,7 @@ use Rattle.term_core.specs.TermText.{number_in, names_with_all}
 use Rattle.term_core.specs.Written.{WrittenTerm, written, integer_of, is_term_integer, is_integer_text}
 use Rattle.term_core.proofs.TermForms.{form_is}
 use Rattle.term_core.specs.Text.Numbers.{number_value}
+use Rattle.term_core.proofs.Truths.{test_not_lt}
 use Rattle.mod_text.specs.ModuleValue.{atom_in, mfa_in}
 use Rattle.mod_text.proofs.LineNames.{names_with_all-append, more_names_all}
 use Rattle.server_core.specs.declared.command.ModRef.{ModRef}
@@ -27,7 +28,6 @@ use Rattle.script_text.specs.LineFaults.{is_wide_term, is_long_term}
 use Rattle.script_text.specs.WrittenLine.{ref_words, trace_words, ArgumentWords, integer, complex, argument_words, put_words, call_words}
 use Rattle.script_text.specs.Causes.{◌>>=◌}
 use Rattle.script_text.specs.Naming.{atom_named, each_named, ref_named, refs_named, trace_named, argument_named, arguments_named, is_wide_word, is_long_word, key_named, put_named, target_named, call_named}
-use Rattle.script_text.proofs.Choices.{not_over}
 use Rattle.script_text.proofs.HeldNames.{held_with, held_all, Extends-all, number_in-after}
 use Rattle.script_text.proofs.TermLines.{text_of_form}
 use Rattle.script_text.proofs.TermNames.{term_after}
@@ -82,7 +82,7 @@ each_named-is step words atoms value ok n names (x ∷ xs) h room =
         let over : nat_lt 4096 (length (names_with_all (names_with_all names (atoms x)) (flat_map atoms xs))) ≡ true = over_stays (length (names_with_all names (atoms x))) _ (more_names_all (names_with_all names (atoms x)) (flat_map atoms xs)) e in
         sym (ap (λ t. all_named t (map (value (names_with_all (names_with_all names (atoms x)) (flat_map atoms xs))) (x ∷ xs)) (names_with_all (names_with_all names (atoms x)) (flat_map atoms xs))) over)
     by_room false e ok_x more =
-        let le : length (names_with_all names (atoms x)) ≤ 4096 = not_over 4096 (length (names_with_all names (atoms x))) e in
+        let le : length (names_with_all names (atoms x)) ≤ 4096 = test_not_lt 4096 (length (names_with_all names (atoms x))) e in
         ap (λ (r : Result _ LineCause). r >>= in_front (value (names_with_all names (atoms x)) x)) (more le)
         ∙ by_over (nat_lt 4096 (length (names_with_all (names_with_all names (atoms x)) (flat_map atoms xs)))) ok_x
 
@@ -257,7 +257,7 @@ target_named-is names c m_is f_is args_are room =
     by_name true e = sym (by_over (nat_lt 4096 (length (names_after_call names c))) (over_stays (length (names_with (names_with names c.«module») c.name)) _ (more_names_all (names_with (names_with names c.«module») c.name) (flat_map atoms_of c.args)) e))
     by_name false e =
         ap (λ (r : Result _ LineCause). r >>= with_target (number_in (names_with names c.«module») c.«module») (number_in (names_with (names_with names c.«module») c.name) c.name))
-        (arguments_named-is (names_with (names_with names c.«module») c.name) c.args args_are (not_over 4096 (length (names_with (names_with names c.«module») c.name)) e))
+        (arguments_named-is (names_with (names_with names c.«module») c.name) c.args args_are (test_not_lt 4096 (length (names_with (names_with names c.«module») c.name)) e))
         ∙ target_last names c.«module» c.name c.args (nat_lt 4096 (length (names_after_call names c)))
 
     by_module : (t : Bool) → nat_lt 4096 (length (names_with names c.«module»)) ≡ t → (numbered t names c.«module» >>= with_call c.name (map argument_words c.args)) ≡ call_or_full (names_after_call names c) c
@@ -359,7 +359,7 @@ key_named-is names p key_is narrow =
     by_key : (t : Bool) → nat_lt 4096 (length (names_with names p.key)) ≡ t → (numbered t names p.key >>= with_key (argument_words p.term)) ≡ put_or_full (names_after_put names p) p
     by_key true e = sym (by_over (nat_lt 4096 (length (names_after_put names p))) (over_stays (length (names_with names p.key)) _ (more_names_all (names_with names p.key) (atoms_of p.term)) e))
     by_key false e =
-        ap (λ (r : Result _ LineCause). r >>= with_value (number_in (names_with names p.key) p.key)) (argument_one (names_with names p.key) p.term narrow (not_over 4096 (length (names_with names p.key)) e))
+        ap (λ (r : Result _ LineCause). r >>= with_value (number_in (names_with names p.key) p.key)) (argument_one (names_with names p.key) p.term narrow (test_not_lt 4096 (length (names_with names p.key)) e))
         ∙ by_term (nat_lt 4096 (length (names_after_put names p)))
 
 -- a put is named, or has an integer that is too wide, or a term that is too long, or finds the table full

@@ -1,10 +1,8 @@
 -- How the text of a script is made of its parts, and whether a line of a text is too long.
-use Rattle.std.proofs.Common.{◌≡◌, ℕ, ◌≤◌, false, ◌||◌, List, [], ◌∷◌, ◌++◌, map, length, take, codes, decimal, Result, OnOk, Some, None, refl, sym, ap, ◌∙◌, arith, append_assoc}
-use Rattle.std.specs.Io.{StartsWith}
+use Rattle.std.proofs.Common.{◌≡◌, ℕ, ◌≤◌, false, ◌||◌, List, [], ◌∷◌, ◌++◌, map, length, take, codes, decimal, Result, OnOk, Some, None, refl, sym, ap, ◌∙◌, append_assoc}
 use Rattle.std.specs.List.{flat_map, list_any}
-use Rattle.std.proofs.Math.Seq.{take-append_seam, take-length}
 use Rattle.std.proofs.lemmas.Grind.{flat_map-append}
-use Rattle.std.proofs.lemmas.List.{length-take, take-take, take_all}
+use Rattle.std.proofs.lemmas.List.{take_all}
 use Rattle.std.proofs.lemmas.List.Folds.{flat_map-map}
 use Rattle.std.proofs.lemmas.Result.{IfOk-equal}
 use Rattle.term_core.specs.declared.term.Term.{Term}
@@ -24,20 +22,6 @@ use Rattle.script_text.specs.Canonical.{ref_form, argument_form, command_line, o
 use Rattle.script_text.proofs.LinesJoined.{codes_bytes, modules_written}
 
 -- ---- fronts
-
--- a text begins with itself
-pub starts_own : (a t b : List ℕ) → b ≡ a ++ t → StartsWith b a
-starts_own a t b e = rw e (take-append_seam a t)
-
--- what is as it was begins with what it was
-pub starts_same : (a b : List ℕ) → b ≡ a → StartsWith b a
-starts_same a b e = rw e (take-length a)
-
--- what begins with a text that begins with another
-pub starts_more : (a b c : List ℕ) → StartsWith b a → StartsWith c b → StartsWith c a
-starts_more a b c p q =
-    let n : length a ≤ length b = omega (arith, ap length p, length-take (length a) b) in
-    sym (take-take (length a) (length b) c n) ∙ ap (take (length a)) q ∙ p
 
 -- ---- parts
 

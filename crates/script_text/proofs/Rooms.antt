@@ -7,13 +7,13 @@ use Rattle.std.proofs.lemmas.Grind.{flat_map-append}
 use Rattle.std.proofs.lemmas.List.Sums.{fold-append, sum_by-append}
 use Rattle.term_core.specs.Names.{given_names}
 use Rattle.term_core.specs.TermText.{names_with_all}
+use Rattle.term_core.proofs.Truths.{test_not_lt}
 use Rattle.mod_text.specs.LineFaults.{is_seventeenth, ends_too_long, is_repeated}
 use Rattle.mod_text.proofs.LineNames.{names_with_all-append, more_names_all}
 use Rattle.script_text.specs.ScriptLine.{ScriptLine, is_script_line}
 use Rattle.script_text.specs.Counts.{script_line_atoms, names_of, FunctionForm, is_same_function, functions_named, functions_with, functions_of, titles_of, line_observers, observers_of, is_loader, is_spawn}
 use Rattle.script_text.specs.LineFaults.{may_stand, is_high, is_wide, is_long, of_code, is_given_again, last_of, last_text, line_fault}
 use Rattle.script_text.specs.ScriptText.{HaveNoFault}
-use Rattle.script_text.proofs.Choices.{not_over}
 use Rattle.script_text.proofs.GrownLines.{home_of}
 use Rattle.script_text.proofs.Summaries.{Summary, summary_with, table}
 use Rattle.script_text.proofs.SoundnessRows.{IsKept, kept}
@@ -40,11 +40,11 @@ within_kept : IsKept IsWithin
 within_kept = record {
   first = record { names = omega arith; functions = omega arith; processes = omega arith; loaders = omega arith; observers = omega arith };
   more = λ m line within sound p. record {
-    names = not_over 4096 (length (summary_with m line).names) p.room;
-    functions = not_over 1024 (length (summary_with m line).functions) p.exports;
-    processes = not_over 64 (summary_with m line).spawns p.processes;
-    loaders = not_over 8 (summary_with m line).loaders p.loaders;
-    observers = not_over 4 (length (summary_with m line).observers) p.observers;
+    names = test_not_lt 4096 (length (summary_with m line).names) p.room;
+    functions = test_not_lt 1024 (length (summary_with m line).functions) p.exports;
+    processes = test_not_lt 64 (summary_with m line).spawns p.processes;
+    loaders = test_not_lt 8 (summary_with m line).loaders p.loaders;
+    observers = test_not_lt 4 (length (summary_with m line).observers) p.observers;
   };
 }
 

@@ -17,11 +17,12 @@ use Rattle.term_core.proofs.NameTables.{slice_get-number_of}
 use Rattle.term_core.proofs.PlainTerms.{plain-term_of}
 use Rattle.mod_core.specs.declared.code.Module.{Module}
 use Rattle.term_core.specs.Text.Numbers.{number_value}
+use Rattle.term_core.proofs.Truths.{test_not_lt}
+use Rattle.term_core.proofs.GrownTerms.{HasNumber}
 use Rattle.mod_text.specs.ModuleLine.{LineForm, title, header, label, instr, end}
 use Rattle.mod_text.specs.ModuleValue.{atom_in, mfa_in, module_of}
 use Rattle.server_core.specs.CommandTable.{text_of}
 use Rattle.script_core.specs.declared.script.ScriptCmd.TheVariants.{Load, Put, Trace, Spawn}
-use Rattle.script_text.proofs.Choices.{not_over}
 use Rattle.script_text.proofs.Steps.{length-onto_last}
 use Rattle.script_text.specs.ScriptLine.{RefForm, AtomCommand, delete, ScriptLine, head, code, observer, loader, load, on_atom, put, trace, spawn, go, is_script_line}
 use Rattle.script_text.specs.Counts.{script_line_atoms, is_given, is_loader, is_spawn, block_lines, loader_blocks}
@@ -30,7 +31,7 @@ use Rattle.script_text.specs.ScriptText.{HaveNoFault}
 use Rattle.script_text.specs.ScriptValue.{ref_in, argument_in, command_of, commands_on, commands_of}
 use Rattle.script_core.specs.Sound.{IsTermOf, IsCmdOf}
 use Rattle.script_core.specs.Processes.{spawns_in}
-use Rattle.script_text.proofs.HeldNames.{IsHeldText, number_is}
+use Rattle.script_text.proofs.HeldNames.{number_is}
 use Rattle.script_text.proofs.ModuleNames.{AreHeld, held_first, held_second}
 use Rattle.script_text.proofs.TermNames.{narrow_fits}
 use Rattle.script_text.proofs.Summaries.{Summary, summary_of, summary_with, blocks_with}
@@ -48,7 +49,7 @@ pub record IsLineOf (names : List (List ℕ)) (titles : List RefForm) (line : Sc
   pub held : AreHeld names (script_line_atoms line)
   pub given : is_lacking titles line ≡ false
 
-held_below : (names : List (List ℕ)) (text : List ℕ) → IsHeldText names text → number_in names text < length names
+held_below : (names : List (List ℕ)) (text : List ℕ) → HasNumber names text → number_in names text < length names
 held_below names text h = let within = slice_get_within names h.number text (slice_get-number_of names text h.number h.is) in omega (arith, within, number_is names text h)
 
 mutual
@@ -66,7 +67,7 @@ mutual
 argument_is : (names : List (List ℕ)) (arg : WrittenTerm) → is_wide_term arg ≡ false → is_long_term arg ≡ false → AreHeld names (atoms_of arg) → IsTermOf names (argument_in names arg)
 argument_is names arg narrow brief held = record {
   leaves = held_leaves names arg (narrow_fits arg narrow) held;
-  short = let same = term_words-map integer_of (number_in names) arg in let few = not_over 64 (term_words arg) brief in omega (arith, same, few);
+  short = let same = term_words-map integer_of (number_in names) arg in let few = test_not_lt 64 (term_words arg) brief in omega (arith, same, few);
 }
 
 arguments_are : (names : List (List ℕ)) (args : List WrittenTerm) → list_any is_wide_term args ≡ false → list_any is_long_term args ≡ false → AllByRecursion (λ arg. AreHeld names (atoms_of arg)) args → AllByRecursion (λ arg. IsTermOf names (argument_in names arg)) args
@@ -89,7 +90,7 @@ some_refs names (r ∷ refs) h = omega arith
 at_most : (n : ℕ) → nat_le n 15 ≡ true → n ≤ 15
 at_most n h = grind (arith, nat_tests)
 
-named_is : (names : List (List ℕ)) (texts : List Module) (command : AtomCommand) (name : List ℕ) → IsHeldText names name → IsCmdOf names texts (command_of command (atom_in names name))
+named_is : (names : List (List ℕ)) (texts : List Module) (command : AtomCommand) (name : List ℕ) → HasNumber names name → IsCmdOf names texts (command_of command (atom_in names name))
 named_is names texts delete name held = held_below names name held
 named_is names texts command name held = held_below names name held
 
@@ -214,7 +215,7 @@ counted_kept = record {
   first = record { blocks = refl; some = tt; loaders = omega arith; processes = omega arith };
   more = λ m line c sound p.
       let next = counted_more m line c p in
-      record { blocks = next.0; some = next.1; loaders = not_over 8 (summary_with m line).loaders p.loaders; processes = not_over 64 (summary_with m line).spawns p.processes };
+      record { blocks = next.0; some = next.1; loaders = test_not_lt 8 (summary_with m line).loaders p.loaders; processes = test_not_lt 64 (summary_with m line).spawns p.processes };
 }
 
 counted : (lines : List ScriptLine) → AllByRecursion (λ line. IsTrue (is_script_line line)) lines → HaveNoFault [] lines → AreCounted (summary_of lines)

@@ -9,13 +9,14 @@ use Rattle.term_core.specs.TermText.{names_with_all}
 use Rattle.term_core.specs.Written.{WrittenTerm}
 use Rattle.term_core.proofs.NameTables.{given_names-IsNames, names_with-IsNames}
 use Rattle.term_core.specs.Text.Numbers.{is_number_text, number_value}
+use Rattle.term_core.proofs.Truths.{test_not_lt}
+use Rattle.term_core.proofs.GrownTerms.{HasNumber}
 use Rattle.mod_text.specs.ModuleLine.{is_arity_text, is_function_form}
 use Rattle.mod_text.proofs.LineNames.{are_atoms, line_atoms_are, more_names_all}
 use Rattle.script_text.specs.ScriptLine.{RefForm, ScriptLine, code, load, on_atom, put, trace, spawn, is_ref_form, is_term_form, is_script_line}
 use Rattle.script_text.specs.Counts.{script_line_atoms, names_of}
 use Rattle.script_text.specs.ScriptText.{HaveNoFault}
-use Rattle.script_text.proofs.Choices.{not_over}
-use Rattle.script_text.proofs.HeldNames.{IsHeldText, held_all}
+use Rattle.script_text.proofs.HeldNames.{held_all}
 use Rattle.script_text.proofs.ModuleNames.{AreHeld}
 use Rattle.script_text.proofs.TermNames.{term_atoms_are, terms_atoms_are, each_first}
 use Rattle.script_text.proofs.Summaries.{summary_with}
@@ -85,7 +86,7 @@ all_named names (text ∷ texts) sound atoms room =
 pub names_kept : IsKept (λ m. IsNames m.names)
 names_kept = record {
   first = given_names-IsNames;
-  more = λ m line sound is passed. all_named m.names (script_line_atoms line) sound (atoms_are line is) (not_over 4096 (length (summary_with m line).names) passed.room);
+  more = λ m line sound is passed. all_named m.names (script_line_atoms line) sound (atoms_are line is) (test_not_lt 4096 (length (summary_with m line).names) passed.room);
 }
 
 pub names_sound : (lines : List ScriptLine) → AllByRecursion (λ line. IsTrue (is_script_line line)) lines → HaveNoFault [] lines → IsNames (names_of lines)
@@ -99,7 +100,7 @@ each_of_parts P f (x ∷ xs) h = let p = each_first P (f x) (flat_map f xs) h in
 
 -- the atoms of each line
 pub lines_held : (lines : List ScriptLine) → AllByRecursion (λ line. AreHeld (names_of lines) (script_line_atoms line)) lines
-lines_held lines = each_of_parts (IsHeldText (names_of lines)) script_line_atoms lines (held_all given_names (flat_map script_line_atoms lines))
+lines_held lines = each_of_parts (HasNumber (names_of lines)) script_line_atoms lines (held_all given_names (flat_map script_line_atoms lines))
 
 pub arguments_held : (names : List (List ℕ)) (args : List WrittenTerm) → AreHeld names (flat_map atoms_of args) → AllByRecursion (λ arg. AreHeld names (atoms_of arg)) args
-arguments_held names args h = each_of_parts (IsHeldText names) atoms_of args h
+arguments_held names args h = each_of_parts (HasNumber names) atoms_of args h

@@ -15,13 +15,14 @@ use Rattle.mod_text.specs.ModuleValue.{title_of, IsTitled, module_of}
 use Rattle.mod_text.specs.ModuleText.{FollowOn, names_behind}
 use Rattle.mod_text.proofs.Keepings.{last_line-push}
 use Rattle.term_core.proofs.Text.Options.{some_is, bytes_are}
+use Rattle.term_core.proofs.GrownTerms.{HasNumber}
 use Rattle.server_core.specs.CommandTable.{text_of}
 use Rattle.script_text.specs.ScriptLine.{RefForm, ScriptLine, code, is_script_line}
 use Rattle.script_text.specs.Counts.{code_lines, is_title, module_texts, line_titles, titles_of, is_same_ref, is_given}
 use Rattle.script_text.specs.LineFaults.{of_code, is_given_again}
 use Rattle.script_text.specs.ScriptText.{HaveNoFault}
 use Rattle.script_text.specs.ScriptValue.{ref_in}
-use Rattle.script_text.proofs.HeldNames.{IsHeldText, held_in, same_number}
+use Rattle.script_text.proofs.HeldNames.{held_in, same_number}
 use Rattle.script_text.proofs.ModuleNames.{HaveHeld}
 use Rattle.script_text.proofs.Summaries.{titles_with}
 use Rattle.script_text.proofs.SoundnessGroups.{gathered}
@@ -93,15 +94,15 @@ titles_apart lines sound none = kept (λ m. AreApart m.titles) titles_kept lines
 -- ---- no two modules agree
 
 -- the name of a text's module is held
-title_held : (names : List (List ℕ)) (text : List LineForm) → IsClosed names text → IsHeldText names (title_of text).0
+title_held : (names : List (List ℕ)) (text : List LineForm) → IsClosed names text → HasNumber names (title_of text).0
 title_held names text c = by_line text (titled c.before text end c.follow c.closed) (held_behind c.before text) c.among
   where
-    by_line : (lines : List LineForm) → IsTitled lines → HaveHeld (names_behind c.before lines) lines → Extends (names_behind c.before lines) names → IsHeldText names (title_of lines).0
+    by_line : (lines : List LineForm) → IsTitled lines → HaveHeld (names_behind c.before lines) lines → Extends (names_behind c.before lines) names → HasNumber names (title_of lines).0
     by_line (title name version ∷ lines) t held among = held_in (names_behind c.before (title name version ∷ lines)) names name among held.0.0
     by_line lines t held among = absurd t
 
 -- titles of one name and version are the same
-same_title : (names : List (List ℕ)) (r s : RefForm) → IsHeldText names r.name → IsHeldText names s.name → number_in names r.name ≡ number_in names s.name → number_value r.version ≡ number_value s.version → is_same_ref s r ≡ true
+same_title : (names : List (List ℕ)) (r s : RefForm) → HasNumber names r.name → HasNumber names s.name → number_in names r.name ≡ number_in names s.name → number_value r.version ≡ number_value s.version → is_same_ref s r ≡ true
 same_title names r s h k name version =
     and_from (bytes_eq s.name r.name) (number_value s.version == number_value r.version)
     (sym (same_number names s.name r.name k h) ∙ (Decides-eqb (number_in names s.name) (number_in names r.name)).1 (sym name))
@@ -111,7 +112,7 @@ same_title names r s h k name version =
 abbrev Agree : Module → Module → Type 0
 Agree m n = (m.name ≡ n.name) × (m.version ≡ n.version)
 
-apart_from : (names : List (List ℕ)) (text : List LineForm) (texts : List (List LineForm)) (j : ℕ) (n : Module) → IsHeldText names (title_of text).0 → AreClosed names texts → AllByRecursion (λ s. is_same_ref s (title_ref text) ≡ false) (map title_ref texts) → slice_get (map (module_of names) texts) j ≡ Some n → Agree (module_of names text) n → ⊥
+apart_from : (names : List (List ℕ)) (text : List LineForm) (texts : List (List LineForm)) (j : ℕ) (n : Module) → HasNumber names (title_of text).0 → AreClosed names texts → AllByRecursion (λ s. is_same_ref s (title_ref text) ≡ false) (map title_ref texts) → slice_get (map (module_of names) texts) j ≡ Some n → Agree (module_of names text) n → ⊥
 apart_from names text [] j n held closed apart at agree = absurd cc
 apart_from names text (t ∷ texts) zero n held closed apart at agree =
     let is : module_of names t ≡ n = some_is (module_of names t) n at in

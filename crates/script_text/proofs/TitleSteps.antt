@@ -18,6 +18,7 @@ use Rattle.term_core.proofs.Text.Cuts.{cut_here, cut_is}
 use Rattle.mod_text.proofs.LineAgain.{text_again}
 use Rattle.mod_text.proofs.LineNames.{line_atoms_are}
 use Rattle.term_core.proofs.Text.Options.{guarded, bytes_are}
+use Rattle.term_core.proofs.GrownTerms.{HasNumber}
 use Rattle.server_core.specs.declared.command.ModRef.{ModRef}
 use Rattle.script_text.specs.declared.fault.Which.TheVariants as which
 use Rattle.script_text.specs.declared.reading.cause.LineCause.{LineCause}
@@ -35,7 +36,7 @@ use Rattle.script_text.specs.Causes.{◌>>=◌}
 use Rattle.script_text.specs.Sets.{is_among, ref_added}
 use Rattle.script_text.specs.Reading.{by_code, title_step}
 use Rattle.script_text.proofs.CommandLaws.{ref_again, ref_is}
-use Rattle.script_text.proofs.HeldNames.{IsHeldText, held_all, Extends-all, number_in-more, number_is}
+use Rattle.script_text.proofs.HeldNames.{held_all, Extends-all, number_in-more, number_is}
 use Rattle.script_text.proofs.Summaries.{Summary, summary_with, fault_by}
 use Rattle.script_text.proofs.FaultTables.{with_counts}
 use Rattle.script_text.proofs.Holding.{as_text, function_in, IsOpen, IsBetween, Knows, grown, no_load_more}
@@ -113,7 +114,7 @@ knows_title m r closed t number k b sound =
       count = more_lines m (code (title_line t)) k.count;
     }
   where
-    held_snoc : (names : List (List ℕ)) (titles : List RefForm) → AllByRecursion (λ (t : RefForm). IsHeldText names t.name) titles → IsHeldText names t.name → AllByRecursion (λ (t : RefForm). IsHeldText names t.name) (titles ++ t ∷ [])
+    held_snoc : (names : List (List ℕ)) (titles : List RefForm) → AllByRecursion (λ (t : RefForm). HasNumber names t.name) titles → HasNumber names t.name → AllByRecursion (λ (t : RefForm). HasNumber names t.name) (titles ++ t ∷ [])
     held_snoc names [] h one = (one, tt)
     held_snoc names (u ∷ us) h one = (h.0, held_snoc names us h.1 one)
 
@@ -178,7 +179,7 @@ judges_form m r closed text number t k b n is =
     ext : Extends m.names after
     ext = Extends-all m.names (t.name ∷ [])
 
-    held : IsHeldText after t.name
+    held : HasNumber after t.name
     held = (held_all m.names (t.name ∷ [])).0
 
     named : or_syntax (number_of after t.name) ≡ Ok (number_in after t.name)

@@ -14,6 +14,7 @@ use Rattle.mod_text.specs.LineFaults.{last_line, may_follow, line_atoms, names_a
 use Rattle.mod_text.specs.ModuleValue.{headers_in, is_header, IsTitled, module_of}
 use Rattle.mod_text.specs.Reading.{judged, kept}
 use Rattle.term_core.proofs.Text.Options.{some_is, passed, failed, bytes_are}
+use Rattle.term_core.proofs.GrownTerms.{HasNumber}
 use Rattle.mod_text.proofs.LineLaws.{line_is}
 use Rattle.mod_text.proofs.LineAgain.{text_again}
 use Rattle.mod_text.proofs.LineNames.{line_atoms_are}
@@ -33,7 +34,7 @@ use Rattle.script_text.specs.Causes.{◌>>=◌}
 use Rattle.script_text.specs.Adding.{counted_added, passes_counted}
 use Rattle.script_text.specs.Reading.{is_text_end, text_closed, counted_step, repeat_cause, line_added, within_step}
 use Rattle.script_text.proofs.GroupLaws.{onto_last-snoc}
-use Rattle.script_text.proofs.HeldNames.{IsHeldText, held_in, held_all, Extends-all}
+use Rattle.script_text.proofs.HeldNames.{held_in, held_all, Extends-all}
 use Rattle.script_text.proofs.ModuleNames.{AreHeld, HaveHeld}
 use Rattle.script_text.proofs.Summaries.{Summary, summary_with, table, fault_by}
 use Rattle.script_text.proofs.FaultTables.{own_fault, with_counts}
@@ -73,12 +74,12 @@ inner last line e = record { titles = refl; starts = refl; home = λ n. refl; ag
 
 -- ---- a line given again
 
-held_header : (names : List (List ℕ)) (name arity : List ℕ) (lines : List LineForm) → HaveHeld names lines → list_any (is_header name arity) (headers_in lines) ≡ true → IsHeldText names name
+held_header : (names : List (List ℕ)) (name arity : List ℕ) (lines : List LineForm) → HaveHeld names lines → list_any (is_header name arity) (headers_in lines) ≡ true → HasNumber names name
 held_header names name arity [] h e = absurd cc
 held_header names name arity (header x n a ∷ lines) h e = held_by (is_header name arity (n, a)) refl e (held_header names name arity lines h.1)
   where
-    held_by : (t : Bool) → is_header name arity (n, a) ≡ t → (t || list_any (is_header name arity) (headers_in lines)) ≡ true → (list_any (is_header name arity) (headers_in lines) ≡ true → IsHeldText names name) → IsHeldText names name
-    held_by true here some behind = subst (IsHeldText names) (bytes_are n name (and_parts (bytes_eq n name) (bytes_eq a arity) here).0) h.0.0
+    held_by : (t : Bool) → is_header name arity (n, a) ≡ t → (t || list_any (is_header name arity) (headers_in lines)) ≡ true → (list_any (is_header name arity) (headers_in lines) ≡ true → HasNumber names name) → HasNumber names name
+    held_by true here some behind = subst (HasNumber names) (bytes_are n name (and_parts (bytes_eq n name) (bytes_eq a arity) here).0) h.0.0
     held_by false here some behind = behind some
 held_header names name arity (line ∷ lines) h e = held_header names name arity lines h.1 e
 
@@ -109,7 +110,7 @@ knows_line m r closed line fs k titled i sound same held few =
       texts = texts;
       modules = λ more none. grown (λ (ns : List (List ℕ)). r.modules ≡ map (module_of ns) closed) m.names after ext (λ more. k.modules more none) more;
       titles = λ more. grown (λ (ns : List (List ℕ)). r.titles ≡ map (ref_in ns) m.titles) m.names after ext k.titles more ∙ sym (ap (map (ref_in (after ++ more))) titles);
-      titles_held = subst (AllByRecursion (λ (t : RefForm). IsHeldText after t.name)) (sym titles) (titles_held_in m.names after m.titles ext k.titles_held);
+      titles_held = subst (AllByRecursion (λ (t : RefForm). HasNumber after t.name)) (sym titles) (titles_held_in m.names after m.titles ext k.titles_held);
       functions = λ more. same ∙ sym (functions_more after more (summary_with m (code line)).functions held);
       functions_held = held;
       few_functions = few;
@@ -138,7 +139,7 @@ open_line m r closed line fs o i =
       counted = let len : length (r.lines ++ line ∷ []) ≡ length r.lines + 1 = simp length-append in omega (arith, o.counted, len);
       no_load = no_load_more m.lines (code line) (λ titles. refl) o.no_load;
       home = home ∙ o.home ∙ sym (ap (λ p. p.0) (title_of-more r.lines line o.titled));
-      home_held = subst (IsHeldText after) (sym home) (held_in m.names after m.home ext o.home_held);
+      home_held = subst (HasNumber after) (sym home) (held_in m.names after m.home ext o.home_held);
       held = have_held_snoc after r.lines line (have_held_in m.names after r.lines ext o.held) (held_all m.names (line_atoms line));
     }
 

@@ -3,6 +3,7 @@ use Rattle.std.specs.Prelude.{◌==◌, ◌&&◌, not, nat_le, Bool, List, [], �
 use Rattle.std.specs.List.{list_any}
 use Rattle.term_core.specs.declared.atom.Mfa.{Mfa}
 use Rattle.server_core.specs.declared.command.ModRef.{ModRef}
+use Rattle.server_core.specs.Generations.{is_same_name}
 use Rattle.script_core.specs.declared.script.TheConstants.{MOST_FUNCTION_NAMES}
 use Rattle.script_text.specs.declared.fault.Which.TheVariants as which
 use Rattle.script_text.specs.declared.reading.cause.LineCause.{LineCause}
@@ -16,19 +17,16 @@ mfa_of_key k = record { «module» = record { 0 = k.«module» }; name = record 
 abbrev pub ref_of_key : RefKey → ModRef
 ref_of_key k = record { name = record { 0 = k.name }; version = k.version }
 
-abbrev pub is_same_mfa : Mfa → Mfa → Bool
-is_same_mfa f g = f.«module».0 == g.«module».0 && (f.name.0 == g.name.0 && f.arity == g.arity)
-
 abbrev pub is_same_mod_ref : ModRef → ModRef → Bool
 is_same_mod_ref r s = r.name.0 == s.name.0 && r.version == s.version
 
 -- a function that is new stands behind those before it
 abbrev pub mfas_with : List Mfa → Mfa → List Mfa
-mfas_with fs f = if list_any (is_same_mfa f) fs then fs else fs ++ f ∷ []
+mfas_with fs f = if list_any (is_same_name f) fs then fs else fs ++ f ∷ []
 
 -- whether one function more is too many: it is new, and there are 1,024 others
 abbrev pub passes_functions : List Mfa → Mfa → Bool
-passes_functions fs f = nat_le MOST_FUNCTION_NAMES (length fs) && not (list_any (is_same_mfa f) fs)
+passes_functions fs f = nat_le MOST_FUNCTION_NAMES (length fs) && not (list_any (is_same_name f) fs)
 
 -- the functions with one more, where they are few enough
 abbrev pub mfa_added : List Mfa → Mfa → Result (List Mfa) LineCause

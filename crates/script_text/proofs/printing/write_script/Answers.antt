@@ -1,5 +1,6 @@
 use Rattle.std.proofs.Common.{◌++◌, ◌∙◌, ℕ, ap, subst, sym, All, List}
 use Rattle.std.specs.List.{flat_map}
+use Rattle.term_core.proofs.Text.Starts.{starts_own, starts_more}
 use Rattle.mod_core.specs.declared.code.Module.{Module}
 use Rattle.mod_text.specs.Canonical.{canonical}
 use Rattle.mod_core.specs.HeldNames.{IsModuleHeld}
@@ -8,7 +9,7 @@ use Rattle.mod_text.specs.ModuleLine.{lines_written}
 use Rattle.script_core.specs.declared.script.ScriptCmd.{ScriptCmd}
 use Rattle.script_text.specs.Canonical.{observer_bytes, block_bytes}
 use Rattle.script_text.proofs.CanonicalScripts.{modules_sound, modules_held}
-use Rattle.script_text.proofs.PrintedText.{starts_own, starts_more, script_at}
+use Rattle.script_text.proofs.PrintedText.{script_at}
 use Rattle.script_text.proofs.printing.write_script.Goals as goal
 
 -- the modules are modules
