@@ -1,11 +1,12 @@
 -- Two sides of a cut, each read: what is read of them, and back.
-use Rattle.std.proofs.Common.{◌≡◌, ℕ, Bool, true, false, cond, ◌==◌, not, List, [], ◌∷◌, ◌++◌, length, Option, Some, None, bytes_eq, refl, sym, ap, ◌∙◌, subst, arith}
+use Rattle.std.proofs.Common.{◌≡◌, ℕ, Bool, true, false, cond, ◌==◌, not, List, [], ◌∷◌, ◌++◌, length, Option, Some, None, bytes_eq, refl, sym, ap, ◌∙◌, subst}
 use Rattle.std.proofs.lemmas.Bool.{and_parts, not-true}
 use Rattle.std.proofs.lemmas.Bool.Decides.{Decides-eqb}
 use Rattle.term_core.specs.Text.Steps.{◌>>=◌}
 use Rattle.term_core.specs.Text.Cuts.{with_first}
 use Rattle.term_core.proofs.Text.Options.{some, some_is, bind_some, bind_at, passed, failed, bytes_are}
 use Rattle.term_core.proofs.Text.Cuts.{lacks}
+use Rattle.term_core.proofs.Lists.{nothing}
 use Rattle.report_text.specs.WordReading.{cut_or, cut_last}
 use Rattle.report_text.specs.TermReading.{ended_reading}
 
@@ -69,10 +70,6 @@ cut_last_is byte [] x h = absurd cc
 cut_last_is byte (b ∷ bs) x h = cut_last_step byte b bs (cut_last byte bs) x (cut_last_is byte bs) (b == byte) refl h
 
 -- ---- a text that nothing follows
-
-pub nothing : (text : List ℕ) → (length text == 0) ≡ true → text ≡ []
-nothing [] h = refl
-nothing (c ∷ rest) h = absurd (omega (arith, (Decides-eqb (length (c ∷ rest)) 0).0 h))
 
 pub record IsEnded {A : Type 0} (read : List ℕ → Option A) (sides : List ℕ × List ℕ) (a : A) : Type 0 where
   pub none : sides.1 ≡ []

@@ -24,9 +24,10 @@ use Rattle.term_core.specs.Text.Words.{narrow_reading, number_reading}
 use Rattle.report_text.specs.WordReading.{atom_reading}
 use Rattle.report_text.specs.TermReading.{ended_reading}
 use Rattle.report_text.specs.ReplyReading.{linger_reading, limit_reading, atoms_reading, closed_atoms, not_purged_reading, false_reading, duplicated_reading, system_limit_reading, worded_reply, longer_reply, reply_reading, published_reading, agreed}
-use Rattle.report_text.proofs.Pairs.{two_at, two_is, ended_is, by_word, nothing}
+use Rattle.report_text.proofs.Pairs.{two_at, two_is, ended_is, by_word}
 use Rattle.report_text.proofs.WordLaws.{atom_again, atom_is, atom_is_text, named_lacks, narrow_again, narrow_is, narrow_wide, number_again, number_is, decimal_lacks}
 use Rattle.term_core.proofs.Text.Items.{IsItem, joined_again, joined_is, joined_lacks}
+use Rattle.term_core.proofs.Lists.{nothing}
 use Rattle.report_text.proofs.CommandLaws.{bare}
 
 -- the text is that of this reply

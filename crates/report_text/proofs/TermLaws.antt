@@ -1,5 +1,5 @@
 -- Terms, functions and calls of a report's line: what is read has this text, and what has this text is read.
-use Rattle.std.proofs.Common.{◌≡◌, ℕ, ◌<◌, ◌≤◌, true, false, ◌==◌, not, nat_le, List, [], ◌∷◌, ◌++◌, length, decimal, Option, Some, None, is_some, unwrap_or, slice_get, bytes_eq, refl, sym, ap, ◌∙◌, subst, arith, append_assoc, append-nil, length-take, IsSome}
+use Rattle.std.proofs.Common.{◌≡◌, ℕ, ◌<◌, ◌≤◌, true, false, ◌==◌, not, nat_le, List, [], ◌∷◌, ◌++◌, length, decimal, Option, Some, None, unwrap_or, slice_get, bytes_eq, refl, sym, ap, ◌∙◌, subst, arith, append_assoc, append-nil, length-take, IsSome}
 use Rattle.std.specs.Prelude.{map}
 use Rattle.std.specs.List.{AllByRecursion, join_with_byte, list_all}
 use Rattle.std.proofs.lemmas.Bool.{and_parts, and_from, not-true}
@@ -23,7 +23,7 @@ use Rattle.term_core.proofs.Ranges.{fits_of_none}
 use Rattle.term_core.proofs.TermBytes.{is_term_byte, term_bytes-term_text}
 use Rattle.term_core.proofs.TermForms.{printed_is, tree_is, nonempty-is_term_text}
 use Rattle.term_core.proofs.TokenLaws.{terms_of-row_of}
-use Rattle.term_core.proofs.Truths.{is_some_at}
+use Rattle.term_core.proofs.Truths.{is_some_at, none_by}
 use Rattle.term_core.proofs.WrittenTokens.{RowHasLeafTexts}
 use Rattle.term_core.specs.Text.Cuts.{cut_at}
 use Rattle.term_core.proofs.Text.Options.{some, some_is, bind_some, bind_at, guard_some, guarded, passed, same_bytes, bytes_are}
@@ -96,10 +96,6 @@ number_within : (names : List (List ℕ)) (text : List ℕ) (o : Option ℕ) →
 number_within names text None sound e = some_names names sound
 number_within names text (Some n) sound e = slice_get_within names n text (slice_get-number_of names text n e)
 
-no_some : (o : Option ℕ) → is_some o ≡ false → o ≡ None
-no_some None h = refl
-no_some (Some n) h = absurd cc
-
 few_words : (n : ℕ) → nat_le n 64 ≡ true → n ≤ 64
 few_words n h = grind (arith, nat_tests)
 
@@ -109,7 +105,7 @@ read_is_term names text sound h =
     let p = and_parts (is_term_text text) _ h in
     let q = and_parts (not (is_wide_text text)) (nat_le (text_words text) 64) p.1 in
     let form = tree_is text p.0 in
-    let fits : IntegersFit (tree_of text) = fits_of_none (tree_of text) (no_some (outside_of (tree_of text)) (sym form.wide ∙ not-true (is_wide_text text) q.0)) in
+    let fits : IntegersFit (tree_of text) = fits_of_none (tree_of text) (none_by (outside_of (tree_of text)) (sym form.wide ∙ not-true (is_wide_text text) q.0)) in
     let leaves = EachLeaf-weaker (λ t. IsTermInteger (integer_of t)) (λ t. IsTermInteger (integer_of t)) (λ _. Unit {0}) (λ t. number_in names t < length names) (λ t k. k) (λ t k. number_within names t (number_of names t) sound refl) (tree_of text) fits in
     let read : IsTermOf names (map_leaves integer_of (number_in names) (tree_of text)) = record {
       leaves = EachLeaf-map IsTermInteger (λ atom. atom < length names) integer_of (number_in names) (tree_of text) leaves;

@@ -16,6 +16,7 @@ use Rattle.term_core.proofs.Text.Cuts.{lacks, atom_lacks, number_lacks}
 use Rattle.run_log.specs.WellFormed.{IsWide, IsNarrow, IsNamed}
 use Rattle.term_core.specs.Text.Words.{number_reading, narrow_reading}
 use Rattle.term_core.proofs.Text.Words.{decimal_again}
+use Rattle.term_core.proofs.Truths.{test_lt, passes_lt}
 use Rattle.report_text.specs.WordReading.{number_passing, version_reading, arity_reading, atom_numbered, atom_reading}
 
 -- ---- atoms
@@ -52,12 +53,6 @@ pub record IsNumberOf (text : List ℕ) (n : ℕ) : Type 0 where
   pub text_is : text ≡ decimal n
   pub wide : IsWide n
 
-below_at : (n limit : ℕ) → n < limit → nat_lt n limit ≡ true
-below_at n limit h = grind (arith, nat_tests)
-
-below_is : (n limit : ℕ) → nat_lt n limit ≡ true → n < limit
-below_is n limit h = grind (arith, nat_tests)
-
 -- a number's text that is read below a limit
 abbrev below_reading : ℕ → List ℕ → Option ℕ
 below_reading limit text = cond (is_number_text text) (cond (nat_lt (number_value text) limit) (Some (number_value text)) None) None
@@ -67,7 +62,7 @@ below_again limit n h wide =
     let w = decimal-writes n wide in
     passed (is_number_text (decimal n)) _ None w.form
     ∙ ap (λ (k : ℕ). cond (nat_lt k limit) (some k) None) w.value
-    ∙ passed (nat_lt n limit) (some n) None (below_at n limit h)
+    ∙ passed (nat_lt n limit) (some n) None (passes_lt n limit h)
 
 record IsBelow (limit : ℕ) (text : List ℕ) (n : ℕ) : Type 0 where
   text_is : text ≡ decimal n
@@ -77,7 +72,7 @@ below_of : (limit : ℕ) (text : List ℕ) (n : ℕ) → limit ≤ 2 ^ 64 → be
 below_of limit text n wide e =
     let form = guarded (is_number_text text) (cond (nat_lt (number_value text) limit) (Some (number_value text)) None) n e in
     let small = guard_some (nat_lt (number_value text) limit) (number_value text) n form.1 in
-    let below = below_is (number_value text) limit small.0 in
+    let below = test_lt (number_value text) limit small.0 in
     subst (IsBelow limit text) small.1 (record { text_is = sym (decimal_again text form.0 (omega (arith, below, wide))); below = below })
 
 -- the text of a number is read as it

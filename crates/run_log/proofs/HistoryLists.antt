@@ -31,11 +31,6 @@ any_alike f g (x ∷ xs) (y ∷ ys) many alike =
     let rest : list_any f xs ≡ list_any g ys = any_alike f g xs ys (omega (arith, many)) (λ k. alike (suc k)) in
     λ i. first i || rest i
 
--- a test of a list that was made from another
-pub any_map : {X Y : Type 0} (f : Y → Bool) (g : X → Y) (xs : List X) → list_any f (map g xs) ≡ list_any (λ x. f (g x)) xs
-any_map f g [] = refl
-any_map f g (x ∷ xs) = ap (λ b. f (g x) || b) (any_map f g xs)
-
 -- a value that was made from another
 pub mapped_some : {X Y : Type 0} (g : X → Y) (o : Option X) (y : Y) → option_map g o ≡ Some y → (x : X) × ((o ≡ Some x) × (g x ≡ y))
 mapped_some g None y h = absurd (none-some y h)

@@ -1,5 +1,5 @@
 -- How a journal grows by an entry: the states of its generations stay, and the state after it is that of the newest but for what was released since.
-use Rattle.std.proofs.Common.{◌≡◌, ℕ, zero, suc, ◌+◌, ◌<◌, ◌≤◌, ◌==◌, Bool, true, false, cond, List, [], ◌∷◌, ◌++◌, length, length-append, Option, Some, is_some, ◌&&◌, if◌then◌else◌, refl, sym, ap, subst, ◌∙◌, arith}
+use Rattle.std.proofs.Common.{◌≡◌, ℕ, zero, suc, ◌+◌, ◌<◌, ◌≤◌, ◌==◌, Bool, true, false, cond, List, [], ◌∷◌, ◌++◌, length, length-append, Option, Some, ◌&&◌, if◌then◌else◌, refl, sym, ap, subst, ◌∙◌, arith}
 use Rattle.std.proofs.lemmas.Bool.{cond_both, cond-true, cond-false, eqb-true, eqb-false, eq-eqb}
 use Rattle.std.proofs.lemmas.List.{append-nil}
 use Rattle.std.proofs.lemmas.Grind.{flat_map-append}
@@ -11,6 +11,7 @@ use Rattle.server_core.specs.declared.command.Cmd.{Cmd}
 use Rattle.server_core.specs.declared.command.Cmd.TheVariants.{Load}
 use Rattle.server_core.specs.ServerState.{ServerState}
 use Rattle.server_core.specs.CommandTable.{Outcome, apply_of}
+use Rattle.server_core.proofs.KeyEntries.{counted as count_of}
 use Rattle.run_log.specs.declared.logs.Entry.{Entry}
 use Rattle.run_log.specs.Journal.{state_after, next_state, newest_state, state_at, publishes, published_count, is_of, ends_one, ends_command, entries_of, published_before}
 use Rattle.run_log.specs.Legal.{EntryFollows, MayStand, PurgesGo, Replays, commands_in, ended_by, half_after, is_release, is_runtime}
@@ -68,9 +69,6 @@ newest_more texts s (x ∷ journal) e = newest_more texts (next_state texts s x.
 pub replays_more : (texts : List Module) (s : ServerState) (journal : List Entry) (e : Entry) → Replays texts s journal → EntryFollows texts (newest_state texts s journal) e → Replays texts s (journal ++ e ∷ [])
 replays_more texts s [] e r f = (f, tt)
 replays_more texts s (x ∷ journal) e r f = (r.0, replays_more texts (next_state texts s x.cmd) journal e r.1 f)
-
-abbrev count_of : Option ℕ → ℕ
-count_of published = if is_some published then 1 else 0
 
 -- how many generations the entries publish, the first one apart
 pub count-cons : (e : Entry) (journal : List Entry) → published_count (e ∷ journal) ≡ publishes e + published_count journal
