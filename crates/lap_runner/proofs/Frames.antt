@@ -4,6 +4,7 @@ use Rattle.std.proofs.lemmas.List.Folds.{list_any-append}
 use Rattle.std.proofs.lemmas.List.Sorted.{IsPermutation-reverse, list_any-IsPermutation}
 use Rattle.std.specs.List.{flat_map, list_any}
 use Rattle.std.proofs.Math.Bool.{or-false}
+use Rattle.term_core.proofs.Lists.{any_map}
 use Rattle.machine_core.specs.declared.process.Frame.{Frame}
 use Rattle.machine_core.specs.declared.process.Process.{Process}
 use Rattle.machine_core.specs.declared.process.Value.{Value}
@@ -12,7 +13,6 @@ use Rattle.machine_core.specs.Holds.{is_among}
 use Rattle.machine_core.specs.Process.{PlainFrame, Words, frame_of, frames_of, literal_serials, names_of, process_of, register_serials, value_serials, value_shown, values_shown}
 use Rattle.machine_core.proofs.SerialLists.{among-serials_of}
 use Rattle.lap_runner.specs.Looks.{has_literal_of, is_literal_of, names_area, stands_in, unread}
-use Rattle.run_log.proofs.HistoryLists.{any_map}
 
 -- tests that agree give the same answer
 pub any_same : {X : Type 0} (f g : X → Bool) (xs : List X) → ((x : X) → f x ≡ g x) → list_any f xs ≡ list_any g xs

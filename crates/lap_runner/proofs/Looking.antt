@@ -3,6 +3,7 @@ use Rattle.std.proofs.Common.{◌≡◌, ◌||◌, ℕ, zero, suc, Bool, true, f
 use Rattle.std.proofs.lemmas.Option.{none-some, same_Some}
 use Rattle.std.specs.List.{list_any}
 use Rattle.term_core.specs.declared.atom.AtomId.{AtomId}
+use Rattle.term_core.proofs.Lists.{any_map}
 use Rattle.server_core.specs.declared.command.Cmd.{Cmd}
 use Rattle.server_core.specs.declared.command.Cmd.TheVariants as cmds
 use Rattle.server_core.specs.declared.command.Linger.{Linger}
@@ -24,7 +25,7 @@ use Rattle.lap_runner.specs.Looks.{lingering, lingering_in, names_area, some_nam
 use Rattle.lap_runner.specs.Runs.{IsRun, StandsIn, fin_in, histories_of, history_of}
 use Rattle.lap_runner.specs.Steps.{HasJoined, stand_in}
 use Rattle.run_log.proofs.History.{linger_joins, purge_joins, release_joins, silent_joins, soft_purge_joins}
-use Rattle.run_log.proofs.HistoryLists.{any_map, each_map}
+use Rattle.run_log.proofs.HistoryLists.{each_map}
 use Rattle.lap_runner.proofs.Frames.{any_same, names_unread, stands_unread}
 use Rattle.lap_runner.proofs.Joining.{applied_at, generations_counted, history_at, line_for, next_newest, stands_at}
 use Rattle.lap_runner.proofs.Nexts.{HasPurgeLook, Looked}

@@ -1,8 +1,8 @@
 -- After a lap in which nothing was done no work is left.
-use Rattle.std.proofs.Common.{◌≡◌, ◌||◌, ℕ, suc, Bool, true, false, List, [], ◌∷◌, length, slice_get, Some, None, IsSome, IsTrue, refl, sym, ap, subst, ◌∙◌, arith}
+use Rattle.std.proofs.Common.{◌≡◌, ◌||◌, ℕ, true, false, List, [], ◌∷◌, length, slice_get, Some, None, IsSome, IsTrue, refl, sym, ap, subst, ◌∙◌, arith}
 use Rattle.std.proofs.lemmas.Bool.{eq-eqb, false≢true}
 use Rattle.std.proofs.lemmas.Option.{slice_get_within}
-use Rattle.std.specs.List.{list_any}
+use Rattle.term_core.proofs.Lists.{none_passes}
 use Rattle.server_core.specs.ServerState.{ServerState, empty_state, is_serial_in}
 use Rattle.machine_core.specs.Holds.{is_area_held}
 use Rattle.machine_core.specs.Process.{frame_names}
@@ -22,11 +22,6 @@ use Rattle.lap_runner.specs.Steps.{LapOf, stand_in}
 use Rattle.lap_runner.proofs.Frames.{names_unread}
 use Rattle.lap_runner.proofs.Joining.{frames_over, line_for, stands_at}
 use Rattle.run_log.proofs.ListPlaces.{get_within}
-
--- where each fails, none passes
-none_passes : {X : Type 0} (f : X → Bool) (xs : List X) → ((k : ℕ) (x : X) → slice_get xs k ≡ Some x → f x ≡ false) → list_any f xs ≡ false
-none_passes f [] h = refl
-none_passes f (x ∷ xs) h = ap (λ b. b || list_any f xs) (h 0 x refl) ∙ none_passes f xs (λ k y e. h (suc k) y e)
 
 -- a process that rests names nothing
 names_none : (journal : List Entry) (states : ℕ → ServerState) (newest : ServerState) (done number : ℕ) (line : SpawnLine) (p : ProcessRun) (phase : Phase) → StandsIn journal states newest done number line p phase
