@@ -1,22 +1,18 @@
 -- The words of a table as the code stores them one by one.
-use Rattle.std.proofs.Common.{◌≡◌, ℕ, zero, suc, ◌+◌, ◌<◌, ◌≤◌, List, replicate, set, get_or, get_or-set_other, get_or-set_same, length-set, refl, sym, ap, subst, ◌∙◌, arith}
+use Rattle.std.proofs.Common.{◌≡◌, ℕ, ◌+◌, ◌<◌, ◌≤◌, List, replicate, set, get_or-set_other, get_or-set_same, length-set, sym, ap, subst, ◌∙◌, arith}
 use mathlib.Core.Logic.{dite}
 use native.Mathlib.Decide.{ℕ_discrete}
 use Rattle.std.specs.Prelude.{slice_index}
 use Rattle.std.proofs.lemmas.List.{length-replicate}
+use Rattle.term_core.proofs.Lists.{zeros}
 use Rattle.prgr_core.specs.declared.member.TheConstants.{WAITING, OPENING_COUNTER, OPENING_WORD, MOST_MEMBERS}
 use Rattle.area_core.specs.declared.map.TheConstants.{TABLE_WORDS}
 use Rattle.shared_words.specs.declared.table.TheConstants.{ROOT, COUNTER, LEAD, DELAYS, CONFIRMED}
 use Rattle.shared_words.specs.Making.{AreBegunTo}
 
-zero_get : (n k : ℕ) → ◌≡◌ {A = ℕ} (get_or (replicate n 0) k 0) 0
-zero_get zero k = refl
-zero_get (suc n) zero = refl
-zero_get (suc n) (suc k) = zero_get n k
-
 -- a word of zeros behind a store of the counter
 zero_else : (n k : ℕ) → (k ≡ COUNTER → ⊥) → slice_index (set (replicate n 0) COUNTER OPENING_COUNTER) k ≡ 0
-zero_else n k other = get_or-set_other (replicate n 0) COUNTER k OPENING_COUNTER 0 other ∙ zero_get n k
+zero_else n k other = get_or-set_other (replicate n 0) COUNTER k OPENING_COUNTER 0 other ∙ zeros n k
 
 -- zeros with the opening counter
 begun_zeros : (members n : ℕ) → n ≡ TABLE_WORDS → AreBegunTo members 0 (set (replicate n 0) COUNTER OPENING_COUNTER)
