@@ -2,7 +2,6 @@
 
 use prgr_core::*;
 use std::alloc::Global;
-use std::test::Fail;
 
 /// What becomes of the text of an event list.
 #[derive(Clone, Copy, Debug, PartialEq, Eq)]

@@ -3,7 +3,6 @@
 mod steps;
 
 use area_core::*;
-use std::test::Fail;
 use steps::*;
 
 #[test]

@@ -4,7 +4,6 @@ ghost use Rattle.std.specs.Prelude.{◌≤◌};
 
 use prgr_core::*;
 use std::alloc::Global;
-use std::test::Fail;
 
 /// What becomes of a list of events.
 #[derive(Clone, Copy, Debug, PartialEq, Eq)]

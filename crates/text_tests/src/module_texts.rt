@@ -1,4 +1,4 @@
-use mod_core::{Instr, Module, Operand};
+use mod_core::{Instr, Operand};
 use mod_text::*;
 use std::alloc::AllocGlobal;
 use std::process::Abort;
