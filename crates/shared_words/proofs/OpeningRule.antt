@@ -14,7 +14,6 @@ use Rattle.prgr_core.specs.Step as starting
 use Rattle.prgr_core.proofs.Parts.{slice_get-push_at}
 use Rattle.prgr_core.proofs.Opening.{opening_sound}
 use Rattle.term_core.specs.declared.generation.Generation.{Generation}
-use Rattle.term_core.proofs.Lists.{none_dropped}
 use Rattle.area_core.specs.declared.map.TheConstants.{SLOTS_START}
 use Rattle.area_core.specs.declared.table.Published.{Published}
 use Rattle.area_core.specs.Generations.{has_serial}
@@ -91,6 +90,10 @@ unfolding watchers_begun
 watched_length zero = refl
 watched_length (suc n) = let before = watched_length n in omega (arith, length-append (watchers_begun n) (watcher_begun n ∷ []))
 
+drop_none : {A : Type 0} (n : ℕ) → drop {A = A} n [] ≡ []
+drop_none zero = refl
+drop_none (suc n) = refl
+
 last_get : {A : Type 0} (xs : List A) (x : A) → slice_get (xs ++ x ∷ []) (length xs) ≡ Some x
 last_get [] x = refl
 last_get (y ∷ ys) x = last_get ys x
@@ -148,7 +151,7 @@ only x p (suc g) at = absurd (cc)
 pub rule_begins : (Served : Generation → Type 0) (about : Opening) (words : List ℕ) → about.members ≤ MOST_MEMBERS → about.watchers ≤ MOST_WATCHERS → Served empty_generation → AreBegun about.members words → RunningRule Served about (opening words [] (opening_view about.members about.watchers))
 rule_begins Served about words few few_watchers served begun =
     let w : WriterView = writer_begun about.members about.watchers in
-    let watched = ap (watchers_shown (watchers_begun about.watchers)) (none_dropped (length (members_begun about.members))) ∙ watchers_opened about.watchers in
+    let watched = ap (watchers_shown (watchers_begun about.watchers)) (drop_none (length (members_begun about.members))) ∙ watchers_opened about.watchers in
     record {
       writer = w;
       seats = [];
