@@ -21,7 +21,7 @@ use Rattle.term_core.specs.Text.Parts.{parts_of, each_reading}
 use Rattle.term_core.specs.Text.Words.{switch_word, switch_reading}
 use Rattle.term_core.proofs.Text.Words.{switch_is, switch_again}
 use Rattle.script_core.specs.Sound.{IsTermOf}
-use Rattle.run_log.specs.Report.{mfa_text, plain_text, call_text, reference_text, cmd_text}
+use Rattle.run_log.specs.Report.{mfa_text, plain_text, call_text, reference_text, switch_text, cmd_text}
 use Rattle.run_log.specs.WellFormed.{IsNamed, IsReferenceOf, IsCommandOf}
 use Rattle.term_core.specs.Text.Words.{number_reading}
 use Rattle.report_text.specs.WordReading.{atom_reading, version_reading}
@@ -111,12 +111,16 @@ put_is names sound text c e =
       bare_is = refl;
     })
 
+same_switch : (on : Bool) → switch_word on ≡ switch_text on
+same_switch true = refl
+same_switch false = refl
+
 trace_is : (names : List (List ℕ)) → IsNames names → (text : List ℕ) (c : Cmd) → trace_reading names text ≡ Some c → IsCommandText names (codes "trace " ++ text) c
 trace_is names sound text c e =
     let t = two_is (cut_at 32 text) (function_reading names) switch_reading (λ (to : Mfa) (on : Bool). Trace to on) c e in
     let f = function_is names sound t.cut.0 t.a t.front_is in
-    let s = switch_is t.cut.1 t.b t.behind_is in
-    let whole : text ≡ mfa_text names t.a ++ 32 ∷ switch_word t.b = (cut_is 32 text t.cut t.sides_are).whole ∙ ap (λ (x : List ℕ). x ++ 32 ∷ t.cut.1) f.text_is ∙ ap (λ (x : List ℕ). mfa_text names t.a ++ 32 ∷ x) s in
+    let s = switch_is t.cut.1 t.b t.behind_is ∙ same_switch t.b in
+    let whole : text ≡ mfa_text names t.a ++ 32 ∷ switch_text t.b = (cut_is 32 text t.cut t.sides_are).whole ∙ ap (λ (x : List ℕ). x ++ 32 ∷ t.cut.1) f.text_is ∙ ap (λ (x : List ℕ). mfa_text names t.a ++ 32 ∷ x) s in
     subst (IsCommandText names (codes "trace " ++ text)) t.made_is (record { text_is = ap (λ (x : List ℕ). codes "trace " ++ x) whole; fits = f.fits; bare_is = refl })
 
 spawn_is : (names : List (List ℕ)) → IsNames names → (text : List ℕ) (c : Cmd) → spawn_reading names text ≡ Some c → IsCommandText names (codes "spawn " ++ text) c
@@ -189,11 +193,11 @@ put_again names sound key term h =
 
 trace_again : (names : List (List ℕ)) → IsNames names → (to : Mfa) (on : Bool) → IsCommandOf names (Trace to on) → command_reading names (cmd_text names (Trace to on)) ≡ Some (Trace to on)
 trace_again names sound to on h =
-    ap (λ (x : List ℕ). command_reading names x) (append_assoc (codes "trace ") (mfa_text names to) (32 ∷ switch_word on))
-    ∙ two_at (cut_at 32 (mfa_text names to ++ 32 ∷ switch_word on)) (function_reading names) switch_reading (λ (f : Mfa) (b : Bool). Trace f b) (mfa_text names to, switch_word on) to on
-    (cut_here 32 (mfa_text names to) (switch_word on) (function_lacks 32 names to sound refl refl refl h))
+    ap (λ (x : List ℕ). command_reading names x) (append_assoc (codes "trace ") (mfa_text names to) (32 ∷ switch_text on))
+    ∙ two_at (cut_at 32 (mfa_text names to ++ 32 ∷ switch_text on)) (function_reading names) switch_reading (λ (f : Mfa) (b : Bool). Trace f b) (mfa_text names to, switch_text on) to on
+    (cut_here 32 (mfa_text names to) (switch_text on) (function_lacks 32 names to sound refl refl refl h))
     (function_again names to sound h)
-    (switch_again on)
+    (ap switch_reading (sym (same_switch on)) ∙ switch_again on)
 
 name_again : (names : List (List ℕ)) → IsNames names → (word : List ℕ) (made : AtomId → Cmd) (a : AtomId) → IsNamed names a → (atom_reading names (atom_text names a.0) >>= λ b. Some (made b)) ≡ Some (made a)
 name_again names sound word made a h = bind_at (atom_reading names (atom_text names a.0)) (λ b. Some (made b)) a (some (made a)) (atom_again names a sound h) refl

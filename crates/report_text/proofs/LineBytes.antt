@@ -24,9 +24,8 @@ use Rattle.machine_core.specs.declared.process.End.TheVariants as ends
 use Rattle.run_log.specs.declared.logs.Who.{Who}
 use Rattle.run_log.specs.declared.logs.Who.TheVariants.{Loader, Runtime}
 use Rattle.term_core.proofs.TermBytes.{name_bytes-atom as name_bytes}
-use Rattle.term_core.specs.Text.Words.{switch_word}
 use Rattle.script_core.specs.Sound.{IsTermOf}
-use Rattle.run_log.specs.Report.{mfa_text, plain_text, call_text, who_text, reference_text, cmd_text, reply_text, end_text}
+use Rattle.run_log.specs.Report.{mfa_text, plain_text, call_text, who_text, reference_text, switch_text, cmd_text, reply_text, end_text}
 use Rattle.run_log.specs.WellFormed.{IsWide, IsNamed, IsFunctionOf, IsCallOf, IsReferenceOf, IsCommandOf, IsReplyOf, IsWhoOf, IsLineOf, IsEndOf}
 use Rattle.report_text.specs.ReportLine.{shown_line_text}
 use Rattle.report_text.proofs.WordLaws.{atom_is_text, narrow_wide}
@@ -95,7 +94,7 @@ references_plain : (names : List (List ℕ)) → IsNames names → (refs : List 
 references_plain names sound [] h = (record { all = refl })
 references_plain names sound (r ∷ rs) h = both (32 ∷ reference_text names r) _ (one_more 32 _ refl (reference_plain names sound r h.0)) (references_plain names sound rs h.1)
 
-switch_plain : (on : Bool) → IsPlainText (switch_word on)
+switch_plain : (on : Bool) → IsPlainText (switch_text on)
 switch_plain true = (record { all = refl })
 switch_plain false = (record { all = refl })
 

@@ -1,7 +1,8 @@
 -- How the text of a list grows by one more, and what a text begins with.
-use Rattle.std.proofs.Common.{◌≡◌, ℕ, ◌+◌, ◌<◌, List, [], ◌∷◌, ◌++◌, map, length, take, get_or, Result, Ok, Err, OnOk, OnErr, refl, sym, ap, ◌∙◌, arith, append_assoc}
+use Rattle.std.proofs.Common.{◌≡◌, ℕ, ◌+◌, ◌<◌, ◌≤◌, List, [], ◌∷◌, ◌++◌, map, length, take, get_or, Result, Ok, Err, OnOk, OnErr, refl, sym, ap, ◌∙◌, arith, append_assoc}
 use Rattle.std.proofs.lemmas.Grind.{common_steps}
-use Rattle.std.proofs.lemmas.List.{length-take, take_more}
+use Rattle.std.proofs.Math.Seq.{take-append_seam, take-length}
+use Rattle.std.proofs.lemmas.List.{length-take, take-take, take_more}
 use Rattle.std.proofs.lemmas.List.Folds.{flat_map-map}
 use Rattle.std.proofs.lemmas.Result.{IfOk-equal}
 use Rattle.std.specs.Io.{StartsWith}
@@ -10,15 +11,28 @@ use Rattle.term_core.specs.declared.term.Term.{Term}
 use Rattle.term_core.specs.Plain.{plain}
 use Rattle.term_core.specs.PlainTerm.{PlainTerm}
 use Rattle.term_core.specs.TermText.{term_text}
-use Rattle.term_core.proofs.Text.Starts.{starts_own, starts_same}
 use Rattle.run_log.specs.declared.logs.ProcessLog.{ProcessLog}
 use Rattle.run_log.specs.declared.logs.Snapshot.{Snapshot}
 use Rattle.run_log.specs.Report.{observer_text, observers_text, plain_text, process_text, processes_text}
+
+-- a text begins with itself
+pub starts_own : (a t b : List ℕ) → b ≡ a ++ t → StartsWith b a
+starts_own a t b e = rw e (take-append_seam a t)
+
+-- what is as it was begins with what it was
+pub starts_same : (a b : List ℕ) → b ≡ a → StartsWith b a
+starts_same a b e = rw e (take-length a)
 
 -- what a call appended, or left as it was, begins with what it was
 pub starts_either : {T E : Type 0} (r : Result T E) (a t b : List ℕ) → OnOk r (b ≡ a ++ t) → OnErr r (b ≡ a) → StartsWith b a
 starts_either (Ok x) a t b p q = starts_own a t b p
 starts_either (Err e) a t b p q = starts_same a b q
+
+-- what begins with a text that begins with another
+pub starts_more : (a b c : List ℕ) → StartsWith b a → StartsWith c b → StartsWith c a
+starts_more a b c p q =
+    let n : length a ≤ length b = omega (arith, ap length p, length-take (length a) b) in
+    sym (take-take (length a) (length b) c n) ∙ ap (take (length a)) q ∙ p
 
 -- three parts, one after the other
 pub three_parts : {T E : Type 0} (r : Result T E) (o a b c x y z : List ℕ) → a ≡ o ++ x → b ≡ a ++ y → OnOk r (c ≡ b ++ z) → OnOk r (c ≡ o ++ (x ++ y ++ z))

@@ -1,13 +1,12 @@
 -- The text of a report: what a run did, line by line. Names are those of the script.
 -- Source: this project's report text. The definition gives the whole text; the code appends to a buffer.
-use Rattle.std.specs.Prelude.{ℕ, ◌+◌, List, [], ◌∷◌, ◌++◌, map, Option, Some, None, codes}
+use Rattle.std.specs.Prelude.{ℕ, ◌+◌, Bool, true, false, List, [], ◌∷◌, ◌++◌, map, Option, Some, None, codes}
 use Rattle.std.specs.List.{flat_map, join_with_byte}
 use Rattle.std.specs.Fmt.{decimal, signed_decimal}
 use Rattle.term_core.specs.declared.atom.Mfa.{Mfa}
 use Rattle.term_core.specs.PlainTerm.{PlainTerm, map_leaves}
 use Rattle.term_core.specs.TermText.{atom_text, term_text}
 use Rattle.term_core.specs.Written.{written}
-use Rattle.term_core.specs.Text.Words.{switch_word}
 use Rattle.server_core.specs.declared.command.ModRef.{ModRef}
 use Rattle.server_core.specs.declared.command.Cmd.{Cmd}
 use Rattle.server_core.specs.declared.command.Cmd.TheVariants.{Load, Delete, SoftPurge, Doom, Purge, CheckOld, Put, Erase, Trace, Spawn, Release}
@@ -53,6 +52,11 @@ who_text Runtime = codes "rt"
 abbrev pub reference_text : List (List ℕ) → ModRef → List ℕ
 reference_text names r = atom_text names r.name.0 ++ 46 ∷ decimal r.version
 
+-- `on` or `off`
+abbrev pub switch_text : Bool → List ℕ
+switch_text true = codes "on"
+switch_text false = codes "off"
+
 -- a command as its line has it: what a process did is in the reply
 abbrev pub cmd_text : List (List ℕ) → Cmd → List ℕ
 cmd_text names (Load refs) = codes "load" ++ flat_map (λ r. 32 ∷ reference_text names r) refs
@@ -63,7 +67,7 @@ cmd_text names (Purge name killed) = codes "purge " ++ atom_text names name.0
 cmd_text names (CheckOld name) = codes "check_old " ++ atom_text names name.0
 cmd_text names (Put key term) = codes "put " ++ atom_text names key.0 ++ 32 ∷ term_text names term
 cmd_text names (Erase key) = codes "erase " ++ atom_text names key.0
-cmd_text names (Trace target on) = codes "trace " ++ mfa_text names target ++ 32 ∷ switch_word on
+cmd_text names (Trace target on) = codes "trace " ++ mfa_text names target ++ 32 ∷ switch_text on
 cmd_text names (Spawn target args) = codes "spawn " ++ call_text names target args
 cmd_text names (Release serial) = codes "release " ++ decimal serial
 

@@ -3,8 +3,7 @@ ghost use Rattle.std.specs.List.{flat_map, join_with_byte};
 ghost use Rattle.std.specs.Fmt.{decimal};
 ghost use Rattle.std.specs.Io.{StartsWith};
 ghost use Rattle.term_core.specs.TermText.{atom_text, term_text};
-ghost use Rattle.term_core.specs.Text.Words.{switch_word};
-ghost use Rattle.run_log.specs.Report.{line_of, mfa_text, call_text, who_text, reference_text, cmd_text, limit_text, reply_text, published_text, entry_text, shown_text, span_text, end_text, process_text, processes_text, export_text, snapshot_text, observer_text, observers_text, rendering_of};
+ghost use Rattle.run_log.specs.Report.{line_of, mfa_text, call_text, who_text, reference_text, switch_text, cmd_text, limit_text, reply_text, published_text, entry_text, shown_text, span_text, end_text, process_text, processes_text, export_text, snapshot_text, observer_text, observers_text, rendering_of};
 
 use crate::journal::published_count;
 use crate::logs::{
@@ -139,7 +138,7 @@ fn write_trace(names: &Names, target: Mfa, on: bool, out: &mut ByteList) -> Resu
 }
 
 fn write_switch(on: bool, out: &mut ByteList) -> Result<(), NoMemory>
-    ensures ok { OnOk result (out.new ≡ out.old ++ switch_word on) }
+    ensures ok { OnOk result (out.new ≡ out.old ++ switch_text on) }
     ensures kept { StartsWith out.new out.old }
 {
     if on {

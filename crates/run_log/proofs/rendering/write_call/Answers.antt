@@ -2,8 +2,7 @@ use Rattle.std.proofs.Common.{arith, append_assoc}
 use Rattle.std.proofs.lemmas.Grind.{common_steps}
 use Rattle.std.proofs.lemmas.Result.{IfOk-equal}
 use Rattle.std.specs.Io.{StartsWith}
-use Rattle.term_core.proofs.Text.Starts.{starts_more}
-use Rattle.run_log.proofs.RenderingText.{plain_texts}
+use Rattle.run_log.proofs.RenderingText.{plain_texts, starts_more}
 use Rattle.run_log.proofs.rendering.write_call.Goals as goal
 
 -- what was appended before and the part of the last call

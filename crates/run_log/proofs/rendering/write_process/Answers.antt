@@ -1,5 +1,4 @@
-use Rattle.term_core.proofs.Text.Starts.{starts_own, starts_more}
-use Rattle.run_log.proofs.RenderingText.{three_parts}
+use Rattle.run_log.proofs.RenderingText.{three_parts, starts_own, starts_more}
 use Rattle.run_log.proofs.rendering.write_process.Goals as goal
 
 -- what was appended before and the part of the last call

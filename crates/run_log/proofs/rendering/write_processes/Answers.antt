@@ -1,6 +1,5 @@
 use Rattle.std.proofs.Common.{append_assoc}
-use Rattle.term_core.proofs.Text.Starts.{starts_own, starts_more}
-use Rattle.run_log.proofs.RenderingText.{processes_more_at}
+use Rattle.run_log.proofs.RenderingText.{starts_own, starts_more, processes_more_at}
 use Rattle.run_log.proofs.rendering.write_processes.Goals as goal
 
 -- what was appended before and the part of the last call

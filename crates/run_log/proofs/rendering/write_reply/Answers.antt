@@ -1,6 +1,6 @@
 use Rattle.std.proofs.Common.{append_assoc}
 use Rattle.std.proofs.lemmas.Result.{IfOk-equal}
-use Rattle.term_core.proofs.Text.Starts.{starts_own, starts_more}
+use Rattle.run_log.proofs.RenderingText.{starts_own, starts_more}
 use Rattle.run_log.proofs.rendering.write_reply.Goals as goal
 
 -- the text of the reply

@@ -2,8 +2,7 @@ use Rattle.std.proofs.Common.{arith, append_assoc}
 use Rattle.std.proofs.lemmas.Grind.{common_steps}
 use Rattle.std.proofs.lemmas.Result.{IfOk-equal}
 use Rattle.std.specs.Io.{StartsWith}
-use Rattle.term_core.proofs.Text.Starts.{starts_own, starts_more}
-use Rattle.run_log.proofs.RenderingText.{starts_either}
+use Rattle.run_log.proofs.RenderingText.{starts_own, starts_either, starts_more}
 use Rattle.run_log.proofs.rendering.write_report.Goals as goal
 
 -- what was appended before and the part of the last call

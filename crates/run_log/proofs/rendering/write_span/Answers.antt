@@ -1,7 +1,7 @@
 use Rattle.std.proofs.Common.{arith}
 use Rattle.std.proofs.lemmas.Grind.{common_steps}
 use Rattle.std.specs.Io.{StartsWith}
-use Rattle.term_core.proofs.Text.Starts.{starts_more}
+use Rattle.run_log.proofs.RenderingText.{starts_more}
 use Rattle.run_log.proofs.rendering.write_span.Goals as goal
 
 -- what was appended before and the part of the last call

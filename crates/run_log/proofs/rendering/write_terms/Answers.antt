@@ -1,9 +1,8 @@
 use Rattle.std.proofs.Common.{◌≡◌, ◌∷◌, arith, append_assoc}
 use Rattle.std.proofs.lemmas.Grind.{common_steps}
 use Rattle.std.proofs.lemmas.Result.{IfOk-equal}
-use Rattle.run_log.proofs.RenderingText.{join_map_at}
+use Rattle.run_log.proofs.RenderingText.{starts_own, starts_same, starts_more, join_map_at}
 use Rattle.term_core.specs.TermText.{term_text}
-use Rattle.term_core.proofs.Text.Starts.{starts_own, starts_same, starts_more}
 use Rattle.run_log.proofs.rendering.write_terms.Goals as goal
 
 -- nothing was appended
