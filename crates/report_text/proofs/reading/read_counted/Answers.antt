@@ -1,5 +1,5 @@
 use Rattle.report_text.proofs.Wholes.{found_is, only_is, fault_is, refused_is}
-use Rattle.report_text.proofs.reading.read_report.Goals as goal
+use Rattle.report_text.proofs.reading.read_counted.Goals as goal
 
 -- what is read is the log of the text
 pub returns-clause-found : goal.returns-clause-found
