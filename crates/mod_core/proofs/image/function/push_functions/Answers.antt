@@ -2,7 +2,7 @@
 use Rattle.std.proofs.Common.{length, ap, arith}
 use Rattle.mod_core.specs.ModuleImage.{function_len}
 use Rattle.mod_core.proofs.Coding.{function_among, function_room, function_within, functions_done, functions_end, functions_more, functions_room}
-use Rattle.mod_core.proofs.image.push_functions.Goals as goal
+use Rattle.mod_core.proofs.image.function.push_functions.Goals as goal
 
 pub push_function-requires-clause-are_placed : goal.push_function-requires-clause-are_placed
 push_function-requires-clause-are_placed c = function_among c.args.functions.now c.loop-function.function-index c.function-item.result c.requires.are_functions (omega arith) c.function-item.is

@@ -2,7 +2,7 @@
 use Rattle.std.proofs.Common.{refl}
 use Rattle.std.proofs.lemmas.Result.{on_ok_weaker}
 use Rattle.mod_core.proofs.Coding.{among_places, function_written}
-use Rattle.mod_core.proofs.image.push_function.Goals as goal
+use Rattle.mod_core.proofs.image.function.push_function.Goals as goal
 
 pub push_code-requires-clause-are_placed : goal.push_code-requires-clause-are_placed
 push_code-requires-clause-are_placed c = among_places c.len.result c.args.function.now.code c.as_slice-code.result.now c.in_ok-places.places c.as_slice.result.now c.as_slice-code.ensures c.as_slice.ensures c.in_ok-places.ensures c.requires.are_placed

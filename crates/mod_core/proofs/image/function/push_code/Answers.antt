@@ -3,7 +3,7 @@ use Rattle.std.proofs.Common.{length, subst, sym, arith}
 use Rattle.mod_core.specs.Module.{IsInstrAmong}
 use Rattle.std.proofs.Common.{slice_index}
 use Rattle.mod_core.proofs.Coding.{code_done, code_more, code_room, instr_room}
-use Rattle.mod_core.proofs.image.push_code.Goals as goal
+use Rattle.mod_core.proofs.image.function.push_code.Goals as goal
 
 pub push_instr-requires-clause-is_placed : goal.push_instr-requires-clause-is_placed
 push_instr-requires-clause-is_placed c = subst (IsInstrAmong (length c.args.places.now)) (sym c.instr-item.is) (c.requires.are_placed c.loop-instr.instr-index c.instr-item.result (omega arith))

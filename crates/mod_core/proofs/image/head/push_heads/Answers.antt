@@ -2,7 +2,7 @@
 use Rattle.std.proofs.Common.{ap, arith}
 use Rattle.mod_core.specs.ModuleImage.{function_len}
 use Rattle.mod_core.proofs.Coding.{function_within}
-use Rattle.mod_core.proofs.image.push_heads.Goals as goal
+use Rattle.mod_core.proofs.image.head.push_heads.Goals as goal
 
 pub function_len-place-requires : goal.function_len-place-requires
 function_len-place-requires c =

@@ -3,7 +3,7 @@ use Rattle.std.proofs.Common.{◌+◌, ◌≤◌, drop, length}
 use Rattle.mod_core.specs.declared.image.Draft.{Draft}
 use Rattle.mod_core.specs.Draft.{Wrote, next_place}
 use Rattle.mod_core.specs.ModuleImage.{constants_len, constants_of, functions_words, place_from}
-use Rattle.mod_core.proofs.image.push_functions.Given as goal
+use Rattle.mod_core.proofs.image.function.push_functions.Given as goal
 
 abbrev pub invariant-loop-function : goal.invariant-loop-function
 invariant-loop-function l = record {

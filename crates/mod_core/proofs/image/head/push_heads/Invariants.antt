@@ -1,7 +1,7 @@
 -- What is written and what is left make up the whole table, and the place is that of the next function.
 use Rattle.std.proofs.Common.{◌≡◌, ◌++◌, length, drop}
 use Rattle.mod_core.specs.ModuleImage.{code_start, function_heads, place_from}
-use Rattle.mod_core.proofs.image.push_heads.Given as goal
+use Rattle.mod_core.proofs.image.head.push_heads.Given as goal
 
 abbrev pub invariant-loop-function : goal.invariant-loop-function
 invariant-loop-function l = record {

@@ -3,7 +3,7 @@ use Rattle.std.proofs.Common.{◌+◌, ◌≤◌, drop, map, slice_index}
 use Rattle.mod_core.specs.declared.image.Draft.{Draft}
 use Rattle.mod_core.specs.Draft.{Wrote, next_place}
 use Rattle.mod_core.specs.ModuleImage.{code_constants, code_words, constants_len, placed}
-use Rattle.mod_core.proofs.image.push_code.Given as goal
+use Rattle.mod_core.proofs.image.function.push_code.Given as goal
 
 abbrev pub invariant-loop-instr : goal.invariant-loop-instr
 invariant-loop-instr l = record {

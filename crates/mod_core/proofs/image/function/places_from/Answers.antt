@@ -3,7 +3,7 @@ use Rattle.std.proofs.Common.{◌≡◌, ◌+◌, length, map, ap, ◌∙◌, ar
 use Rattle.std.specs.List.{range_with_len}
 use Rattle.mod_core.specs.ModuleImage.{instr_len, place_in}
 use Rattle.mod_core.proofs.Coding.{place_next, place_within, places_more}
-use Rattle.mod_core.proofs.image.places_from.Goals as goal
+use Rattle.mod_core.proofs.image.function.places_from.Goals as goal
 
 pub overflow_add-place : goal.overflow_add-place
 overflow_add-place c =

@@ -2,7 +2,7 @@
 use Rattle.std.proofs.Common.{◌≡◌, map}
 use Rattle.std.specs.List.{range_with_len}
 use Rattle.mod_core.specs.ModuleImage.{place_in}
-use Rattle.mod_core.proofs.image.places_from.Given as goal
+use Rattle.mod_core.proofs.image.function.places_from.Given as goal
 
 abbrev pub invariant-loop-instr : goal.invariant-loop-instr
 invariant-loop-instr l = record {
