@@ -1,6 +1,6 @@
-ghost use Rattle.std.specs.Prelude.{◌≡◌, ◌+◌, ◌++◌, [], ◌∷◌, IfOk, OnOk, length};
+ghost use Rattle.std.specs.Prelude.{◌≡◌, ◌++◌, [], ◌∷◌, IfOk, OnOk, length};
 ghost use Rattle.mod_core.specs.Module.{IsModule};
-ghost use Rattle.mod_core.specs.ModuleImage.{constants_start, instr_len, module_image};
+ghost use Rattle.mod_core.specs.ModuleImage.{instr_len, module_image};
 
 mod function;
 mod head;
@@ -10,7 +10,7 @@ use crate::code::{Instr, Module};
 use crate::image::function::push_functions;
 use crate::image::head::push_heads;
 use std::alloc::Global;
-use term_core::{NoMemory, WordList, image};
+use term_core::{NoMemory, WordList};
 
 /// The serial of an image that is no instance yet.
 const NO_SERIAL: u64 = 0;

@@ -2,7 +2,7 @@
 
 ghost use Rattle.std.specs.Prelude.{◌≡◌};
 ghost use Rattle.report_text.specs.WordReading.{Reads};
-ghost use Rattle.report_text.specs.Taking.{opening, observers_closed, head_taken, count_taken, close_taken, taken};
+ghost use Rattle.report_text.specs.Taking.{opening, head_taken, count_taken, close_taken, taken};
 
 mod journal;
 mod observer;

@@ -1,10 +1,10 @@
 //! The words of functions: their instructions, one behind the other.
 
-ghost use Rattle.std.specs.Prelude.{◌≡◌, ◌+◌, ◌≤◌, [], IfOk, OnOk, All, length, map, slice_index};
+ghost use Rattle.std.specs.Prelude.{◌≡◌, ◌+◌, ◌≤◌, IfOk, OnOk, All, length, map, slice_index};
 ghost use Rattle.std.specs.List.{range_with_len};
 ghost use Rattle.mod_core.specs.Draft.{Wrote, next_place};
 ghost use Rattle.mod_core.specs.Module.{IsFunction, IsInstrAmong};
-ghost use Rattle.mod_core.specs.ModuleImage.{code_constants, code_len, code_words, constants_len, constants_of, function_len, function_words, functions_words, instr_constants, instr_len, instr_words, name_word, place_from, place_in, placed, register_word};
+ghost use Rattle.mod_core.specs.ModuleImage.{code_constants, code_len, code_words, constants_len, constants_of, function_len, function_words, functions_words, instr_constants, instr_words, place_from, place_in, placed};
 
 use crate::code::{Function, Instr, LONGEST_IMAGE};
 use crate::image::operand::{name_word, push_pair, push_single, push_words, register_word};

@@ -1,8 +1,7 @@
 //! The words of a function table.
 
-ghost use Rattle.std.specs.Prelude.{◌≡◌, ◌+◌, ◌≤◌, ◌++◌, IfOk, OnOk};
-ghost use Rattle.mod_core.specs.declared.code.Operand.TheVariants.{Const};
-ghost use Rattle.mod_core.specs.ModuleImage.{code_start, constants_start, function_head, function_heads, function_len, instr_len};
+ghost use Rattle.std.specs.Prelude.{◌≡◌, ◌≤◌, ◌++◌, IfOk, OnOk};
+ghost use Rattle.mod_core.specs.ModuleImage.{code_start, constants_start, function_head, function_heads, function_len};
 
 use crate::code::{Function, Instr, LONGEST_IMAGE, Operand};
 use crate::image::instr_len;

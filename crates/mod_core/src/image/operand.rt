@@ -4,7 +4,7 @@ ghost use Rattle.std.specs.Prelude.{◌≡◌, ◌+◌, ◌≤◌, ◌++◌, [],
 ghost use Rattle.mod_core.specs.declared.code.Operand.TheVariants.{Const};
 ghost use Rattle.mod_core.specs.Draft.{Wrote, next_place};
 ghost use Rattle.mod_core.specs.Module.{IsConstant, IsOperand};
-ghost use Rattle.mod_core.specs.ModuleImage.{constants_len, constants_start, name_word, operand_constants, operand_word, operands_words, placed, register_word};
+ghost use Rattle.mod_core.specs.ModuleImage.{constants_len, name_word, operand_constants, operand_word, operands_words, register_word};
 
 use crate::code::{LONGEST_IMAGE, Operand};
 use crate::image::Draft;

@@ -1,6 +1,6 @@
 //! The entries of a report's log.
 
-ghost use Rattle.std.specs.Prelude.{◌≡◌, Some};
+ghost use Rattle.std.specs.Prelude.{◌≡◌};
 ghost use Rattle.report_text.specs.WordReading.{Reads};
 ghost use Rattle.report_text.specs.Taking.{count_after, entry_taken};
 ghost use Rattle.report_text.specs.declared.state.Stage.TheVariants as stages;

@@ -2,7 +2,7 @@
 
 ghost use Rattle.std.specs.Prelude.{◌≡◌, Some, IfOk};
 ghost use Rattle.report_text.specs.WordReading.{Reads};
-ghost use Rattle.report_text.specs.Taking.{with_going, shots_closed, observers_closed, observer_behind, observer_taken, snapshot_taken, export_in, export_taken};
+ghost use Rattle.report_text.specs.Taking.{shots_closed, observers_closed, observer_behind, observer_taken, snapshot_taken, export_in, export_taken};
 ghost use Rattle.report_text.specs.declared.state.Stage.TheVariants as stages;
 
 use crate::line_fault::LineFault;
