@@ -109,11 +109,23 @@ fn are_names(names: &Names)
     let _first = names.text(AtomId::TRUE);
 }
 
+/// The same of a text whose lines can be counted by a `u32`.
+fn read_counted(alloc: Global, names: &Names, text: &[u8]) -> Result<RunLog, ReportFault>
+    requires { length text.now < 2 ^ 32 }
+    ensures found { IfOk result (λ log. IsWellFormed names.now log × (rendering_of names.now log ≡ text.now)) }
+    ensures only { (log : LogValue) → IsWellFormed names.now log → rendering_of names.now log ≡ text.now → GivesUnless ReportFault.NoMemory result log }
+    ensures fault { IfErr result (λ f. FaultOf names.now text.now f ⊎ (f ≡ ReportFault.NoMemory)) }
+    ensures refused { (f : FaultValue) → FaultOf names.now text.now f → RefusesUnless ReportFault.NoMemory result f }
+{
+    are_names(names);
+    read_lines(alloc, names, text)
+}
+
 /// Reads a report, all of the text. The names are those of the script. It takes memory, and goes over the bytes a fixed number of times.
 ///
-/// The form of the text: docs/FORMATS.md, "Reports".
+/// A text of 2^32 bytes or more is answered as want of memory, since a line of it may have no number. The form of the text:
+/// docs/FORMATS.md, "Reports".
 pub fn read_report(alloc: Global, names: &Names, text: &[u8]) -> Result<RunLog, ReportFault>
-    requires { length text.now < 2 ^ 32 }
     // What is read is the log whose report the text is.
     ensures found { IfOk result (λ log. IsWellFormed names.now log × (rendering_of names.now log ≡ text.now)) }
     // What a text is the report of is read, unless memory runs out.
@@ -123,6 +135,8 @@ pub fn read_report(alloc: Global, names: &Names, text: &[u8]) -> Result<RunLog, 
     ensures fault { IfErr result (λ f. FaultOf names.now text.now f ⊎ (f ≡ ReportFault.NoMemory)) }
     ensures refused { (f : FaultValue) → FaultOf names.now text.now f → RefusesUnless ReportFault.NoMemory result f }
 {
-    are_names(names);
-    read_lines(alloc, names, text)
+    if text.len() >= 1 << 32 {
+        return Err(ReportFault::NoMemory);
+    }
+    read_counted(alloc, names, text)
 }

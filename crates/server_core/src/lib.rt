@@ -29,3 +29,4 @@ pub use command::{Applied, Cmd, Limit, Linger, ModRef, RefList, Reply};
 pub use fault::ApplyFault;
 pub use laws::changes_wait_for_releases;
 pub use server::Server;
+pub use term_core::{AreaRef, CodeRef, Found};

@@ -1,0 +1,41 @@
+//! The entries of a report's log.
+
+ghost use Rattle.std.specs.Prelude.{◌≡◌};
+ghost use Rattle.report_text.specs.WordReading.{Reads};
+ghost use Rattle.report_text.specs.Taking.{count_after, entry_taken};
+ghost use Rattle.report_text.specs.declared.state.Stage.TheVariants as stages;
+
+use crate::line_fault::LineFault;
+use crate::state::{ReportState, Stage};
+use run_log::{Entry, RunLog};
+
+/// How many entries are still to publish behind one.
+fn count_after(left: u64, published: Option<u64>) -> Option<u64>
+    ensures { result ≡ count_after left published }
+{
+    match published {
+        None => Some(left),
+        Some(_) => left.checked_sub(1),
+    }
+}
+
+fn entry_behind(mut log: RunLog, left: u64, entry: Entry) -> Result<ReportState, LineFault>
+    ensures { Reads (λ state. state) result (entry_taken log (stages.Entries left) entry) }
+{
+    let left = count_after(left, entry.published).ok_or(LineFault::Form)?;
+    log.journal.push(entry)?;
+    Ok(ReportState {
+        log,
+        stage: Stage::Entries(left),
+    })
+}
+
+/// The state behind an `entry` line.
+pub fn take_entry(log: RunLog, stage: Stage, entry: Entry) -> Result<ReportState, LineFault>
+    ensures { Reads (λ state. state) result (entry_taken log stage entry) }
+{
+    match stage {
+        Stage::Entries(left) => entry_behind(log, left, entry),
+        _ => Err(LineFault::Form),
+    }
+}
