@@ -10,3 +10,4 @@ pub mod WordsBegun
 pub mod Handing
 pub mod SoundState
 pub mod Waits
+pub mod Rooted

@@ -1,11 +1,12 @@
 -- What is true of the seat in each token: it is of one table, has no slot, and its view is of the token's sort.
-use Rattle.std.specs.Prelude.{◌≡◌, ℕ, ◌<◌, []}
+use Rattle.std.specs.Prelude.{◌≡◌, ℕ, ◌<◌, [], length}
 use Rattle.atomic_table.specs.Seated.{TableId}
 use Rattle.atomic_table.specs.declared.shared.Seat.{Seat}
 use Rattle.prgr_core.specs.declared.member.TheConstants.{MOST_MEMBERS}
 use Rattle.shared_words.specs.declared.view.MemberView.{MemberView}
 use Rattle.shared_words.specs.declared.view.View.{View}
 use Rattle.shared_words.specs.declared.view.View.TheVariants.{Member}
+use Rattle.shared_words.specs.Views.{published_at, root_word}
 use Rattle.shared_words.specs.Opening.{member_begun}
 
 abbrev pub Place : Type 0
@@ -33,3 +34,12 @@ pub record IsMemberSeat (table : TableId) (number : ℕ) (seat : Place) : Type 0
   pub of_table : IsSeatOf table seat
   pub view : seat.me.0 ≡ Member (member_of seat.me.0)
   pub numbered : (member_of seat.me.0).member.number ≡ number
+
+-- the root word of the generation that the member's record tells
+abbrev pub root_held : MemberView → ℕ
+root_held m = root_word (published_at m.seen m.member.generation).root m.member.generation
+
+-- this is that root word, and the member has learnt of the generation
+pub record IsRooted (root : ℕ) (m : MemberView) : Type 0 where
+  pub learnt : m.member.generation < length m.seen
+  pub held : root ≡ root_held m

@@ -17,6 +17,7 @@ impl<N: Served> Shared<N> {
         requires may { MayLoadCounter (P.seat pass.old).me.0 }
         ensures token { IsSameSeat (P.seat pass.old) (P.seat pass.new) }
         ensures number { P.number pass.new ≡ P.number pass.old }
+        ensures root { P.root pass.new ≡ P.root pass.old }
         ensures view { (P.seat pass.new).me.0 ≡ counter_found result (P.seat pass.old).me.0 }
     {
         pass.load::<LoadCounter, N>(&self.table.shared, COUNTER as usize)

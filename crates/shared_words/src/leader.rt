@@ -17,6 +17,7 @@ impl<N: Served> Shared<N> {
         requires may { MayScan self.now.table.shared.key other (member_of member.old.seat.me.0) }
         ensures token { IsSameSeat member.old.seat member.new.seat }
         ensures number { member.new.number ≡ member.old.number }
+        ensures root { member.new.root ≡ member.old.root }
         ensures view { member.new.seat.me.0 ≡ views.Member (word_scanned other result (member_of member.old.seat.me.0)) }
     {
         let word = CONFIRMED as usize + other as usize;
@@ -31,6 +32,7 @@ impl<N: Served> Shared<N> {
         requires may { MayRaise self.now.table.shared.key (member_of member.old.seat.me.0) }
         ensures token { IsSameSeat member.old.seat member.new.seat }
         ensures number { member.new.number ≡ member.old.number }
+        ensures root { member.new.root ≡ member.old.root }
         ensures view { member.new.seat.me.0 ≡ views.Member (counter_raised (member_of member.old.seat.me.0)) }
     {
         self.table
@@ -45,6 +47,7 @@ impl<N: Served> Shared<N> {
         requires may { MayLead (member_of member.old.seat.me.0) }
         ensures token { IsSameSeat member.old.seat member.new.seat }
         ensures number { member.new.number ≡ member.old.number }
+        ensures root { member.new.root ≡ member.old.root }
         ensures view { member.new.seat.me.0 ≡ views.Member (lead_found result (member_of member.old.seat.me.0)) }
     {
         let own = member.number as u64 + 1;
@@ -59,6 +62,7 @@ impl<N: Served> Shared<N> {
         requires may { IsLeader (member_of member.old.seat.me.0) }
         ensures token { IsSameSeat member.old.seat member.new.seat }
         ensures number { member.new.number ≡ member.old.number }
+        ensures root { member.new.root ≡ member.old.root }
         ensures view { member.new.seat.me.0 ≡ views.Member (lead_given (member_of member.old.seat.me.0)) }
     {
         self.table

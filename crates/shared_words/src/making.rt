@@ -4,6 +4,7 @@ ghost use Rattle.std.specs.Prelude.{◌≡◌, ◌≤◌, ◌<◌, IfOk, OnOk};
 ghost use Rattle.prgr_core.specs.declared.member.TheConstants.{MOST_MEMBERS, OPENING_WORD, WAITING};
 ghost use Rattle.area_core.specs.declared.map.TheConstants.{TABLE_WORDS};
 ghost use Rattle.area_core.specs.Step.{empty_generation};
+ghost use Rattle.shared_words.specs.declared.table.TheConstants.{OPENING_ROOT};
 ghost use Rattle.shared_words.specs.Making.{AreBegun, HasSeatsAtHome, IsHanding, AreMembersBegun, handed_on, handed_out};
 ghost use Rattle.shared_words.specs.Seats.{IsSeatOf, IsSameSeat};
 
@@ -12,7 +13,7 @@ use crate::opening::Opening;
 use crate::pass::Words;
 use crate::plays::HandOut;
 use crate::seats::{Member, Parts, Writer};
-use crate::table::{CONFIRMED, COUNTER, Shared};
+use crate::table::{CONFIRMED, COUNTER, OPENING_ROOT, Shared};
 use area_core::TABLE_WORDS;
 use atomic_table::Table;
 use prgr_core::{MOST_MEMBERS, OPENING_COUNTER, OPENING_WORD, WAITING};
@@ -55,9 +56,14 @@ fn hand_out<N: Served>(table: &Words<N>, writer: &mut Writer, number: u32) -> Me
     ensures seat { IsSeatOf table.now.table_id result.seat }
     ensures member { result.seat.me.0 ≡ handed_out writer.old.seat.me.0 }
     ensures number { result.number ≡ number }
+    ensures root { result.root ≡ OPENING_ROOT }
 {
     let seat = table.split_seat::<HandOut>(&mut writer.seat);
-    Member { seat, number }
+    Member {
+        seat,
+        number,
+        root: OPENING_ROOT,
+    }
 }
 
 /// The tokens of all members.

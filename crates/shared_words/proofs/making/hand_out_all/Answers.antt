@@ -32,7 +32,7 @@ loop-number-preserved g c =
     let h = c.loop-number.invariant.0 in (
       handing_next c.args.table.now.table_id c.args.table.now.key c.loop-number.number c.loop-number.writer.seat c.hand_out.new.writer.seat h c.hand_out.ensures.token c.hand_out.ensures.view,
       subst (λ (xs : List tokens.Member). AreMembersBegun c.args.table.now.table_id (c.loop-number.number + 1) xs) (sym c.push_reserved.ensures.items)
-          (members_next c.args.table.now.table_id c.args.table.now.key c.loop-number.number c.loop-number.writer.seat c.loop-number.tokens.items c.hand_out.result few h c.loop-number.invariant.1 c.hand_out.ensures.seat c.hand_out.ensures.member c.hand_out.ensures.number),
+          (members_next c.args.table.now.table_id c.args.table.now.key c.loop-number.number c.loop-number.writer.seat c.loop-number.tokens.items c.hand_out.result few h c.loop-number.invariant.1 c.hand_out.ensures.seat c.hand_out.ensures.member c.hand_out.ensures.number c.hand_out.ensures.root),
       subst (λ (n : ℕ). c.args.members ≤ n) (sym c.push_reserved.ensures.capacity) c.loop-number.invariant.2,
       c.push_reserved.ensures.len ∙ ap (λ (n : ℕ). n + 1) c.loop-number.invariant.3,
     )
