@@ -100,6 +100,6 @@ impl<N: Served> Shared<N> {
             writer,
             members: tokens,
         };
-        Ok((Shared { table }, parts))
+        Ok((Shared { table, members }, parts))
     }
 }
