@@ -93,6 +93,7 @@ pub record MemberStep (words words' : List ℕ) (w : WriterView) (seats : List V
   pub moves : Moves (progress_of words w seats) (progress_of words' w (set seats k (Member m)))
   pub own : slice_index words' (CONFIRMED + k) ≡ m.member.word
   pub others : (j : ℕ) → (j ≡ k → ⊥) → slice_index words' (CONFIRMED + j) ≡ slice_index words (CONFIRMED + j)
+  pub leader : slice_index words' LEAD ≤ length w.members
 
 module _ {Served : Generation → Type 0} {opening : Opening} (s : State (Unit {0}) View) (r : RunningRule Served opening s) where
   -- the words of all members, after one has another
@@ -117,6 +118,7 @@ module _ {Served : Generation → Type 0} {opening : Opening} (s : State (Unit {
       progress = moves_sound (progress_of s.words r.writer r.seats) (progress_of words' r.writer (set r.seats k (Member m))) r.machine.progress step.moves;
       own_words = own_words words' k m (there r.seats k (Member old) at) step;
       others_wait = λ j late few. step.others j (λ same. (let made = step.knows.made in absurd (omega arith))) ∙ r.machine.others_wait j late few;
+      leader_made = step.leader;
     };
     handed = λ more. length-set r.seats k (Member m) ∙ r.handed more;
     at_home = r.at_home;

@@ -175,6 +175,7 @@ rule_begins Served about words few few_watchers served begun =
             let is = opened_at about.members k a (ap (λ (xs : List machines.Member). slice_get xs k) (sym (members_opened about.members)) ∙ at) in
             begun.awake k is.1 ∙ ap (λ (x : machines.Member). x.word) (sym is.0);
         others_wait = λ k late below. begun.waiting k (let n = begun_length about.members in omega arith) below;
+        leader_made = (let nobody = begun.lead in omega arith);
       };
       handed = λ more. refl;
       at_home = member_knows about.members about.watchers;
@@ -231,6 +232,7 @@ hands_out s r more =
         progress = subst starting.IsSound (λ i. record (progress_of s.words w r.seats) { members = sym same i; watchers = watchers_shown w.watchers ((behind ∙ sym behind') i) }) r.machine.progress;
         own_words = λ k a at. r.machine.own_words k a (ap (λ (xs : List machines.Member). slice_get xs k) (sym same) ∙ at);
         others_wait = r.machine.others_wait;
+        leader_made = r.machine.leader_made;
       };
       handed = λ still. length-append r.seats (Member m ∷ []) ∙ ap (λ (n : ℕ). n + 1) long;
       at_home = λ k x at. same_handed w (w.handed + 1) k (Member x) (r.at_home k x at);

@@ -14,6 +14,7 @@ use Rattle.prgr_core.specs.Step.{with_member, has_loaded, IsSound}
 use Rattle.term_core.specs.declared.generation.Generation.{Generation}
 use Rattle.area_core.specs.Step.{opening_published}
 use Rattle.area_core.specs.declared.table.Published.{Published}
+use Rattle.area_core.specs.Blocks.{RootFits}
 use Rattle.shared_words.specs.declared.table.TheConstants.{ROOT}
 use Rattle.shared_words.specs.declared.opening.Opening.{Opening}
 use Rattle.shared_words.specs.declared.view.MemberView.{MemberView}
@@ -23,7 +24,7 @@ use Rattle.shared_words.specs.declared.view.View.TheVariants.{Writer, Member, Wa
 use Rattle.shared_words.specs.Views.{newest, newest_root, published_at, seen}
 use Rattle.shared_words.specs.Shown.{progress_of}
 use Rattle.shared_words.specs.Kinds.{Sat, MayLoadRoot, member_with_root, root_found, RootLoaded, root_loaded}
-use Rattle.shared_words.specs.Rule.{IsBeginning, RunningRule}
+use Rattle.shared_words.specs.Rule.{IsBeginning, MayBeRead, RunningRule}
 use Rattle.shared_words.proofs.ShownMembers.{shown_at, shown_behind, watchers_behind, there, there_is, set_same}
 use Rattle.shared_words.proofs.Frames.{after_step, same_rest, seats_kept, progress_set, Moves, member_step}
 use Rattle.shared_words.proofs.CounterLoads.{same_step}
@@ -69,12 +70,21 @@ module _ {Served : Generation → Type 0} {opening : Opening} (s : State (Unit {
   last : newest all < length all
   last = (let first = r.published.some in omega arith)
 
+  -- the newest may be read, whatever was retired
+  may_be_read : MayBeRead r.writer (newest all)
+  may_be_read pair among need = (r.machine.progress.invariant.needs_near pair.generation pair.need among).0
+
+  -- its root names blocks that there are
+  newest_fits : RootFits (published_at all (newest all)).root
+  newest_fits = r.words.blocks.roots_fit (newest all) (published_at all (newest all)) may_be_read (there_is all (newest all) opening_published last)
+
   -- what is told of them
   told : (v w : View) → seen w ≡ all → IsBeginning (seen v) all → w ≡ root_found all v → RootLoaded Served v w (slice_index s.words ROOT)
   told v w is learnt same = record {
     learnt = subst (λ (xs : List Published). IsBeginning (seen v) xs) (sym is) learnt;
     some = subst (λ (xs : List Published). 0 < length xs) (sym is) r.published.some;
     root = r.words.root ∙ ap newest_root (sym is);
+    fits = subst (λ (xs : List Published). RootFits (published_at xs (newest xs)).root) (sym is) newest_fits;
     served = subst (λ (xs : List Published). Served (published_at xs (newest xs)).state) (sym is) (r.published.served (published_at all (newest all)) (newest all, there_is all (newest all) opening_published last));
     view = same ∙ ap (λ (xs : List Published). root_found xs v) (sym is);
   }
@@ -100,6 +110,7 @@ module _ {Served : Generation → Type 0} {opening : Opening} (s : State (Unit {
         moves = subst (Moves p) (sym (progress_set s.words r.writer r.seats k m' knows.made (there r.seats k (Member m) at))) (root_moves p k m.member shown b refl);
         own = r.machine.own_words k m.member shown ∙ sym (word_kept b g m.member);
         others = λ j other. refl;
+        leader = r.machine.leader_made;
       })
 
   -- a note
@@ -119,6 +130,7 @@ module _ {Served : Generation → Type 0} {opening : Opening} (s : State (Unit {
           progress = subst IsSound (λ i. record (progress_of s.words r.writer r.seats) { members = sym same i; watchers = sym (watchers_behind (length r.writer.members) r.writer.watchers r.seats k v behind) i }) r.machine.progress;
           own_words = λ j a here. r.machine.own_words j a (ap (λ (xs : List machines.Member). slice_get xs j) (sym same) ∙ here);
           others_wait = r.machine.others_wait;
+          leader_made = r.machine.leader_made;
         };
         handed = λ more. length-set r.seats k v ∙ r.handed more;
         at_home = r.at_home;

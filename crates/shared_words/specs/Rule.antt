@@ -16,7 +16,7 @@ use Rattle.area_core.specs.declared.table.Published.{Published}
 use Rattle.area_core.specs.Generations.{is_current, is_used, is_retired, has_serial}
 use Rattle.area_core.specs.Map.{word_at}
 use Rattle.area_core.specs.Blocks.{Blocks, BlockInvariant, Among}
-use Rattle.shared_words.specs.declared.table.TheConstants.{ROOT, COUNTER, CONFIRMED}
+use Rattle.shared_words.specs.declared.table.TheConstants.{ROOT, COUNTER, LEAD, CONFIRMED}
 use Rattle.shared_words.specs.declared.opening.Opening.{Opening}
 use Rattle.shared_words.specs.declared.view.NoteNumber.{NoteNumber}
 use Rattle.shared_words.specs.declared.view.NoteView.{NoteView}
@@ -135,6 +135,8 @@ pub record MachineHolds (words : List ℕ) (w : WriterView) (seats : List View) 
   pub own_words : (k : ℕ) (a : machines.Member) → slice_get (members_shown w.members seats) k ≡ Some a → slice_index words (CONFIRMED + k) ≡ a.word
   -- the words of members that were not made are as if they waited
   pub others_wait : (k : ℕ) → length w.members ≤ k → k < MOST_MEMBERS → slice_index words (CONFIRMED + k) ≡ WAITING
+  -- who leads is a member that was made
+  pub leader_made : slice_index words LEAD ≤ length w.members
 
 -- ---- the whole
 

@@ -106,6 +106,6 @@ impl<N: Served> Shared<N> {
             writer,
             members: tokens,
         };
-        Ok((Shared { table }, parts))
+        Ok((Shared { table, members }, parts))
     }
 }

@@ -31,6 +31,21 @@ pub const CONFIRMED: u32 = 5;
 /// The words that all threads share.
 pub struct Shared<N: Served> {
     pub(crate) table: Table<(), View, Opening, Law<N>, Global>,
+    pub(crate) members: u32,
     pub ghost sized: { table.shared.table_id.words ≡ TABLE_WORDS },
     pub ghost few: { table.shared.key.members ≤ MOST_MEMBERS },
+    pub ghost counted: { members ≡ table.shared.key.members },
+    // There are no watchers yet.
+    pub ghost unwatched: { table.shared.key.watchers ≡ 0 },
+}
+
+impl<N: Served> Shared<N> {
+    /// How many members the table was made for.
+    pub fn members(&self) -> u32
+        ensures members { result ≡ self.now.table.shared.key.members }
+        ensures few { result ≤ MOST_MEMBERS }
+        ensures unwatched { self.now.table.shared.key.watchers ≡ 0 }
+    {
+        self.members
+    }
 }
