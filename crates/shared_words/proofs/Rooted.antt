@@ -14,7 +14,7 @@ use Rattle.shared_words.specs.declared.view.View.{View}
 use Rattle.shared_words.specs.declared.view.View.TheVariants.{Member}
 use Rattle.shared_words.specs.Views.{newest, published_at, root_word, seen}
 use Rattle.shared_words.specs.Opening.{member_begun}
-use Rattle.shared_words.specs.Seats.{member_of, root_held, IsRooted}
+use Rattle.shared_words.specs.Seats.{member_of, IsRooted}
 use Rattle.shared_words.specs.Kinds.{RootLoaded}
 use Rattle.shared_words.specs.Rule.{IsBeginning}
 use Rattle.shared_words.proofs.ShownMembers.{still_at, there_is}

@@ -21,7 +21,8 @@ pub trait Pass {
     /// The seat.
     ghost seat: { Self → Place };
 
-    /// The number of a member; 0 of another token.
+    /// The number that the token keeps: of a member its own, of the writer that of the newest
+    /// generation, of a note that of its process.
     ghost number: { Self → ℕ };
 
     /// The root word that a member keeps; none of another token.
@@ -64,7 +65,7 @@ impl Pass for Writer {
 
     ghost seat = { λ writer. writer.seat };
 
-    ghost number = { λ _. 0 };
+    ghost number = { λ writer. writer.generation };
 
     ghost root = { λ _. None };
 
@@ -80,7 +81,7 @@ impl Pass for Note {
 
     ghost seat = { λ note. note.seat };
 
-    ghost number = { λ _. 0 };
+    ghost number = { λ note. note.process };
 
     ghost root = { λ _. None };
 

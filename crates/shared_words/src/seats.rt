@@ -28,12 +28,16 @@ impl Member {
 #[derive(Drop)]
 pub struct Writer {
     pub(crate) seat: Seat<(), View>,
+    /// The newest generation.
+    pub(crate) generation: u64,
 }
 
 /// What a process that is spawned takes along: which generations were published then.
 #[derive(Drop)]
 pub struct Note {
     pub(crate) seat: Seat<(), View>,
+    /// The process that is spawned.
+    pub(crate) process: u32,
 }
 
 /// The tokens of a table.
