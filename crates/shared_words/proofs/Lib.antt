@@ -22,3 +22,4 @@ pub mod NoteJoins
 pub mod MemberJoins
 pub mod SeatsTaken
 pub mod LastWords
+pub mod AreaReleases

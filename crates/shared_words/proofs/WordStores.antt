@@ -1,9 +1,9 @@
 -- A store into a word of a block, or a retire or doom word, keeps the block invariant for the generations that count,
 -- and so the rule.
-use Rattle.std.proofs.Common.{◌≡◌, ℕ, ◌+◌, ◌-◌, ◌*◌, ◌/◌, ◌<◌, ◌≤◌, ◌⊎◌, true, false, ◌&&◌, List, length, length-set, set, get_or-set_other, refl, sym, ap, subst, ◌∙◌, arith}
+use Rattle.std.proofs.Common.{◌≡◌, ℕ, ◌+◌, ◌-◌, ◌*◌, ◌/◌, ◌<◌, ◌≤◌, ◌⊎◌, true, false, not, ◌&&◌, List, length, length-set, set, get_or-set_other, refl, sym, ap, subst, ◌∙◌, arith}
 use mathlib.Core.Option.{none, some}
 use Rattle.std.specs.Prelude.{◌==◌, Some, slice_get, slice_set, slice_index, IsTrue}
-use Rattle.std.proofs.lemmas.Bool.{and_from, lt-ltb, le-ltb, eq-eqb, true≢false}
+use Rattle.std.proofs.lemmas.Bool.{and_from, lt-ltb, le-ltb, eq-eqb, eqb-true, true≢false}
 use Rattle.std.proofs.lemmas.Bool.Decides.{nat_tests}
 use Rattle.atomic_table.specs.Table.{State, keeps, step, Allows}
 use Rattle.prgr_core.specs.Step.{IsSound}
@@ -14,12 +14,12 @@ use Rattle.area_core.specs.declared.map.WordKind.{WordKind}
 use Rattle.area_core.specs.declared.map.WordKind.TheVariants.{Machine, Slot, Retire, Doom, InBlock, Nowhere}
 use Rattle.area_core.specs.declared.table.Published.{Published}
 use Rattle.area_core.specs.declared.table.KeptArea.{KeptArea}
-use Rattle.area_core.specs.Map.{word_at, kind_at, block_place, retire_place, doom_place, breakpoint_at, entry_at}
-use Rattle.area_core.specs.Generations.{is_instance, is_retired, is_doomed, is_traced, has_function, is_entry_word, tells}
+use Rattle.area_core.specs.Map.{word_at, kind_at, block_place, retire_place, doom_place, breakpoint_at, entry_at, slot_place}
+use Rattle.area_core.specs.Generations.{is_instance, is_retired, is_doomed, is_traced, has_function, is_entry_word, tells, names}
 use Rattle.area_core.specs.Blocks.{Blocks, BlockInvariant, Among, RootFits, IsForInstances}
 use Rattle.area_core.specs.Readers.{reads_in_block, has_instance_in}
 use Rattle.area_core.proofs.Places.{kind_place, kind_retire_place, kind_doom_place, word_here}
-use Rattle.area_core.proofs.Tests.{some_passes}
+use Rattle.area_core.proofs.Tests.{some_passes, filter_gives}
 use Rattle.area_core.proofs.Frames.{code_after, breakpoints_after, terms_after, entries_after, retired_after, doomed_after, images_after, named_after, apart_after}
 use Rattle.area_core.proofs.BlockStores.{stored_off, block_within, same_block}
 use Rattle.shared_words.specs.declared.table.TheConstants.{ROOT, COUNTER, LEAD, DELAYS, CONFIRMED}
@@ -31,10 +31,11 @@ use Rattle.shared_words.specs.Shown.{members_shown, block_words, progress_of}
 use Rattle.shared_words.specs.Seats.{writer_of}
 use Rattle.shared_words.specs.Kinds.{Sat}
 use Rattle.shared_words.specs.Rule.{MayBeRead, MachineHolds, RunningRule}
-use Rattle.shared_words.specs.Publishing.{FitsInBlock, FitsRetire, FitsDoom, FitsWord, MayStoreWord, with_word, word_stored}
+use Rattle.shared_words.specs.Publishing.{FitsInBlock, FitsRetire, FitsDoom, FitsWord, MayStoreWord, is_released, kept_left, with_word, word_stored}
 use Rattle.shared_words.proofs.ShownMembers.{within_get}
 use Rattle.shared_words.proofs.ShownWords.{shown_stored, shown_words}
 use Rattle.shared_words.proofs.Frames.{after_step, progress_words}
+use Rattle.shared_words.proofs.AreaReleases.{unless, not_both, released}
 use Rattle.shared_words.proofs.WriterFrames.{writer_step, writer_at}
 
 -- ---- which words a generation reads
@@ -135,14 +136,16 @@ owes_block w block at value fits = record {
     read g p counts here reads = true≢false (sym reads ∙ fits.unread g p counts here)
 
 -- what a retire word owes
-owes_retire : (w : WriterView) (block value : ℕ) → FitsRetire w block value → Owes w.published w.kept (MayBeRead w) (Retire block) value
+owes_retire : (w : WriterView) (block value : ℕ) → FitsRetire w block value → Owes w.published (kept_left w value (Retire block)) (MayBeRead w) (Retire block) value
 owes_retire w block value fits = record {
   slot = λ same. absurd (cc);
   code = λ g p counts here root entry within same. absurd (cc);
   breakpoints = λ g p counts here root a among instance placed function few same. absurd (cc);
   terms = λ g p counts here root place within same. absurd (cc);
   entries = λ g p counts here k among function has same none. absurd (cc);
-  retired = λ g p counts here k among same. fits g p counts here k among (retire_block same);
+  retired = λ g p counts here k among same.
+      let was = filter_gives (λ (x : KeptArea). not ((x.area.block == block) && is_released w value x)) w.kept among.0 k among.1 in
+      fits.tells_of g p counts here k was.0 (retire_block same) (not_both (k.area.block == block) (is_released w value k) was.1 (eq-eqb k.area.block block (retire_block same)));
   doomed = λ g p counts here k among same unretired. absurd (cc);
   images = λ k among place old has plain same. absurd (cc);
 }
@@ -166,13 +169,26 @@ owes_doom w block value fits = record {
     doom_block : {one other : ℕ} → Doom one ≡ Doom other → other ≡ one
     doom_block same = cc
 
-owes_by : (w : WriterView) (value : ℕ) (kind : WordKind) → FitsWord w value kind → Owes w.published w.kept (MayBeRead w) kind value
+owes_by : (w : WriterView) (value : ℕ) (kind : WordKind) → FitsWord w value kind → Owes w.published (kept_left w value kind) (MayBeRead w) kind value
 owes_by w value (InBlock block at) fits = owes_block w block at value fits
 owes_by w value (Retire block) fits = owes_retire w block value fits
 owes_by w value (Doom block) fits = owes_doom w block value fits
 owes_by w value Machine fits = absurd fits
 owes_by w value Slot fits = absurd fits
 owes_by w value Nowhere fits = absurd fits
+
+-- what is kept then meets the invariant before the store
+left_sound : (w : WriterView) (words : List ℕ) (value : ℕ) (kind : WordKind) → words ≡ w.words → FitsWord w value kind → BlockInvariant (record { word = word_at words; published = w.published; kept = w.kept }) (MayBeRead w) → BlockInvariant (record { word = word_at words; published = w.published; kept = kept_left w value kind }) (MayBeRead w)
+left_sound w words value (InBlock block at) mirrored fits sound = sound
+left_sound w words value (Retire block) mirrored fits sound =
+    released (record { word = word_at words; published = w.published; kept = w.kept }) (MayBeRead w) sound (λ (x : KeptArea). not ((x.area.block == block) && is_released w value x))
+    (λ g p counts here k among uses. unless (k.area.block == block) (is_released w value k) (λ same goes. true≢false (sym uses ∙ fits.unused g p counts here k among (eqb-true k.area.block block same) goes)))
+    (λ k process anchor among is named. unless (k.area.block == block) (is_released w value k)
+    (λ same goes. true≢false (sym named ∙ ap (λ (ws : List ℕ). names (word_at ws (slot_place process anchor)) k.area.serial) mirrored ∙ fits.unnamed k process anchor among (eqb-true k.area.block block same) goes is)))
+left_sound w words value (Doom block) mirrored fits sound = sound
+left_sound w words value Machine mirrored fits sound = sound
+left_sound w words value Slot mirrored fits sound = sound
+left_sound w words value Nowhere mirrored fits sound = sound
 
 -- the word is one behind those of the machine
 pub word_placed : (w : WriterView) (word value : ℕ) (kind : WordKind) → kind_at word ≡ kind → FitsWord w value kind → (SLOTS_START ≤ word) × (word < TABLE_WORDS)
@@ -223,8 +239,8 @@ module _ {Served : Generation → Type 0} {opening : Opening} (s : State (Unit {
         root = get_or-set_other s.words word ROOT value 0 (λ e. absurd (omega arith)) ∙ r.words.root;
         mirrored = shown ∙ ap (λ (ws : List ℕ). set ws word value) r.words.mirrored;
         reached = (let same = get_or-set_other s.words word COUNTER value 0 (λ e. absurd (omega arith)) in let before = r.words.reached in omega arith);
-        blocks = subst (λ (ws : List ℕ). BlockInvariant (record { word = word_at ws; published = w.published; kept = w.kept }) (MayBeRead w)) (sym shown)
-            (stored (block_words s.words) w.published w.kept (MayBeRead w) (shown_words s.words r.words.all) word value within (kind_at word) refl r.words.blocks (owes_by w value (kind_at word) may));
+        blocks = subst (λ (ws : List ℕ). BlockInvariant (record { word = word_at ws; published = w.published; kept = kept_left w value (kind_at word) }) (MayBeRead w)) (sym shown)
+            (stored (block_words s.words) w.published (kept_left w value (kind_at word)) (MayBeRead w) (shown_words s.words r.words.all) word value within (kind_at word) refl (left_sound w (block_words s.words) value (kind_at word) r.words.mirrored may r.words.blocks) (owes_by w value (kind_at word) may));
       })
       (machine_kept w' word value late refl refl)
 

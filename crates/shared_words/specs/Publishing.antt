@@ -2,7 +2,8 @@
 -- whoever holds a generation. What a store asks is said of what the writer knows: of the words as it has stored them,
 -- and of the generations that it does not know to have passed.
 -- Source: Erlang/OTP erts internal documentation, CodeLoading and Tracing; the words are this project's own.
-use Rattle.std.specs.Prelude.{◌≡◌, ℕ, false, List, [], ◌∷◌, ◌++◌, length, slice_get, slice_set, Option, Some, None, IsTrue}
+use Rattle.std.specs.Prelude.{◌≡◌, ℕ, ◌==◌, Bool, true, false, not, ◌&&◌, List, [], ◌∷◌, ◌++◌, length, slice_get, slice_set, Option, Some, None, IsTrue}
+use Rattle.std.specs.List.{filter}
 use Rattle.atomic_table.specs.Table.{Step}
 use Rattle.term_core.specs.declared.generation.Generation.{Generation}
 use Rattle.area_core.specs.declared.map.WordKind.{WordKind}
@@ -10,9 +11,10 @@ use Rattle.area_core.specs.declared.map.WordKind.TheVariants.{Machine, Slot, Ret
 use Rattle.area_core.specs.declared.table.Root.{Root}
 use Rattle.area_core.specs.declared.table.Published.{Published}
 use Rattle.area_core.specs.declared.table.KeptArea.{KeptArea}
-use Rattle.area_core.specs.Map.{word_at, entry_at, kind_at}
-use Rattle.area_core.specs.Generations.{is_retired, is_doomed, is_traced, has_function, is_entry_word, tells}
-use Rattle.area_core.specs.Blocks.{Blocks, BlockInvariant, EachCounted, Among, RootFits, InstancesPlaced, CodeStands, BreakpointsStand, term_words, UsedAreKept, FitsBlock, ImageStands, AreaStands, KeptApart}
+use Rattle.area_core.specs.Map.{word_at, entry_at, slot_place, kind_at}
+use Rattle.area_core.specs.Generations.{is_used, is_retired, is_doomed, is_traced, has_function, is_entry_word, tells, names}
+use Rattle.area_core.specs.Stores.{is_released_at}
+use Rattle.area_core.specs.Blocks.{Blocks, BlockInvariant, EachCounted, Among, RootFits, InstancesPlaced, CodeStands, BreakpointsStand, term_words, UsedAreKept, FitsBlock, ImageStands, AreaStands, KeptApart, IsAnchor}
 use Rattle.area_core.specs.Terms.{TermsStand}
 use Rattle.area_core.specs.Readers.{reads_in_block, held_by_member, is_read_under}
 use Rattle.area_core.specs.Roots.{fresh_areas}
@@ -42,9 +44,16 @@ pub record FitsInBlock (w : WriterView) (block at value : ℕ) : Type 0 where
   -- an entry word is 0 only where no generation that may be read traces the function
   pub entries : (k : KeptArea) (function : ℕ) → Among w.kept k → k.area.block ≡ block → IsTrue (has_function k function) → at ≡ entry_at function → value ≡ 0 → EachMayBeRead w (λ g p. is_traced p k.area.serial function ≡ false)
 
--- the retire word of a block tells of each area that is kept in it whether it is retired
-abbrev pub FitsRetire : WriterView → ℕ → ℕ → Type 0
-FitsRetire w block value = EachMayBeRead w (λ g p. (k : KeptArea) → Among w.kept k → k.area.block ≡ block → tells value g ≡ is_retired p k.area.serial)
+-- the store of this value into its retire word releases an area: 0, where the newest generation has retired it
+abbrev pub is_released : WriterView → ℕ → KeptArea → Bool
+is_released w value k = is_released_at (slice_get w.published (newest w.published)) value k
+
+-- the retire word of a block tells of each area that is kept in it whether it is retired; an area that is released is used
+-- by no generation that may be read, and no slot names it
+pub record FitsRetire (w : WriterView) (block value : ℕ) : Type 0 where
+  pub tells_of : EachMayBeRead w (λ g p. (k : KeptArea) → Among w.kept k → k.area.block ≡ block → is_released w value k ≡ false → tells value g ≡ is_retired p k.area.serial)
+  pub unused : EachMayBeRead w (λ g p. (k : KeptArea) → Among w.kept k → k.area.block ≡ block → is_released w value k ≡ true → is_used p k.area.serial ≡ false)
+  pub unnamed : (k : KeptArea) (process anchor : ℕ) → Among w.kept k → k.area.block ≡ block → is_released w value k ≡ true → IsAnchor process anchor → names (word_at w.words (slot_place process anchor)) k.area.serial ≡ false
 
 -- the doom word of a block tells of each area that is kept in it, and not retired, whether it is doomed
 abbrev pub FitsDoom : WriterView → ℕ → ℕ → Type 0
@@ -63,9 +72,18 @@ FitsWord w value Nowhere = ⊥
 abbrev pub MayStoreWord : WriterView → ℕ → ℕ → Type 0
 MayStoreWord w word value = FitsWord w value (kind_at word)
 
+-- the areas that are kept after a store of this value into a word of this kind
+abbrev pub kept_left : WriterView → ℕ → WordKind → List KeptArea
+kept_left w value (Retire block) = filter (λ k. not ((k.area.block == block) && is_released w value k)) w.kept
+kept_left w value (InBlock block at) = w.kept
+kept_left w value (Doom block) = w.kept
+kept_left w value Machine = w.kept
+kept_left w value Slot = w.kept
+kept_left w value Nowhere = w.kept
+
 -- it has stored it
 abbrev pub with_word : ℕ → ℕ → WriterView → WriterView
-with_word word value w = record w { words = slice_set w.words word value }
+with_word word value w = record w { words = slice_set w.words word value; kept = kept_left w value (kind_at word) }
 
 abbrev pub word_stored : Step (Unit {0}) → Sat → ℕ → Sat → Type 0
 word_stored st me stored me' = me' ≡ (Writer (with_word st.word stored (writer_of me.0)), me.1)
