@@ -6,7 +6,6 @@ use Rattle.std.specs.Prelude.{Some, slice_get, slice_index}
 use Rattle.atomic_table.specs.Table.{keeps, step, Allows}
 use Rattle.prgr_core.proofs.Parts.{slice_get-push_at}
 use Rattle.term_core.specs.declared.generation.Generation.{Generation}
-use Rattle.area_core.specs.declared.map.TheConstants.{TABLE_WORDS}
 use Rattle.area_core.specs.Map.{word_at}
 use Rattle.shared_words.specs.declared.opening.Opening.{Opening}
 use Rattle.shared_words.specs.declared.view.WriterView.{WriterView}
@@ -14,7 +13,7 @@ use Rattle.shared_words.specs.declared.view.View.TheVariants.{Writer}
 use Rattle.shared_words.specs.Seats.{Place, writer_of}
 use Rattle.shared_words.specs.Kinds.{Sat}
 use Rattle.shared_words.specs.Rule.{RunningRule}
-use Rattle.shared_words.specs.Closing.{IsLastWord, word_seen, AreLastWords}
+use Rattle.shared_words.specs.Closing.{IsLastWord, word_seen}
 use Rattle.shared_words.proofs.ShownWords.{shown_word}
 use Rattle.shared_words.proofs.Frames.{after_step}
 use Rattle.shared_words.proofs.CounterLoads.{same_step}
@@ -64,7 +63,3 @@ more_seen old new newer words more slots count found is h same told all = record
       (λ (last : (place ≡ length words) × (word ≡ found)). subst (λ (z : ℕ × ℕ). IsLastWord (writer_of old.me.0) z.0 z.1) (λ i. (sym (last.0 ∙ h.long) i, sym last.1 i)) (told.told (writer_of old.me.0) (h.view ∙ is)))
       (slice_get-push_at words found place word (ap (λ (ws : List ℕ). slice_get ws place) (sym all) ∙ at));
 }
-
--- all of them
-pub all_seen : (old new : Place) (words : List ℕ) (count : ℕ) → count ≡ TABLE_WORDS → AreSeen old new words count → AreLastWords (writer_of old.me.0) words
-all_seen old new words count all h = record { all = h.long ∙ all; each = h.each }

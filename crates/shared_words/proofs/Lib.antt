@@ -23,3 +23,4 @@ pub mod MemberJoins
 pub mod SeatsTaken
 pub mod LastWords
 pub mod AreaReleases
+pub mod ReadWords

@@ -1,5 +1,5 @@
 -- What the writer knows while the seats of members come in, the last one first.
-use Rattle.std.proofs.Common.{◌≡◌, ℕ, zero, suc, ◌+◌, ◌<◌, ◌≤◌, List, [], ◌∷◌, ◌++◌, length, length-append, length-set, append-nil, append_assoc, refl, sym, ap, subst, ◌∙◌, arith}
+use Rattle.std.proofs.Common.{◌≡◌, ℕ, zero, suc, ◌+◌, ◌<◌, ◌≤◌, List, [], ◌∷◌, ◌++◌, length, length-append, length-set, append-nil, append_assoc, refl, sym, ap, ◌∙◌, arith}
 use mathlib.Core.Logic.{dite}
 use native.Mathlib.Decide.{ℕ_discrete}
 use Rattle.std.specs.Prelude.{Option, Some, slice_get, slice_set}
@@ -86,14 +86,6 @@ taken_next table members left few member old new newer all h is same taken =
           ap (slice_get (slice_set w.members (length few) m)) first ∙ set_here w.members (length few) m room ∙ ap (λ (o : Option tokens.Member). option_map (λ (t : tokens.Member). member_of t.seat.me.0) o) mine)
           (λ (other : k ≡ length few → ⊥). set_there w.members (length few) k m other ∙ h.each k token (omega (arith, late, other, size)) at);
     }
-
--- all of them
-pub all_taken : (members left : List tokens.Member) (old new : Place) → left ≡ [] → HasTaken members left old new → HasAllMembers members (writer_of old.me.0) (writer_of new.me.0)
-all_taken members left old new none h = record {
-  same = h.same;
-  long = h.long;
-  each = λ k token at. h.each k token (subst (λ (xs : List tokens.Member). length xs ≤ k) (sym none) (omega arith)) at;
-}
 
 -- ---- the end
 

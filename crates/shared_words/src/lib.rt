@@ -22,7 +22,7 @@ mod writer;
 
 pub use closing::{Closed, close};
 pub use law::Served;
-pub use laws::rule_shows_a_sound_state;
+pub use laws::{rule_shows_a_sound_state, what_is_loaded_is_not_stored};
 pub use opening::Opening;
 pub use pass::Pass;
 pub use seats::{Member, Note, Parts, Writer};
