@@ -1,5 +1,5 @@
 -- A load of the counter keeps the rule, whatever seat loads it.
-use Rattle.std.proofs.Common.{◌≡◌, ℕ, zero, suc, ◌≤◌, inl, Bool, false, cond, List, set, refl, sym, ap, subst, ◌∙◌, arith}
+use Rattle.std.proofs.Common.{◌≡◌, ℕ, zero, suc, ◌≤◌, inl, inr, ne_eqb, Bool, false, cond, List, set, refl, sym, ap, subst, ◌∙◌, arith}
 use mathlib.Core.Option.{none, some, some-injective}
 use lib.ListN.{get_elem?}
 use lib.Seq.{set-get_or}
@@ -13,6 +13,8 @@ use Rattle.prgr_core.specs.declared.event.PrgrEvent.TheVariants as prgr
 use Rattle.prgr_core.specs.Members as members
 use Rattle.prgr_core.specs.Step.{after, with_member}
 use Rattle.prgr_core.proofs.Sound.{pair_sound}
+use Rattle.prgr_core.proofs.SoundParts.{is_member}
+use Rattle.prgr_core.specs.declared.member.TheConstants.{WAITING}
 use Rattle.term_core.specs.declared.generation.Generation.{Generation}
 use Rattle.area_core.proofs.Fewer.{fewer_count}
 use Rattle.shared_words.specs.declared.table.TheConstants.{COUNTER}
@@ -51,7 +53,19 @@ module _ {Served : Generation → Type 0} {opening : Opening} (s : State (Unit {
         moves = inl (prgr.LoadCounter k, loaded_event (progress_of s.words r.writer r.seats) k m.member shown awake ∙ ap (λ (p : Progress). Some p) (sym (progress_set s.words r.writer r.seats k (with_counter c m) knows.made within)));
         own = r.machine.own_words k m.member shown;
         others = λ j other. refl;
+        leader = r.machine.leader_made;
       })
+
+  -- a member that leads does not wait
+  may_load : (k : ℕ) (m : MemberView) → get_elem? r.seats k ≡ some (Member m) → MayLoadCounter (Member m) → members.is_waiting m.member.word ≡ false
+  may_load k m at may =
+      elim may as (λ _. members.is_waiting m.member.word ≡ false) [
+        | inl awake ↦ awake
+        | inr leads ↦
+            let among = is_member (progress_of s.words r.writer r.seats) r.machine.progress k m.member (shown_at r.writer.members r.seats k m (r.each_seat k (Member m) at).made at) in
+            let value = r.machine.progress.invariant.leader_awake m.member among leads in
+            ne_eqb m.member.word WAITING (λ e. absurd (omega arith))
+      ]
 
   -- ---- by the writer
 
@@ -78,6 +92,7 @@ module _ {Served : Generation → Type 0} {opening : Opening} (s : State (Unit {
         words = record {
           all = r.words.all;
           root = r.words.root;
+          mirrored = r.words.mirrored;
           reached = omega arith;
           blocks = fewer_count (blocks_shown s.words r.writer) (MayBeRead r.writer) (MayBeRead (counter_kept c r.writer)) r.words.blocks (fewer c r.words.reached);
         };
@@ -86,8 +101,10 @@ module _ {Served : Generation → Type 0} {opening : Opening} (s : State (Unit {
           progress = pair_sound (progress_of s.words r.writer r.seats) r.machine.progress;
           own_words = r.machine.own_words;
           others_wait = r.machine.others_wait;
+          leader_made = r.machine.leader_made;
         };
         handed = r.handed;
+        out = r.out;
         at_home = λ k m at. same_knows c k (Member m) (r.at_home k m at);
       }
 
@@ -98,7 +115,7 @@ module _ {Served : Generation → Type 0} {opening : Opening} (s : State (Unit {
 
   behind_loads : (k : ℕ) (v : View) → get_elem? s.views (suc k) ≡ some v → get_elem? r.seats k ≡ some v → MayLoadCounter v → RunningRule Served opening (after_step s s.words (suc k) (counter_found (slice_index s.words COUNTER) v))
   behind_loads k (Writer w) at here may = absurd (r.each_seat k (Writer w) here)
-  behind_loads k (Member m) at here may = member_loads k m here may
+  behind_loads k (Member m) at here may = member_loads k m here (may_load k m here may)
   behind_loads k (Watcher w) at here may = absurd may
   behind_loads k (Note n) at here may = same_step (suc k) (Note n) at
   behind_loads k Spent at here may = absurd may
@@ -116,5 +133,5 @@ load_counter_is_allowed Served opening slots id me may s r wide at fits = (
   keeps,
   tt,
   subst (λ (ws : List ℕ). RunningRule Served opening (after_step s ws id (counter_found (slice_index s.words COUNTER) me.0))) (sym (set-get_or s.words COUNTER 0)) (counter_loads s r id me.0 at may),
-  refl,
+  record { range = r.machine.progress.invariant.counter_in_range; view = refl },
 )

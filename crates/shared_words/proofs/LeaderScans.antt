@@ -1,11 +1,13 @@
 -- A leader's look at a member's word keeps the rule, and so does the raise of the counter.
-use Rattle.std.proofs.Common.{◌≡◌, ℕ, suc, ◌+◌, ◌-◌, ◌%◌, ◌^◌, ◌<◌, inl, Bool, true, false, cond, ◌&&◌, ◌||◌, List, length, drop, set, get_or-set_other, get_or-set_same, refl, sym, ap, subst, ◌∙◌, arith, ne_eqb}
+use Rattle.std.proofs.Common.{◌≡◌, ℕ, suc, ◌+◌, ◌-◌, ◌%◌, ◌^◌, ◌<◌, ◌≤◌, inl, Bool, true, false, cond, ◌&&◌, ◌||◌, List, length, drop, set, get_or-set_other, get_or-set_same, refl, sym, ap, subst, ◌∙◌, arith, ne_eqb}
 use mathlib.Core.Option.{none, some}
+use mathlib.Core.Logic.{dite}
+use native.Mathlib.Decide.{ℕ_discrete}
 use lib.ListN.{get_elem?}
 use lib.Seq.{set-get_or}
 use Rattle.std.specs.Prelude.{Some, None, slice_get, slice_index, unwrap_or, nat_lt, IsTrue, ◌==◌}
 use Rattle.std.specs.Option.{option_and_then}
-use Rattle.std.proofs.lemmas.Bool.{lt-ltb}
+use Rattle.std.proofs.lemmas.Bool.{lt-ltb, eqb-false}
 use Rattle.atomic_table.specs.Table.{State, keeps, step, Allows}
 use Rattle.prgr_core.specs.declared.member.TheConstants.{WAITING, LAST_VALUE}
 use Rattle.prgr_core.specs.declared.member.Member as machines
@@ -96,7 +98,24 @@ module _ {Served : Generation → Type 0} {opening : Opening} (s : State (Unit {
           );
           own = r.machine.own_words k m.member shown;
           others = λ x apart. refl;
+          leader = r.machine.leader_made;
         })
+
+    -- the word of a member is at most the value after the counter, unless it waits
+    word_near : (j : ℕ) → j < opening.members → members.is_waiting (slice_index s.words (CONFIRMED + j)) ≡ false → slice_index s.words (CONFIRMED + j) ≤ known_counter m + 1
+    word_near j few apart =
+        let made = r.published.made in
+        let o = unwrap_or (slice_get p.members j) (opening_member 0) in
+        let other : slice_get p.members j ≡ Some o = there_is p.members j (opening_member 0) (omega (arith, shown_length r.writer.members r.seats)) in
+        let word : slice_index s.words (CONFIRMED + j) ≡ o.word = r.machine.own_words j o other in
+        let among = is_member p r.machine.progress j o other in
+        let fits = r.machine.progress.invariant.words_fit o among in
+        let awake : o.word ≡ WAITING → ⊥ = λ e. eqb-false _ _ apart (word ∙ e) in
+        dite (ℕ_discrete o.word 0)
+        (λ (enters : o.word ≡ 0). omega arith)
+        (λ (other_word : o.word ≡ 0 → ⊥).
+        let near = r.machine.progress.invariant.words_near o among (omega (arith, other_word), omega (arith, awake)) in
+        omega (arith, knows_counter))
 
     -- each member is scanned
     all_scanned : (scans : Scans) → ((j : ℕ) → j < opening.members → IsTrue (members.has_scanned scans j)) → members.have_scanned_all scans p.members ≡ true
@@ -117,7 +136,7 @@ module _ {Served : Generation → Type 0} {opening : Opening} (s : State (Unit {
         let may_now : may_advance p scans ≡ true = λ i. all i && delay i && below i in
         let event = advance_event p k m.member scans shown (leads_with m.member.role leader.leads) may_now in
         machine_store s r COUNTER (n + 1) (omega arith) (omega arith) (λ e. omega arith) (n + 1) (slice_index s.words LEAD)
-        (get_or-set_same s.words COUNTER (n + 1) 0 (omega arith)) (get_or-set_other s.words COUNTER LEAD (n + 1) 0 (λ e. absurd (omega arith)))
+        (get_or-set_same s.words COUNTER (n + 1) 0 (omega arith)) (get_or-set_other s.words COUNTER LEAD (n + 1) 0 (λ e. absurd (omega arith))) r.machine.leader_made
         k m (members.leading_with (members.no_scans (Some (known_counter m + 1))) m.member) (prgr.Advance k) here refl refl refl
         (event ∙ ap (λ (c : ℕ). Some (record (with_member p k (members.leading_with (members.no_scans (Some (c + 1))) m.member)) { counter = n + 1 })) (sym knows_counter))
 
@@ -133,7 +152,7 @@ load_confirmed_is_allowed Served opening slots id other me is may s r wide at fi
       keeps,
       tt,
       subst (λ (z : List ℕ × (ℕ × ℕ)). RunningRule Served opening (after_step s z.0 z.1.0 (Member (word_scanned z.1.1 found m)))) (λ i. (sym (set-get_or s.words (CONFIRMED + other) 0) i, (sym seat.1 i, sym back i))) (scans_word s r seat.0 m seat.2 may.leader other may.there),
-      refl,
+      record { near = word_near s r seat.0 m seat.2 may.leader other may.there; view = refl },
     )
 
 -- a leader that has scanned all may raise the counter

@@ -28,7 +28,7 @@ use Rattle.shared_words.specs.Shown.{leader_in, progress_of}
 use Rattle.shared_words.specs.Seats.{member_of}
 use Rattle.shared_words.specs.Kinds.{Sat, IsLeader, MayLead, lead_found, lead_taken, lead_given, lead_dropped}
 use Rattle.shared_words.specs.Rule.{MemberKnows, RunningRule}
-use Rattle.shared_words.proofs.ShownMembers.{shown_at, there}
+use Rattle.shared_words.proofs.ShownMembers.{shown_at, shown_length, there}
 use Rattle.shared_words.proofs.Frames.{after_step, stored_front, progress_set, progress_words, member_step}
 use Rattle.shared_words.proofs.CounterLoads.{same_step}
 use Rattle.shared_words.proofs.MemberStores.{seat_of}
@@ -49,11 +49,11 @@ still_knows w k m a number generation knows = record {
 
 module _ {Served : Generation → Type 0} {opening : Opening} (s : State (Unit {0}) View) (r : RunningRule Served opening s) where
   -- a store of the counter or of the leader's word, which is an event of a member that keeps its word
-  pub machine_store : (i x : ℕ) → 0 < i → i < DELAYS → (i ≡ COUNTER → slice_index s.words COUNTER ≤ x) → (c l : ℕ) → slice_index (set s.words i x) COUNTER ≡ c → slice_index (set s.words i x) LEAD ≡ l
+  pub machine_store : (i x : ℕ) → 0 < i → i < DELAYS → (i ≡ COUNTER → slice_index s.words COUNTER ≤ x) → (c l : ℕ) → slice_index (set s.words i x) COUNTER ≡ c → slice_index (set s.words i x) LEAD ≡ l → l ≤ length r.writer.members
       → (k : ℕ) (m : MemberView) (a : machines.Member) (event : PrgrEvent) → get_elem? r.seats k ≡ some (Member m) → a.number ≡ m.member.number → a.generation ≡ m.member.generation → a.word ≡ m.member.word
       → after (progress_of s.words r.writer r.seats) event ≡ Some (record (with_member (progress_of s.words r.writer r.seats) k a) { counter = c; leader = leader_in l })
       → RunningRule Served opening (after_step s (set s.words i x) (suc k) (Member (with_record m a)))
-  machine_store i x first low later c l counter lead k m a event at number generation word made =
+  machine_store i x first low later c l counter lead small k m a event at number generation word made =
       let knows = r.each_seat k (Member m) at in
       let size = r.words.all in
       let words' : List ℕ = set s.words i x in
@@ -65,6 +65,7 @@ module _ {Served : Generation → Type 0} {opening : Opening} (s : State (Unit {
         moves = inl (event, made ∙ ap (λ (p : Progress). Some (with_member p k a)) (sym same) ∙ ap (λ (p : Progress). Some p) (sym (progress_set words' r.writer r.seats k m' knows.made (there r.seats k (Member m) at))));
         own = get_or-set_other s.words i (CONFIRMED + k) x 0 (λ e. absurd (omega arith)) ∙ r.machine.own_words k m.member (shown_at r.writer.members r.seats k m knows.made at) ∙ sym word;
         others = λ j other. get_or-set_other s.words i (CONFIRMED + j) x 0 (λ e. absurd (omega arith));
+        leader = subst (λ (n : ℕ). n ≤ length r.writer.members) (sym lead) small;
       })
 
 -- ---- the lead
@@ -101,7 +102,7 @@ module _ {Served : Generation → Type 0} {opening : Opening} (s : State (Unit {
       let p = progress_of s.words r.writer r.seats in
       let made = lead_event p k m.member (shown_at r.writer.members r.seats k m knows.made here) (nobody_leads (slice_index s.words LEAD) is) awake in
       machine_store s r LEAD (k + 1) (omega arith) (omega arith) (λ e. absurd (omega arith)) (slice_index s.words COUNTER) (k + 1)
-      (get_or-set_other s.words LEAD COUNTER (k + 1) 0 (λ e. absurd (omega arith))) (get_or-set_same s.words LEAD (k + 1) 0 (omega arith))
+      (get_or-set_other s.words LEAD COUNTER (k + 1) 0 (λ e. absurd (omega arith))) (get_or-set_same s.words LEAD (k + 1) 0 (omega arith)) (let made = knows.made in omega arith)
       k m (members.leading m.member) (prgr.Lead k) here refl refl refl
       (made ∙ ap (λ (o : Option ℕ). Some (record (with_member p k (members.leading m.member)) { leader = o })) (sym (leader_is k)))
   takes_lead k m at here awake false is =
@@ -113,7 +114,7 @@ module _ {Served : Generation → Type 0} {opening : Opening} (s : State (Unit {
       let size = r.words.all in
       let p = progress_of s.words r.writer r.seats in
       machine_store s r LEAD 0 (omega arith) (omega arith) (λ e. absurd (omega arith)) (slice_index s.words COUNTER) 0
-      (get_or-set_other s.words LEAD COUNTER 0 0 (λ e. absurd (omega arith))) (get_or-set_same s.words LEAD 0 0 (omega arith))
+      (get_or-set_other s.words LEAD COUNTER 0 0 (λ e. absurd (omega arith))) (get_or-set_same s.words LEAD 0 0 (omega arith)) (omega arith)
       k m (members.following m.member) (prgr.GiveUp k) here refl refl refl
       (give_up_event p k m.member (shown_at r.writer.members r.seats k m knows.made here) m.member.role refl leads)
 
@@ -133,7 +134,7 @@ take_lead_is_allowed Served opening slots id number me is numbered may s r wide 
       keeps,
       tt,
       subst (λ (z : ℕ × ℕ). RunningRule Served opening (after_step s (set s.words LEAD (either (found == 0) (z.0 + 1) found)) z.1 (Member (lead_found found m)))) (λ i. (sym place i, sym seat.1 i)) taken,
-      refl,
+      record { leader = (let made = r.machine.leader_made in let most = r.machine.progress.few in omega (arith, shown_length r.writer.members r.seats)); view = refl },
     )
 
 -- the lead may be given up by who leads

@@ -1,5 +1,5 @@
 -- The stores of a member keep the rule: of its own word, of the leader's word and of the counter.
-use Rattle.std.proofs.Common.{◌≡◌, ℕ, zero, suc, ◌+◌, ◌<◌, inl, List, length, set, get_or-set_other, get_or-set_same, refl, sym, ap, subst, ◌∙◌, arith}
+use Rattle.std.proofs.Common.{◌≡◌, ℕ, zero, suc, ◌+◌, ◌<◌, ◌≤◌, inl, List, length, set, get_or-set_other, get_or-set_same, refl, sym, ap, subst, ◌∙◌, arith}
 use mathlib.Core.Option.{none, some, some-injective}
 use lib.ListN.{get_elem?}
 use Rattle.std.specs.Prelude.{Some, slice_get, slice_index, IsTrue}
@@ -82,6 +82,7 @@ module _ {Served : Generation → Type 0} {opening : Opening} (s : State (Unit {
         moves = inl (event, made ∙ ap (λ (p : Progress). Some (with_member p k m.member)) (sym same) ∙ ap (λ (p : Progress). Some p) (sym (progress_set words' r.writer r.seats k m knows.made (there r.seats k (Member old) at))));
         own = get_or-set_same s.words (CONFIRMED + k) value 0 (omega arith) ∙ sym word;
         others = λ j other. get_or-set_other s.words (CONFIRMED + k) (CONFIRMED + j) value 0 (λ e. other (omega arith));
+        leader = subst (λ (n : ℕ). n ≤ length r.writer.members) (sym (get_or-set_other s.words (CONFIRMED + k) LEAD value 0 (λ e. absurd (omega arith)))) r.machine.leader_made;
       })
 
 -- a report may store its value

@@ -1,10 +1,10 @@
 -- The kinds of steps: which view may make each, and what it makes of the view.
 -- Each is an event of the progress machine or of blocks and slots, and says so by the function of that event.
-use Rattle.std.specs.Prelude.{◌≡◌, ℕ, ◌+◌, ◌-◌, ◌<◌, ◌==◌, ◌||◌, if◌then◌else◌, List, [], ◌∷◌, ◌++◌, length, false, IsTrue, Some, None, unwrap_or}
+use Rattle.std.specs.Prelude.{◌≡◌, ℕ, ◌+◌, ◌-◌, ◌<◌, ◌≤◌, ◌⊎◌, ◌==◌, ◌||◌, if◌then◌else◌, List, [], ◌∷◌, ◌++◌, length, false, IsTrue, Some, None, unwrap_or}
 use Rattle.atomic_table.specs.Table.{Me, Step}
 use Rattle.prgr_core.specs.declared.member.Member as machines
 use Rattle.prgr_core.specs.declared.member.Loaded.TheVariants.{Nothing}
-use Rattle.prgr_core.specs.declared.member.TheConstants.{LAST_VALUE}
+use Rattle.prgr_core.specs.declared.member.TheConstants.{LAST_VALUE, MOST_MEMBERS}
 use Rattle.prgr_core.specs.declared.member.Scans.{Scans}
 use Rattle.prgr_core.specs.declared.member.Role.{Role}
 use Rattle.prgr_core.specs.declared.member.Role.TheVariants.{Follows, Leads}
@@ -12,16 +12,19 @@ use Rattle.prgr_core.specs.Members.{IsLeading, no_scans}
 use Rattle.prgr_core.specs.Members as members
 use Rattle.prgr_core.specs.Watchers as watchers
 use Rattle.prgr_core.specs.Step.{has_loaded, follows, scan_of}
+use Rattle.prgr_core.specs.Invariant.{CounterInRange}
 use Rattle.term_core.specs.declared.generation.Generation.{Generation}
 use Rattle.area_core.specs.declared.table.Published.{Published}
 use Rattle.area_core.specs.Step.{confirms}
+use Rattle.area_core.specs.Blocks.{RootFits, Among}
 use Rattle.shared_words.specs.declared.table.TheConstants.{CONFIRMED}
 use Rattle.shared_words.specs.declared.opening.Opening.{Opening}
+use Rattle.shared_words.specs.declared.view.NoteNumber.{NoteNumber}
 use Rattle.shared_words.specs.declared.view.MemberView.{MemberView}
 use Rattle.shared_words.specs.declared.view.WriterView.{WriterView}
 use Rattle.shared_words.specs.declared.view.View.{View}
 use Rattle.shared_words.specs.declared.view.View.TheVariants.{Writer, Member, Watcher, Note, Spent}
-use Rattle.shared_words.specs.Views.{newest, newest_root, published_at, seen}
+use Rattle.shared_words.specs.Views.{newest, newest_root, published_at, seen, notes_of}
 use Rattle.shared_words.specs.Rule.{IsBeginning}
 use Rattle.shared_words.specs.Seats.{member_of}
 
@@ -31,10 +34,11 @@ Sat = Me (Unit {0}) View
 
 -- ---- the load of the counter
 
--- who may load the counter: a member that does not wait, the writer and a note. A watcher makes no step yet
+-- who may load the counter: a member that does not wait, as none that leads does, the writer and a note. A watcher
+-- makes no step yet
 abbrev pub MayLoadCounter : View → Type 0
 MayLoadCounter (Writer w) = Unit {0}
-MayLoadCounter (Member m) = members.is_waiting m.member.word ≡ false
+MayLoadCounter (Member m) = (members.is_waiting m.member.word ≡ false) ⊎ IsLeading m.member.role
 MayLoadCounter (Watcher w) = ⊥
 MayLoadCounter (Note n) = Unit {0}
 MayLoadCounter Spent = ⊥
@@ -54,8 +58,10 @@ counter_found counter (Watcher w) = Watcher (record w { watcher = watchers.count
 counter_found counter (Note n) = Note n
 counter_found counter Spent = Spent
 
-abbrev pub counter_loaded : Step (Unit {0}) → Sat → ℕ → Sat → Type 0
-counter_loaded st me counter me' = me' ≡ (counter_found counter me.0, me.1)
+-- what a load of the counter tells: the counter is in its range, and the seat knows it
+pub record counter_loaded (st : Step (Unit {0})) (me : Sat) (counter : ℕ) (me' : Sat) : Type 0 where
+  pub range : CounterInRange counter
+  pub view : me' ≡ (counter_found counter me.0, me.1)
 
 -- ---- the load of the root
 
@@ -80,12 +86,15 @@ root_found published (Note n) = Note (record n { seen = published })
 root_found published Spent = Spent
 
 -- what a load of the root tells: the generations so far are learnt, and the root found is that of the last of them,
--- which the code server has made
+-- which the code server has made, and names blocks that there are; and what was published at a spawn is among them, of
+-- which the seat keeps a note
 pub record RootLoaded (Served : Generation → Type 0) (old new : View) (found : ℕ) : Type 0 where
   pub learnt : IsBeginning (seen old) (seen new)
   pub some : 0 < length (seen new)
   pub root : found ≡ newest_root (seen new)
+  pub fits : RootFits (published_at (seen new) (newest (seen new))).root
   pub served : Served (published_at (seen new) (newest (seen new))).state
+  pub promised : (note : NoteNumber) → Among (notes_of old) note → note.published < length (seen new)
   pub view : new ≡ root_found (seen new) old
 
 -- the same of a step, which moves no slot
@@ -156,8 +165,10 @@ pub record MayScan (opening : Opening) (other : ℕ) (m : MemberView) : Type 0 w
 abbrev pub word_scanned : ℕ → ℕ → MemberView → MemberView
 word_scanned other word m = record m { member = members.leading_with (scan_of (known_counter m) (scans_of m.member.role) other word) m.member }
 
-abbrev pub scanned : Step (Unit {0}) → Sat → ℕ → Sat → Type 0
-scanned st me word me' = me' ≡ (Member (word_scanned (st.word - CONFIRMED) word (member_of me.0)), me.1)
+-- the word of a member that does not wait is at most the value after the counter
+pub record scanned (st : Step (Unit {0})) (me : Sat) (word : ℕ) (me' : Sat) : Type 0 where
+  pub near : members.is_waiting word ≡ false → word ≤ known_counter (member_of me.0) + 1
+  pub view : me' ≡ (Member (word_scanned (st.word - CONFIRMED) word (member_of me.0)), me.1)
 
 -- it has scanned each member, and the delay where there are watchers, and the counter is below its last value
 pub record MayRaise (opening : Opening) (m : MemberView) : Type 0 where
@@ -182,8 +193,10 @@ pub record MayLead (m : MemberView) : Type 0 where
 abbrev pub lead_found : ℕ → MemberView → MemberView
 lead_found found m = record m { member = if found == 0 then members.leading m.member else m.member }
 
-abbrev pub lead_taken : Step (Unit {0}) → Sat → ℕ → Sat → Type 0
-lead_taken st me found me' = me' ≡ (Member (lead_found found (member_of me.0)), me.1)
+-- who leads is a member
+pub record lead_taken (st : Step (Unit {0})) (me : Sat) (found : ℕ) (me' : Sat) : Type 0 where
+  pub leader : found ≤ MOST_MEMBERS
+  pub view : me' ≡ (Member (lead_found found (member_of me.0)), me.1)
 
 -- the member leads
 abbrev pub IsLeader : MemberView → Type 0

@@ -16,7 +16,7 @@ use Rattle.area_core.specs.declared.table.Published.{Published}
 use Rattle.area_core.specs.Generations.{is_current, is_used, is_retired, has_serial}
 use Rattle.area_core.specs.Map.{word_at}
 use Rattle.area_core.specs.Blocks.{Blocks, BlockInvariant, Among}
-use Rattle.shared_words.specs.declared.table.TheConstants.{ROOT, COUNTER, CONFIRMED}
+use Rattle.shared_words.specs.declared.table.TheConstants.{ROOT, COUNTER, LEAD, CONFIRMED}
 use Rattle.shared_words.specs.declared.opening.Opening.{Opening}
 use Rattle.shared_words.specs.declared.view.NoteNumber.{NoteNumber}
 use Rattle.shared_words.specs.declared.view.NoteView.{NoteView}
@@ -83,6 +83,8 @@ pub record WordsAgree (words : List ℕ) (w : WriterView) : Type 0 where
   pub all : length words ≡ TABLE_WORDS
   -- the root is that of the newest generation
   pub root : slice_index words ROOT ≡ newest_root w.published
+  -- the words of slots and blocks are those that the writer has stored
+  pub mirrored : block_words words ≡ w.words
   -- the counter has reached what the writer loaded
   pub reached : w.counter ≤ slice_index words COUNTER
   -- blocks, areas and entry words are those of the generations that may be read
@@ -135,6 +137,8 @@ pub record MachineHolds (words : List ℕ) (w : WriterView) (seats : List View) 
   pub own_words : (k : ℕ) (a : machines.Member) → slice_get (members_shown w.members seats) k ≡ Some a → slice_index words (CONFIRMED + k) ≡ a.word
   -- the words of members that were not made are as if they waited
   pub others_wait : (k : ℕ) → length w.members ≤ k → k < MOST_MEMBERS → slice_index words (CONFIRMED + k) ≡ WAITING
+  -- who leads is a member that was made
+  pub leader_made : slice_index words LEAD ≤ length w.members
 
 -- ---- the whole
 
@@ -149,5 +153,7 @@ pub record RunningRule (Served : Generation → Type 0) (opening : Opening) (s :
   pub machine : MachineHolds s.words writer seats
   -- while seats of members are at home, there are just those that were handed out
   pub handed : writer.handed < length writer.members → length seats ≡ writer.handed
+  -- there are at least those that were handed out
+  pub out : writer.handed ≤ length seats
   -- a member knows what it must also while its seat is at home
   pub at_home : (k : ℕ) (m : MemberView) → slice_get writer.members k ≡ Some m → MemberKnows writer k m

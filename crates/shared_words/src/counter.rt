@@ -1,6 +1,7 @@
 //! The steps on the progress counter.
 
 ghost use Rattle.std.specs.Prelude.{◌≡◌};
+ghost use Rattle.prgr_core.specs.Invariant.{CounterInRange};
 ghost use Rattle.shared_words.specs.Seats.{IsSeatOf, IsSameSeat};
 ghost use Rattle.shared_words.specs.Kinds.{MayLoadCounter, counter_found};
 
@@ -17,6 +18,8 @@ impl<N: Served> Shared<N> {
         requires may { MayLoadCounter (P.seat pass.old).me.0 }
         ensures token { IsSameSeat (P.seat pass.old) (P.seat pass.new) }
         ensures number { P.number pass.new ≡ P.number pass.old }
+        ensures root { P.root pass.new ≡ P.root pass.old }
+        ensures range { CounterInRange result }
         ensures view { (P.seat pass.new).me.0 ≡ counter_found result (P.seat pass.old).me.0 }
     {
         pass.load::<LoadCounter, N>(&self.table.shared, COUNTER as usize)

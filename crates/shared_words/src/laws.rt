@@ -1,6 +1,6 @@
 //! What holds of every state that meets the rule, not only of those that a run reaches.
 
-ghost use Rattle.shared_words.specs.Laws.{ShowsSound};
+ghost use Rattle.shared_words.specs.Laws.{ShowsSound, KeepsWhatIsRead};
 
 use crate::law::Served;
 
@@ -8,4 +8,9 @@ use crate::law::Served;
 /// generations that some thread may read.
 pub fn rule_shows_a_sound_state<N: Served>()
     ensures { ShowsSound N.served }
+{}
+
+/// No word of a block that some token may load is one that the writer may store.
+pub fn what_is_loaded_is_not_stored<N: Served>()
+    ensures { KeepsWhatIsRead N.served }
 {}

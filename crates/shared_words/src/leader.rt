@@ -1,9 +1,11 @@
 //! The steps of a member that leads, or tries to.
 
-ghost use Rattle.std.specs.Prelude.{◌≡◌};
+ghost use Rattle.std.specs.Prelude.{◌≡◌, ◌≤◌, ◌+◌, false};
+ghost use Rattle.prgr_core.specs.declared.member.TheConstants.{MOST_MEMBERS};
+ghost use Rattle.prgr_core.specs.Members.{is_waiting};
 ghost use Rattle.shared_words.specs.declared.view.View.TheVariants as views;
 ghost use Rattle.shared_words.specs.Seats.{IsMemberSeat, IsSameSeat, member_of};
-ghost use Rattle.shared_words.specs.Kinds.{MayScan, MayRaise, MayLead, IsLeader, word_scanned, counter_raised, lead_found, lead_given};
+ghost use Rattle.shared_words.specs.Kinds.{MayScan, MayRaise, MayLead, IsLeader, known_counter, word_scanned, counter_raised, lead_found, lead_given};
 
 use crate::law::Served;
 use crate::plays::{DropLead, LoadConfirmed, StoreCounter, TakeLead};
@@ -17,6 +19,8 @@ impl<N: Served> Shared<N> {
         requires may { MayScan self.now.table.shared.key other (member_of member.old.seat.me.0) }
         ensures token { IsSameSeat member.old.seat member.new.seat }
         ensures number { member.new.number ≡ member.old.number }
+        ensures root { member.new.root ≡ member.old.root }
+        ensures near { is_waiting result ≡ false → result ≤ known_counter (member_of member.old.seat.me.0) + 1 }
         ensures view { member.new.seat.me.0 ≡ views.Member (word_scanned other result (member_of member.old.seat.me.0)) }
     {
         let word = CONFIRMED as usize + other as usize;
@@ -31,6 +35,7 @@ impl<N: Served> Shared<N> {
         requires may { MayRaise self.now.table.shared.key (member_of member.old.seat.me.0) }
         ensures token { IsSameSeat member.old.seat member.new.seat }
         ensures number { member.new.number ≡ member.old.number }
+        ensures root { member.new.root ≡ member.old.root }
         ensures view { member.new.seat.me.0 ≡ views.Member (counter_raised (member_of member.old.seat.me.0)) }
     {
         self.table
@@ -45,6 +50,8 @@ impl<N: Served> Shared<N> {
         requires may { MayLead (member_of member.old.seat.me.0) }
         ensures token { IsSameSeat member.old.seat member.new.seat }
         ensures number { member.new.number ≡ member.old.number }
+        ensures root { member.new.root ≡ member.old.root }
+        ensures leader { result ≤ MOST_MEMBERS }
         ensures view { member.new.seat.me.0 ≡ views.Member (lead_found result (member_of member.old.seat.me.0)) }
     {
         let own = member.number as u64 + 1;
@@ -59,6 +66,7 @@ impl<N: Served> Shared<N> {
         requires may { IsLeader (member_of member.old.seat.me.0) }
         ensures token { IsSameSeat member.old.seat member.new.seat }
         ensures number { member.new.number ≡ member.old.number }
+        ensures root { member.new.root ≡ member.old.root }
         ensures view { member.new.seat.me.0 ≡ views.Member (lead_given (member_of member.old.seat.me.0)) }
     {
         self.table

@@ -2,12 +2,14 @@
 //! call for each kind of step.
 #![tactic(auto)]
 
+mod closing;
 mod counter;
 mod law;
 mod laws;
 mod leader;
 mod making;
 mod members;
+mod notes;
 mod opening;
 mod pass;
 mod plays;
@@ -15,11 +17,15 @@ mod root;
 mod seats;
 mod table;
 mod view;
+mod words;
+mod writer;
 
+pub use closing::{Closed, close};
 pub use law::Served;
-pub use laws::rule_shows_a_sound_state;
+pub use laws::{rule_shows_a_sound_state, what_is_loaded_is_not_stored};
 pub use opening::Opening;
 pub use pass::Pass;
 pub use seats::{Member, Note, Parts, Writer};
 pub use table::{COUNTER, LEAD, ROOT, Shared};
 pub use view::{MemberView, NoteNumber, NoteView, View, WatcherView, WriterView};
+pub use writer::Next;

@@ -13,6 +13,9 @@ use std::alloc::Global;
 /// The word of the root. The split and the join of a seat load it.
 pub const ROOT: u32 = 0;
 
+/// The root word at first: generation 0, over the first block of each sort.
+pub const OPENING_ROOT: u64 = 0;
+
 /// The word of the progress counter.
 pub const COUNTER: u32 = 1;
 
@@ -26,8 +29,24 @@ pub const DELAYS: u32 = 3;
 pub const CONFIRMED: u32 = 5;
 
 /// The words that all threads share.
+#[derive(Drop)]
 pub struct Shared<N: Served> {
     pub(crate) table: Table<(), View, Opening, Law<N>, Global>,
+    pub(crate) members: u32,
     pub ghost sized: { table.shared.table_id.words ≡ TABLE_WORDS },
     pub ghost few: { table.shared.key.members ≤ MOST_MEMBERS },
+    pub ghost counted: { members ≡ table.shared.key.members },
+    // There are no watchers yet.
+    pub ghost unwatched: { table.shared.key.watchers ≡ 0 },
+}
+
+impl<N: Served> Shared<N> {
+    /// How many members the table was made for.
+    pub fn members(&self) -> u32
+        ensures members { result ≡ self.now.table.shared.key.members }
+        ensures few { result ≤ MOST_MEMBERS }
+        ensures unwatched { self.now.table.shared.key.watchers ≡ 0 }
+    {
+        self.members
+    }
 }
