@@ -1,0 +1,5 @@
+mod Tokens
+mod Confirming
+mod Scanning
+mod Passing
+mod Raising

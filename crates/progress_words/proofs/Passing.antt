@@ -1,0 +1,40 @@
+-- Once a value that was taken at a generation is reached, no thread reads an earlier one.
+use Rattle.std.proofs.Common.{◌≡◌, ℕ, zero, suc, ◌+◌, ◌≤◌, List, [], ◌∷◌, ◌++◌, length, refl, sym, ap, subst, ◌∙◌, arith}
+use Rattle.std.specs.Prelude.{Some, slice_get}
+use Rattle.prgr_core.specs.declared.member.Retirement.{Retirement}
+use Rattle.prgr_core.specs.Machine.{machine_of}
+use Rattle.prgr_core.proofs.GraceHolds.{grace_holds}
+use Rattle.term_core.specs.declared.generation.Generation.{Generation}
+use Rattle.shared_words.specs.declared.opening.Opening.{Opening}
+use Rattle.shared_words.specs.declared.view.WriterView.{WriterView}
+use Rattle.shared_words.specs.Views.{newest}
+use Rattle.shared_words.specs.Shown.{progress_of}
+use Rattle.shared_words.specs.Kinds.{counter_kept}
+use Rattle.shared_words.proofs.ShownMembers.{still_at}
+use Rattle.progress_words.specs.Needs.{HasTaken, HasLoadedCounter, HasPassed}
+
+-- grace beneath running threads
+pub has_passed : (Served : Generation → Type 0) (opening : Opening) (w : WriterView) (generation need : ℕ) → HasTaken w generation need → need ≤ w.counter → HasPassed Served opening w generation
+has_passed Served opening w generation need taken enough s r is g readable =
+    let kept : HasTaken r.writer generation need = subst (λ (x : WriterView). HasTaken x generation need) (sym is) taken in
+    let known : need ≤ r.writer.counter = subst (λ (x : WriterView). need ≤ x.counter) (sym is) enough in
+    let reached = r.words.reached in
+    grace_holds (machine_of (progress_of s.words r.writer r.seats)) r.machine.progress.invariant generation need kept (omega arith) g readable
+
+-- what was put at the end of a list is there
+got_last : {A : Type 0} (xs : List A) (x : A) → slice_get (xs ++ x ∷ []) (length xs) ≡ Some x
+got_last [] x = refl
+got_last (y ∷ ys) x = got_last ys x
+
+-- the value that a load of the counter takes
+pub taken_now : (old new : WriterView) (need : ℕ) → HasLoadedCounter old new → need ≡ new.counter + 2 → HasTaken new (newest old.published) need
+taken_now old new need loaded is =
+    let last : Retirement = record { generation = newest old.published; need = loaded.counter + 2 } in
+    let same : need ≡ loaded.counter + 2 = is ∙ ap (λ (w : WriterView). w.counter + 2) loaded.view in
+    subst (λ (z : WriterView × ℕ). HasTaken z.0 (newest old.published) z.1) (λ i. (sym loaded.view i, sym same i)) (length old.pairs, got_last old.pairs last)
+
+-- where the value that was taken is reached, its generation has passed
+pub passed_now : (Served : Generation → Type 0) (opening : Opening) (old new : WriterView) (need : ℕ) → HasLoadedCounter old new → need ≤ new.counter → (generation : ℕ) → HasTaken old generation need → HasPassed Served opening new generation
+passed_now Served opening old new need loaded enough generation taken =
+    let kept : HasTaken (counter_kept loaded.counter old) generation need = (taken.0, still_at old.pairs _ taken.0 _ taken.1) in
+    has_passed Served opening new generation need (subst (λ (w : WriterView). HasTaken w generation need) (sym loaded.view) kept) enough
