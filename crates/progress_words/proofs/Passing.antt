@@ -7,10 +7,13 @@ use Rattle.prgr_core.proofs.GraceHolds.{grace_holds}
 use Rattle.term_core.specs.declared.generation.Generation.{Generation}
 use Rattle.shared_words.specs.declared.opening.Opening.{Opening}
 use Rattle.shared_words.specs.declared.view.WriterView.{WriterView}
+use Rattle.shared_words.specs.declared.view.View.{View}
+use Rattle.shared_words.specs.declared.view.View.TheVariants.{Writer}
 use Rattle.shared_words.specs.Views.{newest}
 use Rattle.shared_words.specs.Shown.{progress_of}
-use Rattle.shared_words.specs.Kinds.{counter_kept}
+use Rattle.shared_words.specs.Kinds.{counter_kept, counter_found}
 use Rattle.shared_words.proofs.ShownMembers.{still_at}
+use Rattle.progress_words.specs.Tokens.{writer_of}
 use Rattle.progress_words.specs.Needs.{HasTaken, HasLoadedCounter, HasPassed}
 
 -- grace beneath running threads
@@ -26,6 +29,10 @@ got_last : {A : Type 0} (xs : List A) (x : A) → slice_get (xs ++ x ∷ []) (le
 got_last [] x = refl
 got_last (y ∷ ys) x = got_last ys x
 
+-- what the writer knows once it has loaded the counter
+pub view_now : (counter : ℕ) (old new : View) → old ≡ Writer (writer_of old) → new ≡ counter_found counter old → writer_of new ≡ counter_kept counter (writer_of old)
+view_now counter old new is found = ap writer_of (found ∙ ap (counter_found counter) is)
+
 -- the value that a load of the counter takes
 pub taken_now : (old new : WriterView) (need : ℕ) → HasLoadedCounter old new → need ≡ new.counter + 2 → HasTaken new (newest old.published) need
 taken_now old new need loaded is =
@@ -34,7 +41,7 @@ taken_now old new need loaded is =
     subst (λ (z : WriterView × ℕ). HasTaken z.0 (newest old.published) z.1) (λ i. (sym loaded.view i, sym same i)) (length old.pairs, got_last old.pairs last)
 
 -- where the value that was taken is reached, its generation has passed
-pub passed_now : (Served : Generation → Type 0) (opening : Opening) (old new : WriterView) (need : ℕ) → HasLoadedCounter old new → need ≤ new.counter → (generation : ℕ) → HasTaken old generation need → HasPassed Served opening new generation
-passed_now Served opening old new need loaded enough generation taken =
-    let kept : HasTaken (counter_kept loaded.counter old) generation need = (taken.0, still_at old.pairs _ taken.0 _ taken.1) in
-    has_passed Served opening new generation need (subst (λ (w : WriterView). HasTaken w generation need) (sym loaded.view) kept) enough
+pub passed_now : (Served : Generation → Type 0) (opening : Opening) (counter : ℕ) (old new : WriterView) (need : ℕ) → new ≡ counter_kept counter old → need ≤ counter → (generation : ℕ) → HasTaken old generation need → HasPassed Served opening new generation
+passed_now Served opening counter old new need is enough generation taken =
+    let kept : HasTaken (counter_kept counter old) generation need = (taken.0, still_at old.pairs _ taken.0 _ taken.1) in
+    has_passed Served opening new generation need (subst (λ (w : WriterView). HasTaken w generation need) (sym is) kept) (subst (λ (w : WriterView). need ≤ w.counter) (sym is) enough)

@@ -98,11 +98,11 @@ are_scanned counter (word ∷ words) m h done few j within =
     let here : scans_of (word_scanned k word n).member.role ≡ members.with_scanned k before.scans = scans_after counter k word n before ∙ ap (λ (t : Bool). cond t (members.with_scanned k before.scans) before.scans) done.0 in
     let size : length before.scans.members ≡ MOST_MEMBERS = before.places in
     dite (ℕ_discrete j k)
-        (λ (same : j ≡ k). ap (λ (sc : Scans). members.has_scanned sc j) here ∙ ap (λ (i : ℕ). unwrap_or (slice_get (slice_set before.scans.members k true) i) false) same ∙ ap (λ (o : Option Bool). unwrap_or o false) (got_same before.scans.members k true (omega arith)))
-        (λ (other : j ≡ k → ⊥).
-        let earlier = are_scanned counter words m h done.1 (omega arith) j (omega (arith, other)) in
-        ap (λ (sc : Scans). members.has_scanned sc j) here ∙ ap (λ (o : Option Bool). unwrap_or o false) (got_other before.scans.members k j true other)
-        ∙ ap (λ (role : Role). members.has_scanned (scans_of role) j) (sym before.leads) ∙ earlier)
+    (λ (same : j ≡ k). ap (λ (sc : Scans). members.has_scanned sc j) here ∙ ap (λ (i : ℕ). unwrap_or (slice_get (slice_set before.scans.members k true) i) false) same ∙ ap (λ (o : Option Bool). unwrap_or o false) (got_same before.scans.members k true (omega arith)))
+    (λ (other : j ≡ k → ⊥).
+    let earlier = are_scanned counter words m h done.1 (omega arith) j (omega (arith, other)) in
+    ap (λ (sc : Scans). members.has_scanned sc j) here ∙ ap (λ (o : Option Bool). unwrap_or o false) (got_other before.scans.members k j true other)
+    ∙ ap (λ (role : Role). members.has_scanned (scans_of role) j) (sym before.leads) ∙ earlier)
 
 -- ---- a look at all members
 

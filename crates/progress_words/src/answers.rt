@@ -5,9 +5,7 @@
 pub enum Lead {
     Led,
     /// The member of this number leads.
-    Held {
-        by: u32,
-    },
+    Held { by: u32 },
 }
 
 /// What came of an attempt to raise the counter.
@@ -17,15 +15,10 @@ pub enum Advance {
     Advanced(u64),
     /// This member, the first in the order of their numbers, has not confirmed the value after the
     /// counter: its word is `confirmed`, which is 0 while it enters.
-    Behind {
-        member: u32,
-        confirmed: u64,
-    },
+    Behind { member: u32, confirmed: u64 },
     /// So many unmanaged threads delay the counter. It comes with watchers, of which there are none
     /// yet.
-    Delayed {
-        count: u64,
-    },
+    Delayed { count: u64 },
     /// The counter is at its last value, and stays.
     AtEnd,
 }

@@ -29,7 +29,6 @@ pub fn later<N: Served>(shared: &Shared<N>, writer: &mut Writer) -> u64
 }
 
 /// Whether the counter has reached a value that `later` gave.
-#[tactic(auto, using(crate::proofs::Passing::passed_now))]
 pub fn reached<N: Served>(shared: &Shared<N>, writer: &mut Writer, need: u64) -> Result<(), NotYet>
     requires token { IsWriterOf shared.now.table.shared.table_id writer.old }
     ensures token { IsWriterOf shared.now.table.shared.table_id writer.new }
