@@ -18,7 +18,8 @@ use Rattle.shared_words.specs.Views.{newest, root_word, published_at, seen, held
 use Rattle.shared_words.specs.Seats.{member_of}
 use Rattle.shared_words.specs.Kinds.{counter_found, root_found, RootLoaded, value_confirmed}
 use Rattle.shared_words.specs.Rule.{IsBeginning}
-use Rattle.progress_words.specs.Reports.{having_reported, Reported}
+use Rattle.progress_words.specs.Reports.{IsAwake, having_reported, Reported}
+use Rattle.progress_words.specs.Leads.{IsLeader}
 
 -- the number of the generation that a root word has
 pub generation_in : (root : Root) (g : ℕ) → RootFits root → root_word root g / 32 ≡ g
@@ -57,3 +58,16 @@ has_reported Served old v w counter found new range first loaded last =
       served = subst (λ (z : List Published × ℕ). Served (published_at z.0 z.1).state) (λ i. (sym known i, sym generation i)) loaded.served;
       view = is ∙ ap (λ (xs : List Published). having_reported counter xs old) (sym known);
     }
+
+-- who has reported is awake
+pub awake_now : (Served : Generation → Type 0) (old new : MemberView) (generation : ℕ) → Reported Served old new generation → IsAwake new
+awake_now Served old new generation told = subst IsAwake (sym told.view) (value_after told.counter told.range)
+
+-- and leads where it led
+pub leads_on : (Served : Generation → Type 0) (old new : MemberView) (generation : ℕ) → Reported Served old new generation → IsLeader old → IsLeader new
+leads_on Served old new generation told h = record {
+  awake = awake_now Served old new generation told;
+  scans = record h.scans { counter = Some told.counter };
+  leads = ap (λ (m : MemberView). m.member.role) told.view ∙ ap (members.role_knowing told.counter) h.leads;
+  places = h.places;
+}

@@ -12,6 +12,7 @@ use Rattle.shared_words.specs.declared.view.View.{View}
 use Rattle.shared_words.specs.declared.view.View.TheVariants.{Member}
 use Rattle.shared_words.specs.Seats.{member_of}
 use Rattle.shared_words.specs.Kinds.{counter_found, MayRaise, MayScan, scans_of, known_counter, counter_raised, lead_found}
+use Rattle.progress_words.specs.Reports.{IsAwake}
 use Rattle.progress_words.specs.Leads.{IsLeader, LeadsAt}
 use Rattle.progress_words.specs.Advances.{with_counter, words_found, AreAllDone, FoundBy, HasFound}
 use Rattle.progress_words.specs.declared.advances.Lag.{Lag}
@@ -22,6 +23,7 @@ use Rattle.progress_words.proofs.Scanning.{knows_as_leader, known, leads_through
 -- once it has loaded the counter, it knows it
 pub knows_now : (counter : ℕ) (m : MemberView) → IsLeader m → LeadsAt counter (with_counter counter m)
 knows_now counter m h = record {
+  awake = h.awake;
   scans = record h.scans { counter = Some counter };
   leads = ap (members.role_knowing counter) h.leads;
   places = h.places;
@@ -40,19 +42,21 @@ pub leads_looked : (count counter : ℕ) (old new : MemberView) (found : Option 
 leads_looked count counter old new found h looked = subst (LeadsAt counter) (sym looked.view) (leads_through counter looked.words old h)
 
 pub still_leader : (counter : ℕ) (m : MemberView) → LeadsAt counter m → IsLeader m
-still_leader counter m h = record { scans = h.scans; leads = h.leads; places = h.places }
+still_leader counter m h = record { awake = h.awake; scans = h.scans; leads = h.leads; places = h.places }
 
 -- who found that nobody led
-pub leads_now : (old new : MemberView) → new ≡ lead_found 0 old → IsLeader new
-leads_now old new is = record {
+pub leads_now : (old new : MemberView) → IsAwake old → new ≡ lead_found 0 old → IsLeader new
+leads_now old new awake is = record {
+  awake = subst IsAwake (sym is) awake;
   scans = members.no_scans None;
   leads = ap (λ (x : MemberView). x.member.role) is;
   places = length-replicate {A = Bool} MOST_MEMBERS false;
 }
 
 -- who leads and has scanned nothing
-pub fresh_leader : (m n : MemberView) (counter : ℕ) → n ≡ counter_raised m → IsLeader n
-fresh_leader m n counter is = record {
+pub fresh_leader : (m n : MemberView) → IsAwake m → n ≡ counter_raised m → IsLeader n
+fresh_leader m n awake is = record {
+  awake = subst IsAwake (sym is) awake;
   scans = members.no_scans (Some (known_counter m + 1));
   leads = ap (λ (x : MemberView). x.member.role) is;
   places = length-replicate {A = Bool} MOST_MEMBERS false;

@@ -71,6 +71,7 @@ scans_after counter k word m h = λ i. scan_of (known counter m h i) (scans_of (
 pub leads_on : (counter k word : ℕ) (m : MemberView) → LeadsAt counter m → LeadsAt counter (word_scanned k word m)
 leads_on counter k word m h =
     let b = members.is_done counter word in record {
+      awake = h.awake;
       scans = scan_of counter h.scans k word;
       leads = ap Leads (scans_after counter k word m h);
       places = places_stay counter k h.scans b ∙ h.places;

@@ -6,6 +6,7 @@ use Rattle.prgr_core.specs.declared.member.Scans.{Scans}
 use Rattle.prgr_core.specs.declared.member.Role.TheVariants.{Leads}
 use Rattle.shared_words.specs.declared.view.MemberView.{MemberView}
 use Rattle.shared_words.specs.Kinds.{lead_found}
+use Rattle.progress_words.specs.Reports.{IsAwake}
 use Rattle.progress_words.specs.declared.answers.Lead.{Lead}
 use Rattle.progress_words.specs.declared.answers.Lead.TheVariants.{Led, Held}
 
@@ -20,14 +21,16 @@ pub record HasTried (old new : MemberView) (answer : Lead) : Type 0 where
   pub answered : answer ≡ answer_to found
   pub view : new ≡ lead_found found old
 
--- the member leads, and what it has scanned has a place for each member that there may be
+-- the member leads and is awake, and what it has scanned has a place for each member that there may be
 pub record IsLeader (m : MemberView) : Type 0 where
+  pub awake : IsAwake m
   pub scans : Scans
   pub leads : m.member.role ≡ Leads scans
   pub places : length scans.members ≡ MOST_MEMBERS
 
 -- it leads so, and knows that this is the counter
 pub record LeadsAt (counter : ℕ) (m : MemberView) : Type 0 where
+  pub awake : IsAwake m
   pub scans : Scans
   pub leads : m.member.role ≡ Leads scans
   pub places : length scans.members ≡ MOST_MEMBERS

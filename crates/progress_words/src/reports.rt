@@ -5,6 +5,7 @@ ghost use Rattle.prgr_core.specs.Members.{is_waiting};
 ghost use Rattle.shared_words.specs.Kinds.{MayWait, MayEnter, now_waiting, now_entering};
 ghost use Rattle.progress_words.specs.Tokens.{view_of, IsMemberOf, IsSameMember};
 ghost use Rattle.progress_words.specs.Reports.{IsAwake, Reported};
+ghost use Rattle.progress_words.specs.Leads.{IsLeader};
 
 use shared_words::{Member, Served, Shared};
 
@@ -30,12 +31,15 @@ fn confirm_newest<N: Served>(shared: &Shared<N>, member: &mut Member) -> u64
 /// midst of a turn.
 ///
 /// Source: Erlang/OTP erts internal documentation, ThreadProgress.
+#[tactic(auto, using(crate::proofs::Confirming::awake_now))]
 pub fn report<N: Served>(shared: &Shared<N>, member: &mut Member) -> u64
     requires token { IsMemberOf shared.now.table.shared.table_id member.old }
     requires awake { IsAwake (view_of member.old) }
     ensures token { IsMemberOf shared.now.table.shared.table_id member.new }
     ensures same { IsSameMember member.old member.new }
     ensures reported { Reported N.served (view_of member.old) (view_of member.new) result }
+    ensures awake { IsAwake (view_of member.new) }
+    ensures leads { IsLeader (view_of member.old) → IsLeader (view_of member.new) }
 {
     confirm_newest(shared, member)
 }
@@ -53,12 +57,14 @@ pub fn wait<N: Served>(shared: &Shared<N>, member: &mut Member)
 }
 
 /// Ends a wait: stores that the member enters, then reports.
+#[tactic(auto, using(crate::proofs::Confirming::awake_now))]
 pub fn wake<N: Served>(shared: &Shared<N>, member: &mut Member) -> u64
     requires token { IsMemberOf shared.now.table.shared.table_id member.old }
     requires waits { MayEnter (view_of member.old) }
     ensures token { IsMemberOf shared.now.table.shared.table_id member.new }
     ensures same { IsSameMember member.old member.new }
     ensures reported { Reported N.served (now_entering (view_of member.old)) (view_of member.new) result }
+    ensures awake { IsAwake (view_of member.new) }
 {
     shared.store_entering(member);
     confirm_newest(shared, member)

@@ -34,4 +34,8 @@ store_counter-requires-clause-may g c =
 
 -- who has raised the counter leads, and has scanned nothing
 pub returns-clause-leads : goal.returns-clause-leads
-returns-clause-leads g c = fresh_leader (view_of c.first_behind.new.member) (view_of c.store_counter.new.member) c.load_counter-counter.result (view_is c.store_counter.new.member.seat _ c.store_counter.ensures.view)
+returns-clause-leads g c =
+    let load = c.load_counter-counter in
+    let before = leads_loaded load.result _ _ c.requires.token.view c.requires.leads load.ensures.view in
+    let after = leads_looked c.args.shared.now.table.shared.key.members load.result _ _ _ before c.first_behind.ensures.found in
+    fresh_leader (view_of c.first_behind.new.member) (view_of c.store_counter.new.member) after.awake (view_is c.store_counter.new.member.seat _ c.store_counter.ensures.view)
