@@ -92,6 +92,7 @@ module _ {Served : Generation → Type 0} {opening : Opening} (s : State (Unit {
         words = record {
           all = r.words.all;
           root = r.words.root;
+          mirrored = r.words.mirrored;
           reached = omega arith;
           blocks = fewer_count (blocks_shown s.words r.writer) (MayBeRead r.writer) (MayBeRead (counter_kept c r.writer)) r.words.blocks (fewer c r.words.reached);
         };
@@ -103,6 +104,7 @@ module _ {Served : Generation → Type 0} {opening : Opening} (s : State (Unit {
           leader_made = r.machine.leader_made;
         };
         handed = r.handed;
+        out = r.out;
         at_home = λ k m at. same_knows c k (Member m) (r.at_home k m at);
       }
 

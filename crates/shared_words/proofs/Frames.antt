@@ -25,7 +25,7 @@ use Rattle.shared_words.specs.declared.view.View.{View}
 use Rattle.shared_words.specs.declared.view.View.TheVariants.{Member}
 use Rattle.shared_words.specs.Shown.{members_shown, watchers_shown, leader_in, progress_of}
 use Rattle.shared_words.specs.Rule.{MayBeRead, WordsAgree, MemberKnows, Knows, RunningRule}
-use Rattle.shared_words.proofs.ShownMembers.{shown_set, drop_set, there}
+use Rattle.shared_words.proofs.ShownMembers.{shown_set, shown_behind, watchers_behind, drop_set, there}
 
 -- the state of a table after a step that moves no slot
 abbrev pub after_step : State (Unit {0}) View → List ℕ → ℕ → View → State (Unit {0}) View
@@ -57,6 +57,7 @@ pub words_kept : (words words' : List ℕ) (w : WriterView) → KeepsRest words 
 words_kept words words' w rest h = record {
   all = rest.all ∙ h.all;
   root = rest.root ∙ h.root;
+  mirrored = ap (λ (ws : List ℕ). opening_words SLOTS_START ++ ws) rest.behind ∙ h.mirrored;
   reached = (let before = h.reached in let later = rest.counter in omega arith);
   blocks = subst (λ (ws : List ℕ). BlockInvariant (record { word = word_at (opening_words SLOTS_START ++ ws); published = w.published; kept = w.kept }) (MayBeRead w)) (sym rest.behind) h.blocks;
 }
@@ -121,5 +122,27 @@ module _ {Served : Generation → Type 0} {opening : Opening} (s : State (Unit {
       leader_made = step.leader;
     };
     handed = λ more. length-set r.seats k (Member m) ∙ r.handed more;
+    out = omega (arith, r.out, length-set r.seats k (Member m));
     at_home = r.at_home;
   }
+
+  -- the rule after a step by a seat behind those of members and watchers, which leaves the words
+  pub behind_step : (k : ℕ) (v : View) → length r.writer.members + length r.writer.watchers ≤ k → Knows r.writer k v → RunningRule Served opening (after_step s s.words (suc k) v)
+  behind_step k v behind knows =
+      let same = shown_behind r.writer.members r.seats k v (omega (arith, behind)) in record {
+        writer = r.writer;
+        seats = set r.seats k v;
+        views = ap (λ (vs : List View). set vs (suc k) v) r.views;
+        published = r.published;
+        words = r.words;
+        each_seat = seats_kept r.writer r.seats k v r.each_seat knows;
+        machine = record {
+          progress = subst IsSound (λ i. record (progress_of s.words r.writer r.seats) { members = sym same i; watchers = sym (watchers_behind (length r.writer.members) r.writer.watchers r.seats k v behind) i }) r.machine.progress;
+          own_words = λ j a here. r.machine.own_words j a (ap (λ (xs : List machines.Member). slice_get xs j) (sym same) ∙ here);
+          others_wait = r.machine.others_wait;
+          leader_made = r.machine.leader_made;
+        };
+        handed = λ more. length-set r.seats k v ∙ r.handed more;
+        out = omega (arith, r.out, length-set r.seats k v);
+        at_home = r.at_home;
+      }

@@ -3,6 +3,7 @@ use Rattle.std.proofs.Common.{◌≡◌, ℕ, ◌+◌, ◌<◌, ⊎_elim, List, 
 use Rattle.std.specs.Prelude.{Some, Option, slice_get, unwrap_or}
 use Rattle.atomic_table.specs.Seated.{TableId}
 use Rattle.prgr_core.proofs.Parts.{slice_get-push_at}
+use Rattle.shared_words.specs.declared.table.TheConstants.{OPENING_ROOT}
 use Rattle.shared_words.specs.declared.opening.Opening.{Opening}
 use Rattle.shared_words.specs.declared.seats.Member as tokens
 use Rattle.shared_words.specs.declared.view.MemberView.{MemberView}
@@ -25,14 +26,15 @@ handing_next table opening n old new h same on = record {
 
 -- the tokens with one more
 pub members_next : (table : TableId) (opening : Opening) (n : ℕ) (old : Place) (members : List tokens.Member) (token : tokens.Member) → n < opening.members → IsHanding table opening n old → AreMembersBegun table n members
-    → IsSeatOf table token.seat → token.seat.me.0 ≡ handed_out old.me.0 → token.number ≡ n → AreMembersBegun table (n + 1) (members ++ token ∷ [])
-members_next table opening n old members token few h made of out number = record {
+    → IsSeatOf table token.seat → token.seat.me.0 ≡ handed_out old.me.0 → token.number ≡ n → token.root ≡ OPENING_ROOT → AreMembersBegun table (n + 1) (members ++ token ∷ [])
+members_next table opening n old members token few h made of out number root = record {
   all = length-append members (token ∷ []) ∙ ap (λ (k : ℕ). k + 1) made.all;
   each = λ k t at. ⊎_elim (λ (before : slice_get members k ≡ Some t). made.each k t before)
       (λ (last : (k ≡ length members) × (t ≡ token)). subst (λ (z : ℕ × tokens.Member). IsMemberBegun table z.0 z.1) (λ i. (sym (last.0 ∙ made.all) i, sym last.1 i)) (record {
         of_table = of;
         view = out ∙ ap handed_out h.view ∙ ap (λ (o : Option MemberView). Member (unwrap_or o (member_begun 0))) (begun_get opening.members n few);
         number_is = number;
+        root_is = root;
       }))
       (slice_get-push_at members token k t at);
 }

@@ -10,3 +10,12 @@ pub mod WordsBegun
 pub mod Handing
 pub mod SoundState
 pub mod Waits
+pub mod Rooted
+pub mod WriterFrames
+pub mod ShownWords
+pub mod WordStores
+pub mod RootStores
+pub mod WordLoads
+pub mod WriterSeats
+pub mod NoteSplits
+pub mod NoteJoins

@@ -14,7 +14,7 @@ use Rattle.prgr_core.specs.Step as starting
 use Rattle.prgr_core.proofs.Parts.{slice_get-push_at}
 use Rattle.prgr_core.proofs.Opening.{opening_sound}
 use Rattle.term_core.specs.declared.generation.Generation.{Generation}
-use Rattle.area_core.specs.declared.map.TheConstants.{SLOTS_START}
+use Rattle.area_core.specs.declared.map.TheConstants.{TABLE_WORDS, SLOTS_START}
 use Rattle.area_core.specs.declared.table.Published.{Published}
 use Rattle.area_core.specs.Generations.{has_serial}
 use Rattle.area_core.specs.Map.{word_at, opening_words}
@@ -60,6 +60,21 @@ empty_behind (suc n) (x ∷ xs) behind place = empty_behind n xs (λ k late. beh
 blocks_empty : (members : ℕ) (words : List ℕ) → AreBegun members words → AreEmpty (block_words words)
 blocks_empty members words begun = empty_both (opening_words SLOTS_START) (drop SLOTS_START words) (subst AreEmpty (opened SLOTS_START) (empty_replicate SLOTS_START)) (empty_behind SLOTS_START words begun.behind)
 
+-- words that are all 0 are as many zeros
+zeros : (words : List ℕ) → ((place : ℕ) → slice_index words place ≡ 0) → words ≡ replicate (length words) 0
+zeros [] none = refl
+zeros (x ∷ xs) none = λ i. none 0 i ∷ zeros xs (λ place. none (suc place)) i
+
+zeros_behind : (m n : ℕ) (words : List ℕ) → length words ≡ n → m ≤ n → ((place : ℕ) → m ≤ place → slice_index words place ≡ 0) → replicate m 0 ++ drop m words ≡ replicate n 0
+zeros_behind zero n words long few none = zeros words (λ place. none place (omega arith)) ∙ ap (λ (k : ℕ). replicate k 0) long
+zeros_behind (suc m) zero words long few none = absurd (omega arith)
+zeros_behind (suc m) (suc n) [] long few none = absurd (omega arith)
+zeros_behind (suc m) (suc n) (x ∷ xs) long few none = ap (λ (ws : List ℕ). 0 ∷ ws) (zeros_behind m n xs (omega arith) (omega arith) (λ place late. none (suc place) (omega arith)))
+
+-- the words of slots and blocks at first
+words_opened : (m n : ℕ) (words : List ℕ) → length words ≡ n → m ≤ n → ((place : ℕ) → m ≤ place → slice_index words place ≡ 0) → opening_words m ++ drop m words ≡ opening_words n
+words_opened m n words long few none = ap (λ (front : List ℕ). front ++ drop m words) (sym (opened m)) ∙ zeros_behind m n words long few none ∙ opened n
+
 -- ---- the members and watchers
 
 shown_snoc : (members : List MemberView) (m : MemberView) → members_shown (members ++ m ∷ []) [] ≡ members_shown members [] ++ m.member ∷ []
@@ -80,7 +95,7 @@ unfolding watchers_begun
 watchers_opened zero = refl
 watchers_opened (suc n) = watchers_snoc (watchers_begun n) _ ∙ ap (λ (xs : List watching.Watcher). xs ++ starting.opening_watcher n ∷ []) (watchers_opened n)
 
-begun_length : (n : ℕ) → length (members_begun n) ≡ n
+pub begun_length : (n : ℕ) → length (members_begun n) ≡ n
 unfolding members_begun
 begun_length zero = refl
 begun_length (suc n) = let before = begun_length n in omega (arith, length-append (members_begun n) (member_begun n ∷ []))
@@ -90,11 +105,11 @@ unfolding watchers_begun
 watched_length zero = refl
 watched_length (suc n) = let before = watched_length n in omega (arith, length-append (watchers_begun n) (watcher_begun n ∷ []))
 
-drop_none : {A : Type 0} (n : ℕ) → drop {A = A} n [] ≡ []
+pub drop_none : {A : Type 0} (n : ℕ) → drop {A = A} n [] ≡ []
 drop_none zero = refl
 drop_none (suc n) = refl
 
-last_get : {A : Type 0} (xs : List A) (x : A) → slice_get (xs ++ x ∷ []) (length xs) ≡ Some x
+pub last_get : {A : Type 0} (xs : List A) (x : A) → slice_get (xs ++ x ∷ []) (length xs) ≡ Some x
 last_get [] x = refl
 last_get (y ∷ ys) x = last_get ys x
 
@@ -165,7 +180,7 @@ rule_begins Served about words few few_watchers served begun =
         retired_stays = λ g later p q serial le at_p at_q old. absurd (never (subst (λ (x : Published). has_serial x.state.retired serial ≡ true) (sym (only opening_published p g at_p)) old));
         notes_fit = λ note among. absurd (let at = among.1 in cc);
       };
-      words = record { all = begun.all; root = begun.root; reached = omega arith; blocks = blocks_opened (word_at (block_words words)) (blocks_empty about.members words begun) (MayBeRead w) };
+      words = record { all = begun.all; root = begun.root; mirrored = words_opened SLOTS_START TABLE_WORDS words begun.all (omega arith) begun.behind; reached = omega arith; blocks = blocks_opened (word_at (block_words words)) (blocks_empty about.members words begun) (MayBeRead w) };
       each_seat = λ place v at. absurd (some-ne-none v (sym at));
       machine = record {
         progress = subst starting.IsSound
@@ -178,6 +193,7 @@ rule_begins Served about words few few_watchers served begun =
         leader_made = (let nobody = begun.lead in omega arith);
       };
       handed = λ more. refl;
+      out = omega arith;
       at_home = member_knows about.members about.watchers;
     }
 
@@ -194,7 +210,7 @@ drop_short zero (x ∷ xs) few = absurd (omega arith)
 drop_short (suc n) [] few = refl
 drop_short (suc n) (x ∷ xs) few = drop_short n xs (omega arith)
 
-at_push : {A : Type 0} (xs : List A) (y : A) (k : ℕ) (x : A) → get_elem? (xs ++ y ∷ []) k ≡ some x → (get_elem? xs k ≡ some x) ⊎ ((k ≡ length xs) × (y ≡ x))
+pub at_push : {A : Type 0} (xs : List A) (y : A) (k : ℕ) (x : A) → get_elem? (xs ++ y ∷ []) k ≡ some x → (get_elem? xs k ≡ some x) ⊎ ((k ≡ length xs) × (y ≡ x))
 at_push [] y zero x at = inr (refl, some-injective y x at)
 at_push [] y (suc k) x at = absurd (some-ne-none x (sym at))
 at_push (z ∷ zs) y zero x at = inl at
@@ -224,7 +240,7 @@ hands_out s r more =
       seats = r.seats ++ Member m ∷ [];
       views = ap (λ (vs : List View). set vs 0 (Writer w') ++ Member m ∷ []) r.views;
       published = record { made = r.published.made; watched = r.published.watched; some = r.published.some; served = r.published.served; old_stays = r.published.old_stays; retired_stays = r.published.retired_stays; notes_fit = r.published.notes_fit };
-      words = record { all = r.words.all; root = r.words.root; reached = r.words.reached; blocks = r.words.blocks };
+      words = record { all = r.words.all; root = r.words.root; mirrored = r.words.mirrored; reached = r.words.reached; blocks = r.words.blocks };
       each_seat = λ place v at. ⊎_elim (λ (t : get_elem? r.seats place ≡ some v). same_handed w (w.handed + 1) place v (r.each_seat place v t))
           (λ (t : (place ≡ length r.seats) × (Member m ≡ v)). subst (λ (z : ℕ × View). Knows w' z.0 z.1) (λ i. (sym (t.0 ∙ long) i, t.1 i)) (same_handed w (w.handed + 1) w.handed (Member m) (r.at_home w.handed m there)))
           (at_push r.seats (Member m) place v at);
@@ -235,6 +251,7 @@ hands_out s r more =
         leader_made = r.machine.leader_made;
       };
       handed = λ still. length-append r.seats (Member m ∷ []) ∙ ap (λ (n : ℕ). n + 1) long;
+      out = omega (arith, r.out, length-append r.seats (Member m ∷ []));
       at_home = λ k x at. same_handed w (w.handed + 1) k (Member x) (r.at_home k x at);
     }
 

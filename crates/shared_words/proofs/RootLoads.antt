@@ -1,5 +1,5 @@
 -- A load of the root keeps the rule, whatever seat loads it, and tells of the generations so far.
-use Rattle.std.proofs.Common.{◌≡◌, ℕ, zero, suc, ◌<◌, inl, inr, Bool, true, false, cond, List, [], length, length-append, length-set, append-nil, set, refl, sym, ap, subst, ◌∙◌, arith}
+use Rattle.std.proofs.Common.{◌≡◌, ℕ, zero, suc, ◌<◌, inl, inr, Bool, true, false, cond, List, [], ◌∷◌, length, length-append, append-nil, refl, sym, ap, subst, ◌∙◌, arith}
 use mathlib.Core.Option.{none, some, some-injective}
 use lib.ListN.{get_elem?}
 use lib.Seq.{set-get_or}
@@ -10,23 +10,24 @@ use Rattle.prgr_core.specs.declared.member.Member as machines
 use Rattle.prgr_core.specs.declared.progress.Progress.{Progress}
 use Rattle.prgr_core.specs.declared.event.PrgrEvent.TheVariants as prgr
 use Rattle.prgr_core.specs.Members as members
-use Rattle.prgr_core.specs.Step.{with_member, has_loaded, IsSound}
+use Rattle.prgr_core.specs.Step.{with_member, has_loaded}
 use Rattle.term_core.specs.declared.generation.Generation.{Generation}
 use Rattle.area_core.specs.Step.{opening_published}
 use Rattle.area_core.specs.declared.table.Published.{Published}
-use Rattle.area_core.specs.Blocks.{RootFits}
+use Rattle.area_core.specs.Blocks.{RootFits, Among}
 use Rattle.shared_words.specs.declared.table.TheConstants.{ROOT}
 use Rattle.shared_words.specs.declared.opening.Opening.{Opening}
+use Rattle.shared_words.specs.declared.view.NoteNumber.{NoteNumber}
 use Rattle.shared_words.specs.declared.view.MemberView.{MemberView}
 use Rattle.shared_words.specs.declared.view.NoteView.{NoteView}
 use Rattle.shared_words.specs.declared.view.View.{View}
 use Rattle.shared_words.specs.declared.view.View.TheVariants.{Writer, Member, Watcher, Note, Spent}
-use Rattle.shared_words.specs.Views.{newest, newest_root, published_at, seen}
+use Rattle.shared_words.specs.Views.{newest, newest_root, published_at, seen, notes_of}
 use Rattle.shared_words.specs.Shown.{progress_of}
 use Rattle.shared_words.specs.Kinds.{Sat, MayLoadRoot, member_with_root, root_found, RootLoaded, root_loaded}
 use Rattle.shared_words.specs.Rule.{IsBeginning, MayBeRead, RunningRule}
-use Rattle.shared_words.proofs.ShownMembers.{shown_at, shown_behind, watchers_behind, there, there_is, set_same}
-use Rattle.shared_words.proofs.Frames.{after_step, same_rest, seats_kept, progress_set, Moves, member_step}
+use Rattle.shared_words.proofs.ShownMembers.{shown_at, there, there_is, set_same}
+use Rattle.shared_words.proofs.Frames.{after_step, same_rest, progress_set, Moves, member_step, behind_step}
 use Rattle.shared_words.proofs.CounterLoads.{same_step}
 
 -- ---- the record of a member, by whether it has loaded the counter
@@ -54,11 +55,16 @@ root_moves p k a at false is = inr (λ i. record p { members = set_same p.member
 -- ---- the generations
 
 -- a list is the beginning of itself
-whole : (published : List Published) → IsBeginning published published
+pub whole : (published : List Published) → IsBeginning published published
 whole published = ([], sym (append-nil published))
 
+-- the one note of a note
+only_note : (mine note : NoteNumber) (i : ℕ) → slice_get (mine ∷ []) i ≡ Some note → mine ≡ note
+only_note mine note zero at = cc
+only_note mine note (suc i) at = absurd (cc)
+
 -- a beginning is no longer
-shorter : (few all : List Published) → IsBeginning few all → (n : ℕ) → n < length few → n < length all
+pub shorter : (few all : List Published) → IsBeginning few all → (n : ℕ) → n < length few → n < length all
 shorter few all is n below = omega (arith, ap length is.1, length-append few is.0)
 
 module _ {Served : Generation → Type 0} {opening : Opening} (s : State (Unit {0}) View) (r : RunningRule Served opening s) where
@@ -79,13 +85,14 @@ module _ {Served : Generation → Type 0} {opening : Opening} (s : State (Unit {
   newest_fits = r.words.blocks.roots_fit (newest all) (published_at all (newest all)) may_be_read (there_is all (newest all) opening_published last)
 
   -- what is told of them
-  told : (v w : View) → seen w ≡ all → IsBeginning (seen v) all → w ≡ root_found all v → RootLoaded Served v w (slice_index s.words ROOT)
-  told v w is learnt same = record {
+  told : (v w : View) → seen w ≡ all → IsBeginning (seen v) all → ((note : NoteNumber) → Among (notes_of v) note → Among r.writer.notes note) → w ≡ root_found all v → RootLoaded Served v w (slice_index s.words ROOT)
+  told v w is learnt noted same = record {
     learnt = subst (λ (xs : List Published). IsBeginning (seen v) xs) (sym is) learnt;
     some = subst (λ (xs : List Published). 0 < length xs) (sym is) r.published.some;
     root = r.words.root ∙ ap newest_root (sym is);
     fits = subst (λ (xs : List Published). RootFits (published_at xs (newest xs)).root) (sym is) newest_fits;
     served = subst (λ (xs : List Published). Served (published_at xs (newest xs)).state) (sym is) (r.published.served (published_at all (newest all)) (newest all, there_is all (newest all) opening_published last));
+    promised = λ note among. subst (λ (xs : List Published). note.published < length xs) (sym is) (r.published.notes_fit note (noted note among)).counted;
     view = same ∙ ap (λ (xs : List Published). root_found xs v) (sym is);
   }
 
@@ -117,24 +124,7 @@ module _ {Served : Generation → Type 0} {opening : Opening} (s : State (Unit {
   note_loads : (k : ℕ) (n : NoteView) → get_elem? r.seats k ≡ some (Note n) → RunningRule Served opening (after_step s s.words (suc k) (root_found all (Note n)))
   note_loads k n at =
       let knows = r.each_seat k (Note n) at in
-      let v : View = Note (record n { seen = all }) in
-      let behind = knows.behind in
-      let same = shown_behind r.writer.members r.seats k v (omega (arith, behind)) in record {
-        writer = r.writer;
-        seats = set r.seats k v;
-        views = ap (λ (vs : List View). set vs (suc k) v) r.views;
-        published = r.published;
-        words = r.words;
-        each_seat = seats_kept r.writer r.seats k v r.each_seat (record { behind = behind; seen = whole all; noted = knows.noted; learnt = shorter n.seen all knows.seen n.note.published knows.learnt });
-        machine = record {
-          progress = subst IsSound (λ i. record (progress_of s.words r.writer r.seats) { members = sym same i; watchers = sym (watchers_behind (length r.writer.members) r.writer.watchers r.seats k v behind) i }) r.machine.progress;
-          own_words = λ j a here. r.machine.own_words j a (ap (λ (xs : List machines.Member). slice_get xs j) (sym same) ∙ here);
-          others_wait = r.machine.others_wait;
-          leader_made = r.machine.leader_made;
-        };
-        handed = λ more. length-set r.seats k v ∙ r.handed more;
-        at_home = r.at_home;
-      }
+      behind_step s r k (Note (record n { seen = all })) knows.behind (record { behind = knows.behind; seen = whole all; noted = knows.noted; learnt = shorter n.seen all knows.seen n.note.published knows.learnt })
 
   -- what a load by any seat keeps and tells
   abbrev Goes : ℕ → View → Type 0
@@ -142,9 +132,9 @@ module _ {Served : Generation → Type 0} {opening : Opening} (s : State (Unit {
 
   behind_loads : (k : ℕ) (v : View) → get_elem? r.seats k ≡ some v → MayLoadRoot v → Goes (suc k) v
   behind_loads k (Writer w) here may = absurd (r.each_seat k (Writer w) here)
-  behind_loads k (Member m) here may = (member_loads k m here, told (Member m) (root_found all (Member m)) refl (r.each_seat k (Member m) here).seen refl)
+  behind_loads k (Member m) here may = (member_loads k m here, told (Member m) (root_found all (Member m)) refl (r.each_seat k (Member m) here).seen (r.each_seat k (Member m) here).noted refl)
   behind_loads k (Watcher w) here may = absurd may
-  behind_loads k (Note n) here may = (note_loads k n here, told (Note n) (root_found all (Note n)) refl (r.each_seat k (Note n) here).seen refl)
+  behind_loads k (Note n) here may = (note_loads k n here, told (Note n) (root_found all (Note n)) refl (r.each_seat k (Note n) here).seen (λ note among. subst (Among r.writer.notes) (only_note n.note note among.0 among.1) (r.each_seat k (Note n) here).noted) refl)
   behind_loads k Spent here may = absurd may
 
   pub root_loads : (id : ℕ) (v : View) → get_elem? s.views id ≡ some v → MayLoadRoot v → Goes id v
@@ -152,7 +142,7 @@ module _ {Served : Generation → Type 0} {opening : Opening} (s : State (Unit {
       let is : Writer r.writer ≡ v = some-injective (Writer r.writer) v (ap (λ (vs : List View). get_elem? vs 0) (sym r.views) ∙ at) in
       subst (Goes 0) is (
         same_step s r 0 (Writer r.writer) (ap (λ (vs : List View). get_elem? vs 0) r.views),
-        told (Writer r.writer) (Writer r.writer) refl (whole all) refl,
+        told (Writer r.writer) (Writer r.writer) refl (whole all) (λ note among. among) refl,
       )
   root_loads (suc k) v at may = behind_loads k v (ap (λ (vs : List View). get_elem? vs (suc k)) (sym r.views) ∙ at) may
 

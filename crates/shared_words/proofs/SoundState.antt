@@ -16,11 +16,11 @@ use Rattle.shared_words.specs.Shown.{progress_of, state_of}
 use Rattle.shared_words.specs.Rule.{MayBeRead, blocks_shown, RunningRule}
 
 -- so many zeros in front
-front_length : length (opening_words SLOTS_START) ≡ SLOTS_START
+pub front_length : length (opening_words SLOTS_START) ≡ SLOTS_START
 front_length = ap (λ (ws : List ℕ). length ws) (sym (opened SLOTS_START)) ∙ length-replicate {A = ℕ} SLOTS_START 0
 
 module _ {Served : Generation → Type 0} {opening : Opening} (s : State (Unit {0}) View) (r : RunningRule Served opening s) where
-  counts : (g : ℕ) → IsReadable (state_of s.words r.writer r.seats) g → MayBeRead r.writer g
+  pub counts : (g : ℕ) → IsReadable (state_of s.words r.writer r.seats) g → MayBeRead r.writer g
   counts g readable pair among need =
       let reached = r.words.reached in
       let n : pair.need ≤ r.writer.counter = need in

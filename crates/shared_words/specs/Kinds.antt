@@ -16,14 +16,15 @@ use Rattle.prgr_core.specs.Invariant.{CounterInRange}
 use Rattle.term_core.specs.declared.generation.Generation.{Generation}
 use Rattle.area_core.specs.declared.table.Published.{Published}
 use Rattle.area_core.specs.Step.{confirms}
-use Rattle.area_core.specs.Blocks.{RootFits}
+use Rattle.area_core.specs.Blocks.{RootFits, Among}
 use Rattle.shared_words.specs.declared.table.TheConstants.{CONFIRMED}
 use Rattle.shared_words.specs.declared.opening.Opening.{Opening}
+use Rattle.shared_words.specs.declared.view.NoteNumber.{NoteNumber}
 use Rattle.shared_words.specs.declared.view.MemberView.{MemberView}
 use Rattle.shared_words.specs.declared.view.WriterView.{WriterView}
 use Rattle.shared_words.specs.declared.view.View.{View}
 use Rattle.shared_words.specs.declared.view.View.TheVariants.{Writer, Member, Watcher, Note, Spent}
-use Rattle.shared_words.specs.Views.{newest, newest_root, published_at, seen}
+use Rattle.shared_words.specs.Views.{newest, newest_root, published_at, seen, notes_of}
 use Rattle.shared_words.specs.Rule.{IsBeginning}
 use Rattle.shared_words.specs.Seats.{member_of}
 
@@ -85,13 +86,15 @@ root_found published (Note n) = Note (record n { seen = published })
 root_found published Spent = Spent
 
 -- what a load of the root tells: the generations so far are learnt, and the root found is that of the last of them,
--- which the code server has made, and names blocks that there are
+-- which the code server has made, and names blocks that there are; and what was published at a spawn is among them, of
+-- which the seat keeps a note
 pub record RootLoaded (Served : Generation → Type 0) (old new : View) (found : ℕ) : Type 0 where
   pub learnt : IsBeginning (seen old) (seen new)
   pub some : 0 < length (seen new)
   pub root : found ≡ newest_root (seen new)
   pub fits : RootFits (published_at (seen new) (newest (seen new))).root
   pub served : Served (published_at (seen new) (newest (seen new))).state
+  pub promised : (note : NoteNumber) → Among (notes_of old) note → note.published < length (seen new)
   pub view : new ≡ root_found (seen new) old
 
 -- the same of a step, which moves no slot

@@ -4,6 +4,8 @@ pub mod Rule
 pub mod Opening
 pub mod Seats
 pub mod Kinds
+pub mod Publishing
+pub mod Notes
 pub mod Passes
 pub mod Making
 pub mod Laws

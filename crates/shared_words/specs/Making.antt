@@ -2,7 +2,7 @@
 use Rattle.std.specs.Prelude.{◌≡◌, ℕ, ◌+◌, ◌<◌, ◌≤◌, List, length, slice_get, slice_index, Some, unwrap_or}
 use Rattle.prgr_core.specs.declared.member.TheConstants.{WAITING, OPENING_COUNTER, OPENING_WORD, MOST_MEMBERS}
 use Rattle.area_core.specs.declared.map.TheConstants.{TABLE_WORDS, SLOTS_START}
-use Rattle.shared_words.specs.declared.table.TheConstants.{ROOT, COUNTER, LEAD, DELAYS, CONFIRMED}
+use Rattle.shared_words.specs.declared.table.TheConstants.{ROOT, OPENING_ROOT, COUNTER, LEAD, DELAYS, CONFIRMED}
 use Rattle.shared_words.specs.declared.opening.Opening.{Opening}
 use Rattle.shared_words.specs.declared.view.View.{View}
 use Rattle.shared_words.specs.declared.view.View.TheVariants.{Writer, Member}
@@ -69,6 +69,7 @@ pub record IsMemberBegun (table : TableId) (number : ℕ) (token : tokens.Member
   pub of_table : IsSeatOf table token.seat
   pub view : token.seat.me.0 ≡ Member (member_begun number)
   pub number_is : token.number ≡ number
+  pub root_is : token.root ≡ OPENING_ROOT
 
 -- the tokens of the first members, in the order of their numbers
 pub record AreMembersBegun (table : TableId) (count : ℕ) (members : List tokens.Member) : Type 0 where

@@ -1,6 +1,8 @@
 -- The views and words with which a table begins.
 use Rattle.std.specs.Prelude.{ℕ, zero, suc, List, [], ◌∷◌, ◌++◌}
 use Rattle.prgr_core.specs.Step.{opening_member, opening_watcher}
+use Rattle.area_core.specs.declared.map.TheConstants.{TABLE_WORDS}
+use Rattle.area_core.specs.Map.{opening_words}
 use Rattle.area_core.specs.Step.{opening_published}
 use Rattle.shared_words.specs.declared.view.MemberView.{MemberView}
 use Rattle.shared_words.specs.declared.view.WatcherView.{WatcherView}
@@ -33,6 +35,7 @@ writer_begun members watchers = record {
   pairs = [];
   counter = 0;
   kept = [];
+  words = opening_words TABLE_WORDS;
   members = members_begun members;
   handed = 0;
   watchers = watchers_begun watchers;

@@ -83,6 +83,8 @@ pub record WordsAgree (words : List ℕ) (w : WriterView) : Type 0 where
   pub all : length words ≡ TABLE_WORDS
   -- the root is that of the newest generation
   pub root : slice_index words ROOT ≡ newest_root w.published
+  -- the words of slots and blocks are those that the writer has stored
+  pub mirrored : block_words words ≡ w.words
   -- the counter has reached what the writer loaded
   pub reached : w.counter ≤ slice_index words COUNTER
   -- blocks, areas and entry words are those of the generations that may be read
@@ -151,5 +153,7 @@ pub record RunningRule (Served : Generation → Type 0) (opening : Opening) (s :
   pub machine : MachineHolds s.words writer seats
   -- while seats of members are at home, there are just those that were handed out
   pub handed : writer.handed < length writer.members → length seats ≡ writer.handed
+  -- there are at least those that were handed out
+  pub out : writer.handed ≤ length seats
   -- a member knows what it must also while its seat is at home
   pub at_home : (k : ℕ) (m : MemberView) → slice_get writer.members k ≡ Some m → MemberKnows writer k m

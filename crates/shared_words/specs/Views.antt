@@ -1,11 +1,12 @@
 -- What the seats know, read from their views: the generations that each has learnt of, and the one that it holds.
 -- Source: Erlang/OTP erts internal documentation, ThreadProgress and CodeLoading. Lists and numbers; no value of a
 -- view is made.
-use Rattle.std.specs.Prelude.{ℕ, ◌+◌, ◌-◌, ◌*◌, List, [], length, Option, Some, None, slice_get, unwrap_or}
+use Rattle.std.specs.Prelude.{ℕ, ◌+◌, ◌-◌, ◌*◌, List, [], ◌∷◌, length, Option, Some, None, slice_get, unwrap_or}
 use Rattle.area_core.specs.declared.table.Root.{Root}
 use Rattle.area_core.specs.declared.table.Published.{Published}
 use Rattle.area_core.specs.Readers.{held_by_member, held_by_watcher}
 use Rattle.area_core.specs.Step.{opening_published}
+use Rattle.shared_words.specs.declared.view.NoteNumber.{NoteNumber}
 use Rattle.shared_words.specs.declared.view.View.{View}
 use Rattle.shared_words.specs.declared.view.View.TheVariants.{Writer, Member, Watcher, Note, Spent}
 
@@ -36,6 +37,14 @@ seen (Member m) = m.seen
 seen (Watcher w) = w.seen
 seen (Note n) = n.seen
 seen Spent = []
+
+-- the notes that a seat keeps numbers of
+abbrev pub notes_of : View → List NoteNumber
+notes_of (Writer w) = w.notes
+notes_of (Member m) = m.notes
+notes_of (Watcher w) = []
+notes_of (Note n) = n.note ∷ []
+notes_of Spent = []
 
 -- the number of the generation that a seat holds, if it holds one; the writer always holds the newest
 abbrev pub held : View → Option ℕ

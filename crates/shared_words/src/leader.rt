@@ -19,6 +19,7 @@ impl<N: Served> Shared<N> {
         requires may { MayScan self.now.table.shared.key other (member_of member.old.seat.me.0) }
         ensures token { IsSameSeat member.old.seat member.new.seat }
         ensures number { member.new.number ≡ member.old.number }
+        ensures root { member.new.root ≡ member.old.root }
         ensures near { is_waiting result ≡ false → result ≤ known_counter (member_of member.old.seat.me.0) + 1 }
         ensures view { member.new.seat.me.0 ≡ views.Member (word_scanned other result (member_of member.old.seat.me.0)) }
     {
@@ -34,6 +35,7 @@ impl<N: Served> Shared<N> {
         requires may { MayRaise self.now.table.shared.key (member_of member.old.seat.me.0) }
         ensures token { IsSameSeat member.old.seat member.new.seat }
         ensures number { member.new.number ≡ member.old.number }
+        ensures root { member.new.root ≡ member.old.root }
         ensures view { member.new.seat.me.0 ≡ views.Member (counter_raised (member_of member.old.seat.me.0)) }
     {
         self.table
@@ -48,6 +50,7 @@ impl<N: Served> Shared<N> {
         requires may { MayLead (member_of member.old.seat.me.0) }
         ensures token { IsSameSeat member.old.seat member.new.seat }
         ensures number { member.new.number ≡ member.old.number }
+        ensures root { member.new.root ≡ member.old.root }
         ensures leader { result ≤ MOST_MEMBERS }
         ensures view { member.new.seat.me.0 ≡ views.Member (lead_found result (member_of member.old.seat.me.0)) }
     {
@@ -63,6 +66,7 @@ impl<N: Served> Shared<N> {
         requires may { IsLeader (member_of member.old.seat.me.0) }
         ensures token { IsSameSeat member.old.seat member.new.seat }
         ensures number { member.new.number ≡ member.old.number }
+        ensures root { member.new.root ≡ member.old.root }
         ensures view { member.new.seat.me.0 ≡ views.Member (lead_given (member_of member.old.seat.me.0)) }
     {
         self.table

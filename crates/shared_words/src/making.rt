@@ -4,17 +4,19 @@ ghost use Rattle.std.specs.Prelude.{◌≡◌, ◌≤◌, ◌<◌, IfOk, OnOk};
 ghost use Rattle.prgr_core.specs.declared.member.TheConstants.{MOST_MEMBERS, OPENING_WORD, WAITING};
 ghost use Rattle.area_core.specs.declared.map.TheConstants.{TABLE_WORDS};
 ghost use Rattle.area_core.specs.Step.{empty_generation};
+ghost use Rattle.shared_words.specs.declared.table.TheConstants.{OPENING_ROOT};
 ghost use Rattle.shared_words.specs.Making.{AreBegun, HasSeatsAtHome, IsHanding, AreMembersBegun, handed_on, handed_out};
-ghost use Rattle.shared_words.specs.Seats.{IsSeatOf, IsSameSeat};
+ghost use Rattle.shared_words.specs.Seats.{IsSeatOf, IsSameSeat, IsWriterSeat};
 
 use crate::law::Served;
 use crate::opening::Opening;
 use crate::pass::Words;
 use crate::plays::HandOut;
 use crate::seats::{Member, Parts, Writer};
-use crate::table::{CONFIRMED, COUNTER, Shared};
+use crate::table::{CONFIRMED, COUNTER, OPENING_ROOT, Shared};
+use crate::view::View;
 use area_core::TABLE_WORDS;
-use atomic_table::Table;
+use atomic_table::{Seat, Table};
 use prgr_core::{MOST_MEMBERS, OPENING_COUNTER, OPENING_WORD, WAITING};
 use std::alloc::{AllocError, Global};
 use term_core::NoMemory;
@@ -46,31 +48,36 @@ fn opening_words(alloc: Global, members: u32, count: usize) -> Result<Vec<u64>, 
 }
 
 /// The token of the member of this number, whose seat is the next that the writer hands out.
-fn hand_out<N: Served>(table: &Words<N>, writer: &mut Writer, number: u32) -> Member
-    requires token { IsSeatOf table.now.table_id writer.old.seat }
-    requires home { HasSeatsAtHome table.now.key writer.old.seat.me.0 }
+fn hand_out<N: Served>(table: &Words<N>, writer: &mut Seat<(), View>, number: u32) -> Member
+    requires token { IsSeatOf table.now.table_id writer.old }
+    requires home { HasSeatsAtHome table.now.key writer.old.me.0 }
     requires words { 0 < table.now.table_id.words }
-    ensures token { IsSameSeat writer.old.seat writer.new.seat }
-    ensures view { writer.new.seat.me.0 ≡ handed_on writer.old.seat.me.0 }
+    ensures token { IsSameSeat writer.old writer.new }
+    ensures view { writer.new.me.0 ≡ handed_on writer.old.me.0 }
     ensures seat { IsSeatOf table.now.table_id result.seat }
-    ensures member { result.seat.me.0 ≡ handed_out writer.old.seat.me.0 }
+    ensures member { result.seat.me.0 ≡ handed_out writer.old.me.0 }
     ensures number { result.number ≡ number }
+    ensures root { result.root ≡ OPENING_ROOT }
 {
-    let seat = table.split_seat::<HandOut>(&mut writer.seat);
-    Member { seat, number }
+    let seat = table.split_seat::<HandOut>(writer);
+    Member {
+        seat,
+        number,
+        root: OPENING_ROOT,
+    }
 }
 
 /// The tokens of all members.
 fn hand_out_all<N: Served>(
     alloc: Global,
     table: &Words<N>,
-    writer: &mut Writer,
+    writer: &mut Seat<(), View>,
     members: u32,
 ) -> Result<Vec<Member>, AllocError>
-    requires token { IsHanding table.now.table_id table.now.key 0 writer.old.seat }
+    requires token { IsHanding table.now.table_id table.now.key 0 writer.old }
     requires members { members ≡ table.now.key.members }
     requires words { 0 < table.now.table_id.words }
-    ensures writer { OnOk result (IsHanding table.now.table_id table.now.key members writer.new.seat) }
+    ensures writer { OnOk result (IsHanding table.now.table_id table.now.key members writer.new) }
     ensures tokens { IfOk result (λ tokens. AreMembersBegun table.now.table_id members tokens.items) }
 {
     let mut tokens = Vec::with_capacity(alloc, members as usize)?;
@@ -88,14 +95,18 @@ impl<N: Served> Shared<N> {
         requires watchers { watchers ≡ 0 }
         requires served { N.served empty_generation }
         ensures opening { IfOk result (λ made. (made.0.table.shared.key.members ≡ members) × (made.0.table.shared.key.watchers ≡ watchers)) }
+        ensures token { IfOk result (λ made. IsWriterSeat made.0.table.shared.table_id made.0.table.shared.key made.1.writer.generation made.1.writer.seat) }
         ensures writer { IfOk result (λ made. IsHanding made.0.table.shared.table_id made.0.table.shared.key members made.1.writer.seat) }
         ensures members { IfOk result (λ made. AreMembersBegun made.0.table.shared.table_id members made.1.members.items) }
     {
         let words = opening_words(alloc, members, TABLE_WORDS as usize)?;
         let opening = Opening { members, watchers };
-        let (table, seat) = Table::of_words(alloc, words.as_slice(), &opening)?;
-        let mut writer = Writer { seat };
-        let tokens = hand_out_all(alloc, &table.shared, &mut writer, members)?;
+        let (table, mut seat) = Table::of_words(alloc, words.as_slice(), &opening)?;
+        let tokens = hand_out_all(alloc, &table.shared, &mut seat, members)?;
+        let writer = Writer {
+            seat,
+            generation: 0,
+        };
         let parts = Parts {
             writer,
             members: tokens,

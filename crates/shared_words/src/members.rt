@@ -19,6 +19,7 @@ impl<N: Served> Shared<N> {
         requires may { MayConfirm value (member_of member.old.seat.me.0) }
         ensures token { IsSameSeat member.old.seat member.new.seat }
         ensures number { member.new.number ≡ member.old.number }
+        ensures root { member.new.root ≡ member.old.root }
         ensures view { member.new.seat.me.0 ≡ views.Member (value_confirmed value (member_of member.old.seat.me.0)) }
     {
         let word = CONFIRMED as usize + member.number as usize;
@@ -33,6 +34,7 @@ impl<N: Served> Shared<N> {
         requires may { MayWait (member_of member.old.seat.me.0) }
         ensures token { IsSameSeat member.old.seat member.new.seat }
         ensures number { member.new.number ≡ member.old.number }
+        ensures root { member.new.root ≡ member.old.root }
         ensures view { member.new.seat.me.0 ≡ views.Member (now_waiting (member_of member.old.seat.me.0)) }
     {
         let word = CONFIRMED as usize + member.number as usize;
@@ -47,6 +49,7 @@ impl<N: Served> Shared<N> {
         requires may { MayEnter (member_of member.old.seat.me.0) }
         ensures token { IsSameSeat member.old.seat member.new.seat }
         ensures number { member.new.number ≡ member.old.number }
+        ensures root { member.new.root ≡ member.old.root }
         ensures view { member.new.seat.me.0 ≡ views.Member (now_entering (member_of member.old.seat.me.0)) }
     {
         let word = CONFIRMED as usize + member.number as usize;

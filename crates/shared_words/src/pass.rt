@@ -1,6 +1,7 @@
 //! What all tokens have in common: a seat, by which each loads words.
 
 ghost use Rattle.std.specs.Prelude.{◌≡◌};
+ghost use Rattle.std.specs.Option.{option_map};
 ghost use Rattle.shared_words.specs.Passes.{MayLoad, HasLoaded};
 
 use crate::law::{Law, Served};
@@ -14,48 +15,79 @@ pub type Words<N> = Shared<(), View, Opening, Law<N>>;
 
 /// A token of one seat.
 pub trait Pass {
-    ghost use Rattle.std.specs.Prelude.{ℕ};
+    ghost use Rattle.std.specs.Prelude.{ℕ, Option};
     ghost use Rattle.shared_words.specs.Seats.{Place};
 
     /// The seat.
     ghost seat: { Self → Place };
 
-    /// The number of a member; 0 of another token.
+    /// The number that the token keeps: of a member its own, of the writer that of the newest
+    /// generation, of a note that of its process.
     ghost number: { Self → ℕ };
+
+    /// The root word that a member keeps; none of another token.
+    ghost root: { Self → Option ℕ };
 
     /// Loads a word. The calls for each kind of step stand on it.
     fn load<M: Play<(), View>, N: Served>(&mut self, table: &Words<N>, word: usize) -> u64
         requires { MayLoad N.served table.now.key table.now.table_id M.then (seat self.old) word }
         ensures loaded { HasLoaded table.now.table_id M.then (seat self.old) (seat self.new) word result }
-        ensures number { number self.new ≡ number self.old };
+        ensures number { number self.new ≡ number self.old }
+        ensures root { root self.new ≡ root self.old };
+
+    /// Keeps the root word that was loaded, where the token keeps one.
+    fn keep_root(&mut self, found: u64)
+        ensures seat { seat self.new ≡ seat self.old }
+        ensures number { number self.new ≡ number self.old }
+        ensures root { root self.new ≡ option_map (λ _. found) (root self.old) };
 }
 
 impl Pass for Member {
+    ghost use Rattle.std.specs.Prelude.{Some};
+
     ghost seat = { λ member. member.seat };
 
     ghost number = { λ member. member.number };
 
+    ghost root = { λ member. Some member.root };
+
     fn load<M: Play<(), View>, N: Served>(&mut self, table: &Words<N>, word: usize) -> u64 {
         table.load::<M>(&mut self.seat, word)
+    }
+
+    fn keep_root(&mut self, found: u64) {
+        self.root = found;
     }
 }
 
 impl Pass for Writer {
+    ghost use Rattle.std.specs.Prelude.{None};
+
     ghost seat = { λ writer. writer.seat };
 
-    ghost number = { λ _. 0 };
+    ghost number = { λ writer. writer.generation };
+
+    ghost root = { λ _. None };
 
     fn load<M: Play<(), View>, N: Served>(&mut self, table: &Words<N>, word: usize) -> u64 {
         table.load::<M>(&mut self.seat, word)
     }
+
+    fn keep_root(&mut self, _found: u64) {}
 }
 
 impl Pass for Note {
+    ghost use Rattle.std.specs.Prelude.{None};
+
     ghost seat = { λ note. note.seat };
 
-    ghost number = { λ _. 0 };
+    ghost number = { λ note. note.process };
+
+    ghost root = { λ _. None };
 
     fn load<M: Play<(), View>, N: Served>(&mut self, table: &Words<N>, word: usize) -> u64 {
         table.load::<M>(&mut self.seat, word)
     }
+
+    fn keep_root(&mut self, _found: u64) {}
 }

@@ -1,11 +1,15 @@
 //! What each kind of step tells. These types are for the proofs alone.
 
 ghost use Rattle.shared_words.specs.Kinds.{counter_loaded, root_loaded, confirmed, scanned, raised, lead_taken, lead_dropped, waiting_stored, entering_stored};
+ghost use Rattle.shared_words.specs.Publishing.{word_stored, root_stored, word_loaded};
+ghost use Rattle.shared_words.specs.Notes.{note_left, note_right, note_join};
 ghost use Rattle.shared_words.specs.Making.{handed_on, handed_out};
 
 use crate::law::Served;
+use crate::notes::Spawned;
 use crate::view::View;
-use atomic_table::{Play, Split};
+use crate::writer::Next;
+use atomic_table::{Join, Play, Split};
 use std::marker::PhantomData;
 
 /// A load of the counter.
@@ -80,4 +84,49 @@ pub struct StoreEntering;
 
 impl Play<(), View> for StoreEntering {
     ghost then = { entering_stored };
+}
+
+/// A store of the writer into a word of blocks.
+pub struct StoreWord;
+
+impl Play<(), View> for StoreWord {
+    ghost then = { word_stored };
+}
+
+/// The store of the root by which the writer publishes what is next.
+pub struct StoreRoot<M> {
+    marker: PhantomData<M>,
+}
+
+impl<M: Next> Play<(), View> for StoreRoot<M> {
+    ghost then = { root_stored M.next };
+}
+
+/// A load of a word of blocks.
+pub struct LoadWord;
+
+impl Play<(), View> for LoadWord {
+    ghost then = { word_loaded };
+}
+
+/// A note is split from the writer's seat.
+pub struct SplitNote<K> {
+    marker: PhantomData<K>,
+}
+
+impl<K: Spawned> Split<View> for SplitNote<K> {
+    ghost left = { note_left K.process };
+
+    ghost right = { note_right K.process };
+}
+
+/// A note is joined to a member's seat.
+pub struct JoinNote;
+
+impl Join<View> for JoinNote {
+    ghost use Rattle.shared_words.specs.declared.view.View.TheVariants.{Spent};
+
+    ghost both = { note_join };
+
+    ghost spent = { Spent };
 }

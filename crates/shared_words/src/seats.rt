@@ -1,5 +1,8 @@
 //! The tokens, each with one seat.
 
+ghost use Rattle.std.specs.Prelude.{◌≡◌};
+ghost use Rattle.shared_words.specs.Seats.{IsRooted, member_of, root_held};
+
 use crate::view::View;
 use atomic_table::Seat;
 
@@ -8,18 +11,33 @@ use atomic_table::Seat;
 pub struct Member {
     pub(crate) seat: Seat<(), View>,
     pub(crate) number: u32,
+    pub(crate) root: u64,
+}
+
+impl Member {
+    /// The root word of the generation that the member has held since its last report.
+    pub fn root(&self) -> u64
+        requires rooted { IsRooted self.now.root (member_of self.now.seat.me.0) }
+        ensures { result ≡ root_held (member_of self.now.seat.me.0) }
+    {
+        self.root
+    }
 }
 
 /// The one thread at a time that publishes.
 #[derive(Drop)]
 pub struct Writer {
     pub(crate) seat: Seat<(), View>,
+    /// The newest generation.
+    pub(crate) generation: u64,
 }
 
 /// What a process that is spawned takes along: which generations were published then.
 #[derive(Drop)]
 pub struct Note {
     pub(crate) seat: Seat<(), View>,
+    /// The process that is spawned.
+    pub(crate) process: u32,
 }
 
 /// The tokens of a table.

@@ -13,6 +13,9 @@ use std::alloc::Global;
 /// The word of the root. The split and the join of a seat load it.
 pub const ROOT: u32 = 0;
 
+/// The root word at first: generation 0, over the first block of each sort.
+pub const OPENING_ROOT: u64 = 0;
+
 /// The word of the progress counter.
 pub const COUNTER: u32 = 1;
 

@@ -4,7 +4,7 @@ use area_core::{KeptList, PublishedList};
 use prgr_core::{Member, RetirementList, Watcher};
 use term_core::{Items, WordList};
 
-/// A process for which a note was split, and how many generations were published then.
+/// A process for which a note was split, and the newest generation then.
 pub struct NoteNumber {
     pub process: u32,
     pub published: u64,
@@ -53,13 +53,16 @@ pub struct WriterView {
     pub counter: u64,
     /// The areas that were published and not released.
     pub kept: KeptList,
+    /// The words of slots and blocks, which it alone stores, at their places in the table; 0 at the
+    /// places in front of them.
+    pub words: WordList,
     /// Each member, as it is while its seat is not handed out.
     pub members: MemberViewList,
     /// How many seats of members were handed out.
     pub handed: u32,
     /// Each watcher, as it is while its seat is not handed out. There are none yet.
     pub watchers: WatcherViewList,
-    /// For each process that a note was split for, how many generations were published then.
+    /// For each process that a note was split for, the newest generation then.
     pub notes: NoteNumberList,
     /// The entry words that a patch has stored. There are none yet.
     pub patched: WordList,

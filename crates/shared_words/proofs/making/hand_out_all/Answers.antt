@@ -15,7 +15,7 @@ hand_out-requires-clause-token g c = c.loop-number.invariant.0.of_table
 -- the next seat is at home
 pub hand_out-requires-clause-home : goal.hand_out-requires-clause-home
 hand_out-requires-clause-home g c =
-    is_at_home c.args.table.now.table_id c.args.table.now.key c.loop-number.number c.loop-number.writer.seat (subst (λ (n : ℕ). c.loop-number.number < n) c.requires.members c.loop-number-test.true) c.loop-number.invariant.0
+    is_at_home c.args.table.now.table_id c.args.table.now.key c.loop-number.number c.loop-number.writer (subst (λ (n : ℕ). c.loop-number.number < n) c.requires.members c.loop-number-test.true) c.loop-number.invariant.0
 
 -- there is room for each token
 pub push_reserved-requires : goal.push_reserved-requires
@@ -30,9 +30,9 @@ pub loop-number-preserved : goal.loop-number-preserved
 loop-number-preserved g c =
     let few = subst (λ (n : ℕ). c.loop-number.number < n) c.requires.members c.loop-number-test.true in
     let h = c.loop-number.invariant.0 in (
-      handing_next c.args.table.now.table_id c.args.table.now.key c.loop-number.number c.loop-number.writer.seat c.hand_out.new.writer.seat h c.hand_out.ensures.token c.hand_out.ensures.view,
+      handing_next c.args.table.now.table_id c.args.table.now.key c.loop-number.number c.loop-number.writer c.hand_out.new.writer h c.hand_out.ensures.token c.hand_out.ensures.view,
       subst (λ (xs : List tokens.Member). AreMembersBegun c.args.table.now.table_id (c.loop-number.number + 1) xs) (sym c.push_reserved.ensures.items)
-          (members_next c.args.table.now.table_id c.args.table.now.key c.loop-number.number c.loop-number.writer.seat c.loop-number.tokens.items c.hand_out.result few h c.loop-number.invariant.1 c.hand_out.ensures.seat c.hand_out.ensures.member c.hand_out.ensures.number),
+          (members_next c.args.table.now.table_id c.args.table.now.key c.loop-number.number c.loop-number.writer c.loop-number.tokens.items c.hand_out.result few h c.loop-number.invariant.1 c.hand_out.ensures.seat c.hand_out.ensures.member c.hand_out.ensures.number c.hand_out.ensures.root),
       subst (λ (n : ℕ). c.args.members ≤ n) (sym c.push_reserved.ensures.capacity) c.loop-number.invariant.2,
       c.push_reserved.ensures.len ∙ ap (λ (n : ℕ). n + 1) c.loop-number.invariant.3,
     )

@@ -6,4 +6,4 @@ use Rattle.shared_words.proofs.making.hand_out_all.Given as goal
 -- so many seats are handed out, and there is room for all tokens
 abbrev pub invariant-loop-number : goal.invariant-loop-number
 invariant-loop-number g l =
-    IsHanding l.fn.table.table_id l.fn.table.key l.number l.writer.seat × AreMembersBegun l.fn.table.table_id l.number l.tokens.items × (l.fn.members ≤ vec_capacity l.tokens) × (vec_len l.tokens ≡ l.number)
+    IsHanding l.fn.table.table_id l.fn.table.key l.number l.writer × AreMembersBegun l.fn.table.table_id l.number l.tokens.items × (l.fn.members ≤ vec_capacity l.tokens) × (vec_len l.tokens ≡ l.number)

@@ -1,0 +1,243 @@
+-- A store into a word of a block, or a retire or doom word, keeps the block invariant for the generations that count,
+-- and so the rule.
+use Rattle.std.proofs.Common.{◌≡◌, ℕ, ◌+◌, ◌-◌, ◌*◌, ◌/◌, ◌<◌, ◌≤◌, ◌⊎◌, true, false, ◌&&◌, List, length, length-set, set, get_or-set_other, refl, sym, ap, subst, ◌∙◌, arith}
+use mathlib.Core.Option.{none, some}
+use Rattle.std.specs.Prelude.{◌==◌, Some, slice_get, slice_set, slice_index, IsTrue}
+use Rattle.std.proofs.lemmas.Bool.{and_from, lt-ltb, le-ltb, eq-eqb, true≢false}
+use Rattle.std.proofs.lemmas.Bool.Decides.{nat_tests}
+use Rattle.atomic_table.specs.Table.{State, keeps, step, Allows}
+use Rattle.prgr_core.specs.Step.{IsSound}
+use Rattle.term_core.specs.declared.area.AreaRef.{AreaRef}
+use Rattle.term_core.specs.declared.generation.Generation.{Generation}
+use Rattle.area_core.specs.declared.map.TheConstants.{TABLE_WORDS, SLOTS_START, BIG_WORDS, BREAKPOINTS_START, TERMS_START, EXPORT_ENTRIES, FUNCTIONS}
+use Rattle.area_core.specs.declared.map.WordKind.{WordKind}
+use Rattle.area_core.specs.declared.map.WordKind.TheVariants.{Machine, Slot, Retire, Doom, InBlock, Nowhere}
+use Rattle.area_core.specs.declared.table.Published.{Published}
+use Rattle.area_core.specs.declared.table.KeptArea.{KeptArea}
+use Rattle.area_core.specs.Map.{word_at, kind_at, block_place, retire_place, doom_place, breakpoint_at, entry_at}
+use Rattle.area_core.specs.Generations.{is_instance, is_retired, is_doomed, is_traced, has_function, is_entry_word, tells}
+use Rattle.area_core.specs.Blocks.{Blocks, BlockInvariant, Among, RootFits, IsForInstances}
+use Rattle.area_core.specs.Readers.{reads_in_block, has_instance_in}
+use Rattle.area_core.proofs.Places.{kind_place, kind_retire_place, kind_doom_place, word_here}
+use Rattle.area_core.proofs.Tests.{some_passes}
+use Rattle.area_core.proofs.Frames.{code_after, breakpoints_after, terms_after, entries_after, retired_after, doomed_after, images_after, named_after, apart_after}
+use Rattle.area_core.proofs.BlockStores.{stored_off, block_within, same_block}
+use Rattle.shared_words.specs.declared.table.TheConstants.{ROOT, COUNTER, LEAD, DELAYS, CONFIRMED}
+use Rattle.shared_words.specs.declared.opening.Opening.{Opening}
+use Rattle.shared_words.specs.declared.view.WriterView.{WriterView}
+use Rattle.shared_words.specs.declared.view.View.{View}
+use Rattle.shared_words.specs.declared.view.View.TheVariants.{Writer}
+use Rattle.shared_words.specs.Shown.{members_shown, block_words, progress_of}
+use Rattle.shared_words.specs.Seats.{writer_of}
+use Rattle.shared_words.specs.Kinds.{Sat}
+use Rattle.shared_words.specs.Rule.{MayBeRead, MachineHolds, RunningRule}
+use Rattle.shared_words.specs.Publishing.{FitsInBlock, FitsRetire, FitsDoom, FitsWord, MayStoreWord, with_word, word_stored}
+use Rattle.shared_words.proofs.ShownMembers.{within_get}
+use Rattle.shared_words.proofs.ShownWords.{shown_stored, shown_words}
+use Rattle.shared_words.proofs.Frames.{after_step, progress_words}
+use Rattle.shared_words.proofs.WriterFrames.{writer_step, writer_at}
+
+-- ---- which words a generation reads
+
+reads_code : (p : Published) (block at : ℕ) → block ≡ p.root.code → block < 3 → reads_in_block p block at ≡ true
+reads_code p block at same low = rw (lt-ltb block 3 low) (eq-eqb block p.root.code same)
+
+reads_breakpoint : (p : Published) (block at : ℕ) → block ≡ 3 + p.root.bp → block < 5 → has_instance_in p (9 + at / 16) ≡ true → reads_in_block p block at ≡ true
+reads_breakpoint p block at same low has =
+    let high : 3 ≤ block = omega (arith) in
+    rw (le-ltb block 3 high, lt-ltb block 5 low, eq-eqb block (3 + p.root.bp) same) has
+
+reads_term : (p : Published) (block at : ℕ) → block ≡ 5 + p.root.term → block < 9 → reads_in_block p block at ≡ true
+reads_term p block at same low =
+    let high : 3 ≤ block = omega (arith) in
+    let higher : 5 ≤ block = omega (arith) in
+    rw (le-ltb block 3 high, le-ltb block 5 higher, lt-ltb block 9 low) (eq-eqb block (5 + p.root.term) same)
+
+has_instance_at : (p : Published) (a : AreaRef) (function at : ℕ) → Among p.areas a → IsTrue (is_instance p a.serial) → 9 ≤ a.block → function < 16 → at ≡ (a.block - 9) * 16 + function → has_instance_in p (9 + at / 16) ≡ true
+has_instance_at p a function at among instance high few is =
+    let row : a.block ≡ 9 + at / 16 = omega (arith) in
+    some_passes (λ a. (a.block == 9 + at / 16) && is_instance p a.serial) p.areas among.0 a among.1 (and_from (a.block == 9 + at / 16) (is_instance p a.serial) (eq-eqb a.block (9 + at / 16) row) instance)
+
+-- ---- one word is stored
+
+-- what is owed of a word of this kind that becomes this value, for each generation that counts
+record Owes (published : List Published) (kept : List KeptArea) (Counts : ℕ → Type 0) (kind : WordKind) (value : ℕ) : Type 0 where
+  slot : kind ≡ Slot → ⊥
+  code : (g : ℕ) (p : Published) → Counts g → slice_get published g ≡ Some p → RootFits p.root → (entry : ℕ) → entry < EXPORT_ENTRIES → kind ≡ InBlock p.root.code entry → ⊥
+  breakpoints : (g : ℕ) (p : Published) → Counts g → slice_get published g ≡ Some p → RootFits p.root → (a : AreaRef) → Among p.areas a → IsTrue (is_instance p a.serial) → IsForInstances a.block → (function : ℕ) → function < FUNCTIONS → kind ≡ InBlock (BREAKPOINTS_START + p.root.bp) (breakpoint_at a.block function) → ⊥
+  terms : (g : ℕ) (p : Published) → Counts g → slice_get published g ≡ Some p → RootFits p.root → (place : ℕ) → place < BIG_WORDS → kind ≡ InBlock (TERMS_START + p.root.term) place → ⊥
+  entries : (g : ℕ) (p : Published) → Counts g → slice_get published g ≡ Some p → (k : KeptArea) → Among kept k → (function : ℕ) → IsTrue (has_function k function) → kind ≡ InBlock k.area.block (entry_at function) → value ≡ 0 → is_traced p k.area.serial function ≡ false
+  retired : (g : ℕ) (p : Published) → Counts g → slice_get published g ≡ Some p → (k : KeptArea) → Among kept k → kind ≡ Retire k.area.block → tells value g ≡ is_retired p k.area.serial
+  doomed : (g : ℕ) (p : Published) → Counts g → slice_get published g ≡ Some p → (k : KeptArea) → Among kept k → kind ≡ Doom k.area.block → is_retired p k.area.serial ≡ false → tells value g ≡ is_doomed p k.area.serial
+  images : (k : KeptArea) → Among kept k → (place old : ℕ) → slice_get k.words place ≡ Some old → is_entry_word k place ≡ false → kind ≡ InBlock k.area.block place → value ≡ old
+
+module _ (words : List ℕ) (published : List Published) (kept : List KeptArea) (Counts : ℕ → Type 0) (all : length words ≡ TABLE_WORDS) (word value : ℕ) (within : word < TABLE_WORDS) where
+  abbrev b : Blocks
+  b = record { word = word_at words; published = published; kept = kept }
+
+  abbrev new : ℕ → ℕ
+  new = word_at (slice_set words word value)
+
+  -- what is stored stands at its place
+  at_place : (place : ℕ) → word ≡ place → new place ≡ value
+  at_place place same = ap new (sym same) ∙ word_here words word value (subst (λ (n : ℕ). word < n) (sym all) within)
+
+  stored : (kind : WordKind) → kind_at word ≡ kind → BlockInvariant b Counts → Owes published kept Counts kind value → BlockInvariant (record { word = new; published = published; kept = kept }) Counts
+  stored kind is sound owes =
+      let off : (x : ℕ) → (kind_at x ≡ kind) ⊎ (new x ≡ word_at words x) = stored_off words word value kind is in record {
+        roots_fit = sound.roots_fit;
+        instances_placed = sound.instances_placed;
+        code_stands = code_after b Counts new kind off sound owes.code;
+        breakpoints_stand = breakpoints_after b Counts new kind off sound owes.breakpoints;
+        terms_stand = terms_after b Counts new kind off sound owes.terms;
+        used_kept = sound.used_kept;
+        areas_stand = λ g p counts here k among. record {
+          entries = entries_after b Counts new kind off sound g p counts here k among (λ function has same none. owes.entries g p counts here k among function has same (sym (at_place (block_place k.area.block (entry_at function)) (kind_place word k.area.block (entry_at function) (is ∙ same)).0) ∙ none));
+          retired = retired_after b Counts new kind off sound g p counts here k among (λ same. ap (λ (x : ℕ). tells x g) (at_place (retire_place k.area.block) (kind_retire_place word k.area.block (is ∙ same)).0) ∙ owes.retired g p counts here k among same);
+          doomed = doomed_after b Counts new kind off sound g p counts here k among (λ same big unretired. ap (λ (x : ℕ). tells x g) (at_place (doom_place k.area.block) (kind_doom_place word k.area.block (is ∙ same)).0) ∙ owes.doomed g p counts here k among same unretired);
+        };
+        images_stand = λ k among. images_after b Counts new kind off sound k among (λ place old has plain same. at_place (block_place k.area.block place) (kind_place word k.area.block place (is ∙ same)).0 ∙ owes.images k among place old has plain same);
+        kept_fit = sound.kept_fit;
+        kept_apart = sound.kept_apart;
+        named_kept = named_after b Counts new kind off sound owes.slot;
+        anchors_apart = apart_after b Counts new kind off sound owes.slot;
+      }
+
+-- ---- by what the writer knows
+
+-- what a word of a block owes
+owes_block : (w : WriterView) (block at value : ℕ) → FitsInBlock w block at value → Owes w.published w.kept (MayBeRead w) (InBlock block at) value
+owes_block w block at value fits = record {
+  slot = λ same. absurd (cc);
+  code = λ g p counts here root entry within same.
+      let parts = same_block block at p.root.code entry same in
+      let code = root.code in
+      read g p counts here (reads_code p block at parts.0 (omega (arith, parts.0, code)));
+  breakpoints = λ g p counts here root a among instance placed function few same.
+      let parts = same_block block at (BREAKPOINTS_START + p.root.bp) (breakpoint_at a.block function) same in
+      let bp = root.bp in
+      read g p counts here (reads_breakpoint p block at parts.0 (omega (arith, parts.0, bp)) (has_instance_at p a function at among instance placed.first few parts.1));
+  terms = λ g p counts here root place within same.
+      let parts = same_block block at (TERMS_START + p.root.term) place same in
+      let term = root.term in
+      read g p counts here (reads_term p block at parts.0 (omega (arith, parts.0, term)));
+  entries = λ g p counts here k among function has same none.
+      let parts = same_block block at k.area.block (entry_at function) same in
+      fits.entries k function among (sym parts.0) has parts.1 none g p counts here;
+  retired = λ g p counts here k among same. absurd (cc);
+  doomed = λ g p counts here k among same unretired. absurd (cc);
+  images = λ k among place old has plain same.
+      let parts = same_block block at k.area.block place same in
+      fits.images k old among (sym parts.0) (ap (slice_get k.words) parts.1 ∙ has) (ap (is_entry_word k) parts.1 ∙ plain);
+}
+  where
+    read : (g : ℕ) (p : Published) → MayBeRead w g → slice_get w.published g ≡ Some p → reads_in_block p block at ≡ true → ⊥
+    read g p counts here reads = true≢false (sym reads ∙ fits.unread g p counts here)
+
+-- what a retire word owes
+owes_retire : (w : WriterView) (block value : ℕ) → FitsRetire w block value → Owes w.published w.kept (MayBeRead w) (Retire block) value
+owes_retire w block value fits = record {
+  slot = λ same. absurd (cc);
+  code = λ g p counts here root entry within same. absurd (cc);
+  breakpoints = λ g p counts here root a among instance placed function few same. absurd (cc);
+  terms = λ g p counts here root place within same. absurd (cc);
+  entries = λ g p counts here k among function has same none. absurd (cc);
+  retired = λ g p counts here k among same. fits g p counts here k among (retire_block same);
+  doomed = λ g p counts here k among same unretired. absurd (cc);
+  images = λ k among place old has plain same. absurd (cc);
+}
+  where
+    retire_block : {one other : ℕ} → Retire one ≡ Retire other → other ≡ one
+    retire_block same = cc
+
+-- what a doom word owes
+owes_doom : (w : WriterView) (block value : ℕ) → FitsDoom w block value → Owes w.published w.kept (MayBeRead w) (Doom block) value
+owes_doom w block value fits = record {
+  slot = λ same. absurd (cc);
+  code = λ g p counts here root entry within same. absurd (cc);
+  breakpoints = λ g p counts here root a among instance placed function few same. absurd (cc);
+  terms = λ g p counts here root place within same. absurd (cc);
+  entries = λ g p counts here k among function has same none. absurd (cc);
+  retired = λ g p counts here k among same. absurd (cc);
+  doomed = λ g p counts here k among same unretired. fits g p counts here k among (doom_block same) unretired;
+  images = λ k among place old has plain same. absurd (cc);
+}
+  where
+    doom_block : {one other : ℕ} → Doom one ≡ Doom other → other ≡ one
+    doom_block same = cc
+
+owes_by : (w : WriterView) (value : ℕ) (kind : WordKind) → FitsWord w value kind → Owes w.published w.kept (MayBeRead w) kind value
+owes_by w value (InBlock block at) fits = owes_block w block at value fits
+owes_by w value (Retire block) fits = owes_retire w block value fits
+owes_by w value (Doom block) fits = owes_doom w block value fits
+owes_by w value Machine fits = absurd fits
+owes_by w value Slot fits = absurd fits
+owes_by w value Nowhere fits = absurd fits
+
+-- the word is one behind those of the machine
+pub word_placed : (w : WriterView) (word value : ℕ) (kind : WordKind) → kind_at word ≡ kind → FitsWord w value kind → (SLOTS_START ≤ word) × (word < TABLE_WORDS)
+word_placed w word value (InBlock block at) is fits = (behind word block at is, block_within word block at is)
+  where
+    behind : (word block at : ℕ) → kind_at word ≡ InBlock block at → 21 ≤ word
+    behind word block at is = grind (arith, nat_tests)
+word_placed w word value (Retire block) is fits = (let at = kind_retire_place word block is in (omega (arith, at.0), omega (arith, at.0, at.1)))
+word_placed w word value (Doom block) is fits = (let at = kind_doom_place word block is in (omega (arith, at.0), omega (arith, at.0, at.1)))
+word_placed w word value Machine is fits = absurd fits
+word_placed w word value Slot is fits = absurd fits
+word_placed w word value Nowhere is fits = absurd fits
+
+module _ {Served : Generation → Type 0} {opening : Opening} (s : State (Unit {0}) View) (r : RunningRule Served opening s) where
+  -- ---- a store behind the words of the machine leaves the machine
+  pub machine_kept : (w' : WriterView) (word value : ℕ) → SLOTS_START ≤ word → w'.members ≡ r.writer.members → progress_of s.words w' r.seats ≡ progress_of s.words r.writer r.seats → MachineHolds (set s.words word value) w' r.seats
+  machine_kept w' word value late members same =
+      let words' : List ℕ = set s.words word value in
+      let few = r.machine.progress.few in
+      let shown = progress_words s.words words' w' r.seats (slice_index s.words COUNTER) (slice_index s.words LEAD)
+      (get_or-set_other s.words word COUNTER value 0 (λ e. absurd (omega arith)))
+      (get_or-set_other s.words word LEAD value 0 (λ e. absurd (omega arith)))
+      (get_or-set_other s.words word DELAYS value 0 (λ e. absurd (omega arith)))
+      (get_or-set_other s.words word (DELAYS + 1) value 0 (λ e. absurd (omega arith))) in record {
+        progress = subst IsSound (sym (shown ∙ same)) r.machine.progress;
+        own_words = λ k a at.
+            let here : slice_get (members_shown r.writer.members r.seats) k ≡ Some a = ap (λ xs. slice_get (members_shown xs r.seats) k) (sym members) ∙ at in
+            let below = within_get (members_shown r.writer.members r.seats) k a here in
+            get_or-set_other s.words word (CONFIRMED + k) value 0 (λ e. absurd (omega arith)) ∙ r.machine.own_words k a here;
+        others_wait = λ k beyond below.
+            get_or-set_other s.words word (CONFIRMED + k) value 0 (λ e. absurd (omega arith)) ∙ r.machine.others_wait k (subst (λ xs. length xs ≤ k) members beyond) below;
+        leader_made = subst (λ (n : ℕ). n ≤ length w'.members) (sym (get_or-set_other s.words word LEAD value 0 (λ e. absurd (omega arith)))) (subst (λ xs. slice_index s.words LEAD ≤ length xs) (sym members) r.machine.leader_made);
+      }
+
+  word_stores : (word value : ℕ) → MayStoreWord r.writer word value → RunningRule Served opening (after_step s (set s.words word value) 0 (Writer (with_word word value r.writer)))
+  word_stores word value may =
+      let w = r.writer in
+      let placed = word_placed w word value (kind_at word) refl may in
+      let late = placed.0 in
+      let within = placed.1 in
+      let size = r.words.all in
+      let shown = shown_stored s.words word value late (omega (arith, size)) in
+      let w' : WriterView = with_word word value w in
+      writer_step s r (set s.words word value) w' (record { members = refl; watchers = refl; learnt = λ xs is. is; noted = λ note is. is }) refl refl
+      (record { made = r.published.made; watched = r.published.watched; some = r.published.some; served = r.published.served; old_stays = r.published.old_stays; retired_stays = r.published.retired_stays; notes_fit = r.published.notes_fit })
+      (record {
+        all = length-set s.words word value ∙ r.words.all;
+        root = get_or-set_other s.words word ROOT value 0 (λ e. absurd (omega arith)) ∙ r.words.root;
+        mirrored = shown ∙ ap (λ (ws : List ℕ). set ws word value) r.words.mirrored;
+        reached = (let same = get_or-set_other s.words word COUNTER value 0 (λ e. absurd (omega arith)) in let before = r.words.reached in omega arith);
+        blocks = subst (λ (ws : List ℕ). BlockInvariant (record { word = word_at ws; published = w.published; kept = w.kept }) (MayBeRead w)) (sym shown)
+            (stored (block_words s.words) w.published w.kept (MayBeRead w) (shown_words s.words r.words.all) word value within (kind_at word) refl r.words.blocks (owes_by w value (kind_at word) may));
+      })
+      (machine_kept w' word value late refl refl)
+
+-- the writer may store a word of a block
+pub store_word_is_allowed : (Served : Generation → Type 0) (opening : Opening) (slots id word value : ℕ) (me : Sat) → me.0 ≡ Writer (writer_of me.0) → MayStoreWord (writer_of me.0) word value
+    → Allows (RunningRule Served opening) slots id me word (λ _. value) (λ _. word_stored (step slots word value 0 none) me value)
+store_word_is_allowed Served opening slots id word value me is may s r wide at fits =
+    let w = writer_of me.0 in
+    let seat = writer_at s r id w (at ∙ ap some is) in
+    let done = word_stores s r word value (subst (λ (x : WriterView). MayStoreWord x word value) (sym seat.1) may) in (
+      Writer (with_word word value w),
+      keeps,
+      tt,
+      subst (λ (z : ℕ × WriterView). RunningRule Served opening (after_step s (set s.words word value) z.0 (Writer (with_word word value z.1)))) (λ i. (sym seat.0 i, seat.1 i)) done,
+      refl,
+    )

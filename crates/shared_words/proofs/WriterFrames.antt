@@ -1,0 +1,69 @@
+-- What a step of the writer leaves of the rule: what every seat knows, and which seats there are.
+use Rattle.std.proofs.Common.{◌≡◌, ℕ, zero, suc, ◌+◌, ◌<◌, ◌≤◌, List, length, set, refl, sym, ap, subst, ◌∙◌}
+use mathlib.Core.Option.{some, some-injective}
+use lib.ListN.{get_elem?}
+use Rattle.std.specs.Prelude.{slice_get}
+use Rattle.atomic_table.specs.Table.{State}
+use Rattle.term_core.specs.declared.generation.Generation.{Generation}
+use Rattle.area_core.specs.declared.table.Published.{Published}
+use Rattle.area_core.specs.Blocks.{Among}
+use Rattle.shared_words.specs.declared.opening.Opening.{Opening}
+use Rattle.shared_words.specs.declared.view.NoteNumber.{NoteNumber}
+use Rattle.shared_words.specs.declared.view.MemberView.{MemberView}
+use Rattle.shared_words.specs.declared.view.WriterView.{WriterView}
+use Rattle.shared_words.specs.declared.view.View.{View}
+use Rattle.shared_words.specs.declared.view.View.TheVariants.{Writer, Member, Watcher, Note, Spent}
+use Rattle.shared_words.specs.Seats.{writer_of}
+use Rattle.shared_words.specs.Rule.{IsBeginning, PublishedKept, WordsAgree, Knows, MachineHolds, RunningRule}
+use Rattle.shared_words.proofs.Frames.{after_step}
+
+-- the writer knows what it knew, and more was published, or more notes were made
+pub record WriterGrows (w w' : WriterView) : Type 0 where
+  pub members : length w'.members ≡ length w.members
+  pub watchers : length w'.watchers ≡ length w.watchers
+  pub learnt : (xs : List Published) → IsBeginning xs w.published → IsBeginning xs w'.published
+  pub noted : (note : NoteNumber) → Among w.notes note → Among w'.notes note
+
+-- then each seat knows what it must
+pub knows_more : (w w' : WriterView) → WriterGrows w w' → (place : ℕ) (v : View) → Knows w place v → Knows w' place v
+knows_more w w' more place (Writer x) h = h
+knows_more w w' more place (Member m) h = record {
+  numbered = h.numbered;
+  made = subst (λ (n : ℕ). place < n) (sym more.members) h.made;
+  seen = more.learnt m.seen h.seen;
+  holds = h.holds;
+  noted = λ note among. more.noted note (h.noted note among);
+}
+knows_more w w' more place (Watcher v) h = record {
+  numbered = subst (λ (n : ℕ). n + v.watcher.number ≡ place) (sym more.members) h.numbered;
+  made = subst (λ (n : ℕ). v.watcher.number < n) (sym more.watchers) h.made;
+  seen = more.learnt v.seen h.seen;
+}
+knows_more w w' more place (Note n) h = record {
+  behind = subst (λ (z : ℕ × ℕ). z.0 + z.1 ≤ place) (λ i. (sym more.members i, sym more.watchers i)) h.behind;
+  seen = more.learnt n.seen h.seen;
+  noted = more.noted n.note h.noted;
+  learnt = h.learnt;
+}
+knows_more w w' more place Spent h = h
+
+module _ {Served : Generation → Type 0} {opening : Opening} (s : State (Unit {0}) View) (r : RunningRule Served opening s) where
+  -- the rule after a step of the writer
+  pub writer_step : (words' : List ℕ) (w' : WriterView) → WriterGrows r.writer w' → w'.members ≡ r.writer.members → w'.handed ≡ r.writer.handed → PublishedKept Served opening w' → WordsAgree words' w' → MachineHolds words' w' r.seats → RunningRule Served opening (after_step s words' 0 (Writer w'))
+  writer_step words' w' more members handed published words machine = record {
+    writer = w';
+    seats = r.seats;
+    views = ap (λ (vs : List View). set vs 0 (Writer w')) r.views;
+    published = published;
+    words = words;
+    each_seat = λ place v at. knows_more r.writer w' more place v (r.each_seat place v at);
+    machine = machine;
+    handed = λ few. r.handed (subst (λ (z : ℕ × List MemberView). z.0 < length z.1) (λ i. (handed i, members i)) few) ∙ sym handed;
+    out = subst (λ (n : ℕ). n ≤ length r.seats) (sym handed) r.out;
+    at_home = λ k m at. knows_more r.writer w' more k (Member m) (r.at_home k m (ap (λ (xs : List MemberView). slice_get xs k) (sym members) ∙ at));
+  }
+
+  -- the seat with a writer's view is the first
+  pub writer_at : (id : ℕ) (w : WriterView) → get_elem? s.views id ≡ some (Writer w) → (id ≡ 0) × (r.writer ≡ w)
+  writer_at zero w at = (refl, ap writer_of (some-injective (Writer r.writer) (Writer w) (ap (λ (vs : List View). get_elem? vs 0) (sym r.views) ∙ at)))
+  writer_at (suc k) w at = absurd (r.each_seat k (Writer w) (ap (λ (vs : List View). get_elem? vs (suc k)) (sym r.views) ∙ at))

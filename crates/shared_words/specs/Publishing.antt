@@ -1,0 +1,145 @@
+-- The writer's stores, of a word of a block and of the root, by which it publishes; and what a word of a block tells
+-- whoever holds a generation. What a store asks is said of what the writer knows: of the words as it has stored them,
+-- and of the generations that it does not know to have passed.
+-- Source: Erlang/OTP erts internal documentation, CodeLoading and Tracing; the words are this project's own.
+use Rattle.std.specs.Prelude.{◌≡◌, ℕ, false, List, [], ◌∷◌, ◌++◌, length, slice_get, slice_set, Option, Some, None, IsTrue}
+use Rattle.atomic_table.specs.Table.{Step}
+use Rattle.term_core.specs.declared.generation.Generation.{Generation}
+use Rattle.area_core.specs.declared.map.WordKind.{WordKind}
+use Rattle.area_core.specs.declared.map.WordKind.TheVariants.{Machine, Slot, Retire, Doom, InBlock, Nowhere}
+use Rattle.area_core.specs.declared.table.Root.{Root}
+use Rattle.area_core.specs.declared.table.Published.{Published}
+use Rattle.area_core.specs.declared.table.KeptArea.{KeptArea}
+use Rattle.area_core.specs.Map.{word_at, entry_at, kind_at}
+use Rattle.area_core.specs.Generations.{is_retired, is_doomed, is_traced, has_function, is_entry_word, tells}
+use Rattle.area_core.specs.Blocks.{Blocks, BlockInvariant, EachCounted, Among, RootFits, InstancesPlaced, CodeStands, BreakpointsStand, term_words, UsedAreKept, FitsBlock, ImageStands, AreaStands, KeptApart}
+use Rattle.area_core.specs.Terms.{TermsStand}
+use Rattle.area_core.specs.Readers.{reads_in_block, held_by_member, is_read_under}
+use Rattle.area_core.specs.Roots.{fresh_areas}
+use Rattle.shared_words.specs.declared.view.WriterView.{WriterView}
+use Rattle.shared_words.specs.declared.view.View.{View}
+use Rattle.shared_words.specs.declared.view.View.TheVariants.{Writer, Member, Watcher, Note, Spent}
+use Rattle.shared_words.specs.Views.{newest, seen, held}
+use Rattle.shared_words.specs.Seats.{writer_of}
+use Rattle.shared_words.specs.Rule.{MayBeRead, OldStays, RetiredStays}
+use Rattle.shared_words.specs.Kinds.{Sat}
+
+-- the blocks as the writer knows them
+abbrev pub blocks_known : WriterView → Blocks
+blocks_known w = record { word = word_at w.words; published = w.published; kept = w.kept }
+
+-- something holds of each generation that the writer does not know to have passed
+abbrev pub EachMayBeRead : WriterView → (ℕ → Published → Type 0) → Type 0
+EachMayBeRead w Holds = EachCounted (blocks_known w) (MayBeRead w) Holds
+
+-- ---- the store of a word of a block
+
+-- a word of a block: no generation that may be read reads it, and areas that are kept in the block keep their images
+pub record FitsInBlock (w : WriterView) (block at value : ℕ) : Type 0 where
+  pub unread : EachMayBeRead w (λ g p. reads_in_block p block at ≡ false)
+  -- a word of an image is what it was
+  pub images : (k : KeptArea) (old : ℕ) → Among w.kept k → k.area.block ≡ block → slice_get k.words at ≡ Some old → is_entry_word k at ≡ false → value ≡ old
+  -- an entry word is 0 only where no generation that may be read traces the function
+  pub entries : (k : KeptArea) (function : ℕ) → Among w.kept k → k.area.block ≡ block → IsTrue (has_function k function) → at ≡ entry_at function → value ≡ 0 → EachMayBeRead w (λ g p. is_traced p k.area.serial function ≡ false)
+
+-- the retire word of a block tells of each area that is kept in it whether it is retired
+abbrev pub FitsRetire : WriterView → ℕ → ℕ → Type 0
+FitsRetire w block value = EachMayBeRead w (λ g p. (k : KeptArea) → Among w.kept k → k.area.block ≡ block → tells value g ≡ is_retired p k.area.serial)
+
+-- the doom word of a block tells of each area that is kept in it, and not retired, whether it is doomed
+abbrev pub FitsDoom : WriterView → ℕ → ℕ → Type 0
+FitsDoom w block value = EachMayBeRead w (λ g p. (k : KeptArea) → Among w.kept k → k.area.block ≡ block → is_retired p k.area.serial ≡ false → tells value g ≡ is_doomed p k.area.serial)
+
+-- a word of this kind may become this value
+abbrev pub FitsWord : WriterView → ℕ → WordKind → Type 0
+FitsWord w value (InBlock block at) = FitsInBlock w block at value
+FitsWord w value (Retire block) = FitsRetire w block value
+FitsWord w value (Doom block) = FitsDoom w block value
+FitsWord w value Machine = ⊥
+FitsWord w value Slot = ⊥
+FitsWord w value Nowhere = ⊥
+
+-- the writer may store this value into this word
+abbrev pub MayStoreWord : WriterView → ℕ → ℕ → Type 0
+MayStoreWord w word value = FitsWord w value (kind_at word)
+
+-- it has stored it
+abbrev pub with_word : ℕ → ℕ → WriterView → WriterView
+with_word word value w = record w { words = slice_set w.words word value }
+
+abbrev pub word_stored : Step (Unit {0}) → Sat → ℕ → Sat → Type 0
+word_stored st me stored me' = me' ≡ (Writer (with_word st.word stored (writer_of me.0)), me.1)
+
+-- ---- the store of the root
+
+-- the areas that are kept once this is published
+abbrev pub kept_next : WriterView → Published → List KeptArea
+kept_next w p = w.kept ++ fresh_areas w.kept p
+
+-- the words and areas stand for what is published next
+pub record StandsFor (w : WriterView) (p : Published) : Type 0 where
+  pub root : RootFits p.root
+  pub placed : InstancesPlaced p
+  pub code : CodeStands (word_at w.words) p
+  pub breakpoints : BreakpointsStand (word_at w.words) p
+  pub terms : TermsStand (term_words (word_at w.words) p.root) p
+  pub used : UsedAreKept (kept_next w p) p
+  pub areas : (k : KeptArea) → Among (kept_next w p) k → AreaStands (word_at w.words) k (length w.published) p
+
+-- the areas that it is the first to use have room, their images, and words that are right in earlier generations too
+pub record FreshStand (w : WriterView) (p : Published) : Type 0 where
+  pub fit : (k : KeptArea) → Among (fresh_areas w.kept p) k → FitsBlock k
+  pub images : (k : KeptArea) → Among (fresh_areas w.kept p) k → ImageStands (word_at w.words) k
+  pub areas : EachMayBeRead w (λ g q. (k : KeptArea) → Among (fresh_areas w.kept p) k → AreaStands (word_at w.words) k g q)
+  pub apart : KeptApart (kept_next w p)
+
+-- the writer may publish this next
+pub record MayPublish (Served : Generation → Type 0) (w : WriterView) (p : Published) : Type 0 where
+  pub served : Served p.state
+  pub old_stays : OldStays (w.published ++ p ∷ [])
+  pub retired_stays : RetiredStays (w.published ++ p ∷ [])
+  pub stands : StandsFor w p
+  pub fresh : FreshStand w p
+
+-- the root names these blocks
+pub record IsRootOf (root : Root) (code bp term : ℕ) : Type 0 where
+  pub code_is : root.code ≡ code
+  pub bp_is : root.bp ≡ bp
+  pub term_is : root.term ≡ term
+
+-- it has published it
+abbrev pub with_next : Published → WriterView → WriterView
+with_next p w = record w { published = w.published ++ p ∷ []; kept = kept_next w p }
+
+abbrev pub root_stored : Published → Step (Unit {0}) → Sat → ℕ → Sat → Type 0
+root_stored p st me stored me' = me' ≡ (Writer (with_next p (writer_of me.0)), me.1)
+
+-- ---- the load of a word of a block
+
+-- a generation that is held, if one is, reads the word
+abbrev pub ReadsHeld : ℕ → List Published → Option ℕ → Type 0
+ReadsHeld word published None = ⊥
+ReadsHeld word published (Some g) = IsTrue (is_read_under (kind_at word) (slice_get published g))
+
+-- who may load the word: the writer and a member where the generation that it holds reads it. A watcher makes no step yet
+abbrev pub MayLoadWord : ℕ → View → Type 0
+MayLoadWord word (Writer w) = ReadsHeld word w.published (Some (newest w.published))
+MayLoadWord word (Member m) = ReadsHeld word m.seen (held_by_member m.member)
+MayLoadWord word (Watcher w) = ⊥
+MayLoadWord word (Note n) = ⊥
+MayLoadWord word Spent = ⊥
+
+-- the word is one of blocks that stand for this generation
+pub record IsWordUnder (g : ℕ) (p : Published) (word found : ℕ) : Type 0 where
+  pub blocks : Blocks
+  pub stands : BlockInvariant blocks (λ h. h ≡ g)
+  pub published : slice_get blocks.published g ≡ Some p
+  pub here : blocks.word word ≡ found
+
+-- what the load of a word tells: it is a word under the generation that is held
+abbrev pub WordTells : View → ℕ → ℕ → Type 0
+WordTells v word found = (g : ℕ) (p : Published) → held v ≡ Some g → slice_get (seen v) g ≡ Some p → IsWordUnder g p word found
+
+pub record word_loaded (st : Step (Unit {0})) (me : Sat) (found : ℕ) (me' : Sat) : Type 0 where
+  pub same : me' ≡ me
+  pub tells : WordTells me.0 st.word found
