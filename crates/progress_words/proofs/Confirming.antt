@@ -15,11 +15,13 @@ use Rattle.shared_words.specs.declared.view.MemberView.{MemberView}
 use Rattle.shared_words.specs.declared.view.View.{View}
 use Rattle.shared_words.specs.declared.view.View.TheVariants.{Member}
 use Rattle.shared_words.specs.Views.{newest, root_word, published_at, seen, held}
-use Rattle.shared_words.specs.Seats.{member_of}
+use Rattle.shared_words.specs.Seats.{member_of, IsRooted}
 use Rattle.shared_words.specs.Kinds.{counter_found, root_found, RootLoaded, value_confirmed}
 use Rattle.shared_words.specs.Rule.{IsBeginning}
+use Rattle.shared_words.proofs.Rooted.{rooted_by_load}
 use Rattle.progress_words.specs.Reports.{IsAwake, having_reported, Reported}
 use Rattle.progress_words.specs.Leads.{IsLeader}
+use Rattle.progress_words.specs.Advances.{with_counter}
 
 -- the number of the generation that a root word has
 pub generation_in : (root : Root) (g : ℕ) → RootFits root → root_word root g / 32 ≡ g
@@ -71,3 +73,10 @@ leads_on Served old new generation told h = record {
   leads = ap (λ (m : MemberView). m.member.role) told.view ∙ ap (members.role_knowing told.counter) h.leads;
   places = h.places;
 }
+
+-- the root word that its token keeps is that of the generation
+pub rooted_now : (Served : Generation → Type 0) (old : MemberView) (v w : View) (counter found root : ℕ) (new : MemberView) → v ≡ counter_found counter (Member old) → RootLoaded Served v w found → new ≡ value_confirmed (counter + 1) (member_of w) → root ≡ found → IsRooted root new
+rooted_now Served old v w counter found root new first loaded last same =
+    let told = subst (λ (x : View). RootLoaded Served x w found) first loaded in
+    let held = rooted_by_load Served (with_counter counter old) w found refl told in
+    subst (λ (z : ℕ × MemberView). IsRooted z.0 z.1) (λ i. (sym same i, sym last i)) (record { learnt = held.learnt; held = held.held })

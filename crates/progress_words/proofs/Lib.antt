@@ -3,3 +3,4 @@ mod Confirming
 mod Scanning
 mod Passing
 mod Raising
+mod Noting

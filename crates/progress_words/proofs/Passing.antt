@@ -9,11 +9,15 @@ use Rattle.shared_words.specs.declared.opening.Opening.{Opening}
 use Rattle.shared_words.specs.declared.view.WriterView.{WriterView}
 use Rattle.shared_words.specs.declared.view.View.{View}
 use Rattle.shared_words.specs.declared.view.View.TheVariants.{Writer}
+use Rattle.atomic_table.specs.Seated.{TableId}
+use Rattle.shared_words.specs.declared.seats.Writer as writers
+use Rattle.shared_words.specs.Seats.{IsSameSeat, IsWriterSeat, writer_of}
 use Rattle.shared_words.specs.Views.{newest}
 use Rattle.shared_words.specs.Shown.{progress_of}
 use Rattle.shared_words.specs.Kinds.{counter_kept, counter_found}
 use Rattle.shared_words.proofs.ShownMembers.{still_at}
-use Rattle.progress_words.specs.Tokens.{writer_of}
+use Rattle.shared_words.proofs.WriterSeats.{writer_seat_next}
+use Rattle.progress_words.specs.Tokens.{IsWriterOf}
 use Rattle.progress_words.specs.Needs.{HasTaken, HasLoadedCounter, HasPassed}
 
 -- grace beneath running threads
@@ -32,6 +36,12 @@ got_last (y ∷ ys) x = got_last ys x
 -- what the writer knows once it has loaded the counter
 pub view_now : (counter : ℕ) (old new : View) → old ≡ Writer (writer_of old) → new ≡ counter_found counter old → writer_of new ≡ counter_kept counter (writer_of old)
 view_now counter old new is found = ap writer_of (found ∙ ap (counter_found counter) is)
+
+-- the writer's token after a load of the counter
+pub writer_counts : (table : TableId) (opening : Opening) (old new : writers.Writer) (counter : ℕ) → IsWriterOf table opening old → IsSameSeat old.seat new.seat → new.generation ≡ old.generation → new.seat.me.0 ≡ counter_found counter old.seat.me.0 → IsWriterOf table opening new
+writer_counts table opening old new counter h same generation found =
+    subst (λ (n : ℕ). IsWriterSeat table opening n new.seat) (sym generation)
+    (writer_seat_next table opening old.generation old.generation old.seat new.seat (counter_kept counter (writer_of old.seat.me.0)) h same (found ∙ ap (counter_found counter) h.view) h.published refl (omega arith))
 
 -- the value that a load of the counter takes
 pub taken_now : (old new : WriterView) (need : ℕ) → HasLoadedCounter old new → need ≡ new.counter + 2 → HasTaken new (newest old.published) need

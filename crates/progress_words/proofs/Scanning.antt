@@ -111,6 +111,7 @@ are_scanned counter (word ∷ words) m h done few j within =
 pub record HaveLooked (table : TableId) (counter : ℕ) (old : tokens.Member) (count : ℕ) (new : tokens.Member) : Type 0 where
   pub token : IsMemberOf table new
   pub same : IsSameMember old new
+  pub root : new.root ≡ old.root
   pub words : List ℕ
   pub all : length words ≡ count
   pub done : AreDone counter words
@@ -129,6 +130,7 @@ pub none_looked_at : (table : TableId) (counter : ℕ) (old : tokens.Member) →
 none_looked_at table counter old token = record {
   token = token;
   same = record { seat = record { same_table = refl; same_number = refl; same_slots = refl }; number = refl };
+  root = refl;
   words = [];
   all = refl;
   done = tt;
@@ -146,10 +148,11 @@ module _ (table : TableId) (counter : ℕ) (old mid new : tokens.Member) (k word
   next_view = view_is new.seat (word_scanned k word (view_of mid)) at ∙ (λ i. word_scanned (sym h.all i) word (h.view i))
 
   -- one more is done
-  pub one_more : members.is_done counter word ≡ true → HaveLooked table counter old (k + 1) new
-  one_more done = record {
+  pub one_more : new.root ≡ mid.root → members.is_done counter word ≡ true → HaveLooked table counter old (k + 1) new
+  one_more root done = record {
     token = next_token;
     same = next_same;
+    root = root ∙ h.root;
     words = word ∷ h.words;
     all = (let all = h.all in omega arith);
     done = (done, h.done);

@@ -24,6 +24,7 @@ fn first_behind<N: Served>(shared: &Shared<N>, member: &mut Member, counter: u64
     requires below { counter < LAST_VALUE }
     ensures token { IsMemberOf shared.now.table.shared.table_id member.new }
     ensures same { IsSameMember member.old member.new }
+    ensures root { member.new.root ≡ member.old.root }
     ensures found { HasFound shared.now.table.shared.key.members counter (view_of member.old) (view_of member.new) result }
 {
     for other in 0..shared.members() {
@@ -47,6 +48,7 @@ pub fn advance<N: Served>(shared: &Shared<N>, member: &mut Member) -> Advance
     requires leads { IsLeader (view_of member.old) }
     ensures token { IsMemberOf shared.now.table.shared.table_id member.new }
     ensures same { IsSameMember member.old member.new }
+    ensures root { member.new.root ≡ member.old.root }
     ensures leads { IsLeader (view_of member.new) }
     ensures looked { HasLooked shared.now.table.shared.key.members (view_of member.old) (view_of member.new) result }
 {

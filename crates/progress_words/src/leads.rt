@@ -15,6 +15,7 @@ pub fn lead<N: Served>(shared: &Shared<N>, member: &mut Member) -> Lead
     requires may { MayLead (view_of member.old) }
     ensures token { IsMemberOf shared.now.table.shared.table_id member.new }
     ensures same { IsSameMember member.old member.new }
+    ensures root { member.new.root ≡ member.old.root }
     ensures tried { HasTried (view_of member.old) (view_of member.new) result }
     ensures led { result ≡ Lead.Led → IsLeader (view_of member.new) }
     ensures held { (by : ℕ) → result ≡ Lead.Held by → view_of member.new ≡ view_of member.old }
@@ -33,6 +34,7 @@ pub fn give_up<N: Served>(shared: &Shared<N>, member: &mut Member)
     requires leads { IsLeader (view_of member.old) }
     ensures token { IsMemberOf shared.now.table.shared.table_id member.new }
     ensures same { IsSameMember member.old member.new }
+    ensures root { member.new.root ≡ member.old.root }
     ensures given { view_of member.new ≡ lead_given (view_of member.old) }
 {
     shared.drop_lead(member);

@@ -6,10 +6,12 @@ mod advances;
 mod answers;
 mod leads;
 mod needs;
+mod notes;
 mod reports;
 
 pub use advances::advance;
 pub use answers::{Advance, Lead, NotYet};
 pub use leads::{give_up, lead};
 pub use needs::{later, reached};
+pub use notes::{learn, note};
 pub use reports::{report, wait, wake};

@@ -2,6 +2,7 @@
 
 ghost use Rattle.std.specs.Prelude.{◌≡◌, false};
 ghost use Rattle.prgr_core.specs.Members.{is_waiting};
+ghost use Rattle.shared_words.specs.Seats.{IsRooted};
 ghost use Rattle.shared_words.specs.Kinds.{MayWait, MayEnter, now_waiting, now_entering};
 ghost use Rattle.progress_words.specs.Tokens.{view_of, IsMemberOf, IsSameMember};
 ghost use Rattle.progress_words.specs.Reports.{IsAwake, Reported};
@@ -13,12 +14,14 @@ use shared_words::{Member, Served, Shared};
 const GENERATION_UNIT: u64 = 32;
 
 /// Loads the counter and then the root, and confirms the value after that counter.
+#[tactic(auto, using(crate::proofs::Confirming::rooted_now))]
 fn confirm_newest<N: Served>(shared: &Shared<N>, member: &mut Member) -> u64
     requires token { IsMemberOf shared.now.table.shared.table_id member.old }
     requires awake { is_waiting (view_of member.old).member.word ≡ false }
     ensures token { IsMemberOf shared.now.table.shared.table_id member.new }
     ensures same { IsSameMember member.old member.new }
     ensures reported { Reported N.served (view_of member.old) (view_of member.new) result }
+    ensures rooted { IsRooted member.new.root (view_of member.new) }
 {
     let counter = shared.load_counter(member);
     let root = shared.load_root(member);
@@ -38,6 +41,7 @@ pub fn report<N: Served>(shared: &Shared<N>, member: &mut Member) -> u64
     ensures token { IsMemberOf shared.now.table.shared.table_id member.new }
     ensures same { IsSameMember member.old member.new }
     ensures reported { Reported N.served (view_of member.old) (view_of member.new) result }
+    ensures rooted { IsRooted member.new.root (view_of member.new) }
     ensures awake { IsAwake (view_of member.new) }
     ensures leads { IsLeader (view_of member.old) → IsLeader (view_of member.new) }
 {
@@ -51,6 +55,7 @@ pub fn wait<N: Served>(shared: &Shared<N>, member: &mut Member)
     requires may { MayWait (view_of member.old) }
     ensures token { IsMemberOf shared.now.table.shared.table_id member.new }
     ensures same { IsSameMember member.old member.new }
+    ensures root { member.new.root ≡ member.old.root }
     ensures waits { view_of member.new ≡ now_waiting (view_of member.old) }
 {
     shared.store_waiting(member);
@@ -64,6 +69,7 @@ pub fn wake<N: Served>(shared: &Shared<N>, member: &mut Member) -> u64
     ensures token { IsMemberOf shared.now.table.shared.table_id member.new }
     ensures same { IsSameMember member.old member.new }
     ensures reported { Reported N.served (now_entering (view_of member.old)) (view_of member.new) result }
+    ensures rooted { IsRooted member.new.root (view_of member.new) }
     ensures awake { IsAwake (view_of member.new) }
 {
     shared.store_entering(member);

@@ -37,4 +37,4 @@ loop-other-preserved g c =
       | else-confirmed-via-then-confirmed+else-confirmed-counter w ↦ confirmed_done c.args.counter load.result w.if-confirmed-counter.false
       | else-confirmed-via-else-confirmed w ↦ waits_done c.args.counter load.result w.if-confirmed.false
     ] in
-    one_more c.args.shared.now.table.shared.table_id c.args.counter c.args.member.now c.loop-other.member load.new.member c.loop-other.other load.result c.loop-other.invariant load.ensures.token load.ensures.number load.ensures.view done
+    one_more c.args.shared.now.table.shared.table_id c.args.counter c.args.member.now c.loop-other.member load.new.member c.loop-other.other load.result c.loop-other.invariant load.ensures.token load.ensures.number load.ensures.view load.ensures.root done
