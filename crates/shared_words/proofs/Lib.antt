@@ -19,3 +19,6 @@ pub mod WordLoads
 pub mod WriterSeats
 pub mod NoteSplits
 pub mod NoteJoins
+pub mod MemberJoins
+pub mod SeatsTaken
+pub mod LastWords

@@ -6,6 +6,7 @@ pub mod Seats
 pub mod Kinds
 pub mod Publishing
 pub mod Notes
+pub mod Closing
 pub mod Passes
 pub mod Making
 pub mod Laws

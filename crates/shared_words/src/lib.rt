@@ -2,6 +2,7 @@
 //! call for each kind of step.
 #![tactic(auto)]
 
+mod closing;
 mod counter;
 mod law;
 mod laws;
@@ -19,6 +20,7 @@ mod view;
 mod words;
 mod writer;
 
+pub use closing::{Closed, close};
 pub use law::Served;
 pub use laws::rule_shows_a_sound_state;
 pub use opening::Opening;

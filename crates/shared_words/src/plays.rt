@@ -4,6 +4,7 @@ ghost use Rattle.shared_words.specs.Kinds.{counter_loaded, root_loaded, confirme
 ghost use Rattle.shared_words.specs.Publishing.{word_stored, root_stored, word_loaded};
 ghost use Rattle.shared_words.specs.Notes.{note_left, note_right, note_join};
 ghost use Rattle.shared_words.specs.Making.{handed_on, handed_out};
+ghost use Rattle.shared_words.specs.Closing.{member_taken, members_seen, word_seen};
 
 use crate::law::Served;
 use crate::notes::Spawned;
@@ -129,4 +130,29 @@ impl Join<View> for JoinNote {
     ghost both = { note_join };
 
     ghost spent = { Spent };
+}
+
+/// A member's seat is joined to the writer's.
+pub struct TakeIn;
+
+impl Join<View> for TakeIn {
+    ghost use Rattle.shared_words.specs.declared.view.View.TheVariants.{Spent};
+
+    ghost both = { member_taken };
+
+    ghost spent = { Spent };
+}
+
+/// The last load of the root, which tells what the writer knows of all members.
+pub struct SeeMembers;
+
+impl Play<(), View> for SeeMembers {
+    ghost then = { members_seen };
+}
+
+/// A load of a word at the end of a table.
+pub struct SeeWord;
+
+impl Play<(), View> for SeeWord {
+    ghost then = { word_seen };
 }

@@ -29,6 +29,7 @@ pub const DELAYS: u32 = 3;
 pub const CONFIRMED: u32 = 5;
 
 /// The words that all threads share.
+#[derive(Drop)]
 pub struct Shared<N: Served> {
     pub(crate) table: Table<(), View, Opening, Law<N>, Global>,
     pub(crate) members: u32,

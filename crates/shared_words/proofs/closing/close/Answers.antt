@@ -1,0 +1,22 @@
+use Rattle.std.proofs.Common.{◌≡◌, sym, ap, subst, ◌∙◌, arith}
+use Rattle.area_core.specs.declared.map.TheConstants.{TABLE_WORDS}
+use Rattle.shared_words.specs.declared.view.WriterView.{WriterView}
+use Rattle.shared_words.specs.Seats.{member_of, writer_of}
+use Rattle.shared_words.specs.Rule.{IsBeginning}
+use Rattle.shared_words.proofs.MemberJoins.{see_members_is_allowed}
+use Rattle.shared_words.proofs.SeatsTaken.{each_begins}
+use Rattle.shared_words.proofs.closing.close.Goals as goal
+
+-- the last load is one that the rule allows
+pub load-requires : goal.load-requires
+load-requires g c = (
+  c.take_in_all.ensures.token.same_table ∙ c.requires.token.of_table.same_table,
+  (let size : c.args.shared.table.shared.table_id.words ≡ TABLE_WORDS = c.args.shared.sized in omega arith),
+  see_members_is_allowed g.N.Served.served _ _ _ _ c.take_in_all.ensures.view,
+)
+
+-- what each member had learnt was published
+pub returns-clause-seen : goal.returns-clause-seen
+returns-clause-seen g c = λ k token at.
+    subst (λ (w : WriterView). IsBeginning (member_of token.seat.me.0).seen w.published) (sym (ap (λ m. writer_of m.0) c.load.ensures.2.same))
+    (each_begins _ _ _ c.take_in_all.ensures.members (c.load.ensures.2.known _ c.take_in_all.ensures.view) k token at)

@@ -1,0 +1,119 @@
+//! The end of a table: no thread makes a step any more, and all seats come in.
+
+ghost use Rattle.std.specs.Prelude.{◌≡◌, ◌+◌, ◌<◌, ℕ, length, IfOk, Some, slice_get};
+ghost use Rattle.shared_words.specs.declared.seats.Member as tokens;
+ghost use Rattle.shared_words.specs.declared.view.View.TheVariants as views;
+ghost use Rattle.shared_words.specs.Seats.{IsSeatOf, IsSameSeat, IsWriterSeat, writer_of, member_of};
+ghost use Rattle.shared_words.specs.Closing.{AreAllMembers, HasAllMembers, AreLastWords, member_taken};
+ghost use Rattle.shared_words.specs.Rule.{IsBeginning};
+ghost use Rattle.area_core.specs.declared.map.TheConstants.{TABLE_WORDS};
+
+use crate::law::{Law, Served};
+use crate::opening::Opening;
+use crate::pass::Words;
+use crate::plays::{SeeMembers, SeeWord, TakeIn};
+use crate::seats::{Member, Parts, Writer};
+use crate::table::{ROOT, Shared};
+use crate::view::View;
+use area_core::TABLE_WORDS;
+use atomic_table::{Seat, Table};
+use std::alloc::{AllocError, Global};
+use term_core::{NoMemory, WordList};
+
+/// A table at its end, with the one seat that is left. No step is made any more.
+#[derive(Drop)]
+pub struct Closed<N: Served> {
+    table: Table<(), View, Opening, Law<N>, Global>,
+    writer: Writer,
+    pub ghost token: { IsWriterSeat table.shared.table_id table.shared.key writer.generation writer.seat },
+    pub ghost sized: { table.shared.table_id.words ≡ TABLE_WORDS },
+}
+
+/// The seat of a member comes in. It loads the root.
+fn take_in<N: Served>(table: &Words<N>, writer: &mut Seat<(), View>, member: Member)
+    requires token { IsSeatOf table.now.table_id writer.old }
+    requires writer { writer.old.me.0 ≡ views.Writer (writer_of writer.old.me.0) }
+    requires seat { IsSeatOf table.now.table_id member.seat }
+    requires member { member.seat.me.0 ≡ views.Member (member_of member.seat.me.0) }
+    requires words { 0 < table.now.table_id.words }
+    ensures token { IsSameSeat writer.old writer.new }
+    ensures view { writer.new.me.0 ≡ member_taken writer.old.me.0 member.seat.me.0 }
+{
+    let Member { seat, .. } = member;
+    table.join_seat::<TakeIn>(writer, seat);
+}
+
+/// The seats of all members come in.
+fn take_in_all<N: Served>(table: &Words<N>, writer: &mut Seat<(), View>, mut members: Vec<Member>)
+    requires token { IsSeatOf table.now.table_id writer.old }
+    requires writer { writer.old.me.0 ≡ views.Writer (writer_of writer.old.me.0) }
+    requires members { AreAllMembers table.now.table_id (length (writer_of writer.old.me.0).members) members.items }
+    requires words { 0 < table.now.table_id.words }
+    ensures token { IsSameSeat writer.old writer.new }
+    ensures view { writer.new.me.0 ≡ views.Writer (writer_of writer.new.me.0) }
+    ensures members { HasAllMembers members.items (writer_of writer.old.me.0) (writer_of writer.new.me.0) }
+{
+    'members: while let Some(member) = members.pop() {
+        take_in(table, writer, member);
+    }
+}
+
+/// Ends a table. All tokens that `new` made are in `parts`, the members in the order of their numbers;
+/// notes that were not joined may be left out. Their seats come in to the writer's.
+pub fn close<N: Served>(shared: Shared<N>, parts: Parts) -> Result<Closed<N>, NoMemory>
+    requires token { IsWriterSeat shared.table.shared.table_id shared.table.shared.key parts.writer.generation parts.writer.seat }
+    requires members { AreAllMembers shared.table.shared.table_id shared.table.shared.key.members parts.members.items }
+    ensures generation { IfOk result (λ closed. closed.writer.generation ≡ parts.writer.generation) }
+    ensures members { IfOk result (λ closed. HasAllMembers parts.members.items (writer_of parts.writer.seat.me.0) (writer_of closed.writer.seat.me.0)) }
+    ensures seen { IfOk result (λ closed. (k : ℕ) (token : tokens.Member) → slice_get parts.members.items k ≡ Some token → IsBeginning (member_of token.seat.me.0).seen (writer_of closed.writer.seat.me.0).published) }
+{
+    let Shared { table, members: _ } = shared;
+    let Parts {
+        mut writer,
+        members,
+    } = parts;
+    take_in_all(&table.shared, &mut writer.seat, members);
+    table
+        .shared
+        .load::<SeeMembers>(&mut writer.seat, ROOT as usize);
+    Ok(Closed { table, writer })
+}
+
+impl<N: Served> Closed<N> {
+    /// How often the root was stored.
+    pub fn published(&self) -> u64
+        ensures { length (writer_of self.now.writer.seat.me.0).published ≡ result + 1 }
+    {
+        self.writer.generation
+    }
+
+    /// The words of the table as `close` left them. It takes memory.
+    pub fn words(self, alloc: Global) -> Result<WordList, NoMemory>
+        ensures { IfOk result (λ words. AreLastWords (writer_of self.writer.seat.me.0) words) }
+    {
+        let Closed { table, writer } = self;
+        let Writer { mut seat, .. } = writer;
+        let words = copied(alloc, &table.shared, &mut seat, TABLE_WORDS as usize)?;
+        Ok(WordList::from_vec(words))
+    }
+}
+
+/// The words of a table in which no other seat makes a step.
+fn copied<N: Served>(
+    alloc: Global,
+    table: &Words<N>,
+    writer: &mut Seat<(), View>,
+    count: usize,
+) -> Result<Vec<u64>, AllocError>
+    requires token { IsSeatOf table.now.table_id writer.old }
+    requires writer { writer.old.me.0 ≡ views.Writer (writer_of writer.old.me.0) }
+    requires sized { table.now.table_id.words ≡ count }
+    requires count { count ≡ TABLE_WORDS }
+    ensures { IfOk result (λ words. AreLastWords (writer_of writer.old.me.0) words.items) }
+{
+    let mut words = Vec::with_capacity(alloc, count)?;
+    for place in 0..count {
+        words.push_reserved(table.load::<SeeWord>(writer, place));
+    }
+    Ok(words)
+}
