@@ -8,6 +8,4 @@ mod later;
 #[cfg(test)]
 mod tables;
 #[cfg(test)]
-mod waits;
-#[cfg(test)]
 mod watchers;
