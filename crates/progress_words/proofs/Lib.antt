@@ -1,0 +1,6 @@
+mod Tokens
+mod Confirming
+mod Scanning
+mod Passing
+mod Raising
+mod Noting

@@ -1,0 +1,91 @@
+-- What a leader finds that tries to raise the counter: each member's word is loaded in turn, and the first that is
+-- behind is told.
+-- Source: Erlang/OTP erts internal documentation, ThreadProgress: the leader raises the global progress once all others
+-- have confirmed the present one. There are no unmanaged threads yet.
+use Rattle.std.specs.Prelude.{◌≡◌, ℕ, ◌+◌, ◌<◌, false, List, [], ◌∷◌, length, Option, None, Some, IsTrue}
+use Rattle.prgr_core.specs.declared.member.TheConstants.{LAST_VALUE}
+use Rattle.prgr_core.specs.Members as members
+use Rattle.prgr_core.specs.Invariant.{CounterInRange}
+use Rattle.shared_words.specs.declared.view.MemberView.{MemberView}
+use Rattle.shared_words.specs.Kinds.{counter_raised, word_scanned}
+use Rattle.progress_words.specs.declared.advances.Lag.{Lag}
+use Rattle.progress_words.specs.declared.answers.Advance.{Advance}
+use Rattle.progress_words.specs.declared.answers.Advance.TheVariants.{Advanced, Behind, Delayed, AtEnd}
+
+-- ---- the words that are found
+
+-- what a leader knows that has loaded the counter
+abbrev pub with_counter : ℕ → MemberView → MemberView
+with_counter counter m = record m { member = members.counter_loaded counter m.member }
+
+-- what it knows once it has found these words, the newest first, of the members from 0 on
+abbrev pub words_found : List ℕ → MemberView → MemberView
+words_found [] m = m
+words_found (word ∷ words) m = word_scanned (length words) word (words_found words m)
+
+-- each of these words shows that its member waits, or has confirmed the value after this counter
+abbrev pub AreDone : ℕ → List ℕ → Type 0
+AreDone counter [] = Unit {0}
+AreDone counter (word ∷ words) = IsTrue (members.is_done counter word) × AreDone counter words
+
+-- ---- the answers
+
+-- the counter was raised: it was below its last value, and each member was done
+pub record IsRaised (count counter : ℕ) (words : List ℕ) (value : ℕ) : Type 0 where
+  pub below : counter < LAST_VALUE
+  pub all : length words ≡ count
+  pub done : AreDone counter words
+  pub next : value ≡ counter + 1
+
+-- the first member that is behind, and its word: it does not wait, and is below the value after the counter
+pub record IsBehind (count counter : ℕ) (words : List ℕ) (number confirmed : ℕ) : Type 0 where
+  pub before : List ℕ
+  pub found : words ≡ confirmed ∷ before
+  pub place : length before ≡ number
+  pub done : AreDone counter before
+  pub there : number < count
+  pub awake : members.is_waiting confirmed ≡ false
+  pub behind : confirmed < counter + 1
+
+-- all members were looked at, and each is done
+pub record AreAllDone (count counter : ℕ) (words : List ℕ) : Type 0 where
+  pub all : length words ≡ count
+  pub done : AreDone counter words
+
+-- what a look at the members tells: all are done, or this one is the first that is behind
+abbrev pub FoundBy : ℕ → ℕ → List ℕ → Option Lag → Type 0
+FoundBy count counter words None = AreAllDone count counter words
+FoundBy count counter words (Some lag) = IsBehind count counter words lag.member lag.confirmed
+
+-- a leader that knows the counter has looked at the members
+pub record HasFound (count counter : ℕ) (old new : MemberView) (found : Option Lag) : Type 0 where
+  pub words : List ℕ
+  pub cause : FoundBy count counter words found
+  pub view : new ≡ words_found words old
+
+-- the counter is at its last value, and no word was looked at
+pub record IsAtEnd (counter : ℕ) (words : List ℕ) : Type 0 where
+  pub last : counter ≡ LAST_VALUE
+  pub none : words ≡ []
+
+-- why each answer comes, by the counter that was loaded and the words that were found; no delay is found yet
+abbrev pub CauseOf : ℕ → ℕ → List ℕ → Advance → Type 0
+CauseOf count counter words (Advanced value) = IsRaised count counter words value
+CauseOf count counter words (Behind number confirmed) = (counter < LAST_VALUE) × IsBehind count counter words number confirmed
+CauseOf count counter words (Delayed delays) = ⊥
+CauseOf count counter words AtEnd = IsAtEnd counter words
+
+-- only an advance raises the counter
+abbrev pub view_after : Advance → MemberView → MemberView
+view_after (Advanced value) m = counter_raised m
+view_after _ m = m
+
+-- a leader of a table of so many members has tried to raise the counter
+pub record HasLooked (count : ℕ) (old new : MemberView) (answer : Advance) : Type 0 where
+  -- the counter that was loaded
+  pub counter : ℕ
+  pub range : CounterInRange counter
+  -- the words that were found, the newest first
+  pub words : List ℕ
+  pub cause : CauseOf count counter words answer
+  pub view : new ≡ view_after answer (words_found words (with_counter counter old))

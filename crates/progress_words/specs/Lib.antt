@@ -1,0 +1,5 @@
+pub mod Tokens
+pub mod Reports
+pub mod Leads
+pub mod Advances
+pub mod Needs

@@ -1,0 +1,43 @@
+-- What the calls by which a member reports, begins to wait and ends its wait leave of its view.
+-- Source: Erlang/OTP erts internal documentation, ThreadProgress, and CodeLoading on the active code index. A report
+-- confirms the value after a counter only once the root was loaded behind that counter. Plain records; the members' words
+-- stand in a table of words.
+use Rattle.std.specs.Prelude.{◌≡◌, ℕ, ◌+◌, ◌<◌, List, length, Some, IsTrue}
+use Rattle.prgr_core.specs.declared.member.Loaded.TheVariants.{Nothing}
+use Rattle.prgr_core.specs.Members as members
+use Rattle.prgr_core.specs.Members.{role_knowing}
+use Rattle.prgr_core.specs.Invariant.{CounterInRange}
+use Rattle.term_core.specs.declared.generation.Generation.{Generation}
+use Rattle.area_core.specs.declared.table.Published.{Published}
+use Rattle.shared_words.specs.declared.view.MemberView.{MemberView}
+use Rattle.shared_words.specs.declared.view.View.TheVariants.{Member}
+use Rattle.shared_words.specs.Views.{newest, published_at, held}
+use Rattle.shared_words.specs.Rule.{IsBeginning}
+
+-- the member is awake: its word is a value
+abbrev pub IsAwake : MemberView → Type 0
+IsAwake m = IsTrue (members.is_value m.member.word)
+
+-- what a member knows once it has found this counter, then these generations, and has confirmed the value after that counter
+abbrev pub having_reported : ℕ → List Published → MemberView → MemberView
+having_reported counter published m = record m {
+  member = record m.member { word = counter + 1; loaded = Nothing; generation = newest published; role = role_knowing counter m.member.role };
+  seen = published;
+}
+
+-- the member has reported, and holds this generation
+pub record Reported (Served : Generation → Type 0) (old new : MemberView) (generation : ℕ) : Type 0 where
+  -- the counter that was loaded
+  pub counter : ℕ
+  pub range : CounterInRange counter
+  -- what it had learnt of, it still has
+  pub learnt : IsBeginning old.seen new.seen
+  pub some : 0 < length new.seen
+  -- the generation is that of the root that was loaded, the last that it has learnt of
+  pub newest : generation ≡ newest new.seen
+  -- it may be read from now on
+  pub holds : held (Member new) ≡ Some generation
+  -- the code server has made it
+  pub served : Served (published_at new.seen generation).state
+  -- its word is the value after the counter, and nothing else has changed
+  pub view : new ≡ having_reported counter new.seen old
