@@ -1,0 +1,5 @@
+pub mod Anchors
+pub mod Dropped
+pub mod MemberSteps
+pub mod Opening
+pub mod WriterSteps

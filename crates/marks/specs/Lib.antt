@@ -1,0 +1,3 @@
+pub mod Names
+pub mod Kept
+pub mod Steps
