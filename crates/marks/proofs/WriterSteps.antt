@@ -1,7 +1,6 @@
 -- What is known of a process stays known at each step of the writer, which adds to what it keeps.
 use Rattle.std.proofs.Common.{◌≡◌, ℕ, zero, suc, ◌+◌, ◌-◌, ◌<◌, ◌≤◌, Bool, true, false, List, [], ◌∷◌, Some, length, inl, inr, refl, sym, ◌∙◌, subst, arith}
 use Rattle.std.specs.Prelude.{slice_get, nat_le, ◌↔◌}
-use Rattle.std.specs.Option.{IfSome}
 use Rattle.std.proofs.lemmas.Bool.{both_ways, leb-false}
 use Rattle.std.proofs.lemmas.Option.{slice_get_within}
 use Rattle.area_core.specs.declared.map.TheConstants.{ANCHORS}
@@ -16,11 +15,11 @@ use Rattle.marks.specs.declared.kept.LingeringFrame.{LingeringFrame}
 use Rattle.marks.specs.declared.kept.WriterKept.{WriterKept}
 use Rattle.marks.specs.declared.mark.Mark.{Mark}
 use Rattle.marks.specs.declared.mark.ProcessView.{ProcessView}
-use Rattle.marks.specs.Names.{names_in, tells_kill, HasAnchor, Names, last_names, IsAtRest}
+use Rattle.marks.specs.Names.{names_in, tells_kill, HasAnchor, Names, last_names}
 use Rattle.marks.specs.Kept.{Under, mark_now, last_up_to, NamesNot, IsAsLooked, StaysIn, IsAsRead, IsDropped, Lingers, IsKnown, IsBacked, IsOverFor}
 use Rattle.marks.specs.Steps.{with_wait, with_looked, with_read, with_dropped, with_lingering, IsLookedThrough, ToldOfKill}
 use Rattle.marks.proofs.Anchors.{no_frame, each_cons, has_element}
-use Rattle.marks.proofs.Dropped.{first_or_rest, falling_each, dropped_rest}
+use Rattle.marks.proofs.Dropped.{first_or_rest, falling_each}
 
 -- ---- waits and looks
 
@@ -148,10 +147,6 @@ drop_kept u process p k d s through newest told = record {
   lingering = s.lingering;
   noted = s.noted;
 }
-
--- at rest, the last mark up to a drop does not name what was dropped
-pub drop_lawful : (u : Under) (process : ℕ) (p : ProcessView) (k : WriterKept) (d : DroppedArea) → IsKnown u process p k → IsAtRest p → Among k.dropped d → IfSome (last_up_to d.generation p.marks) (NamesNot d.wait.kind d.wait.serial)
-drop_lawful u process p k d s rest among = dropped_rest d p u.generation process s.falling rest (s.dropped d among)
 
 -- ---- answers that a process lingers
 

@@ -2,11 +2,13 @@
 -- known over all of them.
 -- Source: Erlang/OTP, the manual page of the module code; the steps are this project's own.
 use Rattle.std.specs.Prelude.{◌≡◌, ℕ, ◌+◌, ◌<◌, ◌≤◌, Bool, true, false, [], ◌∷◌, Option, Some, None, length, slice_get, slice_set, ◌⊎◌, ◌↔◌}
-use Rattle.std.specs.Option.{IfSome}
 use Rattle.area_core.specs.declared.map.TheConstants.{ANCHORS}
-use Rattle.area_core.specs.Generations.{names_frame}
-use Rattle.area_core.specs.Map.{opening_words}
+use Rattle.area_core.specs.declared.table.Published.{Published}
+use Rattle.area_core.specs.declared.table.Table.{Table}
+use Rattle.area_core.specs.Generations.{is_current, is_key_area, names_frame}
+use Rattle.area_core.specs.Map.{opening_words, slot_place, word_at}
 use Rattle.area_core.specs.Blocks.{Among}
+use Rattle.area_core.specs.Stores.{may_store_anchor}
 use Rattle.marks.specs.declared.kept.LookKind.{LookKind}
 use Rattle.marks.specs.declared.kept.EndedWait.{EndedWait}
 use Rattle.marks.specs.declared.kept.LookedAnchor.{LookedAnchor}
@@ -16,7 +18,7 @@ use Rattle.marks.specs.declared.kept.LingeringFrame.{LingeringFrame}
 use Rattle.marks.specs.declared.kept.WriterKept.{WriterKept}
 use Rattle.marks.specs.declared.mark.ProcessView.{ProcessView}
 use Rattle.marks.specs.Names.{names_in, tells_kill, HasAnchor, Names, IsAtRest}
-use Rattle.marks.specs.Kept.{Under, comes_to, mark_now, last_up_to, NamesNot, IsKnown, IsBacked, IsOverFor, AreOverFor}
+use Rattle.marks.specs.Kept.{Under, comes_to, mark_now, IsKnown, IsBacked, IsOverFor, AreOverFor}
 
 -- ---- what steps make
 
@@ -69,6 +71,10 @@ pub record MayBecome (u : Under) (old new : ℕ) : Type 0 where
   pub newly : (kind : LookKind) (serial : ℕ) → names_in kind new serial ≡ true → (names_in kind old serial ≡ true) ⊎ (comes_to u kind serial ≡ true)
   pub stays : (serial : ℕ) → tells_kill old serial ≡ false
   pub kills : (serial : ℕ) → tells_kill new serial ≡ true → names_frame old serial ≡ true
+
+-- what a member is under that holds this generation
+abbrev pub holding : Bool → ℕ → Published → Under
+holding awake generation p = record { awake = awake; generation = generation; frames = is_current p; literals = is_key_area p }
 
 -- the next turn word: one more than there are marks, or less where the slot names nothing
 abbrev pub IsNextTurn : ProcessView → ℕ → Type 0
@@ -139,12 +145,6 @@ EndsNames =
     (u : Under) (process : ℕ) (p : ProcessView) (k : WriterKept) (w : EndedWait) → IsKnown u process p k → IsLookedThrough k w process
     → Names w.kind p.slot.anchors w.serial → ⊥
 
--- where an area was dropped, the last mark up to then does not name it, once the process is at rest
-abbrev pub AreLawful : Type 0
-AreLawful =
-    (u : Under) (process : ℕ) (p : ProcessView) (k : WriterKept) (d : DroppedArea) → IsKnown u process p k → IsAtRest p → Among k.dropped d
-    → IfSome (last_up_to d.generation p.marks) (NamesNot d.wait.kind d.wait.serial)
-
 -- the note of a process comes
 abbrev pub KeepsNotes : Type 0
 KeepsNotes = (u : Under) (process : ℕ) (p : ProcessView) (k : WriterKept) (n : ℕ) → IsKnown u process p k → p.note ≡ None → IsKnown u process (with_note p n) k
@@ -162,3 +162,12 @@ KeepsBacked =
 -- a process without a note is known at first, while the writer keeps nothing
 abbrev pub Opens : Type 0
 Opens = (u : Under) (process : ℕ) → IsKnown u process opening_process nothing_kept
+
+-- an anchor may become a word that area_core's test of slots lets a member store, where no kill is overwritten, and only the instance of a
+-- frame kills
+abbrev pub AllowsStores : Type 0
+AllowsStores =
+    (s : Table) (awake : Bool) (generation process place value : ℕ) (p : Published) → 1 ≤ place → place ≤ ANCHORS → may_store_anchor s process place value p ≡ true
+    → ((serial : ℕ) → tells_kill (word_at s.words (slot_place process place)) serial ≡ false)
+    → ((serial : ℕ) → tells_kill value serial ≡ true → names_frame (word_at s.words (slot_place process place)) serial ≡ true)
+    → MayBecome (holding awake generation p) (word_at s.words (slot_place process place)) value

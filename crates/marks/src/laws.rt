@@ -1,6 +1,7 @@
 //! What holds of every process and all that the writer keeps, not only of those that a run reaches.
 
-ghost use Rattle.marks.specs.Steps.{AreLawful, EndsNames, KeepsAnchors, KeepsAnswers, KeepsAtRest, KeepsBacked, KeepsDrops, KeepsLooks, KeepsNotes, KeepsReads, KeepsTurns, KeepsWaits, Opens};
+ghost use Rattle.marks.specs.InOrder.{AnswersAreTrue, DropsAreTrue, DropsStayTrue};
+ghost use Rattle.marks.specs.Steps.{AllowsStores, EndsNames, KeepsAnchors, KeepsAnswers, KeepsAtRest, KeepsBacked, KeepsDrops, KeepsLooks, KeepsNotes, KeepsReads, KeepsTurns, KeepsWaits, Opens};
 
 /// What is known of a process is known at the start, and stays known at each step of its member: the
 /// join of its note, the store of an anchor or of the turns done, and, between its turns, the steps that
@@ -34,8 +35,16 @@ pub fn clear_looks_end_names()
     ensures { EndsNames }
 {}
 
-/// What is kept of releases, purges and processes that linger is lawful: the last mark up to a drop
-/// does not name what was dropped.
-pub fn answers_are_lawful()
-    ensures { AreLawful }
+/// What is kept of releases, purges and processes that linger is true of the turns, as a log has them:
+/// the last turn up to a drop does not name what was dropped, also where a turn under way counts as one
+/// more, and a process that was answered to linger did.
+pub fn answers_are_true()
+    ensures drop { DropsAreTrue }
+    ensures under_way { DropsStayTrue }
+    ensures answer { AnswersAreTrue }
+{}
+
+/// What the test of slots in area_core lets a member store, newly names only what a turn comes to.
+pub fn tested_stores_are_allowed()
+    ensures { AllowsStores }
 {}

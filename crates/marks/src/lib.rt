@@ -9,7 +9,7 @@ pub use kept::{
     DroppedArea, EndedWait, LingeringFrame, LookKind, LookedAnchor, ReadTurn, WriterKept,
 };
 pub use laws::{
-    answers_are_lawful, clear_looks_end_names, members_keep_what_is_known, waits_back_what_is_kept,
-    writers_keep_what_is_known,
+    answers_are_true, clear_looks_end_names, members_keep_what_is_known, tested_stores_are_allowed,
+    waits_back_what_is_kept, writers_keep_what_is_known,
 };
 pub use mark::{Mark, MarkList, ProcessView, Slot};
