@@ -1,5 +1,5 @@
 -- The test of a term table, by one search for each key and one look at each bucket, says that the table stands for the keys.
-use Rattle.std.proofs.Common.{◌≡◌, ℕ, zero, suc, ◌+◌, ◌-◌, ◌<◌, true, false, List, Option, Some, None, inl, inr, refl, sym, ap, ◌∙◌, subst, arith}
+use Rattle.std.proofs.Common.{◌≡◌, ℕ, zero, suc, ◌+◌, ◌-◌, ◌<◌, true, List, Option, Some, None, inl, inr, refl, sym, ap, ◌∙◌, subst, arith}
 use Rattle.std.specs.Prelude.{◌==◌, ◌||◌, slice_get, IsTrue, IsSomeAnd}
 use Rattle.std.specs.List.{list_any}
 use Rattle.std.specs.Option.{option_map}

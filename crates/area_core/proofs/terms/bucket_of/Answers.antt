@@ -1,4 +1,4 @@
-use Rattle.std.proofs.Common.{◌≡◌, sym, ◌∙◌}
+use Rattle.std.proofs.Common.{sym, ◌∙◌}
 use Rattle.area_core.specs.Map.{word_at}
 use Rattle.area_core.specs.Blocks.{term_words}
 use Rattle.area_core.proofs.Buckets.{known_within}

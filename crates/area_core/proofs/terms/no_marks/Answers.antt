@@ -1,4 +1,4 @@
-use Rattle.std.proofs.Common.{◌≡◌, false}
+use Rattle.std.proofs.Common.{false}
 use Rattle.std.proofs.lemmas.List.{get_or-replicate}
 use Rattle.area_core.proofs.terms.no_marks.Goals as goal
 
