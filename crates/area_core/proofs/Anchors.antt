@@ -25,7 +25,7 @@ all_three false false true f g h = refl
 all_three a b c f g h = absurd (cc)
 
 -- an area that stands nowhere else in the slot does not stand in another anchor
-elsewhere_false : (words : List ℕ) (process place serial n anchor : ℕ) → stands_elsewhere words process place serial n ≡ false → 1 ≤ anchor → anchor ≤ n → anchor ≢ place → word_at words (slot_place process anchor) ≢ 0 → serial_in (word_at words (slot_place process anchor)) ≡ serial → ⊥
+pub elsewhere_false : (words : List ℕ) (process place serial n anchor : ℕ) → stands_elsewhere words process place serial n ≡ false → 1 ≤ anchor → anchor ≤ n → anchor ≢ place → word_at words (slot_place process anchor) ≢ 0 → serial_in (word_at words (slot_place process anchor)) ≡ serial → ⊥
 elsewhere_false words process place serial zero anchor e first last other some same = absurd (omega (arith))
 elsewhere_false words process place serial (suc n) anchor e first last other some same =
     elim (cases_lt n anchor) as (λ _. ⊥) [
@@ -42,7 +42,7 @@ elsewhere_false words process place serial (suc n) anchor e first last other som
     stands fails is = true≢false (sym (all_three (anchor == place) (word_at words (slot_place process anchor) == 0) (serial_in (word_at words (slot_place process anchor)) == serial) (ne_eqb anchor place other) (ne_eqb (word_at words (slot_place process anchor)) 0 some) (eq-eqb (serial_in (word_at words (slot_place process anchor))) serial same)) ∙ subst (λ (m : ℕ). (not (m == place) && not (word_at words (slot_place process m) == 0) && (serial_in (word_at words (slot_place process m)) == serial)) ≡ false) is fails)
 
 -- an area that the slot names for a frame stands in one of its anchors
-framed_by : (words : List ℕ) (process serial n : ℕ) → is_framed words process serial n ≡ true → (anchor : ℕ) × (1 ≤ anchor) × (anchor ≤ n) × (names_frame (word_at words (slot_place process anchor)) serial ≡ true)
+pub framed_by : (words : List ℕ) (process serial n : ℕ) → is_framed words process serial n ≡ true → (anchor : ℕ) × (1 ≤ anchor) × (anchor ≤ n) × (names_frame (word_at words (slot_place process anchor)) serial ≡ true)
 framed_by words process serial zero e = absurd (true≢false (sym e ∙ framed_none words process serial))
 framed_by words process serial (suc n) e =
     elim (or_cases (is_framed words process serial n) (names_frame (word_at words (slot_place process (n + 1))) serial) (sym (framed_suc words process serial n) ∙ e)) as (λ _. (anchor : ℕ) × (1 ≤ anchor) × (anchor ≤ suc n) × (names_frame (word_at words (slot_place process anchor)) serial ≡ true)) [

@@ -2,6 +2,7 @@
 use Rattle.std.proofs.Common.{◌≡◌, ℕ, suc, ◌+◌, ◌/◌, ◌%◌, None, true, false, not, ◌&&◌, ◌||◌, List, replicate, refl, ap, ◌∙◌, arith}
 use Rattle.std.specs.Prelude.{◌==◌, slice_get}
 use Rattle.term_core.specs.declared.area.AreaRef.{AreaRef}
+use Rattle.term_core.specs.declared.generation.KeyTerm.{KeyTerm}
 use Rattle.area_core.specs.declared.map.TheConstants.{ANCHORS, BUCKETS}
 use Rattle.area_core.specs.declared.readers.Slots.{Slots}
 use Rattle.area_core.specs.declared.table.Published.{Published}
@@ -33,16 +34,16 @@ named_suc slots words serial n = refl
 pub named_next : (slots : Slots) (words : List ℕ) (serial : ℕ) (n : ℕ) → is_named_before slots words serial (n + 1) ≡ (is_named_before slots words serial n || (is_of slots (n / ANCHORS) && names (word_at words (anchor_place n)) serial))
 named_next slots words serial n = ap (is_named_before slots words serial) (one_more n) ∙ named_suc slots words serial n
 
-pub known_none : (block : ℕ → ℕ) (p : Published) → are_buckets_known block p 0 ≡ true
+pub known_none : (block : ℕ → ℕ) (keys : List KeyTerm) → are_buckets_known block keys 0 ≡ true
 unfolding are_buckets_known
-known_none block p = refl
+known_none block keys = refl
 
-pub known_suc : (block : ℕ → ℕ) (p : Published) (n : ℕ) → are_buckets_known block p (suc n) ≡ (are_buckets_known block p n && is_bucket_known block p n)
+pub known_suc : (block : ℕ → ℕ) (keys : List KeyTerm) (n : ℕ) → are_buckets_known block keys (suc n) ≡ (are_buckets_known block keys n && is_bucket_known block keys n)
 unfolding are_buckets_known
-known_suc block p n = refl
+known_suc block keys n = refl
 
-pub known_next : (block : ℕ → ℕ) (p : Published) (n : ℕ) → are_buckets_known block p (n + 1) ≡ (are_buckets_known block p n && is_bucket_known block p n)
-known_next block p n = ap (are_buckets_known block p) (one_more n) ∙ known_suc block p n
+pub known_next : (block : ℕ → ℕ) (keys : List KeyTerm) (n : ℕ) → are_buckets_known block keys (n + 1) ≡ (are_buckets_known block keys n && is_bucket_known block keys n)
+known_next block keys n = ap (are_buckets_known block keys) (one_more n) ∙ known_suc block keys n
 
 pub elsewhere_none : (words : List ℕ) (process place serial : ℕ) → stands_elsewhere words process place serial 0 ≡ false
 unfolding stands_elsewhere

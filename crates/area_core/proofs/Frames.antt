@@ -2,6 +2,7 @@
 -- word that was stored. Each lemma takes what the clause says of that word.
 use Rattle.std.proofs.Common.{◌≡◌, ◌≢◌, ℕ, zero, suc, ◌+◌, ◌*◌, ◌%◌, ◌<◌, ◌≤◌, false, length, Option, Some, None, ◌⊎◌, inl, inr, refl, sym, ap, ◌∙◌, subst, arith}
 use Rattle.std.specs.Prelude.{◌==◌, slice_get, IsTrue, if◌then◌else◌, nat_lt, IsSomeAnd}
+use Rattle.std.specs.Option.{IfSome, option_map}
 use Rattle.std.proofs.lemmas.Bool.{and_parts, ltb-true}
 use Rattle.std.proofs.lemmas.Bool.Decides.{nat_tests}
 use Rattle.std.proofs.lemmas.Option.{slice_get_within}
@@ -13,10 +14,11 @@ use Rattle.area_core.specs.declared.table.Published.{Published}
 use Rattle.area_core.specs.declared.table.KeptArea.{KeptArea}
 use Rattle.area_core.specs.Map.{kind_at, block_place, retire_place, doom_place, slot_place, room_of, breakpoint_at, breakpoint_place, term_place, entry_at}
 use Rattle.area_core.specs.Generations.{is_instance, is_retired, is_doomed, is_traced, is_kept, functions_of, has_function, is_entry_word, is_code_word, traced_word, tells, serial_in, is_naming}
-use Rattle.area_core.specs.Terms.{TermsStand, looked, look_at, key_in, value_in, found_in, outcome}
+use Rattle.area_core.specs.Terms.{TermsStand, looked, look_at, value_in, bucket_of, found_in, outcome}
 use Rattle.area_core.specs.Blocks.{Blocks, Among, RootFits, CodeStands, BreakpointsStand, IsForInstances, term_words, FitsBlock, ImageStands, EntriesStand, RetireTells, DoomTells, NamedAreKept, AnchorsApart, EachCounted, BlockInvariant}
 use Rattle.area_core.specs.Generations.{is_term_word}
 use Rattle.area_core.proofs.Places.{kind_block, kind_retire, kind_doom, kind_slot}
+use Rattle.area_core.proofs.Buckets.{bucket_within}
 use Rattle.area_core.proofs.Counted.{looked_suc, looked_none}
 
 -- ---- what fits
@@ -48,12 +50,14 @@ looked_same block new same key (suc n) =
   where
     step : (bucket : ℕ) → bucket < 512 → (known : Option (Option ℕ)) → look_at new key bucket known ≡ look_at block key bucket known
     step bucket within (Some known) = refl
-    step bucket within None =
-        ap (λ (x : ℕ). if x == 0 then Some None else if x == key + 1 then Some (Some (value_in new bucket)) else None) (same (bucket * 2) (omega (arith)))
-        ∙ ap (λ (x : ℕ). if key_in block bucket == 0 then Some None else if key_in block bucket == key + 1 then Some (Some x) else None) (same (bucket * 2 + 1) (omega (arith)))
+    step bucket within None = ap (λ (x : ℕ). if x == 0 then Some None else if x == key + 1 then Some (Some bucket) else None) (same (bucket * 2) (omega (arith)))
 
 pub found_same : (block new : ℕ → ℕ) → ((at : ℕ) → at < BIG_WORDS → new at ≡ block at) → (key : ℕ) → found_in new key ≡ found_in block key
-found_same block new same key = ap outcome (looked_same block new same key BUCKETS)
+found_same block new same key = ap (option_map (value_in new)) (ap outcome (looked_same block new same key BUCKETS)) ∙ by_bucket (bucket_of block key) (bucket_within block key)
+  where
+    by_bucket : (found : Option ℕ) → IfSome found (λ bucket. bucket < BUCKETS) → option_map (value_in new) found ≡ option_map (value_in block) found
+    by_bucket None within = refl
+    by_bucket (Some bucket) within = ap Some (same (bucket * 2 + 1) (omega (arith, within)))
 
 -- a table stands for what it stood for
 pub terms_same : (block new : ℕ → ℕ) (p : Published) → ((at : ℕ) → at < BIG_WORDS → new at ≡ block at) → TermsStand block p → TermsStand new p

@@ -1,6 +1,7 @@
 pub mod Anchors
 pub mod AreaStores
 pub mod BlockStores
+pub mod Buckets
 pub mod Counted
 pub mod EnabledAreas
 pub mod EnabledRoots

@@ -1,77 +1,68 @@
--- The test of a term table, by one look at each key and each bucket, says that the table stands for the keys.
-use Rattle.std.proofs.Common.{◌≡◌, ℕ, zero, suc, ◌+◌, ◌-◌, ◌%◌, ◌<◌, true, false, Option, Some, None, inl, inr, refl, sym, ap, ◌∙◌, subst, arith}
-use Rattle.std.specs.Prelude.{◌==◌, IsTrue, IsSomeAnd}
-use Rattle.std.specs.List.{list_any, list_all}
-use Rattle.std.proofs.lemmas.Bool.{and_parts, and_from, or_cases, or_right, eqb-true, cases_Bool, cases_lt}
+-- The test of a term table, by one search for each key and one look at each bucket, says that the table stands for the keys.
+use Rattle.std.proofs.Common.{◌≡◌, ℕ, zero, suc, ◌+◌, ◌-◌, ◌<◌, true, List, Option, Some, None, inl, inr, refl, sym, ap, ◌∙◌, subst, arith}
+use Rattle.std.specs.Prelude.{◌==◌, ◌||◌, slice_get, IsTrue, IsSomeAnd}
+use Rattle.std.specs.List.{list_any}
+use Rattle.std.specs.Option.{option_map}
+use Rattle.std.proofs.lemmas.Bool.{and_parts, and_from, or_cases, or_right, eqb-true, eq-eqb, cases_lt}
 use Rattle.term_core.specs.declared.generation.KeyTerm.{KeyTerm}
 use Rattle.area_core.specs.declared.map.TheConstants.{BUCKETS}
 use Rattle.area_core.specs.declared.table.Published.{Published}
 use Rattle.area_core.specs.Generations.{is_term_word}
-use Rattle.area_core.specs.Terms.{key_in, look_at, looked, outcome, found_in, is_word_of, TermsStand, is_found, is_known, is_bucket_known, are_buckets_known, terms_stand}
-use Rattle.area_core.proofs.Counted.{looked_none, looked_suc, known_none, known_suc}
-use Rattle.area_core.proofs.Tests.{each_passes, all_pass}
-
--- ---- where a key is found
-
--- a look that finds a value finds it in a bucket of the key
-abbrev IsInBucket : (ℕ → ℕ) → ℕ → Type 0
-IsInBucket block key = (bucket : ℕ) × (bucket < BUCKETS) × (key_in block bucket ≡ key + 1)
-
-look_empty : (block : ℕ → ℕ) (key bucket : ℕ) → (key_in block bucket == 0) ≡ true → look_at block key bucket None ≡ Some None
-look_empty block key bucket empty = rw empty refl
-
-look_other : (block : ℕ → ℕ) (key bucket : ℕ) → (key_in block bucket == 0) ≡ false → (key_in block bucket == key + 1) ≡ false → look_at block key bucket None ≡ None
-look_other block key bucket held other = rw (held, other) refl
-
-no_value : (known : Option (Option ℕ)) (value : ℕ) → known ≡ Some None → known ≡ Some (Some value) → ⊥
-no_value known value none some = absurd (cc)
-
-not_known : (known : Option (Option ℕ)) (value : ℕ) → known ≡ None → known ≡ Some (Some value) → ⊥
-not_known known value none some = absurd (cc)
-
-look_found : (block : ℕ → ℕ) (key bucket value : ℕ) → bucket < BUCKETS → look_at block key bucket None ≡ Some (Some value) → IsInBucket block key
-look_found block key bucket value within e =
-    elim (cases_Bool (key_in block bucket == 0)) as (λ _. IsInBucket block key) [
-      | inl empty ↦ absurd (no_value (look_at block key bucket None) value (look_empty block key bucket empty) e)
-      | inr held ↦
-          elim (cases_Bool (key_in block bucket == key + 1)) as (λ _. IsInBucket block key) [
-            | inl own ↦ (bucket, within, eqb-true (key_in block bucket) (key + 1) own)
-            | inr other ↦ absurd (not_known (look_at block key bucket None) value (look_other block key bucket held other) e)
-          ]
-    ]
-
-looked_found : (block : ℕ → ℕ) (key value n : ℕ) → looked block key n ≡ Some (Some value) → IsInBucket block key
-looked_found block key value zero e = absurd (not_known (looked block key 0) value (looked_none block key) e)
-looked_found block key value (suc n) e = by_known (looked block key n) refl (sym (looked_suc block key n) ∙ e) (looked_found block key value n)
-  where
-    by_known : (known : Option (Option ℕ)) → looked block key n ≡ known → look_at block key ((key % 512 + n) % 512) (looked block key n) ≡ Some (Some value) → (looked block key n ≡ Some (Some value) → IsInBucket block key) → IsInBucket block key
-    by_known None is e before = look_found block key ((key % 512 + n) % 512) value (omega (arith)) (ap (look_at block key ((key % 512 + n) % 512)) (sym is) ∙ e)
-    by_known (Some known) is e before = before (is ∙ sym (ap (look_at block key ((key % 512 + n) % 512)) is) ∙ e)
-
--- what is found under a key stands in a bucket
-found_bucket : (block : ℕ → ℕ) (key word : ℕ) → found_in block key ≡ Some word → IsInBucket block key
-found_bucket block key word e = looked_found block key word BUCKETS (known_word (looked block key BUCKETS) e)
-  where
-    known_word : (known : Option (Option ℕ)) → outcome known ≡ Some word → known ≡ Some (Some word)
-    known_word None e = absurd (cc)
-    known_word (Some found) e = ap Some e
+use Rattle.area_core.specs.Terms.{key_in, value_in, bucket_of, found_in, is_word_of, TermsStand, is_found, is_bucket, holds_one_of, is_known, is_bucket_known, are_found, are_buckets_known, terms_stand}
+use Rattle.area_core.proofs.Buckets.{has_key}
+use Rattle.area_core.proofs.Counted.{known_none, known_suc}
+use Rattle.area_core.proofs.Tests.{some_passes, passed_by, each_passes, all_pass}
 
 -- ---- each bucket
 
-buckets_each : (block : ℕ → ℕ) (p : Published) (n bucket : ℕ) → are_buckets_known block p n ≡ true → bucket < n → is_bucket_known block p bucket ≡ true
-buckets_each block p zero bucket e below = absurd (omega (arith))
-buckets_each block p (suc n) bucket e below =
-    elim (cases_lt bucket n) as (λ _. is_bucket_known block p bucket ≡ true) [
-      | inl before ↦ buckets_each block p n bucket parts.0 before
-      | inr last ↦ let same : n ≡ bucket = omega (arith) in subst (λ (b : ℕ). is_bucket_known block p b ≡ true) same parts.1
-    ]
-  where
-    parts : (are_buckets_known block p n ≡ true) × (is_bucket_known block p n ≡ true)
-    parts = and_parts (are_buckets_known block p n) (is_bucket_known block p n) (sym (known_suc block p n) ∙ e)
+module _ (block : ℕ → ℕ) (keys : List KeyTerm) where
+  buckets_each : (n bucket : ℕ) → are_buckets_known block keys n ≡ true → bucket < n → is_bucket_known block keys bucket ≡ true
+  buckets_each zero bucket e below = absurd (omega (arith))
+  buckets_each (suc n) bucket e below =
+      elim (cases_lt bucket n) as (λ _. is_bucket_known block keys bucket ≡ true) [
+        | inl before ↦ buckets_each n bucket parts.0 before
+        | inr last ↦ let same : n ≡ bucket = omega (arith) in subst (λ (b : ℕ). is_bucket_known block keys b ≡ true) same parts.1
+      ]
+    where
+      parts : (are_buckets_known block keys n ≡ true) × (is_bucket_known block keys n ≡ true)
+      parts = and_parts (are_buckets_known block keys n) (is_bucket_known block keys n) (sym (known_suc block keys n) ∙ e)
 
-buckets_from : (block : ℕ → ℕ) (p : Published) (n : ℕ) → ((bucket : ℕ) → is_bucket_known block p bucket ≡ true) → are_buckets_known block p n ≡ true
-buckets_from block p zero each = known_none block p
-buckets_from block p (suc n) each = known_suc block p n ∙ and_from (are_buckets_known block p n) (is_bucket_known block p n) (buckets_from block p n each) (each n)
+  buckets_from : (n : ℕ) → ((bucket : ℕ) → is_bucket_known block keys bucket ≡ true) → are_buckets_known block keys n ≡ true
+  buckets_from zero each = known_none block keys
+  buckets_from (suc n) each = known_suc block keys n ∙ and_from (are_buckets_known block keys n) (is_bucket_known block keys n) (buckets_from n each) (each n)
+
+  -- the bucket in which a key is found holds one of the keys, where the bucket is known
+  holds_found : (key bucket : ℕ) → bucket_of block key ≡ Some bucket → is_bucket_known block keys bucket ≡ true → holds_one_of block keys bucket ≡ true
+  holds_found key bucket found known =
+      let has = has_key block key bucket found in
+      let back : key + 1 - 1 ≡ key = omega (arith) in
+      let own : key_in block bucket - 1 ≡ key = ap (λ (x : ℕ). x - 1) has.held ∙ back in
+      elim (or_cases (key_in block bucket == 0 || holds_one_of block keys bucket) (is_known block keys (bucket_of block (key_in block bucket - 1))) known) as (λ _. holds_one_of block keys bucket ≡ true) [
+        | inl here ↦
+            elim (or_cases (key_in block bucket == 0) (holds_one_of block keys bucket) here) as (λ _. holds_one_of block keys bucket ≡ true) [
+              | inl none ↦ absurd (no_key (key_in block bucket) key (eqb-true (key_in block bucket) 0 none) has.held)
+              | inr holds ↦ holds
+            ]
+        | inr elsewhere ↦ sym (ap (is_known block keys) (ap (bucket_of block) own ∙ found)) ∙ elsewhere
+      ]
+    where
+      no_key : (n key : ℕ) → n ≡ 0 → n ≡ key + 1 → ⊥
+      no_key n key none some = absurd (omega (arith))
+
+  -- the key that is found in a bucket which holds one of the keys is that one
+  key_held : (key bucket : ℕ) → bucket_of block key ≡ Some bucket → holds_one_of block keys bucket ≡ true → (k : KeyTerm) × (i : ℕ) × (slice_get keys i ≡ Some k) × (k.key.0 ≡ key)
+  key_held key bucket found holds =
+      let one = passed_by (λ (k : KeyTerm). is_bucket bucket (bucket_of block k.key.0)) keys holds in
+      let has = has_key block key bucket found in
+      let held = has_key block one.0.key.0 bucket (found_there bucket (bucket_of block one.0.key.0) one.3) in
+      (one.0, one.1, one.2, same_key (key_in block bucket) one.0.key.0 key held.held has.held)
+    where
+      found_there : (bucket : ℕ) (found : Option ℕ) → is_bucket bucket found ≡ true → found ≡ Some bucket
+      found_there bucket None e = absurd (cc)
+      found_there bucket (Some at) e = ap Some (eqb-true at bucket e)
+
+      same_key : (n a b : ℕ) → n ≡ a + 1 → n ≡ b + 1 → a ≡ b
+      same_key n a b one other = omega (arith, one, other)
 
 -- ---- the test and what it says
 
@@ -84,35 +75,47 @@ module _ (block : ℕ → ℕ) (p : Published) where
   passes_found k None e = absurd e
   passes_found k (Some word) e = e
 
-  bucket_says : (key word : ℕ) → are_buckets_known block p BUCKETS ≡ true → found_in block key ≡ Some word → IsTrue (list_any (is_word_of p key word) p.state.keys)
-  bucket_says key word all found =
-      let here = found_bucket block key word found in
-      let known = buckets_each block p BUCKETS here.0 all here.1 in
-      let back : key + 1 - 1 ≡ key = omega (arith) in
-      elim (or_cases (key_in block here.0 == 0) (is_known p (key_in block here.0 - 1) (found_in block (key_in block here.0 - 1))) known) as (λ _. IsTrue (list_any (is_word_of p key word) p.state.keys)) [
-        | inl none ↦ absurd (no_key (key_in block here.0) key (eqb-true (key_in block here.0) 0 none) here.2)
-        | inr says ↦ ap (is_known p key) (sym found) ∙ subst (λ (x : ℕ). is_known p x (found_in block x) ≡ true) (ap (λ (x : ℕ). x - 1) here.2 ∙ back) says
-      ]
-    where
-      no_key : (n key : ℕ) → n ≡ 0 → n ≡ key + 1 → ⊥
-      no_key n key none some = absurd (omega (arith))
+  -- what is found in a bucket is what the one key has that it holds
+  word_says : (key word bucket : ℕ) → IsTrue (terms_stand block p) → bucket_of block key ≡ Some bucket → found_in block key ≡ Some word → IsTrue (list_any (is_word_of p key word) p.state.keys)
+  word_says key word bucket passes at found =
+      let parts = and_parts (are_found block p p.state.keys) (are_buckets_known block p.state.keys BUCKETS) passes in
+      let has = has_key block key bucket at in
+      let known = buckets_each block p.state.keys BUCKETS bucket parts.1 has.within in
+      let one = key_held block p.state.keys key bucket at (holds_found block p.state.keys key bucket at known) in
+      let held = each_passes (λ (k : KeyTerm). is_found p k (found_in block k.key.0)) p.state.keys one.1 one.0 parts.0 one.2 in
+      let told : is_term_word p one.0.holding word ≡ true = sym (ap (is_found p one.0) (ap (found_in block) one.3 ∙ found)) ∙ held in
+      some_passes (is_word_of p key word) p.state.keys one.1 one.0 one.2
+      (and_from (one.0.key.0 == key) (is_term_word p one.0.holding word) (ap (λ (x : ℕ). x == key) one.3 ∙ eq-eqb key key refl) told)
 
   -- a table that passes stands for the keys
   pub terms_stand_true : IsTrue (terms_stand block p) → TermsStand block p
   terms_stand_true passes =
-      let parts = and_parts (list_all (λ (k : KeyTerm). is_found p k (found_in block k.key.0)) p.state.keys) (are_buckets_known block p BUCKETS) passes in
+      let parts = and_parts (are_found block p p.state.keys) (are_buckets_known block p.state.keys BUCKETS) passes in
       record {
         found = λ i k at. found_passes k (found_in block k.key.0) (each_passes (λ (k : KeyTerm). is_found p k (found_in block k.key.0)) p.state.keys i k parts.0 at);
-        only = λ key word found. bucket_says key word parts.1 found;
+        only = λ key word found. by_bucket key word (bucket_of block key) refl found;
       }
+    where
+      by_bucket : (key word : ℕ) (at : Option ℕ) → bucket_of block key ≡ at → found_in block key ≡ Some word → IsTrue (list_any (is_word_of p key word) p.state.keys)
+      by_bucket key word None is found = absurd (not_found (found_in block key) word (ap (option_map (value_in block)) is) found)
+        where
+          not_found : (known : Option ℕ) (word : ℕ) → known ≡ None → known ≡ Some word → ⊥
+          not_found known word none some = absurd (cc)
+      by_bucket key word (Some bucket) is found = word_says key word bucket passes is found
+
+  -- where what is found under a key is the generation's, the bucket in which it is found holds one of the keys
+  stands_known : (key : ℕ) (at : Option ℕ) → TermsStand block p → bucket_of block key ≡ at → is_known block p.state.keys at ≡ true
+  stands_known key None stands is = refl
+  stands_known key (Some bucket) stands is =
+      let one = passed_by (is_word_of p key (value_in block bucket)) p.state.keys (stands.only key (value_in block bucket) (ap (option_map (value_in block)) is)) in
+      let same = eqb-true one.0.key.0 key (and_parts (one.0.key.0 == key) (is_term_word p one.0.holding (value_in block bucket)) one.3).0 in
+      some_passes (λ (k : KeyTerm). is_bucket bucket (bucket_of block k.key.0)) p.state.keys one.1 one.0 one.2
+      (ap (is_bucket bucket) (ap (bucket_of block) same ∙ is) ∙ eq-eqb bucket bucket refl)
 
   -- a table that stands for the keys passes
   pub terms_stand_back : TermsStand block p → IsTrue (terms_stand block p)
   terms_stand_back stands =
-      and_from (list_all (λ (k : KeyTerm). is_found p k (found_in block k.key.0)) p.state.keys) (are_buckets_known block p BUCKETS)
+      and_from (are_found block p p.state.keys) (are_buckets_known block p.state.keys BUCKETS)
       (all_pass (λ (k : KeyTerm). is_found p k (found_in block k.key.0)) p.state.keys (λ i k at. passes_found k (found_in block k.key.0) (stands.found i k at)))
-      (buckets_from block p BUCKETS (λ bucket. or_right (key_in block bucket == 0) (is_known p (key_in block bucket - 1) (found_in block (key_in block bucket - 1))) (known_word (key_in block bucket - 1) (found_in block (key_in block bucket - 1)) refl)))
-    where
-      known_word : (key : ℕ) (found : Option ℕ) → found_in block key ≡ found → is_known p key (found_in block key) ≡ true
-      known_word key None is = ap (is_known p key) is
-      known_word key (Some word) is = ap (is_known p key) is ∙ stands.only key word is
+      (buckets_from block p.state.keys BUCKETS (λ bucket.
+      or_right (key_in block bucket == 0 || holds_one_of block p.state.keys bucket) (is_known block p.state.keys (bucket_of block (key_in block bucket - 1))) (stands_known (key_in block bucket - 1) (bucket_of block (key_in block bucket - 1)) stands refl)))

@@ -1,13 +1,14 @@
 //! A state of blocks and slots, and its single events.
 
 mod loads;
+mod progress;
 mod writes;
 
 ghost use Rattle.std.specs.Prelude.{◌≡◌, ◌≤◌, [], ◌∷◌, IsErrOf, IfOk, OnOk, OnErr, Some, None};
 ghost use Rattle.prgr_core.specs.declared.fault.StepFault.TheVariants.{NotEnabled};
 ghost use Rattle.area_core.specs.declared.map.TheConstants.{TABLE_WORDS as ALL_WORDS};
 ghost use Rattle.area_core.specs.Map.{opening_words};
-ghost use Rattle.area_core.specs.Step.{after, after_progress, empty_generation, opening_of, opening_published, IsSound};
+ghost use Rattle.area_core.specs.Step.{after, empty_generation, opening_of, opening_published, IsSound};
 
 use crate::event::AreaEvent;
 use crate::map::TABLE_WORDS;
@@ -15,7 +16,10 @@ use crate::table::{KeptList, Published, PublishedList, Root, Table, WordTable};
 use loads::{
     confirm, join_note, load_counter, load_delay, load_root, load_slot, load_word, split_note,
 };
-use prgr_core::{NoMemory, PrgrEvent, PrgrState, StepFault, step};
+use prgr_core::{NoMemory, PrgrState, StepFault};
+use progress::{
+    add_delay, begin_to_wake, drop_lead, fall_asleep, raise_counter, scan, sub_delay, take_lead,
+};
 use std::alloc::Global;
 use std::marker::Model;
 use term_core::{
@@ -126,18 +130,10 @@ fn make(table: &mut Table, alloc: Global, event: &AreaEvent) -> Result<(), StepF
         AreaEvent::LoadCounter { seat } => load_counter(table, *seat),
         AreaEvent::LoadRoot { seat } => load_root(table, *seat),
         AreaEvent::Confirm { member, value } => confirm(table, *member, *value),
-        AreaEvent::LoadConfirmed { member, other } => advance(
-            table,
-            PrgrEvent::Scan {
-                member: *member,
-                other: *other,
-            },
-        ),
-        AreaEvent::StoreCounter { member } => {
-            advance(table, PrgrEvent::Advance { member: *member })
-        }
-        AreaEvent::TakeLead { member } => advance(table, PrgrEvent::Lead { member: *member }),
-        AreaEvent::DropLead { member } => advance(table, PrgrEvent::GiveUp { member: *member }),
+        AreaEvent::LoadConfirmed { member, other } => scan(table, *member, *other),
+        AreaEvent::StoreCounter { member } => raise_counter(table, *member),
+        AreaEvent::TakeLead { member } => take_lead(table, *member),
+        AreaEvent::DropLead { member } => drop_lead(table, *member),
         AreaEvent::LoadWord { seat, word } => load_word(table, *seat, *word),
         AreaEvent::StoreWord { word, value } => store_word(table, alloc, *word, *value),
         AreaEvent::StoreRoot {
@@ -146,18 +142,9 @@ fn make(table: &mut Table, alloc: Global, event: &AreaEvent) -> Result<(), StepF
             term,
             next,
             areas,
-        } => {
-            let root = Root {
-                code: *code,
-                bp: *bp,
-                term: *term,
-            };
-            store_root(table, alloc, root, next, areas)
-        }
-        AreaEvent::StoreWaiting { member } => advance(table, PrgrEvent::Wait { member: *member }),
-        AreaEvent::StoreEntering { member } => {
-            advance(table, PrgrEvent::Enter { member: *member })
-        }
+        } => store_root(table, alloc, *code, *bp, *term, next, areas),
+        AreaEvent::StoreWaiting { member } => fall_asleep(table, *member),
+        AreaEvent::StoreEntering { member } => begin_to_wake(table, *member),
         AreaEvent::SplitNote { process } => split_note(table, *process),
         AreaEvent::JoinNote { member } => join_note(table, *member),
         AreaEvent::StoreSlot {
@@ -168,29 +155,8 @@ fn make(table: &mut Table, alloc: Global, event: &AreaEvent) -> Result<(), StepF
         } => store_slot(table, *member, *process, *place, *value),
         AreaEvent::LoadSlot { process, place } => load_slot(table, *process, *place),
         AreaEvent::StoreEntry { at, on } => store_entry(table, alloc, *at, *on),
-        AreaEvent::AddDelay { watcher, which } => advance(
-            table,
-            PrgrEvent::WatchAdd {
-                watcher: *watcher,
-                which: *which,
-            },
-        ),
-        AreaEvent::SubDelay { watcher, which } => advance(
-            table,
-            PrgrEvent::WatchSub {
-                watcher: *watcher,
-                which: *which,
-            },
-        ),
+        AreaEvent::AddDelay { watcher, which } => add_delay(table, *watcher, *which),
+        AreaEvent::SubDelay { watcher, which } => sub_delay(table, *watcher, *which),
         AreaEvent::LoadDelay { member, which } => load_delay(table, *member, *which),
     }
-}
-
-/// Makes an event of the progress machine.
-fn advance(table: &mut Table, event: PrgrEvent) -> Result<(), StepFault>
-    ensures ok { OnOk result (after_progress table.old event ≡ Some table.new) }
-    ensures not_enabled { IsErrOf result NotEnabled → after_progress table.old event ≡ None }
-    ensures err { OnErr result (table.new ≡ table.old) }
-{
-    step(&mut table.progress, event)
 }

@@ -1,10 +1,11 @@
 //! The block of a term table, and whether it stands for the keys of a generation.
 
-ghost use Rattle.std.specs.Prelude.{◌≡◌, ◌<◌, ◌+◌, ◌^◌};
-ghost use Rattle.std.specs.List.{list_any, list_all};
+ghost use Rattle.std.specs.Prelude.{◌≡◌, ◌≤◌, ◌<◌, ◌+◌, ◌^◌, ◌||◌, ℕ, false, length, get_or};
+ghost use Rattle.std.specs.Option.{IfSome, option_map};
+ghost use Rattle.area_core.specs.declared.map.TheConstants.{BUCKETS as ALL_BUCKETS};
 ghost use Rattle.area_core.specs.Map.{word_at};
 ghost use Rattle.area_core.specs.Blocks.{term_words};
-ghost use Rattle.area_core.specs.Terms.{are_buckets_known, look_at, looked, found_in, is_bucket_known, is_found, is_known, is_word_of, terms_stand};
+ghost use Rattle.area_core.specs.Terms.{are_buckets_known, are_found, look_at, looked, bucket_of, found_in, holds_one_of, is_bucket, is_bucket_known, is_found, terms_stand, value_in};
 
 use crate::generations::is_term_word;
 use crate::map::{BUCKETS, TERMS_START, block_place};
@@ -19,7 +20,7 @@ fn term_word(words: &WordTable, root: Root, at: u64) -> u64
     words.get(block_place(u64::from(TERMS_START) + u64::from(root.term), at))
 }
 
-/// What is known after a look at one more bucket: nothing yet, that the key is not there, or its value.
+/// What is known after a look at one more bucket: nothing yet, that the key is not there, or its bucket.
 fn look_at(
     words: &WordTable,
     root: Root,
@@ -28,7 +29,7 @@ fn look_at(
     known: Option<Option<u64>>,
 ) -> Option<Option<u64>>
     requires key { key + 1 < 2 ^ 64 }
-    requires bucket { bucket < 512 }
+    requires bucket { bucket < ALL_BUCKETS }
     ensures { result ≡ look_at (term_words (word_at words.now) root) key bucket known }
 {
     match known {
@@ -38,7 +39,7 @@ fn look_at(
             if held == 0 {
                 Some(None)
             } else if held == key + 1 {
-                Some(Some(term_word(words, root, bucket * 2 + 1)))
+                Some(Some(bucket))
             } else {
                 None
             }
@@ -65,10 +66,11 @@ fn looked(words: &WordTable, root: Root, key: u64, count: u32) -> Option<Option<
     known
 }
 
-/// What is found under a key.
-fn found_in(words: &WordTable, root: Root, key: u64) -> Option<u64>
+/// The bucket in which a key is found.
+fn bucket_of(words: &WordTable, root: Root, key: u64) -> Option<u64>
     requires { key + 1 < 2 ^ 64 }
-    ensures { result ≡ found_in (term_words (word_at words.now) root) key }
+    ensures found { result ≡ bucket_of (term_words (word_at words.now) root) key }
+    ensures within { IfSome result (λ bucket. bucket < ALL_BUCKETS) }
 {
     match looked(words, root, key, BUCKETS) {
         None => None,
@@ -76,89 +78,131 @@ fn found_in(words: &WordTable, root: Root, key: u64) -> Option<u64>
     }
 }
 
-/// Whether the generation has this key with what the word stands for.
-fn is_word_of(published: &Published, key: u64, word: u64, held: &KeyTerm) -> bool
-    ensures { result ≡ is_word_of published.now key word held.now }
+/// Whether a key is found with what it holds, if it is found in this bucket.
+fn is_found(words: &WordTable, published: &Published, key: &KeyTerm, bucket: Option<u64>) -> bool
+    requires { IfSome bucket (λ bucket. bucket < ALL_BUCKETS) }
+    ensures { result ≡ is_found published.now key.now (option_map (value_in (term_words (word_at words.now) published.now.root)) bucket) }
 {
-    u64::from(held.key.0) == key && is_term_word(published, held.holding, word)
-}
-
-/// Whether a key of the generation is found with what it holds.
-fn is_found(published: &Published, key: &KeyTerm, found: Option<u64>) -> bool
-    ensures { result ≡ is_found published.now key.now found }
-{
-    match found {
+    match bucket {
         None => false,
-        Some(word) => is_term_word(published, key.holding, word),
+        Some(bucket) => {
+            let word = term_word(words, published.root, bucket * 2 + 1);
+            is_term_word(published, key.holding, word)
+        },
     }
 }
 
-/// Whether what is found under a key is what the generation has.
-fn is_known(published: &Published, key: u64, found: Option<u64>) -> bool
-    ensures { result ≡ is_known published.now key found }
+/// No bucket is marked.
+fn no_marks() -> [bool; BUCKETS as usize]
+    ensures length { length result ≡ ALL_BUCKETS }
+    ensures none { (number : ℕ) → number < ALL_BUCKETS → get_or result number false ≡ false }
 {
-    match found {
+    [false; BUCKETS as usize]
+}
+
+/// Marks the bucket in which a key is found.
+fn mark(marks: &mut [bool; BUCKETS as usize], bucket: Option<u64>)
+    requires { IfSome bucket (λ bucket. bucket < length marks.old) }
+    ensures length { length marks.new ≡ length marks.old }
+    ensures marked { (number : ℕ) → number < length marks.old → get_or marks.new number false ≡ (get_or marks.old number false || is_bucket number bucket) }
+{
+    if let Some(bucket) = bucket {
+        marks[bucket as usize] = true;
+    }
+}
+
+/// Searches for a key, and marks the bucket in which it is found. Whether it is found with what it
+/// holds.
+fn search_key(
+    words: &WordTable,
+    published: &Published,
+    key: &KeyTerm,
+    marks: &mut [bool; BUCKETS as usize],
+) -> bool
+    requires { length marks.old ≡ ALL_BUCKETS }
+    ensures found { result ≡ is_found published.now key.now (found_in (term_words (word_at words.now) published.now.root) key.now.key.0) }
+    ensures length { length marks.new ≡ ALL_BUCKETS }
+    ensures marked { (number : ℕ) → number < ALL_BUCKETS → get_or marks.new number false ≡ (get_or marks.old number false || is_bucket number (bucket_of (term_words (word_at words.now) published.now.root) key.now.key.0)) }
+{
+    let bucket = bucket_of(words, published.root, u64::from(key.key.0));
+    mark(marks, bucket);
+    is_found(words, published, key, bucket)
+}
+
+/// What one search for each key tells.
+struct KeySearch {
+    /// Whether each key is found with what it holds.
+    are_found: bool,
+    /// At the number of a bucket, whether a key is found in it.
+    marks: [bool; BUCKETS as usize],
+}
+
+/// Searches for each of the keys.
+fn search_keys(words: &WordTable, published: &Published, keys: &[KeyTerm]) -> KeySearch
+    ensures found { result.are_found ≡ are_found (term_words (word_at words.now) published.now.root) published.now keys.now }
+    ensures length { length result.marks ≡ ALL_BUCKETS }
+    ensures marked { (number : ℕ) → number < ALL_BUCKETS → get_or result.marks number false ≡ holds_one_of (term_words (word_at words.now) published.now.root) keys.now number }
+{
+    let mut are_found = true;
+    let mut marks = no_marks();
+    for key in keys {
+        let found = search_key(words, published, key, &mut marks);
+        are_found = are_found && found;
+    }
+    KeySearch { are_found, marks }
+}
+
+/// Whether a bucket is empty, or a key is found in it, or what is found under its key is one of the
+/// keys elsewhere.
+fn is_bucket_known(
+    words: &WordTable,
+    root: Root,
+    keys: &[KeyTerm],
+    marks: &[bool],
+    bucket: u32,
+) -> bool
+    requires bucket { bucket < ALL_BUCKETS }
+    requires length { length marks.now ≡ ALL_BUCKETS }
+    requires marked { (number : ℕ) → number < ALL_BUCKETS → get_or marks.now number false ≡ holds_one_of (term_words (word_at words.now) root) keys.now number }
+    ensures { result ≡ is_bucket_known (term_words (word_at words.now) root) keys.now bucket }
+{
+    let held = term_word(words, root, u64::from(bucket) * 2);
+    if held == 0 || marks[bucket as usize] {
+        return true;
+    }
+    match bucket_of(words, root, held - 1) {
         None => true,
-        Some(word) => has_word_of(published, published.state.keys.as_slice(), key, word),
+        Some(found) => marks[found as usize],
     }
-}
-
-/// Whether one of the keys is this one, with what the word stands for.
-fn has_word_of(published: &Published, keys: &[KeyTerm], key: u64, word: u64) -> bool
-    ensures { result ≡ list_any (is_word_of published.now key word) keys.now }
-{
-    keys.iter()
-        .any(|held| is_word_of(published, key, word, held))
-}
-
-/// Whether what is found under the key of a bucket is what the generation has.
-fn is_bucket_known(words: &WordTable, published: &Published, bucket: u32) -> bool
-    ensures { result ≡ is_bucket_known (term_words (word_at words.now) published.now.root) published.now bucket }
-{
-    let held = term_word(words, published.root, u64::from(bucket) * 2);
-    held == 0
-        || is_known(
-            published,
-            held - 1,
-            found_in(words, published.root, held - 1),
-        )
 }
 
 /// Whether so it is of the first so many buckets.
 #[tactic(auto, using(crate::proofs::Counted::known_none, crate::proofs::Counted::known_next))]
-fn are_buckets_known(words: &WordTable, published: &Published, count: u32) -> bool
-    ensures { result ≡ are_buckets_known (term_words (word_at words.now) published.now.root) published.now count }
+fn are_buckets_known(
+    words: &WordTable,
+    root: Root,
+    keys: &[KeyTerm],
+    marks: &[bool],
+    count: u32,
+) -> bool
+    requires count { count ≤ ALL_BUCKETS }
+    requires length { length marks.now ≡ ALL_BUCKETS }
+    requires marked { (number : ℕ) → number < ALL_BUCKETS → get_or marks.now number false ≡ holds_one_of (term_words (word_at words.now) root) keys.now number }
+    ensures { result ≡ are_buckets_known (term_words (word_at words.now) root) keys.now count }
 {
     let mut known = true;
     for bucket in 0..count {
-        known = known && is_bucket_known(words, published, bucket);
+        known = known && is_bucket_known(words, root, keys, marks, bucket);
     }
     known
 }
 
-/// Whether each of the keys is found with what it holds.
-fn are_found(words: &WordTable, published: &Published, keys: &[KeyTerm]) -> bool
-    ensures { result ≡ list_all (λ k. is_found published.now k (found_in (term_words (word_at words.now) published.now.root) k.key.0)) keys.now }
-{
-    keys.iter().all(|key| is_key_found(words, published, key))
-}
-
-/// Whether a key is found with what it holds.
-fn is_key_found(words: &WordTable, published: &Published, key: &KeyTerm) -> bool
-    ensures { result ≡ is_found published.now key.now (found_in (term_words (word_at words.now) published.now.root) key.now.key.0) }
-{
-    is_found(
-        published,
-        key,
-        found_in(words, published.root, u64::from(key.key.0)),
-    )
-}
-
-/// Whether the block of the root stands for the keys of the generation, by one look at each key and
-/// each bucket.
+/// Whether the block of the root stands for the keys of the generation, by one search for each key
+/// and one look at each bucket.
 pub fn terms_stand(words: &WordTable, published: &Published) -> bool
     ensures { result ≡ terms_stand (term_words (word_at words.now) published.now.root) published.now }
 {
-    are_found(words, published, published.state.keys.as_slice())
-        && are_buckets_known(words, published, BUCKETS)
+    let keys = published.state.keys.as_slice();
+    let KeySearch { are_found, marks } = search_keys(words, published, keys);
+    are_found && are_buckets_known(words, published.root, keys, &marks, BUCKETS)
 }

@@ -6,7 +6,7 @@ ghost use Rattle.area_core.specs.declared.event.AreaEvent.TheVariants as events;
 ghost use Rattle.area_core.specs.Step.{after, confirms, has_seat, progress_if, with_progress};
 ghost use Rattle.prgr_core.specs.Step.{after as progress_after};
 
-use super::advance;
+use super::progress::advance;
 use crate::event::SeatName;
 use crate::map::{ANCHORS, PROCESSES};
 use crate::table::Table;

@@ -126,18 +126,21 @@ fn may_write_slot(table: &Table, member: &Member, number: u32, process: u32, pla
     member.is_awake() && process < PROCESSES && slots.has(process) && place <= ANCHORS
 }
 
-/// The writer publishes the next generation.
+/// The writer publishes the next generation, over these blocks.
 pub fn store_root(
     table: &mut Table,
     alloc: Global,
-    root: Root,
+    code: u32,
+    bp: u32,
+    term: u32,
     next: &Generation,
     areas: &AreaRefList,
 ) -> Result<(), StepFault>
-    ensures ok { OnOk result (after table.old (events.StoreRoot root.code root.bp root.term next.now areas.now) ≡ Some table.new) }
-    ensures not_enabled { IsErrOf result NotEnabled → after table.old (events.StoreRoot root.code root.bp root.term next.now areas.now) ≡ None }
+    ensures ok { OnOk result (after table.old (events.StoreRoot code bp term next.now areas.now) ≡ Some table.new) }
+    ensures not_enabled { IsErrOf result NotEnabled → after table.old (events.StoreRoot code bp term next.now areas.now) ≡ None }
     ensures err { OnErr result (table.new ≡ table.old) }
 {
+    let root = Root { code, bp, term };
     match to_publish(alloc, root, next, areas) {
         Err(_) => Err(StepFault::NoMemory),
         Ok(published) => publish(table, alloc, published),

@@ -6,4 +6,4 @@ use Rattle.area_core.proofs.terms.are_buckets_known.Given as goal
 
 -- whether the buckets so far are known
 abbrev pub invariant-loop-bucket : goal.invariant-loop-bucket
-invariant-loop-bucket l = l.known ≡ are_buckets_known (term_words (word_at l.fn.words) l.fn.published.root) l.fn.published l.bucket
+invariant-loop-bucket l = l.known ≡ are_buckets_known (term_words (word_at l.fn.words) l.fn.root) l.fn.keys l.bucket
