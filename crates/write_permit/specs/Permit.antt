@@ -1,11 +1,9 @@
 -- The permit: the script, the journal so far, the server to which it leads, how far each loader is, and who may change the code. And what each of its calls makes of it.
 -- Source: this project's profile; the phases of a purge are those of the manual page `erlang`, on `purge_module`. A call that has no case here is not made.
 use Rattle.std.specs.Prelude.{ℕ, suc, ◌+◌, Bool, true, false, List, [], ◌∷◌, ◌++◌, length, min, slice_get, slice_set, Option, Some, None, option_map, option_and_then, unwrap_or}
-use Rattle.term_core.specs.declared.atom.AtomId.{AtomId}
 use Rattle.server_core.specs.declared.command.Applied.{Applied}
 use Rattle.server_core.specs.declared.command.Cmd.{Cmd}
 use Rattle.server_core.specs.declared.command.Cmd.TheVariants as cmds
-use Rattle.server_core.specs.declared.command.Linger.{Linger}
 use Rattle.server_core.specs.ServerState.{ServerState, old_of}
 use Rattle.server_core.specs.CommandTable.{Outcome, apply_of}
 use Rattle.script_core.specs.declared.script.Script.{Script}
@@ -17,8 +15,6 @@ use Rattle.run_log.specs.declared.logs.Who.{Who}
 use Rattle.run_log.specs.declared.logs.Who.TheVariants.{Loader, Runtime}
 use Rattle.run_log.specs.declared.underway.HalfPurge.{HalfPurge}
 use Rattle.run_log.specs.Legal.{commands_of}
-use Rattle.write_permit.specs.declared.answers.OpStep.{OpStep}
-use Rattle.write_permit.specs.declared.answers.OpStep.TheVariants.{Done, Lingers}
 use Rattle.write_permit.specs.declared.answers.Pumped.{Pumped}
 use Rattle.write_permit.specs.declared.answers.Pumped.TheVariants.{Released, Waiting, Nothing}
 use Rattle.write_permit.specs.declared.answers.Seize.{Seize}
@@ -28,7 +24,7 @@ use Rattle.write_permit.specs.declared.holder.Holder.TheVariants.{Free, Held, Pu
 use Rattle.write_permit.specs.declared.loader_run.LoaderRun.{LoaderRun}
 use Rattle.write_permit.specs.declared.mark.Mark.{Mark}
 use Rattle.write_permit.specs.declared.spawned.Spawned.{Spawned}
-use Rattle.write_permit.specs.Looks.{first_free, lingering, lingering_in, some_killed}
+use Rattle.write_permit.specs.Looks.{first_free, lingering}
 
 -- what a permit shows
 pub record PermitState : Type 0 where
@@ -81,12 +77,6 @@ seized_by who Free = Held who
 seized_by who (Held by) = Held by
 seized_by who (Purging by name) = Purging by name
 
--- who has the permission after want of memory: a loader whose command has no entry gives it up
-abbrev pub given_up : Holder → Holder
-given_up Free = Free
-given_up (Held by) = Free
-given_up (Purging by name) = Purging by name
-
 -- a permit after a call, with what the server answered
 pub record Step : Type 0 where
   pub state : PermitState
@@ -134,47 +124,6 @@ at_once_of p who = option_and_then (λ command. done_by p who command (opening p
 abbrev pub spawned_by : PermitState → ℕ → Option ScriptCmd → Option Spawned
 spawned_by p who (Some (Spawn target args)) = Some (record { process = spawn_number p.script.loaders who (done_of p.loaders who) })
 spawned_by p who command = None
-
--- ---- commands that need the permission
-
--- a permit after a call, with what the loader is told
-pub record Advanced : Type 0 where
-  pub state : PermitState
-  pub answer : OpStep
-
--- the last command was made: the permission is free
-abbrev pub freed : Step → Advanced
-freed s = record { state = record (s.state) { holder = Free }; answer = Done s.answer }
-
--- the second half of a purge: it waits for a process that stands in the doomed instance
-abbrev pub closed_unless : PermitState → List Mark → ℕ → AtomId → ℕ → Option Linger → Option Advanced
-closed_unless p marks who name serial (Some linger) = Some (record { state = p; answer = Lingers linger.process linger.turn 0 0 })
-closed_unless p marks who name serial None = option_map freed (done_by p who (Purge name) (cmds.Purge name (some_killed serial marks)))
-
--- the second half of a purge, by the old code of its module
-abbrev pub closed : PermitState → List Mark → ℕ → AtomId → Option ℕ → Option Advanced
-closed p marks who name None = None
-closed p marks who name (Some serial) = closed_unless p marks who name serial (lingering_in marks serial)
-
--- the first half: the module's old code is doomed
-abbrev pub doomed_by : PermitState → ℕ → AtomId → Option PermitState
-doomed_by p who name = option_map (λ s. record (s.state) { holder = Purging who name }) (made_of p (Loader who) (cmds.Doom name))
-
--- a purge begins, by the old code of its module: where there is none it is made at once
-abbrev pub purged : PermitState → List Mark → ℕ → AtomId → Option ℕ → Option Advanced
-purged p marks who name None = option_map freed (done_by p who (Purge name) (cmds.Purge name false))
-purged p marks who name (Some serial) = option_and_then (λ q. closed q marks who name (Some serial)) (doomed_by p who name)
-
--- a command begins
-abbrev pub begun : PermitState → List Mark → ℕ → ScriptCmd → Option Advanced
-begun p marks who (Purge name) = purged p marks who name (old_of p.server name.0)
-begun p marks who command = option_map freed (done_by p who command (opening p.server marks command))
-
--- the next command of the loader that has the permission begins, or a purge goes on
-abbrev pub advanced : PermitState → List Mark → ℕ → Holder → Option Advanced
-advanced p marks who Free = None
-advanced p marks who (Held by) = option_and_then (λ command. begun p marks who command) (next_of p who)
-advanced p marks who (Purging by name) = closed p marks who name (old_of p.server name.0)
 
 -- ---- areas
 

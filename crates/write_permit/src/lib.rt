@@ -15,7 +15,7 @@ mod permit;
 mod spawned;
 mod steps;
 
-pub use answers::{AtOnce, Finished, OpStep, Pumped, Seize};
+pub use answers::{AtOnce, Finished, Pumped, Seize};
 pub use gate::{Gate, NoGate, Place};
 pub use holder::Holder;
 pub use loader_run::LoaderRun;

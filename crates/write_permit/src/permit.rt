@@ -1,14 +1,15 @@
-ghost use Rattle.std.specs.Prelude.{◌≡◌, [], IfOk, OnErr, Some};
+ghost use Rattle.std.specs.Prelude.{◌≡◌, false, true, [], IfOk, IsSomeAnd, OnErr, Some};
 ghost use Rattle.std.specs.Option.{option_copied};
 ghost use Rattle.server_core.specs.ServerState.{empty_state};
 ghost use Rattle.script_core.specs.Sound.{IsScript};
 ghost use Rattle.write_permit.specs.Book.{IsPermit};
-ghost use Rattle.write_permit.specs.Permit.{next_of, pump_of};
+ghost use Rattle.write_permit.specs.Permit.{at_once_of, needs_permission, next_of, pump_of, seize_answer, seized_by, spawned_by};
 
-use crate::answers::{Finished, Pumped};
+use crate::answers::{AtOnce, Finished, Pumped, Seize};
 use crate::book::{Book, begin};
+use crate::holder::Holder;
 use crate::mark::MarkList;
-use crate::steps::{next_command, release_one};
+use crate::steps::{make_at_once, next_command, release_one};
 use run_log::EntryList;
 use script_core::{Script, ScriptCmd};
 use server_core::Server;
@@ -60,6 +61,31 @@ impl Permit {
         ensures { option_copied result ≡ next_of self.now who }
     {
         next_command(&self.book, who)
+    }
+
+    /// Gives the permission to a loader whose next command needs it, unless another one has it.
+    pub fn seize(&mut self, who: u32) -> Seize
+        requires { IsSomeAnd (next_of self.old who) (λ command. needs_permission command ≡ true) }
+        ensures answer { result ≡ seize_answer self.old.holder }
+        ensures state { self.new ≡ record (self.old) { holder = seized_by who self.old.holder } }
+    {
+        match self.book.holder {
+            Holder::Free => {
+                self.book.holder = Holder::Held(who);
+                Seize::Seized
+            }
+            Holder::Held(by) | Holder::Purging { loader: by, .. } => Seize::Held { by },
+        }
+    }
+
+    /// Makes the next command of a loader, which is a spawn or a look for old code. After `NoMemory` the permit is as before.
+    pub fn at_once(&mut self, who: u32) -> Result<AtOnce, NoMemory>
+        requires { IsSomeAnd (next_of self.old who) (λ command. needs_permission command ≡ false) }
+        ensures ok { IfOk result (λ a. at_once_of self.old who ≡ Some (record { state = self.new; answer = a.applied })) }
+        ensures spawned { IfOk result (λ a. a.spawned ≡ spawned_by self.old who (next_of self.old who)) }
+        ensures err { OnErr result (self.new ≡ self.old) }
+    {
+        make_at_once(&mut self.book, who)
     }
 
     /// Releases the area that has waited longest of those that no process names. After `NoMemory` the permit is as before.

@@ -1,12 +1,15 @@
-ghost use Rattle.std.specs.Prelude.{◌≡◌, ◌+◌, ◌^◌, ◌<◌, length, IfOk, IsSome, OnErr, Some};
+ghost use Rattle.std.specs.Prelude.{◌≡◌, ◌+◌, ◌^◌, ◌<◌, false, length, IfOk, IsSome, IsSomeAnd, OnErr, None, Some, if◌then◌else◌};
 ghost use Rattle.std.specs.Option.{option_copied};
 ghost use Rattle.write_permit.specs.Book.{IsBook, shown};
-ghost use Rattle.write_permit.specs.Permit.{done_of, next_of, pump_of, waiting_count};
+ghost use Rattle.write_permit.specs.Permit.{at_once_of, done_of, needs_permission, next_of, pump_of, spawned_by, waiting_count};
 
-use crate::answers::Pumped;
+use crate::answers::{AtOnce, Pumped};
 use crate::book::{Book, make};
+use crate::commands::{is_spawn, opening};
+use crate::loader_run::LoaderRun;
 use crate::looks::first_free;
 use crate::mark::MarkList;
+use crate::spawned::Spawned;
 use run_log::Who;
 use script_core::ScriptCmd;
 use server_core::Cmd;
@@ -24,6 +27,55 @@ pub fn next_command(book: &Book, who: u32) -> Option<&ScriptCmd>
         commands.get(loader.done)
     } else {
         None
+    }
+}
+
+/// Makes the next command of a loader, which needs no permission.
+pub fn make_at_once(book: &mut Book, who: u32) -> Result<AtOnce, NoMemory>
+    requires book { IsBook book.old }
+    requires next { IsSomeAnd (next_of (shown book.old) who) (λ command. needs_permission command ≡ false) }
+    ensures ok { IfOk result (λ a. at_once_of (shown book.old) who ≡ Some (record { state = shown book.new; answer = a.applied })) }
+    ensures spawned { IfOk result (λ a. a.spawned ≡ spawned_by (shown book.old) who (next_of (shown book.old) who)) }
+    ensures err { OnErr result (shown book.new ≡ shown book.old) }
+    ensures book { IsBook book.new }
+{
+    let Some(command) = next_command(book, who) else {
+        unreachable!()
+    };
+    let spawns = is_spawn(command);
+    let cmd = opening(
+        book.alloc,
+        command,
+        &book.server,
+        &MarkList::new(book.alloc),
+    )?;
+    let applied = make(book, Who::Loader(who), cmd)?;
+    let loader = &mut book.loaders[who as usize];
+    let spawned = spawned(loader.next_process as u32, spawns);
+    count(loader, spawns);
+    Ok(AtOnce { applied, spawned })
+}
+
+/// The process with this number, where the command makes one.
+fn spawned(process: u32, spawns: bool) -> Option<Spawned>
+    ensures { result ≡ (if spawns then Some (record { process = process }) else None) }
+{
+    if spawns {
+        Some(Spawned { process })
+    } else {
+        None
+    }
+}
+
+/// One command more of the loader is done.
+fn count(loader: &mut LoaderRun, spawns: bool)
+    requires done { loader.old.done + 1 < 2 ^ 64 }
+    requires next { loader.old.next_process + 1 < 2 ^ 64 }
+    ensures { loader.new ≡ record { done = loader.old.done + 1; next_process = loader.old.next_process + (if spawns then 1 else 0) } }
+{
+    loader.done += 1;
+    if spawns {
+        loader.next_process += 1;
     }
 }
 
