@@ -1,0 +1,4 @@
+pub mod Looks
+pub mod Agreement
+pub mod Permit
+pub mod Book

@@ -1,0 +1,147 @@
+-- The permit: the script, the journal so far, the server to which it leads, how far each loader is, and who may change the code. And what each of its calls makes of it.
+-- Source: this project's profile; the phases of a purge are those of the manual page `erlang`, on `purge_module`. A call that has no case here is not made.
+use Rattle.std.specs.Prelude.{ℕ, suc, ◌+◌, Bool, true, false, List, [], ◌∷◌, ◌++◌, length, min, slice_get, slice_set, Option, Some, None, option_map, option_and_then, unwrap_or}
+use Rattle.server_core.specs.declared.command.Applied.{Applied}
+use Rattle.server_core.specs.declared.command.Cmd.{Cmd}
+use Rattle.server_core.specs.declared.command.Cmd.TheVariants as cmds
+use Rattle.server_core.specs.ServerState.{ServerState, old_of}
+use Rattle.server_core.specs.CommandTable.{Outcome, apply_of}
+use Rattle.script_core.specs.declared.script.Script.{Script}
+use Rattle.script_core.specs.declared.script.ScriptCmd.{ScriptCmd}
+use Rattle.script_core.specs.declared.script.ScriptCmd.TheVariants.{Load, Delete, SoftPurge, Purge, CheckOld, Put, Erase, Trace, Spawn}
+use Rattle.script_core.specs.Processes.{spawn_number, spawns_in}
+use Rattle.run_log.specs.declared.logs.Entry.{Entry}
+use Rattle.run_log.specs.declared.logs.Who.{Who}
+use Rattle.run_log.specs.declared.logs.Who.TheVariants.{Loader, Runtime}
+use Rattle.run_log.specs.declared.underway.HalfPurge.{HalfPurge}
+use Rattle.run_log.specs.Legal.{commands_of}
+use Rattle.write_permit.specs.declared.answers.Pumped.{Pumped}
+use Rattle.write_permit.specs.declared.answers.Pumped.TheVariants.{Released, Waiting, Nothing}
+use Rattle.write_permit.specs.declared.answers.Seize.{Seize}
+use Rattle.write_permit.specs.declared.answers.Seize.TheVariants as seizes
+use Rattle.write_permit.specs.declared.holder.Holder.{Holder}
+use Rattle.write_permit.specs.declared.holder.Holder.TheVariants.{Free, Held, Purging}
+use Rattle.write_permit.specs.declared.loader_run.LoaderRun.{LoaderRun}
+use Rattle.write_permit.specs.declared.mark.Mark.{Mark}
+use Rattle.write_permit.specs.declared.spawned.Spawned.{Spawned}
+use Rattle.write_permit.specs.Looks.{first_free, lingering}
+
+-- what a permit shows
+pub record PermitState : Type 0 where
+  pub script : Script
+  pub server : ServerState
+  pub journal : List Entry
+  pub loaders : List LoaderRun
+  pub holder : Holder
+
+-- how many commands of a loader are done
+abbrev pub done_of : List LoaderRun → ℕ → ℕ
+done_of loaders loader = unwrap_or (option_map (λ l. l.done) (slice_get loaders loader)) 0
+
+-- the first command of a loader that is not done
+abbrev pub next_of : PermitState → ℕ → Option ScriptCmd
+next_of p loader = slice_get (commands_of p.script loader) (done_of p.loaders loader)
+
+-- the loader that has the permission
+abbrev pub holder_of : Holder → Option ℕ
+holder_of Free = None
+holder_of (Held by) = Some by
+holder_of (Purging by name) = Some by
+
+-- the purge that waits for its second half, as the journal has it
+abbrev pub half_of : Holder → Option HalfPurge
+half_of Free = None
+half_of (Held by) = None
+half_of (Purging by name) = Some (record { who = Loader by; «module» = name })
+
+-- whether a command of the script needs the permission
+abbrev pub needs_permission : ScriptCmd → Bool
+needs_permission (CheckOld name) = false
+needs_permission (Spawn target args) = false
+needs_permission command = true
+
+-- whether a command of the script makes a process
+abbrev pub is_spawn : ScriptCmd → Bool
+is_spawn (Spawn target args) = true
+is_spawn command = false
+
+-- what a loader is answered that asks for the permission
+abbrev pub seize_answer : Holder → Seize
+seize_answer Free = seizes.Seized
+seize_answer (Held by) = seizes.Held by
+seize_answer (Purging by name) = seizes.Held by
+
+-- who has the permission after a loader asked for it
+abbrev pub seized_by : ℕ → Holder → Holder
+seized_by who Free = Held who
+seized_by who (Held by) = Held by
+seized_by who (Purging by name) = Purging by name
+
+-- a permit after a call, with what the server answered
+pub record Step : Type 0 where
+  pub state : PermitState
+  pub answer : Applied
+
+-- a command's entry joins the journal, and the server makes the change
+abbrev pub joined : PermitState → Who → Cmd → Outcome → PermitState
+joined p who cmd o = record p { server = o.state; journal = p.journal ++ (record { who = who; cmd = cmd; reply = o.answer.reply; published = o.answer.published }) ∷ [] }
+
+-- a command of the server is made, by the command table
+abbrev pub made_of : PermitState → Who → Cmd → Option Step
+made_of p who cmd = option_map (λ o. record { state = joined p who cmd o; answer = o.answer }) (apply_of p.script.modules p.server cmd)
+
+-- a loader after one of its commands
+abbrev pub loader_after : ScriptCmd → LoaderRun → LoaderRun
+loader_after command l = record { done = l.done + 1; next_process = l.next_process + spawns_in command }
+
+-- one command more of a loader is done
+abbrev pub counted_in : List LoaderRun → ℕ → ScriptCmd → List LoaderRun
+counted_in loaders who command = unwrap_or (option_map (λ l. slice_set loaders who (loader_after command l)) (slice_get loaders who)) loaders
+
+-- a command of the script is done by this last command of the server
+abbrev pub done_by : PermitState → ℕ → ScriptCmd → Cmd → Option Step
+done_by p who command cmd = option_map (λ s. record { state = record (s.state) { loaders = counted_in p.loaders who command }; answer = s.answer }) (made_of p (Loader who) cmd)
+
+-- the command of the server with which a command of the script is made that is made at once; a purge is, where there is no old code
+abbrev pub opening : ServerState → List Mark → ScriptCmd → Cmd
+opening s marks (Load refs) = cmds.Load refs
+opening s marks (Delete name) = cmds.Delete name
+opening s marks (SoftPurge name) = cmds.SoftPurge name (lingering marks (old_of s name.0))
+opening s marks (Purge name) = cmds.Purge name false
+opening s marks (CheckOld name) = cmds.CheckOld name
+opening s marks (Put key term) = cmds.Put key term
+opening s marks (Erase key) = cmds.Erase key
+opening s marks (Trace target on) = cmds.Trace target on
+opening s marks (Spawn target args) = cmds.Spawn target args
+
+-- ---- commands that need no permission
+
+-- a loader's next command is made at once
+abbrev pub at_once_of : PermitState → ℕ → Option Step
+at_once_of p who = option_and_then (λ command. done_by p who command (opening p.server [] command)) (next_of p who)
+
+-- the process that a loader's next command makes, if it makes one: its number is that of the spawn line
+abbrev pub spawned_by : PermitState → ℕ → Option ScriptCmd → Option Spawned
+spawned_by p who (Some (Spawn target args)) = Some (record { process = spawn_number p.script.loaders who (done_of p.loaders who) })
+spawned_by p who command = None
+
+-- ---- areas
+
+-- a permit after a call, with what became of the areas
+pub record PumpStep : Type 0 where
+  pub state : PermitState
+  pub answer : Pumped
+
+-- how many areas wait, as it is told
+abbrev pub waiting_count : List ℕ → Pumped
+waiting_count [] = Nothing
+waiting_count (serial ∷ serials) = Waiting (min (suc (length serials)) 4294967295)
+
+-- an area that no process names is released, if there is one
+abbrev pub pumped : PermitState → Option ℕ → Option PumpStep
+pumped p None = Some (record { state = p; answer = waiting_count p.server.retired })
+pumped p (Some serial) = option_map (λ s. record { state = s.state; answer = Released serial }) (made_of p Runtime (cmds.Release serial))
+
+-- the area that has waited longest of those that no process names is released
+abbrev pub pump_of : PermitState → List Mark → Option PumpStep
+pump_of p marks = pumped p (first_free marks p.server.retired)

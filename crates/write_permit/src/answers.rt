@@ -1,0 +1,37 @@
+use crate::spawned::Spawned;
+use run_log::EntryList;
+use server_core::Applied;
+
+/// Whether a loader has the permission now.
+#[derive(Clone, Copy, Debug, PartialEq, Eq)]
+pub enum Seize {
+    /// It has it now, and nobody had it before.
+    Seized,
+    /// This loader had it before, which may be the one that asked.
+    Held { by: u32 },
+}
+
+/// What a command gave that is made at once.
+#[derive(Debug, Drop)]
+pub struct AtOnce {
+    pub applied: Applied,
+    /// The process, where the command is a spawn.
+    pub spawned: Option<Spawned>,
+}
+
+/// What became of the areas that wait for their release.
+#[derive(Clone, Copy, Debug, PartialEq, Eq)]
+pub enum Pumped {
+    /// The area with this serial was released, and its entry joined the journal.
+    Released(u64),
+    /// Each of so many areas is named by a process. More than 4,294,967,295 are told as so many.
+    Waiting { areas: u32 },
+    /// No area waits.
+    Nothing,
+}
+
+/// What is left of a permit.
+#[derive(Debug, Drop)]
+pub struct Finished {
+    pub journal: EntryList,
+}

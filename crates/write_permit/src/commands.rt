@@ -1,0 +1,69 @@
+ghost use Rattle.std.specs.Prelude.{◌≡◌, IfOk};
+ghost use Rattle.server_core.specs.ServerState.{old_of};
+ghost use Rattle.write_permit.specs.Looks.{lingering};
+ghost use Rattle.write_permit.specs.Permit.{is_spawn, needs_permission, opening};
+
+use crate::looks::lingering_in;
+use crate::mark::MarkList;
+use script_core::ScriptCmd;
+use server_core::{Cmd, Linger, RefList, Server};
+use std::alloc::Global;
+use term_core::{AtomId, NoMemory};
+
+/// Whether the command needs the permission.
+pub fn needs_permission(command: &ScriptCmd) -> bool
+    ensures { result ≡ needs_permission command.now }
+{
+    !matches!(command, ScriptCmd::CheckOld(_) | ScriptCmd::Spawn { .. })
+}
+
+/// Whether the command makes a process.
+pub fn is_spawn(command: &ScriptCmd) -> bool
+    ensures { result ≡ is_spawn command.now }
+{
+    matches!(command, ScriptCmd::Spawn { .. })
+}
+
+/// The command of the server with which a command of the script is made, unless it is a purge of old code.
+pub fn opening(
+    alloc: Global,
+    command: &ScriptCmd,
+    server: &Server,
+    marks: &MarkList,
+) -> Result<Cmd, NoMemory>
+    ensures { IfOk result (λ cmd. cmd ≡ opening server.now marks.now command.now) }
+{
+    Ok(match command {
+        ScriptCmd::Load(refs) => Cmd::Load(RefList::from_slice(alloc, refs.as_slice())?),
+        ScriptCmd::Delete(module) => Cmd::Delete(*module),
+        ScriptCmd::SoftPurge(module) => Cmd::SoftPurge {
+            module: *module,
+            lingers: lingering(*module, server, marks),
+        },
+        ScriptCmd::Purge(module) => Cmd::Purge {
+            module: *module,
+            killed: false,
+        },
+        ScriptCmd::CheckOld(module) => Cmd::CheckOld(*module),
+        ScriptCmd::Put { key, term } => Cmd::Put {
+            key: *key,
+            term: term.copy(alloc)?,
+        },
+        ScriptCmd::Erase(key) => Cmd::Erase(*key),
+        ScriptCmd::Trace { target, on } => Cmd::Trace {
+            target: *target,
+            on: *on,
+        },
+        ScriptCmd::Spawn { target, args } => Cmd::Spawn {
+            target: *target,
+            args: args.copy(alloc)?,
+        },
+    })
+}
+
+/// The process that keeps a soft purge of the module from going: the first one that stands in its old code.
+fn lingering(module: AtomId, server: &Server, marks: &MarkList) -> Option<Linger>
+    ensures { result ≡ lingering marks.now (old_of server.now «module».0) }
+{
+    lingering_in(marks, server.old(module)?)
+}

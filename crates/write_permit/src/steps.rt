@@ -1,0 +1,106 @@
+ghost use Rattle.std.specs.Prelude.{◌≡◌, ◌+◌, ◌^◌, ◌<◌, false, length, IfOk, IsSome, IsSomeAnd, OnErr, None, Some, if◌then◌else◌};
+ghost use Rattle.std.specs.Option.{option_copied};
+ghost use Rattle.write_permit.specs.Book.{IsBook, shown};
+ghost use Rattle.write_permit.specs.Permit.{at_once_of, done_of, needs_permission, next_of, pump_of, spawned_by, waiting_count};
+
+use crate::answers::{AtOnce, Pumped};
+use crate::book::{Book, make};
+use crate::commands::{is_spawn, opening};
+use crate::loader_run::LoaderRun;
+use crate::looks::first_free;
+use crate::mark::MarkList;
+use crate::spawned::Spawned;
+use run_log::Who;
+use script_core::ScriptCmd;
+use server_core::Cmd;
+use term_core::NoMemory;
+
+/// The first command of a loader that is not done.
+pub fn next_command(book: &Book, who: u32) -> Option<&ScriptCmd>
+    requires { length book.now.loaders.items ≡ length book.now.script.loaders }
+    ensures next { option_copied result ≡ next_of (shown book.now) who }
+    ensures room { IsSome result → done_of book.now.loaders.items who + 1 < 2 ^ 64 }
+{
+    let loader = book.loaders.get(who as usize)?;
+    let commands = book.script.loaders.get(who as usize)?;
+    if loader.done < commands.len() {
+        commands.get(loader.done)
+    } else {
+        None
+    }
+}
+
+/// Makes the next command of a loader, which needs no permission.
+pub fn make_at_once(book: &mut Book, who: u32) -> Result<AtOnce, NoMemory>
+    requires book { IsBook book.old }
+    requires next { IsSomeAnd (next_of (shown book.old) who) (λ command. needs_permission command ≡ false) }
+    ensures ok { IfOk result (λ a. at_once_of (shown book.old) who ≡ Some (record { state = shown book.new; answer = a.applied })) }
+    ensures spawned { IfOk result (λ a. a.spawned ≡ spawned_by (shown book.old) who (next_of (shown book.old) who)) }
+    ensures err { OnErr result (shown book.new ≡ shown book.old) }
+    ensures book { IsBook book.new }
+{
+    let Some(command) = next_command(book, who) else {
+        unreachable!()
+    };
+    let spawns = is_spawn(command);
+    let cmd = opening(
+        book.alloc,
+        command,
+        &book.server,
+        &MarkList::new(book.alloc),
+    )?;
+    let applied = make(book, Who::Loader(who), cmd)?;
+    let loader = &mut book.loaders[who as usize];
+    let spawned = spawned(loader.next_process as u32, spawns);
+    count(loader, spawns);
+    Ok(AtOnce { applied, spawned })
+}
+
+/// The process with this number, where the command makes one.
+fn spawned(process: u32, spawns: bool) -> Option<Spawned>
+    ensures { result ≡ (if spawns then Some (record { process = process }) else None) }
+{
+    if spawns {
+        Some(Spawned { process })
+    } else {
+        None
+    }
+}
+
+/// One command more of the loader is done.
+fn count(loader: &mut LoaderRun, spawns: bool)
+    requires done { loader.old.done + 1 < 2 ^ 64 }
+    requires next { loader.old.next_process + 1 < 2 ^ 64 }
+    ensures { loader.new ≡ record { done = loader.old.done + 1; next_process = loader.old.next_process + (if spawns then 1 else 0) } }
+{
+    loader.done += 1;
+    if spawns {
+        loader.next_process += 1;
+    }
+}
+
+/// Releases the area that has waited longest of those that no process names.
+pub fn release_one(book: &mut Book, marks: &MarkList) -> Result<Pumped, NoMemory>
+    requires book { IsBook book.old }
+    ensures ok { IfOk result (λ pumped. pump_of (shown book.old) marks.now ≡ Some (record { state = shown book.new; answer = pumped })) }
+    ensures err { OnErr result (shown book.new ≡ shown book.old) }
+    ensures book { IsBook book.new }
+{
+    let Some(serial) = first_free(marks, book.server.retired_areas()) else {
+        return Ok(waiting(book.server.retired_areas()));
+    };
+    make(book, Who::Runtime, Cmd::Release(serial))?;
+    Ok(Pumped::Released(serial))
+}
+
+/// How many areas wait.
+fn waiting(retired: &[u64]) -> Pumped
+    ensures { result ≡ waiting_count retired.now }
+{
+    if retired.is_empty() {
+        return Pumped::Nothing;
+    }
+    Pumped::Waiting {
+        areas: u32::try_from(retired.len()).unwrap_or(u32::MAX),
+    }
+}
