@@ -1,0 +1,239 @@
+%% The commands of a script, put to the node: each to the call of Erlang/OTP that docs/OTP.md names for it. The reply is
+%% the node's own; what it changed is told to the journal, which infers the rest.
+-module(otp_commands).
+-export([make/3, doom/2, purge/2]).
+
+%% what a command needs besides itself
+-type setting() :: #{
+    who := string(),
+    line := string(),
+    texts := #{{atom(), pos_integer()} => otp_script:module_text()},
+    options := [last_calls],
+    %% the processes that were spawned and go on, in order: number, turns, the process, the serials left by last calls
+    processes := [otp_laps:going()]
+}.
+-export_type([setting/0]).
+
+%% Makes a command other than a purge of old code or a spawn.
+-spec make(otp_script:command(), setting(), otp_history:history()) -> otp_history:history().
+make(Command, #{who := Who, line := Line} = Setting, History) ->
+    {Reply, Change} = ask(Command, Setting, History),
+    otp_history:enter(Who, [Line, " = ", reply_text(Reply)], Change, History).
+
+ask({load, References}, Setting, History) ->
+    load(References, Setting, History);
+ask({delete, Name}, Setting, History) ->
+    delete(Name, Setting, History);
+ask({check_old, Name}, _, _) ->
+    {erlang:check_old_code(otp_code:erlang_name(Name)), none};
+ask({soft_purge, Name}, Setting, History) ->
+    soft_purge(Name, Setting, History);
+ask({purge, Name}, _, _) ->
+    {code:purge(otp_code:erlang_name(Name)), none};
+ask({put, Key, Term}, Setting, History) ->
+    put_term(Key, Term, Setting, History);
+ask({erase, Key}, _, _) ->
+    case persistent_term:erase(otp_code:key(Key)) of
+        true -> {true, {erased, Key}};
+        false -> {false, none}
+    end;
+ask({trace, {Module, Name, Arity}, On}, Setting, History) ->
+    trace({Module, Name, Arity}, On, Setting, History);
+ask({spawn, _}, _, _) ->
+    {ok, none}.
+
+reply_text({false_by, Process, Turn}) -> io_lib:format("false ~b ~b", [Process, Turn]);
+reply_text({not_purged, Names}) -> ["not_purged ", otp_script:term_text(Names)];
+reply_text({duplicated, Name}) -> ["duplicated ", atom_to_list(Name)];
+reply_text({system_limit, Limit}) -> ["system_limit ", atom_to_list(Limit)];
+reply_text(Reply) -> atom_to_list(Reply).
+
+differs(Number, #{who := Who, line := Line}) ->
+    otp_differences:note(Number, ["entry ", Who, " ", Line]).
+
+%% ---- load
+
+load(References, Setting, History) ->
+    Names = [Name || {Name, _} <- References],
+    Refusal = refusal(Names, History),
+    case Refusal =/= none andalso otp_differences:steps_aside() of
+        true -> {Refusal, none};
+        false -> load_on_node(References, Names, Refusal, Setting, History)
+    end.
+
+%% How the table refuses a load, if it does, as the node's modules stand.
+refusal(Names, History) ->
+    Old = [Name || Name <- Names, erlang:check_old_code(otp_code:erlang_name(Name))],
+    Live = otp_history:live_instances(History) + length(Names),
+    case {first_repeated(Names, []), Old} of
+        {none, []} when Live > 55 -> {system_limit, instances};
+        {none, []} -> none;
+        {none, _} -> {not_purged, Old};
+        {Name, _} -> {duplicated, Name}
+    end.
+
+first_repeated([], _) ->
+    none;
+first_repeated([Name | Names], Earlier) ->
+    case lists:member(Name, Earlier) of
+        true -> Name;
+        false -> first_repeated(Names, [Name | Earlier])
+    end.
+
+load_on_node(References, Names, Refusal, #{texts := Texts, options := Options} = Setting, History) ->
+    Serials = lists:seq(otp_history:next_serial(History), otp_history:next_serial(History) + length(References) - 1),
+    Compiled = [otp_code:compile(map_get(R, Texts), Serial, Options) || {R, Serial} <- lists:zip(References, Serials)],
+    Before = breakpoints(Names, History),
+    case code:atomic_load([{Module, "script", Binary} || {Module, Binary} <- Compiled]) of
+        ok ->
+            came_in(Refusal, Setting),
+            [otp_differences:lose_breakpoints(8, Lost) || Lost <- Before],
+            {ok, {loaded, Names}};
+        {error, Refused} ->
+            [otp_differences:lose_breakpoints(9, Lost) || Lost <- lost(Before, breakpoints(Names, History))],
+            {refused(Refusal, Refused, Setting), none}
+    end.
+
+came_in(none, _) -> ok;
+came_in({not_purged, _}, Setting) -> differs(1, Setting);
+came_in({system_limit, _}, Setting) -> differs(4, Setting).
+
+refused(Refusal, Refused, Setting) ->
+    case lists:usort([Reason || {_, Reason} <- Refused]) of
+        [not_purged] -> not_purged(Refusal, [otp_code:script_name(Module) || {Module, _} <- Refused], Setting);
+        [duplicated] -> duplicated(Refusal, otp_code:script_name(element(1, hd(Refused))), Setting)
+    end.
+
+not_purged({not_purged, Names}, Told, Setting) ->
+    [differs(1, Setting) || length(Told) < length(Names)],
+    [differs(2, Setting) || [Name || Name <- Names, lists:member(Name, Told)] =/= Told],
+    {not_purged, Told}.
+
+%% A report has one name, and the node tells all: the first of these is taken.
+duplicated({duplicated, Name}, Told, Setting) ->
+    [differs(3, Setting) || Told =/= Name],
+    {duplicated, Told}.
+
+%% ---- breakpoints
+
+%% The functions of the current code of modules that have a breakpoint on the node, by the serials of the instances.
+breakpoints(Names, History) ->
+    [{Serial, traced(Name)} || Name <- Names, (Serial = otp_history:current(Name, History)) =/= none].
+
+traced(Name) ->
+    Module = otp_code:erlang_name(Name),
+    [{F, A} || {F, A} <- otp_code:loaded_names({functions, Module}), is_traced({Module, F, A})].
+
+is_traced(Function) ->
+    erlang:trace_info(Function, traced) =:= {traced, local}.
+
+lost(Before, After) ->
+    [{Serial, Names -- proplists:get_value(Serial, After, [])} || {Serial, Names} <- Before].
+
+trace({_, module_info, Arity} = Function, On, Setting, History) when Arity =< 1 ->
+    case otp_differences:steps_aside() of
+        true ->
+            {false, none};
+        false ->
+            {Reply, Change} = trace_on_node(Function, On, Setting, History),
+            [differs(10, Setting) || Reply],
+            {Reply, Change}
+    end;
+trace(Function, On, Setting, History) ->
+    trace_on_node(Function, On, Setting, History).
+
+trace_on_node({Name, Function, Arity}, On, Setting, History) ->
+    Pattern = {otp_code:erlang_name(Name), Function, Arity},
+    Was = is_traced(Pattern),
+    case erlang:trace_pattern(Pattern, On, [local]) of
+        0 ->
+            {false, none};
+        1 ->
+            Lost = otp_differences:set_breakpoint(otp_history:current(Name, History), {Function, Arity}),
+            [differs(9, Setting) || Lost =:= 9],
+            {true, if Was =:= On -> none; true -> traced end}
+    end.
+
+%% ---- delete and purge
+
+delete(Name, Setting, History) ->
+    Module = otp_code:erlang_name(Name),
+    Loaded = erlang:module_loaded(Module),
+    Before = breakpoints([Name], History),
+    case (Loaded orelse not otp_differences:steps_aside()) andalso code:delete(Module) of
+        true when Loaded ->
+            [otp_differences:lose_breakpoints(8, Lost) || Lost <- Before],
+            {true, {deleted, Name}};
+        true ->
+            differs(5, Setting),
+            {true, {deleted, Name}};
+        false ->
+            {false, none}
+    end.
+
+%% The node says that somebody is in the way, and not who: each process is asked in turn.
+soft_purge(Name, #{processes := Processes} = Setting, History) ->
+    Module = otp_code:erlang_name(Name),
+    Had = erlang:check_old_code(Module),
+    case code:soft_purge(Module) of
+        true when Had ->
+            tell_last_calls(otp_history:old(Name, History), Setting),
+            otp_differences:drop_breakpoints(otp_history:old(Name, History)),
+            {true, {dropped, Name}};
+        true ->
+            {true, none};
+        false ->
+            [{Number, Turns} | _] = [{N, T} || {N, T, Process, _} <- Processes, otp_process:lingers(Process, Module)],
+            {{false_by, Number, Turns}, none}
+    end.
+
+tell_last_calls(Serial, #{processes := Processes} = Setting) ->
+    [differs(6, Setting) || {_, _, _, Left} <- Processes, lists:member(Serial, Left)].
+
+%% The first half of a purge of old code. A node has none: it purges in one call. The processes are those that stand in the
+%% old code by the node's word; they have no turn more, and the purge kills them.
+-spec doom(atom(), setting()) -> [Number :: non_neg_integer()].
+doom(Name, #{processes := Processes}) ->
+    [Number || {Number, _, Process, _} <- Processes, otp_process:lingers(Process, otp_code:erlang_name(Name))].
+
+%% The second half, which is the node's purge.
+-spec purge(atom(), otp_history:history()) -> boolean().
+purge(Name, History) ->
+    Reply = code:purge(otp_code:erlang_name(Name)),
+    otp_differences:drop_breakpoints(otp_history:old(Name, History)),
+    Reply.
+
+%% ---- persistent terms
+
+put_term(Key, Term, Setting, History) ->
+    case table_put(Key, Term, History) of
+        {system_limit, _} = Refusal ->
+            case otp_differences:steps_aside() of
+                true ->
+                    {Refusal, none};
+                false ->
+                    differs(4, Setting),
+                    put_on_node(Key, Term)
+            end;
+        ok ->
+            put_on_node(Key, Term)
+    end.
+
+table_put(Key, Term, History) ->
+    Keys = otp_history:keys(History),
+    IsNew = not lists:member(Key, Keys),
+    HasArea = is_tuple(Term) orelse is_list(Term),
+    case holds(Key, Term) of
+        true -> ok;
+        false when IsNew, length(Keys) >= 384 -> {system_limit, keys};
+        false when HasArea -> case otp_history:live_areas(History) >= 256 of true -> {system_limit, areas}; false -> ok end;
+        false -> ok
+    end.
+
+put_on_node(Key, Term) ->
+    Change = case holds(Key, Term) of true -> none; false -> {put, Key, Term} end,
+    ok = persistent_term:put(otp_code:key(Key), Term),
+    {ok, Change}.
+
+holds(Key, Term) ->
+    persistent_term:get(otp_code:key(Key), make_ref()) =:= Term.
