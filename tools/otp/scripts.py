@@ -67,7 +67,8 @@ class Maker:
             lines.append("print $1")
         if self.chance(15):
             lines += ["label busy", "add $9 1 $9", f"less $9 {self.pick.randint(60, 260)} busy", "move 0 $9"]
-        lines += ["yield", "sub $0 1 $0", "less 0 $0 again"]
+        lines += ["yield", "sub $0 1 $0"]
+        lines += ["less 0 $0 again"] if self.chance(50) else ["less $0 1 done", "jump again", "label done"]
         return lines + ([f"ret {self.term()}"] if self.chance(30) else [])
 
     def step(self, function: Function, later: list[Function], version: int) -> list[str]:

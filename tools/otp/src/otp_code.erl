@@ -4,7 +4,7 @@
 %% So `export f/1`, `label again`, `print $0`, `jump again` becomes
 %%
 %%     f(R0) ->
-%%         otp_process:entered(1, f, [script_m, R0]),
+%%         otp_process:entered(1, script_m, f, [R0]),
 %%         'f/1 at 0'(R0, 0, 0, ..).
 %%     'f/1 at 0'(R0, R1, R2, ..) ->
 %%         otp_process:tick(),
@@ -12,7 +12,7 @@
 %%         otp_process:tick(),
 %%         'f/1 at 0'(R0, R1, R2, ..).
 -module(otp_code).
--export([erlang_name/1, script_name/1, key/1, compile/3, source/3, names/1, loaded_names/1, serial/1]).
+-export([erlang_name/1, script_name/1, key/1, compile/3, source/3, loaded_names/1, serial/1]).
 
 -define(REGISTERS, 16).
 -define(PREFIX, "script_").
@@ -29,11 +29,6 @@ script_name(Module) -> list_to_atom(string:prefix(atom_to_list(Module), ?PREFIX)
 
 %% The key of a persistent term of a script.
 key(Name) -> {script, Name}.
-
-%% The functions of a module text.
--spec names(otp_script:module_text()) -> [{atom(), arity()}].
-names(#{functions := Functions}) ->
-    [{Name, Arity} || #{name := Name, arity := Arity} <- Functions].
 
 %% The functions of the current code of a module that its text has: exported ones, or all. None where it has no such code.
 -spec loaded_names({exports | functions, module()}) -> [{atom(), arity()}].
@@ -104,7 +99,7 @@ starts(At, [_ | Code]) -> starts(At + 1, Code).
 entry(#function{name = Name, arity = Arity, module = #module{name = Module, serial = Serial}} = Function) ->
     Arguments = [register_name(R) || R <- lists:seq(0, Arity - 1)],
     Rest = lists:duplicate(?REGISTERS - Arity, {integer, 1, 0}),
-    Entered = machine(entered, [{integer, 1, Serial}, {atom, 1, Name}, erl_list([{atom, 1, Module} | Arguments])]),
+    Entered = machine(entered, [{integer, 1, Serial}, {atom, 1, Module}, {atom, 1, Name}, erl_list(Arguments)]),
     {function, 1, Name, Arity, [{clause, 1, Arguments, [], [Entered, block_call(0, Arguments ++ Rest, Function)]}]}.
 
 %% The instructions from one start of a block to the next.

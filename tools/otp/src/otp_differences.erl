@@ -4,7 +4,7 @@
 %% the node nothing, so that its report tells whether the node differs in anything else.
 -module(otp_differences).
 -export([start/1, steps_aside/0, note/2, found/0, words/1]).
--export([lose_breakpoints/2, lose_breakpoints/3, set_breakpoint/2, drop_breakpoints/1, lost_breakpoint/3, calls_module_info/2]).
+-export([lose_breakpoints/2, set_breakpoint/2, drop_breakpoints/1, lost_breakpoint/3, calls_module_info/2]).
 
 -define(TABLE, ?MODULE).
 
@@ -43,15 +43,10 @@ words(10) -> "every Erlang module has this function".
 
 %% ---- breakpoints that the node took out, and the table keeps
 
-%% The instance with this serial has lost its breakpoints of these functions.
--spec lose_breakpoints(pos_integer(), pos_integer(), [{atom(), arity()}]) -> true.
-lose_breakpoints(Number, Serial, Names) ->
+%% By this difference the instance with this serial has lost its breakpoints of these functions.
+-spec lose_breakpoints(pos_integer(), {pos_integer(), [{atom(), arity()}]}) -> true.
+lose_breakpoints(Number, {Serial, Names}) ->
     ets:insert(?TABLE, [{{lost, Serial, Name}, Number} || Name <- Names]).
-
-%% The same for those that were lost before, when the code becomes old: the number stays.
--spec lose_breakpoints(pos_integer(), none | {pos_integer(), [{atom(), arity()}]}) -> true.
-lose_breakpoints(_, none) -> true;
-lose_breakpoints(Number, {Serial, Names}) -> lose_breakpoints(Number, Serial, Names).
 
 %% The breakpoint of a function is as it was asked. Answers by which difference it had been lost, if it was.
 -spec set_breakpoint(pos_integer(), {atom(), arity()}) -> none | pos_integer().

@@ -7,7 +7,7 @@
 %% the driver's side
 -export([start/1, step/1, lingers/2, await_kill/1]).
 %% what the code of modules calls
--export([tick/0, yield/0, print/1, small/1, less/2, elem/2, enter/0, enter/3, entered/3, leave/0, last_call/1]).
+-export([tick/0, yield/0, print/1, small/1, less/2, elem/2, enter/0, enter/3, entered/4, leave/0, last_call/1]).
 
 -record(process, {pid :: pid(), monitor :: reference()}).
 -opaque process() :: #process{}.
@@ -45,7 +45,8 @@ step(#process{pid = Pid, monitor = Monitor}) ->
     End =
         receive
             {turn_over, Pid} -> again;
-            {'DOWN', Monitor, process, Pid, {ended, Ending}} -> {ended, Ending}
+            {'DOWN', Monitor, process, Pid, {ended, Ending}} -> {ended, Ending};
+            {'DOWN', Monitor, process, Pid, Reason} -> error({no_end_of_a_script, Reason})
         end,
     Delivered = erlang:trace_delivered(Pid),
     receive
@@ -158,7 +159,7 @@ leave() ->
     put(frames, get(frames) - 1).
 
 %% Stands in each function that is entered: tells of a call that a breakpoint should have met which the node took out.
-entered(Serial, Name, [Module | Arguments]) ->
+entered(Serial, Module, Name, Arguments) ->
     case otp_differences:lost_breakpoint(Serial, Name, length(Arguments)) of
         none -> ok;
         Difference -> tell({untraced, Difference, {Module, Name, Arguments}})
