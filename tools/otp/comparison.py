@@ -10,6 +10,7 @@ from __future__ import annotations
 import os
 import subprocess
 import tempfile
+from collections import Counter
 from dataclasses import dataclass, field
 from pathlib import Path
 from typing import Iterator, Optional
@@ -116,26 +117,27 @@ def differing(ours: str, theirs: str) -> Iterator[str]:
         yield "observers: they saw other exports, or under other generations"
 
 
-def replies(entries: list[tuple[str, str]]) -> dict[tuple[str, int], str]:
-    """The reply of each command, which is named by its text and how often it was made before."""
-    made: dict[str, int] = {}
+def replies(entries: list[tuple[str, str]]) -> dict[str, str]:
+    """The reply of each command, which is named by its text, and by its time where it is made more than once."""
+    made: Counter = Counter()
     named = {}
     for command, reply in entries:
-        made[command] = made.get(command, 0) + 1
-        named[command, made[command]] = reply
+        made[command] += 1
+        time = f" (time {made[command]})" if made[command] > 1 else ""
+        named[command + time] = reply
     return named
 
 
 def differing_entries(mine: list[tuple[str, str]], other: list[tuple[str, str]]) -> Iterator[str]:
     one, two = replies(mine), replies(other)
-    for (command, time), reply in one.items():
-        answer = two.get((command, time))
+    for command, reply in one.items():
+        answer = two.get(command)
         if answer is None:
             yield f"entry {command}: the program made it, the node did not"
         elif without_generation(answer) != without_generation(reply):
             yield f"entry {command}: the program answers {reply}, the node {answer}"
-    for command, time in two:
-        if (command, time) not in one:
+    for command in two:
+        if command not in one:
             yield f"entry {command}: the node made it, the program did not"
 
 

@@ -98,7 +98,7 @@ class Maker:
         return self.pick.choice(sure if self.chance(88) else risky)
 
     def call(self, later: list[Function], at: int) -> list[str]:
-        """A call of a later function, into the register: local, of another module, at times of one that is not there."""
+        """A call of a later function, into the register: local, or of a module, at times of one that is not there."""
         names = [f"step{n}/{n % 3}" for n in range(STEPS) if any(it.name == f"step{n}" for it in later)]
         if not names:
             return [f"move {self.term()} ${at}"]

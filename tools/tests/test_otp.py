@@ -4,6 +4,7 @@ They need Erlang and the program, and are skipped where either is not there.
 """
 
 import os
+import re
 import shutil
 import subprocess
 import sys
@@ -58,7 +59,8 @@ class Compared(unittest.TestCase):
             with self.subTest(name):
                 self.assertEqual(done.our_verdict, "lawful")
                 if name in NOT_LAWFUL:
-                    self.assertEqual((done.verdict, done.numbers, done.aside), ("not lawful", NOT_LAWFUL[name], "lawful"))
+                    judged = (done.verdict, done.numbers, done.aside)
+                    self.assertEqual(judged, ("not lawful", NOT_LAWFUL[name], "lawful"))
                 else:
                     self.assertEqual((done.verdict, done.numbers), ("lawful", []))
                     self.assertEqual(done.told.report, done.ours)
@@ -97,6 +99,12 @@ class Compared(unittest.TestCase):
             with self.subTest(seed=seed):
                 self.assertTrue(done.is_explained, done.told)
 
+    def test_the_page_shows_what_the_tool_prints(self):
+        block = re.search(r"```\n\$ tools/otp/compare (\S+)\n(.*?)```", (TOP / "docs/TOOLS.md").read_text(), re.S)
+        words = [sys.executable, str(OTP / "compare"), "--program", str(PROGRAM), str(TOP / block[1])]
+        done = subprocess.run(words, capture_output=True, text=True)
+        self.assertEqual((done.returncode, done.stdout), (1, block[2]))
+
     def test_what_differs_is_told_in_words(self):
         done = self.shown["01_load_over_deleted"]
         words = list(comparison.differing(done.ours, done.told.report))
@@ -107,7 +115,7 @@ class Compared(unittest.TestCase):
         self.assertEqual(list(comparison.differing(done.ours, done.ours)), [])
 
 
-# Five faults of the Erlang sources, each with the script that shows it: the file, a text that stands there once, another.
+# Five faults of the Erlang sources: the file, a text that stands there once, another, and a script that shows it.
 FAULTS = {
     "a reply is inverted": (
         "otp_commands.erl",
@@ -176,7 +184,8 @@ class Made(unittest.TestCase):
         words = {line.split(" ")[0] for text in texts for line in text.splitlines()}
         commands = {"load", "delete", "soft_purge", "purge", "check_old", "put", "erase", "trace", "spawn", "observer"}
         instructions = {
-            "move", "add", "sub", "eq", "less", "jump", "call", "call_ext", "ret", "pget", "pget_or", "elem", "print", "yield"}
+            "move", "add", "sub", "eq", "less", "jump", "call", "call_ext", "ret", "pget", "pget_or", "elem", "print",
+            "yield"}
         self.assertEqual((commands | instructions) - words, set())
         for text in texts:
             lines = text.splitlines()

@@ -30,7 +30,7 @@ script_name(Module) -> list_to_atom(string:prefix(atom_to_list(Module), ?PREFIX)
 %% The key of a persistent term of a script.
 key(Name) -> {script, Name}.
 
-%% The functions of the current code of a module that its text has: exported ones, or all. None where it has no such code.
+%% The functions of a module's text that its current code has: exported ones, or all. None where there is no such code.
 -spec loaded_names({exports | functions, module()}) -> [{atom(), arity()}].
 loaded_names({Which, Module}) ->
     case erlang:module_loaded(Module) of
@@ -91,7 +91,8 @@ function(#{name := Name, arity := Arity, code := Code}, Module) ->
 
 %% Where blocks start: at what a branch goes to, and behind one.
 starts(_, []) -> [];
-starts(At, [{Test, _, _, Target} | Code]) when Test =:= eq; Test =:= less -> [[Target, At + 1] | starts(At + 1, Code)];
+starts(At, [{eq, _, _, Target} | Code]) -> [[Target, At + 1] | starts(At + 1, Code)];
+starts(At, [{less, _, _, Target} | Code]) -> [[Target, At + 1] | starts(At + 1, Code)];
 starts(At, [{jump, Target} | Code]) -> [[Target] | starts(At + 1, Code)];
 starts(At, [_ | Code]) -> starts(At + 1, Code).
 
@@ -155,12 +156,16 @@ counted({call_ext, {M, Name, Arity}, A}, At, Registers, Function, Start) ->
     Call = remote(Module, Name, arguments(A, Arity, Registers)),
     called(Enter, Call, A, At, Registers, Function, Start).
 
-%% A call keeps its caller's frame: leave/0 stands behind it. With last_calls one whose value is returned at once does not.
-called(Enter, Call, A, At, Registers, #function{code = Code, module = Module} = Function, Start) ->
-    case Module#module.last_calls andalso At + 2 =< tuple_size(Code) andalso element(At + 2, Code) =:= {ret, A} of
+%% A call keeps its caller's frame: leave/0 stands behind it. With last_calls one whose value is returned at once does
+%% not.
+called(Enter, Call, A, At, Registers, #function{module = Module} = Function, Start) ->
+    case Module#module.last_calls andalso is_returned(A, At + 1, Function) of
         true -> [machine(last_call, [{integer, 1, Module#module.serial}]), Call];
         false -> [Enter | bound(Call, A, At, Registers, Function, Start, [machine(leave, [])])]
     end.
+
+is_returned(Register, At, #function{code = Code}) ->
+    At < tuple_size(Code) andalso element(At + 1, Code) =:= {ret, Register}.
 
 %% A register becomes the value of an expression.
 bound(Expression, D, At, Registers, Function, Start) ->

@@ -1,7 +1,12 @@
-%% The commands of a script, put to the node: each to the call of Erlang/OTP that docs/OTP.md names for it. The reply is
-%% the node's own; what it changed is told to the journal, which infers the rest.
+%% The commands of a script, put to the node: each to the call of Erlang/OTP that docs/OTP.md names for it. The reply
+%% is the node's own; what it changed is told to the journal, which infers the rest.
 -module(otp_commands).
 -export([make/3, doom/2, purge/2]).
+
+%% Limits of the command table, which no node has.
+-define(MOST_INSTANCES, 55).
+-define(MOST_KEYS, 384).
+-define(MOST_AREAS, 256).
 
 %% what a command needs besides itself
 -type setting() :: #{
@@ -9,7 +14,7 @@
     line := string(),
     texts := #{{atom(), pos_integer()} => otp_script:module_text()},
     options := [last_calls],
-    %% the processes that were spawned and go on, in order: number, turns, the process, the serials left by last calls
+    %% the processes that were spawned and go on, in order
     processes := [otp_laps:going()]
 }.
 -export_type([setting/0]).
@@ -66,7 +71,7 @@ refusal(Names, History) ->
     Old = [Name || Name <- Names, erlang:check_old_code(otp_code:erlang_name(Name))],
     Live = otp_history:live_instances(History) + length(Names),
     case {first_repeated(Names, []), Old} of
-        {none, []} when Live > 55 -> {system_limit, instances};
+        {none, []} when Live > ?MOST_INSTANCES -> {system_limit, instances};
         {none, []} -> none;
         {none, _} -> {not_purged, Old};
         {Name, _} -> {duplicated, Name}
@@ -81,8 +86,9 @@ first_repeated([Name | Names], Earlier) ->
     end.
 
 load_on_node(References, Names, Refusal, #{texts := Texts, options := Options} = Setting, History) ->
-    Serials = lists:seq(otp_history:next_serial(History), otp_history:next_serial(History) + length(References) - 1),
-    Compiled = [otp_code:compile(map_get(R, Texts), Serial, Options) || {R, Serial} <- lists:zip(References, Serials)],
+    First = otp_history:next_serial(History),
+    Numbered = lists:zip(References, lists:seq(First, First + length(References) - 1)),
+    Compiled = [otp_code:compile(map_get(Reference, Texts), Serial, Options) || {Reference, Serial} <- Numbered],
     Before = breakpoints(Names, History),
     case code:atomic_load([{Module, "script", Binary} || {Module, Binary} <- Compiled]) of
         ok ->
@@ -183,15 +189,16 @@ soft_purge(Name, #{processes := Processes} = Setting, History) ->
         true ->
             {true, none};
         false ->
-            [{Number, Turns} | _] = [{N, T} || {N, T, Process, _} <- Processes, otp_process:lingers(Process, Module)],
+            Lingering = fun({_, _, Process, _}) -> otp_process:lingers(Process, Module) end,
+            {value, {Number, Turns, _, _}} = lists:search(Lingering, Processes),
             {{false_by, Number, Turns}, none}
     end.
 
 tell_last_calls(Serial, #{processes := Processes} = Setting) ->
     [differs(6, Setting) || {_, _, _, Left} <- Processes, lists:member(Serial, Left)].
 
-%% The first half of a purge of old code. A node has none: it purges in one call. The processes are those that stand in the
-%% old code by the node's word; they have no turn more, and the purge kills them.
+%% The first half of a purge of old code. A node has none: it purges in one call. The processes are those that stand in
+%% the old code by the node's word; they have no turn more, and the purge kills them.
 -spec doom(atom(), setting()) -> [Number :: non_neg_integer()].
 doom(Name, #{processes := Processes}) ->
     [Number || {Number, _, Process, _} <- Processes, otp_process:lingers(Process, otp_code:erlang_name(Name))].
@@ -206,34 +213,31 @@ purge(Name, History) ->
 %% ---- persistent terms
 
 put_term(Key, Term, Setting, History) ->
-    case table_put(Key, Term, History) of
-        {system_limit, _} = Refusal ->
-            case otp_differences:steps_aside() of
-                true ->
-                    {Refusal, none};
-                false ->
-                    differs(4, Setting),
-                    put_on_node(Key, Term)
-            end;
-        ok ->
+    Refusal = put_refusal(Key, Term, History),
+    case Refusal =/= none andalso otp_differences:steps_aside() of
+        true ->
+            {Refusal, none};
+        false ->
+            [differs(4, Setting) || Refusal =/= none],
             put_on_node(Key, Term)
     end.
 
-table_put(Key, Term, History) ->
+%% How the table refuses a put, if it does.
+put_refusal(Key, Term, History) ->
     Keys = otp_history:keys(History),
-    IsNew = not lists:member(Key, Keys),
-    HasArea = is_tuple(Term) orelse is_list(Term),
+    LacksKey = not lists:member(Key, Keys) andalso length(Keys) >= ?MOST_KEYS,
+    LacksArea = (is_tuple(Term) orelse is_list(Term)) andalso otp_history:live_areas(History) >= ?MOST_AREAS,
     case holds(Key, Term) of
-        true -> ok;
-        false when IsNew, length(Keys) >= 384 -> {system_limit, keys};
-        false when HasArea -> case otp_history:live_areas(History) >= 256 of true -> {system_limit, areas}; false -> ok end;
-        false -> ok
+        true -> none;
+        false when LacksKey -> {system_limit, keys};
+        false when LacksArea -> {system_limit, areas};
+        false -> none
     end.
 
 put_on_node(Key, Term) ->
-    Change = case holds(Key, Term) of true -> none; false -> {put, Key, Term} end,
+    Held = holds(Key, Term),
     ok = persistent_term:put(otp_code:key(Key), Term),
-    {ok, Change}.
+    {ok, if Held -> none; true -> {put, Key, Term} end}.
 
 holds(Key, Term) ->
     persistent_term:get(otp_code:key(Key), make_ref()) =:= Term.

@@ -1,7 +1,7 @@
 %% Where Erlang/OTP answers otherwise than the command table: the differences of docs/OTP.md, by their numbers there.
 %%
-%% Each is noted where it shows. A node that steps aside has its way instead: it does what the table says there and asks
-%% the node nothing, so that its report tells whether the node differs in anything else.
+%% Each is noted where it shows. A run that steps aside does there what the table says and asks the node nothing, so
+%% that its report tells whether the node differs in anything else.
 -module(otp_differences).
 -export([start/1, steps_aside/0, note/2, found/0, words/1]).
 -export([lose_breakpoints/2, set_breakpoint/2, drop_breakpoints/1, lost_breakpoint/3, calls_module_info/2]).

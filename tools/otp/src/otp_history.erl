@@ -1,5 +1,6 @@
 %% What a node does not tell, and the rules of this project do: the generations, the serials of code and of persistent
-%% terms, and their releases. All of it is INFERRED here from what the node did, by the command table of docs/FORMATS.md.
+%% terms, and their releases. All of it is INFERRED here from what the node did, by the command table of
+%% docs/FORMATS.md.
 -module(otp_history).
 -export([new/0, generation/1, entries/1, next_serial/1, current/2, old/2, live_instances/1, keys/1, live_areas/1]).
 -export([enter/4, release/1]).
@@ -108,9 +109,9 @@ term_serial(_, History) ->
 retire(none, History) -> History;
 retire(Serial, #history{retired = Retired} = History) -> History#history{retired = [Serial | Retired]}.
 
-%% Releases what was dropped in a lap, at its end: each process that goes on has had a turn since, in which it has copied
-%% what it had of it, and nobody stands in code that was dropped.
+%% Releases what was dropped in a lap, at its end: each process that goes on has had a turn since, in which it has
+%% copied what it had of it, and nobody stands in code that was dropped.
 -spec release(history()) -> history().
 release(#history{retired = Retired} = History) ->
     Release = fun(Serial, Made) -> line("rt", ["release ", integer_to_list(Serial), " = ok"], "-", Made) end,
-    (lists:foldl(Release, History, lists:sort(Retired)))#history{retired = []}.
+    lists:foldl(Release, History#history{retired = []}, lists:sort(Retired)).

@@ -1,7 +1,7 @@
 %% A run of a script on this node, in laps: each loader in order makes its next command, then each process that goes on
-%% has one turn, then what was dropped is released; observers look on after each lap but the last, and after it take what
-%% they lack. So each turn is under one generation. A purge of old code takes two laps, and while it is open the other
-%% loaders only spawn and look for old code.
+%% has one turn, then what was dropped is released; observers look on after each lap but the last, and after it take
+%% what they lack. So each turn is under one generation. A purge of old code takes two laps, and while it is open the
+%% other loaders only spawn and look for old code.
 -module(otp_laps).
 -export([run/2]).
 
@@ -14,10 +14,11 @@
     processes := [{{atom(), atom(), [term()]}, [span()], ending()}],
     observers := [[snapshot()]]
 }.
--type going() :: {Number :: non_neg_integer(), Turns :: non_neg_integer(), otp_process:process(), Left :: [pos_integer()]}.
+%% number, turns, the process, and the serials of the instances that it has left by last calls
+-type going() :: {non_neg_integer(), non_neg_integer(), otp_process:process(), [pos_integer()]}.
 -export_type([outcome/0, span/0, ending/0, snapshot/0, going/0]).
 
-%% a loader: its number, the commands that it has left with their lines, and the number of the process that it spawns next
+%% a loader: its number, the commands that it has left with their lines, the number of the process that it spawns next
 -record(loader, {number, commands, next_process}).
 
 %% a process of the script
@@ -78,12 +79,13 @@ outcome(#run{history = History, lives = Lives, observers = Observers}) ->
     #{
         generation => otp_history:generation(History),
         entries => otp_history:entries(History),
-        processes => [
-            {Call, [{Generation, Turns, lists:reverse(Lines)} || {Generation, Turns, Lines} <- lists:reverse(Spans)], Ending}
-         || {_, #life{call = Call, spans = Spans, phase = {ended, Ending}}} <- lists:sort(maps:to_list(Lives))
-        ],
+        processes => [log(Life) || {_, Life} <- lists:sort(maps:to_list(Lives))],
         observers => [lists:reverse(Snapshots) || {0, Snapshots} <- Observers]
     }.
+
+%% Spans and their lines were gathered backwards.
+log(#life{call = Call, spans = Spans, phase = {ended, Ending}}) ->
+    {Call, [{Generation, Turns, lists:reverse(Lines)} || {Generation, Turns, Lines} <- lists:reverse(Spans)], Ending}.
 
 %% ---- loaders
 
@@ -159,10 +161,10 @@ spawned(Number, {Module, Name, Arguments}, #run{lives = Lives} = Run) ->
 %% INFERRED: the first half, which publishes the doom. Who is doomed the node says.
 doom(Module, Serial, Line, Number, #run{history = History, lives = Lives} = Run) ->
     Doomed = otp_commands:doom(Module, setting(Line, Number, Run)),
-    Doom = fun(Process, Changed) -> maps:update_with(Process, fun(Life) -> Life#life{phase = {doomed, Serial}} end, Changed) end,
+    Condemn = fun(_, Life) -> Life#life{phase = {doomed, Serial}} end,
     Run#run{
         history = otp_history:enter(who(Number), ["doom ", atom_to_list(Module), " = ok"], {doomed, Module}, History),
-        lives = lists:foldl(Doom, Lives, Doomed),
+        lives = maps:merge(Lives, maps:map(Condemn, maps:with(Doomed, Lives))),
         purging = #purging{loader = Number, doomed = Doomed}
     }.
 
@@ -230,7 +232,7 @@ took_turn(Lines, #life{turns = Turns, spans = Spans} = Life, #run{history = Hist
     Generation = otp_history:generation(History),
     After =
         case Spans of
-            [{Generation, Before, Earlier} | Rest] -> [{Generation, Before + 1, lists:reverse(Lines, Earlier)} | Rest];
+            [{Generation, Had, Earlier} | Rest] -> [{Generation, Had + 1, lists:reverse(Lines, Earlier)} | Rest];
             _ -> [{Generation, 1, lists:reverse(Lines)} | Spans]
         end,
     Life#life{turns = Turns + 1, spans = After}.

@@ -29,7 +29,8 @@ tell(Number, Where) ->
 
 %% Each module text as the Erlang module that is made of it.
 source(#{modules := Modules}) ->
-    [[otp_code:source(Module, Serial, []), $\n] || {Serial, Module} <- lists:zip(lists:seq(1, length(Modules)), Modules)].
+    Numbered = lists:zip(lists:seq(1, length(Modules)), Modules),
+    [[otp_code:source(Module, Serial, []), $\n] || {Serial, Module} <- Numbered].
 
 write(Text) ->
     ok = file:write(standard_io, Text).
