@@ -48,7 +48,7 @@ class Maker:
 
     def functions(self) -> list[Function]:
         """The functions of a version: a loop, and steps, of which one is local at times or lacking."""
-        steps = [Function(f"step{n}", n % 3, not self.chance(20)) for n in range(STEPS) if not self.chance(8)]
+        steps = [Function(f"step{n}", n % 3, not self.chance(6)) for n in range(STEPS) if not self.chance(3)]
         return [Function("main", 1, True), *steps]
 
     def module(self, name: str, version: int) -> list[str]:
@@ -78,7 +78,7 @@ class Maker:
         if self.chance(35):
             lines.insert(self.pick.randint(0, len(lines)), "yield")
         if self.chance(20):
-            test = self.pick.choice(["eq $4 $5", "less $4 3", "less 2 $5"])
+            test = self.pick.choice(["eq $4 $5", "eq $5 none", "less $6 12", "less 12 $6", "less $4 3"])
             lines += [f"{test} past", "print between", "label past"]
         return [*lines, f"ret {self.pick.choice(['$4', '$5', str(version), self.term()])}"]
 
@@ -94,8 +94,9 @@ class Maker:
             f"add {version} 10 $6",
             "print $5",
         )
-        risky = (f"pget {key} $5", "elem 1 $5 $4", "elem 2 $4 $5", "add $4 1 $6", "sub 576460752303423487 $4 $6")
-        return self.pick.choice(sure if self.chance(88) else risky)
+        risky = (f"pget {key} $5", "elem 1 $5 $4", "elem 2 $4 $5", "add $4 1 $6", "sub 576460752303423487 $4 $6",
+                 "sub 576460752303423487 -1 $6")
+        return self.pick.choice(sure if self.chance(94) else risky)
 
     def call(self, later: list[Function], at: int) -> list[str]:
         """A call of a later function, into the register: local, or of a module, at times of one that is not there."""
@@ -103,7 +104,7 @@ class Maker:
         if not names:
             return [f"move {self.term()} ${at}"]
         name = self.pick.choice(names)
-        if self.chance(4):
+        if self.chance(2):
             return [f"call_ext nobody:{name} ${at}"]
         if self.chance(35):
             return [f"call {name} ${at}"]
@@ -121,14 +122,14 @@ class Maker:
         if self.chance(12):
             number = self.pick.randrange(STEPS)
             return f"spawn {module}:step{number}({','.join(self.term() for _ in range(number % 3))})"
-        return f"spawn {module}:main({self.pick.randint(1, 7)})"
+        return f"spawn {module}:main({self.pick.randint(2, 12)})"
 
     def command(self) -> str:
         module = self.pick.choice(self.modules)
         number = self.pick.randrange(STEPS)
         traced = f"{module}:{self.pick.choice(['main/1', f'step{number}/{number % 3}'])}"
         kinds = {
-            "load": 18, "load_several": 6, "delete": 4, "soft_purge": 12, "purge": 6, "check_old": 6,
+            "load": 18, "load_several": 6, "delete": 3, "soft_purge": 12, "purge": 7, "check_old": 6,
             "put": 10, "erase": 4, "trace_on": 10, "trace_off": 3, "spawn": 16,
         }
         kind = self.pick.choices(list(kinds), list(kinds.values()))[0]
