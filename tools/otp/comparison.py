@@ -35,7 +35,12 @@ class Program:
         self.file = file or Path(os.environ.get("BEAM_PROGRAM") or WRAPPER)
 
     def answer(self, words: list[str], text: str) -> tuple[int, str]:
-        done = subprocess.run([self.file, *words], input=text, capture_output=True, text=True, timeout=SECONDS)
+        try:
+            done = subprocess.run([self.file, *words], input=text, capture_output=True, text=True, timeout=SECONDS)
+        except subprocess.TimeoutExpired:
+            raise ProgramFault(f"no answer of the program after {SECONDS} seconds: does a process never end?") from None
+        except OSError as fault:
+            raise ProgramFault(f"the program {self.file} cannot be run: {fault.strerror}") from None
         return done.returncode, done.stdout
 
     def run(self, script: str) -> str:
@@ -170,6 +175,7 @@ class Comparison:
     verdict: str
     differences: list[Difference]
     aside: str = ""
+    aside_report: str = ""
 
     @property
     def is_lawful(self) -> bool:
@@ -214,5 +220,6 @@ def compare(node: Node, program: Program, script: str, *options: str) -> Compari
         )
         if done.differences:
             report = node.tell(path, "aside", *(option for option in options if option != "last_calls")).report
-            done.aside = program.check(script, without_limited(ours, report) if limits else report)
+            done.aside_report = without_limited(ours, report) if limits else report
+            done.aside = program.check(script, done.aside_report)
     return done

@@ -75,7 +75,7 @@ class Node:
             raise
 
     def build(self, sources: Path) -> None:
-        words = ["erlc", "-Werror", "-o", self.room.name, *map(str, sorted(sources.glob("*.erl")))]
+        words = ["erlc", "-o", self.room.name, *map(str, sorted(sources.glob("*.erl")))]
         done = subprocess.run(words, capture_output=True, text=True)
         if done.returncode:
             raise NodeFault(f"the sources do not compile:\n{done.stdout}{done.stderr}")

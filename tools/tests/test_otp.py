@@ -76,6 +76,7 @@ class Compared(unittest.TestCase):
                     self.assertIn("\nend killed 1\n", done.told.report)
                 else:
                     self.assertEqual((done.verdict, done.numbers, done.aside), ("not lawful", [number], "lawful"))
+                    self.assertEqual(done.aside_report, done.ours)
 
     def test_what_the_node_answers_there(self):
         for name, line in (
@@ -119,8 +120,8 @@ class Compared(unittest.TestCase):
 FAULTS = {
     "a reply is inverted": (
         "otp_commands.erl",
-        "{erlang:check_old_code(otp_code:erlang_name(Name)), none}",
-        "{not erlang:check_old_code(otp_code:erlang_name(Name)), none}",
+        "{has_old_code(Name), none}",
+        "{not has_old_code(Name), none}",
         "check_old",
     ),
     "a generation is told too early": (

@@ -52,8 +52,10 @@ serial(Module) ->
 %% The object code of a module text, with the serial that it has once it is loaded.
 -spec compile(otp_script:module_text(), pos_integer(), [last_calls]) -> {module(), binary()}.
 compile(Text, Serial, Options) ->
-    {ok, Module, Binary} = compile:forms(forms(Text, Serial, Options), [binary, no_auto_import]),
-    {Module, Binary}.
+    case compile:forms(forms(Text, Serial, Options), [binary, no_auto_import]) of
+        {ok, Module, Binary} -> {Module, Binary};
+        error -> error({not_compiled, map_get(name, Text)})
+    end.
 
 %% The same as Erlang source, for a reader.
 -spec source(otp_script:module_text(), pos_integer(), [last_calls]) -> iolist().

@@ -1,7 +1,7 @@
 %% The commands of a script, put to the node: each to the call of Erlang/OTP that docs/OTP.md names for it. The reply
 %% is the node's own; what it changed is told to the journal, which infers the rest.
 -module(otp_commands).
--export([make/3, doom/2, purge/2]).
+-export([make/3, has_old_code/1, doom/2, purge/2]).
 
 %% Limits of the command table, which no node has.
 -define(MOST_INSTANCES, 55).
@@ -30,7 +30,7 @@ ask({load, References}, Setting, History) ->
 ask({delete, Name}, Setting, History) ->
     delete(Name, Setting, History);
 ask({check_old, Name}, _, _) ->
-    {erlang:check_old_code(otp_code:erlang_name(Name)), none};
+    {has_old_code(Name), none};
 ask({soft_purge, Name}, Setting, History) ->
     soft_purge(Name, Setting, History);
 ask({purge, Name}, _, _) ->
@@ -68,7 +68,7 @@ load(References, Setting, History) ->
 
 %% How the table refuses a load, if it does, as the node's modules stand.
 refusal(Names, History) ->
-    Old = [Name || Name <- Names, erlang:check_old_code(otp_code:erlang_name(Name))],
+    Old = [Name || Name <- Names, has_old_code(Name)],
     Live = otp_history:live_instances(History) + length(Names),
     case {first_repeated(Names, []), Old} of
         {none, []} when Live > ?MOST_INSTANCES -> {system_limit, instances};
@@ -180,7 +180,7 @@ delete(Name, Setting, History) ->
 %% The node says that somebody is in the way, and not who: each process is asked in turn.
 soft_purge(Name, #{processes := Processes} = Setting, History) ->
     Module = otp_code:erlang_name(Name),
-    Had = erlang:check_old_code(Module),
+    Had = has_old_code(Name),
     case code:soft_purge(Module) of
         true when Had ->
             tell_last_calls(otp_history:old(Name, History), Setting),
@@ -196,6 +196,10 @@ soft_purge(Name, #{processes := Processes} = Setting, History) ->
 
 tell_last_calls(Serial, #{processes := Processes} = Setting) ->
     [differs(6, Setting) || {_, _, _, Left} <- Processes, lists:member(Serial, Left)].
+
+-spec has_old_code(atom()) -> boolean().
+has_old_code(Name) ->
+    erlang:check_old_code(otp_code:erlang_name(Name)).
 
 %% The first half of a purge of old code. A node has none: it purges in one call. The processes are those that stand in
 %% the old code by the node's word; they have no turn more, and the purge kills them.

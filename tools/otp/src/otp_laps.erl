@@ -117,9 +117,9 @@ goes_now(_, _, _) -> false.
 command({purge, Module}, Line, Number, #run{purging = #purging{doomed = Doomed}} = Run) ->
     purge(Module, Line, Number, Doomed, Run);
 command({purge, Module} = Command, Line, Number, #run{history = History} = Run) ->
-    case otp_history:old(Module, History) of
-        none -> done(Number, make(Command, Line, Number, Run));
-        Serial -> doom(Module, Serial, Line, Number, Run)
+    case otp_commands:has_old_code(Module) of
+        false -> done(Number, make(Command, Line, Number, Run));
+        true -> doom(Module, otp_history:old(Module, History), Line, Number, Run)
     end;
 command({spawn, Call} = Command, Line, Number, Run) ->
     #loader{next_process = Process} = loader(Number, Run),
