@@ -1,7 +1,7 @@
 %% The commands of a script, put to the node: each to the call of Erlang/OTP that docs/OTP.md names for it. The reply
 %% is the node's own; what it changed is told to the journal, which infers the rest.
 -module(otp_commands).
--export([make/3, has_old_code/1, doom/2, purge/2]).
+-export([make/3, has_old_code/1, doom/3, purge/2]).
 
 %% Limits of the command table, which no node has.
 -define(MOST_INSTANCES, 55).
@@ -19,7 +19,7 @@
 }.
 -export_type([setting/0]).
 
-%% Makes a command other than a purge of old code or a spawn.
+%% Makes a command, but for a purge of old code. The process of a spawn is started by who calls this.
 -spec make(otp_script:command(), setting(), otp_history:history()) -> otp_history:history().
 make(Command, #{who := Who, line := Line} = Setting, History) ->
     {Reply, Change} = ask(Command, Setting, History),
@@ -124,7 +124,7 @@ duplicated({duplicated, Name}, Told, Setting) ->
 
 %% The functions of the current code of modules that have a breakpoint on the node, by the serials of the instances.
 breakpoints(Names, History) ->
-    [{Serial, traced(Name)} || Name <- Names, (Serial = otp_history:current(Name, History)) =/= none].
+    [{Serial, traced(Name)} || Name <- Names, Serial <- [otp_history:current(Name, History)], Serial =/= none].
 
 traced(Name) ->
     Module = otp_code:erlang_name(Name),
@@ -183,8 +183,9 @@ soft_purge(Name, #{processes := Processes} = Setting, History) ->
     Had = has_old_code(Name),
     case code:soft_purge(Module) of
         true when Had ->
-            tell_last_calls(otp_history:old(Name, History), Setting),
-            otp_differences:drop_breakpoints(otp_history:old(Name, History)),
+            Serial = otp_history:old(Name, History),
+            tell_last_calls(Serial, Processes, Setting),
+            otp_differences:drop_breakpoints(Serial),
             {true, {dropped, Name}};
         true ->
             {true, none};
@@ -194,7 +195,8 @@ soft_purge(Name, #{processes := Processes} = Setting, History) ->
             {{false_by, Number, Turns}, none}
     end.
 
-tell_last_calls(Serial, #{processes := Processes} = Setting) ->
+%% Of these processes, which do not stand in the instance, some have left it by a last call.
+tell_last_calls(Serial, Processes, Setting) ->
     [differs(6, Setting) || {_, _, _, Left} <- Processes, lists:member(Serial, Left)].
 
 -spec has_old_code(atom()) -> boolean().
@@ -203,9 +205,12 @@ has_old_code(Name) ->
 
 %% The first half of a purge of old code. A node has none: it purges in one call. The processes are those that stand in
 %% the old code by the node's word; they have no turn more, and the purge kills them.
--spec doom(atom(), setting()) -> [Number :: non_neg_integer()].
-doom(Name, #{processes := Processes}) ->
-    [Number || {Number, _, Process, _} <- Processes, otp_process:lingers(Process, otp_code:erlang_name(Name))].
+-spec doom(atom(), pos_integer(), setting()) -> [Number :: non_neg_integer()].
+doom(Name, Serial, #{processes := Processes} = Setting) ->
+    Module = otp_code:erlang_name(Name),
+    {Doomed, Others} = lists:partition(fun({_, _, Process, _}) -> otp_process:lingers(Process, Module) end, Processes),
+    tell_last_calls(Serial, Others, Setting),
+    [Number || {Number, _, _, _} <- Doomed].
 
 %% The second half, which is the node's purge.
 -spec purge(atom(), otp_history:history()) -> boolean().

@@ -160,7 +160,7 @@ spawned(Number, {Module, Name, Arguments}, #run{lives = Lives} = Run) ->
 
 %% INFERRED: the first half, which publishes the doom. Who is doomed the node says.
 doom(Module, Serial, Line, Number, #run{history = History, lives = Lives} = Run) ->
-    Doomed = otp_commands:doom(Module, setting(Line, Number, Run)),
+    Doomed = otp_commands:doom(Module, Serial, setting(Line, Number, Run)),
     Condemn = fun(_, Life) -> Life#life{phase = {doomed, Serial}} end,
     Run#run{
         history = otp_history:enter(who(Number), ["doom ", atom_to_list(Module), " = ok"], {doomed, Module}, History),
