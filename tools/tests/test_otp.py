@@ -78,22 +78,11 @@ class Compared(unittest.TestCase):
                     self.assertEqual((done.verdict, done.numbers, done.aside), ("not lawful", [number], "lawful"))
                     self.assertEqual(done.aside_report, done.ours)
 
-    def test_what_the_node_answers_there(self):
-        for name, line in (
-            ("01_load_over_deleted", "entry L0 load m.2 = ok @3"),
-            ("02_order_of_names", "entry L0 load m.1 n.1 = not_purged [n,m] -"),
-            ("03_name_that_repeats", "entry L0 load m.1 n.1 m.1 n.1 = duplicated n -"),
-            ("04_no_limits", "end normal"),
-            ("05_delete_of_purged", "entry L0 delete m = true @4"),
-            ("06_last_call", "entry L0 soft_purge m = true @3"),
-            ("09_refused_load_drops_traces", "entry L0 trace n:f/0 on = true @4"),
-            ("10_module_info", "entry L0 trace m:module_info/0 on = true @2"),
-        ):
+    def test_the_node_answers_there_as_it_did(self):
+        for name, done in self.shown.items():
             with self.subTest(name):
-                self.assertIn(line, self.shown[name].told.report.splitlines())
-                self.assertNotIn(line, self.shown[name].ours.splitlines())
-        self.assertEqual(self.shown["08_trace_of_old_code"].told.report.count("\ntrace "), 1)
-        self.assertEqual(self.shown["08_trace_of_old_code"].ours.count("\ntrace "), 2)
+                self.assertEqual(done.told.report, (OTP / f"differences/{name}.report").read_text())
+                self.assertEqual(done.told.report == done.ours, name.startswith("07"))
 
     def test_scripts_of_seeds_are_lawful_or_differ_as_listed(self):
         for seed, done in self.made.items():
