@@ -5,7 +5,7 @@ _beam() {
     [ "${COMP_WORDS[1]}" = --unproved ] && first=2
     COMPREPLY=()
     if [ "$COMP_CWORD" -le "$first" ]; then
-        local words="run check progress"
+        local words="run check why progress"
         [ "$first" -eq 1 ] && words="$words --unproved"
         mapfile -t COMPREPLY < <(compgen -W "$words" -- "$word")
     elif [ "${COMP_WORDS[COMP_CWORD - 1]}" = --schedulers ]; then
@@ -23,8 +23,8 @@ _beam_files() {
             mapfile -t COMPREPLY < <(compgen -W "--schedulers" -- "$3")
             ending=script
             ;;
-        run.3 | check.1) ending=script ;;
-        check.2) ending=report ;;
+        run.3 | check.1 | why.1) ending=script ;;
+        check.2 | why.2) ending=report ;;
         progress.1) ending=events ;;
         *) return ;;
     esac

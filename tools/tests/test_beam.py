@@ -12,16 +12,18 @@ from pathlib import Path
 
 TOP = Path(__file__).resolve().parents[2]
 
-# The toolchain that stands in: it notes its words, proves two crates, and builds the program from the crate's source.
+# The toolchain that stands in: it notes its words, proves three crates, and builds a program from its crate's source.
 RT = """#!/bin/sh
 echo "$*" >>"$FAKE/calls"
 case $1 in
     all)
         echo '== low'; echo 'logic=proved'
-        [ -f "$FAKE/broken" ] && { printf '== beam_tool\\nbroken.rt:1: no proof\\n== summary\\n1 of 2 crates ok\\n'; exit 1; }
-        printf '== beam_tool\\n== summary\\nlow: ok\\nbeam_tool: ok\\n2 of 2 crates ok\\n' ;;
+        [ -f "$FAKE/broken" ] && { printf '== beam_tool\\nbroken.rt:1: no proof\\n== summary\\n1 of 3 crates ok\\n'; exit 1; }
+        printf '== beam_tool\\n== beam_why\\n== summary\\nlow: ok\\nbeam_tool: ok\\nbeam_why: ok\\n3 of 3 crates ok\\n' ;;
     run)
-        mkdir -p out && cp src/main.rt out/beam_tool && chmod +x out/beam_tool
+        name=${PWD##*/}
+        mkdir -p out && cp src/main.rt "out/$name" && chmod +x "out/$name"
+        [ "$name" = beam_why ] && { echo 'refused 1 syntax'; exit 3; }
         echo 'words not understood'; exit 2 ;;
     try)
         shift 2
@@ -62,9 +64,10 @@ class BeamTest(unittest.TestCase):
             put(self.top / name, "")
             shutil.copy(TOP / name, self.top / name)
         shutil.copytree(TOP / "tools/vim", self.top / "tools/vim")
-        put(self.top / "crates.txt", "# Crates.\nlow:\nbeam_tool: low\n")
+        put(self.top / "crates.txt", "# Crates.\nlow:\nbeam_tool: low\nbeam_why: low\n")
         put(self.top / "crates/low/src/lib.rt", "")
         put(self.top / "crates/beam_tool/src/main.rt", PROGRAM)
+        put(self.top / "crates/beam_why/src/main.rt", PROGRAM.replace("$*", "the second: $*"))
         put(self.top / "tools/why", WHY, 0o755)
         put(self.room / "bin/rt", RT, 0o755)
         put(self.room / "a.script", "script\n")
@@ -101,7 +104,7 @@ class Words(BeamTest):
     def test_no_form_is_told_before_anything_is_built(self):
         cases = ["", "walk", "--help", "--unproved", "run a b", "run -x", "run --schedulers", "run --schedulers 0",
                  "run --schedulers 01", "run --schedulers 17", "run --schedulers=2", "run a --schedulers 2",
-                 "run --schedulers 2 a b", "check a", "check a b c", "progress a b", "-- run", "--unproved walk"]
+                 "run --schedulers 2 a b", "check a", "check a b c", "progress a b", "-- run", "--unproved walk", "why a", "why a b c"]
         for words in cases:
             with self.subTest(words):
                 ran = self.beam(*words.split(), given=b"text")
@@ -113,7 +116,8 @@ class Words(BeamTest):
         cases = [("run", b"run\ngiven"), ("check", b"check\ngiven"), ("progress", b"progress\ngiven"),
                  ("run --schedulers 16", b"run --schedulers 16\ngiven"), ("run a.script", b"run\nscript\n"),
                  ("run --schedulers 1 a.script", b"run --schedulers 1\nscript\n"),
-                 ("check a.script a.report", b"check\nscript\nreport\n"), ("progress a.script", b"progress\nscript\n")]
+                 ("check a.script a.report", b"check\nscript\nreport\n"), ("progress a.script", b"progress\nscript\n"),
+                 ("why", b"the second: why\ngiven"), ("why a.script a.report", b"the second: why\nscript\nreport\n")]
         for words, out in cases:
             for why in ("0", "1"):
                 with self.subTest(words, why=why):
@@ -136,17 +140,17 @@ class Words(BeamTest):
 
 class Building(BeamTest):
     def test_builds_where_it_has_changed(self):
-        told = [b"2 crates", b"done with low after 0 minutes, 1 left", b"beam_tool after 0 minutes, 0 left", b"linking"]
+        told = [b"3 crates", b"done with low after 0 minutes, 2 left", b"beam_why after 0 minutes, 0 left", b"linking"]
         ran = self.beam("run", BEAM_JOBS="3")
         self.is_answer(ran, 0, b"run\n", told)
         self.assertNotIn(b"words not understood", ran.stderr)
-        self.assertEqual(self.calls(), ["all check --jobs 3", "run"])
+        self.assertEqual(self.calls(), ["all check --jobs 3", "run", "run"])
         self.is_answer(self.beam("run"), 0, b"run\n")
-        self.assertEqual(len(self.calls()), 2)
+        self.assertEqual(len(self.calls()), 3)
         time.sleep(0.05)
         put(self.top / "crates/low/src/lib.rt", "changed")
         self.is_answer(self.beam("run"), 0, b"run\n", told)
-        self.assertRegex(self.calls()[2], r"^all check --jobs [1-9]\d*$")
+        self.assertRegex(self.calls()[3], r"^all check --jobs [1-9]\d*$")
 
     def test_a_build_that_fails_has_a_status_of_its_own(self):
         put(self.room / "broken", "")
@@ -176,7 +180,8 @@ class Hints(BeamTest):
         self.beam("run")
         cases = [("run a.script", 3, b"why: --kind script [script] run\n"),
                  ("check a.script a.report", 1, b"why: --kind script [script\nreport] check\n"),
-                 ("progress", 1, b"why: --kind events [given] progress\n")]
+                 ("why a.script a.report", 3, b"why: --kind script [script\nreport] the second: why\n"),
+                 ("why", 1, b""), ("progress", 1, b"why: --kind events [given] progress\n")]
         for words, status, said in cases:
             with self.subTest(words):
                 ran = self.beam(*words.split(), given=b"given", FAKE_STATUS=str(status), BEAM_WHY="1")
@@ -234,6 +239,7 @@ class Unproved(BeamTest):
             ran = self.beam("--unproved", "run", "--schedulers", "2", given=given, FAKE_STATUS=str(status))
             self.is_answer(ran, status, b"run --schedulers 2\n" + given, [b"proves nothing"])
         self.is_answer(self.beam("--unproved", "check", "a.script", "a.report"), 0, b"check\nscript\nreport\n")
+        self.is_answer(self.beam("--unproved", "why", given=b"x"), 0, b"the second: why\nx")
         self.assertEqual({it.split()[0] for it in self.calls()}, {"try"})
 
     def test_a_reason_for_a_trial(self):
@@ -258,13 +264,15 @@ class Installed(BeamTest):
         (self.room / "link").symlink_to(to / "bin/beam")
         for program in (to / "bin/beam", self.room / "link"):
             self.is_answer(self.beam("run", "a.script", program=program), 0, b"run\nscript\n")
+            self.is_answer(self.beam("why", program=program), 0, b"the second: why\n")
         ran = self.beam("run", "a.script", program=to / "bin/beam", FAKE_STATUS="3", BEAM_WHY="1")
         self.is_answer(ran, 3, b"run\nscript\n", [b"why: --kind script"])
         self.is_answer(self.beam("--unproved", "run", program=to / "bin/beam"), 7, b"", [b"use a checkout"])
         for name in ("share/man/man1/beam.1", "share/bash-completion/completions/beam", "bin/beam-why",
                      "share/vim/vimfiles/syntax/cambotrila.vim"):
             self.assertTrue((to / name).exists(), name)
-        self.assertTrue(os.stat(to / "libexec/cambotrila/beam_tool").st_mode & stat.S_IXUSR)
+        for name in ("beam_tool", "beam_why"):
+            self.assertTrue(os.stat(to / "libexec/cambotrila" / name).st_mode & stat.S_IXUSR)
 
     def test_wants_one_folder(self):
         for words in ([], ["a", "b"]):

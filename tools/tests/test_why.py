@@ -5,6 +5,7 @@ import subprocess
 import sys
 import tempfile
 import unittest
+from unittest import mock
 
 from faults import FAULTS, FIRST, HEAD, ENTRIES, PROCESS
 from loading import TOOLS, load_tool
@@ -95,9 +96,32 @@ class OtherAnswers(unittest.TestCase):
     """Lines of the program that name no line of the input."""
 
     def test_what_is_told(self):
-        for line, phrase in [("words not understood", "run --schedulers N"), ("not lawful", "no code server"),
-                             ("lawful", "nothing was refused")]:
+        for line, phrase in [("words not understood", "run --schedulers N"), ("lawful", "nothing was refused")]:
             self.assertIn(phrase, "\n".join(why.answer(FIRST, line, "auto").lines))
+
+    def test_a_broken_clause(self):
+        said = "not lawful: TurnsFollow (process 0, span 1, line 7)\nexpected the line `print 3`\n"
+        cases = [(said, 1, True, ("the clause TurnsFollow", "process 0, span 1, line 7 of the report", "hint: expected the line `print 3`")),
+                 ("not lawful: Complete\nexpected more\n", 1, True, ("the clause Complete", "hint: expected more")),
+                 ("lawful\n", 0, False, ("are not those that the program read",))]
+        for out, status, found, phrases in cases:
+            for fault in ("not lawful", "not lawful: TurnsFollow (process 0, span 1, line 7)"):
+                with self.subTest(out, fault=fault), tempfile.TemporaryDirectory() as folder:
+                    program = pathlib.Path(folder) / "beam_why"
+                    program.write_text(f"#!/bin/sh\ncat >\"$0.read\"\nprintf '%s' '{out}'\nexit {status}\n")
+                    program.chmod(0o755)
+                    with mock.patch.object(why, "clause_program", lambda: program):
+                        told = why.answer(FIRST, fault, "auto")
+                    self.assertEqual(told.found, found)
+                    for phrase in phrases:
+                        self.assertIn(phrase, "\n".join(told.lines))
+                    self.assertEqual((pathlib.Path(folder) / "beam_why.read").read_text(), FIRST)
+
+    def test_no_program_that_names_clauses(self):
+        with mock.patch.object(why, "clause_program", lambda: None):
+            told = why.answer(FIRST, "not lawful", "auto")
+        self.assertFalse(told.found)
+        self.assertIn("beam_why", told.lines[0])
 
     def test_several_faults_of_a_line(self):
         text = "beam script 1\nloader\n\tput k {1, $0}\r\ngo\n"

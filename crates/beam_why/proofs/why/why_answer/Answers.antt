@@ -1,0 +1,25 @@
+-- The answer to what was read, or to a text over the limit.
+use Rattle.std.proofs.Common.{ℕ, ◌≤◌, List, length, sym, subst}
+use Rattle.script_text.specs.declared.fault.ScriptFault.TheVariants as faults
+use Rattle.outside.specs.declared.check_input.TheConstants.{LONGEST_CHECK}
+use Rattle.outside.specs.Answers.{refusal_text}
+use Rattle.beam_why.specs.Why.{ReadVerdict, long_text}
+use Rattle.beam_why.proofs.Verdicts.{by_line, by_slice}
+use Rattle.beam_why.proofs.why.why_answer.Goals as goal
+
+pub judged-requires : goal.judged-requires
+judged-requires g c =
+    let short = rw c.in-Whole.is at c.in_ok-bytes.ensures.limit in
+    subst (λ (l : List ℕ). length l ≤ LONGEST_CHECK) (sym c.as_slice.ensures) short
+
+pub returns-in_ok-judged-in-Whole-clause-verdict : goal.returns-in_ok-judged-in-Whole-clause-verdict
+returns-in_ok-judged-in-Whole-clause-verdict g c =
+    let told = rw c.in-Whole.is at c.in_ok-bytes.ensures.whole in
+    let to_end = rw c.in-Whole.is at c.in_ok-bytes.ensures.end in
+    let short = rw c.in-Whole.is at c.in_ok-bytes.ensures.limit in
+    by_slice _ _ _ _ _ _ c.as_slice.ensures (record { told = told; to_end = to_end; short = short }) c.in_ok-judged-in-Whole.ensures
+
+pub returns-in_ok-refusal-in-TooLong-clause-verdict : goal.returns-in_ok-refusal-in-TooLong-clause-verdict
+returns-in_ok-refusal-in-TooLong-clause-verdict g c =
+    let long = rw c.in-TooLong.is at c.in_ok-bytes.ensures.too_long in
+    by_line (ReadVerdict (g.S.Source.left c.args.source.now) (g.S.Source.left c.read_whole.new.source)) 3 (refusal_text faults.FileTooLong) _ _ _ (long_text long) c.in_ok-refusal-in-TooLong.ensures.line

@@ -1,0 +1,18 @@
+//! The program that says why a report is not lawful: it names a clause of a lawful log that does not hold.
+#![tactic(auto)]
+
+mod lines;
+mod places;
+mod why;
+mod words;
+
+use outside::{StdSink, StdSource};
+use std::process::ExitCode;
+use why::why_top;
+
+/// Reads a script with a report behind it from standard input, and writes what is said of it to standard output.
+fn main(rt: HostRuntime) -> ExitCode {
+    let mut source = StdSource::new(rt.stdin());
+    let mut sink = StdSink::new(rt.stdout());
+    ExitCode::from(why_top(rt.alloc(), &mut source, &mut sink))
+}

@@ -1,0 +1,60 @@
+// Where a clause was found broken, in words. It is a hint.
+use crate::lines::{entry_line, process_line, snapshot_line, span_line};
+use legality::Place;
+use run_log::RunLog;
+use term_core::{ByteList, NoMemory, print_number};
+
+/// Appends the place, as ` (entry 7, line 9)`, with the line of the report. Entries, spans and snapshots count from 1.
+pub fn write_place(log: &RunLog, at: Place, out: &mut ByteList) -> Result<(), NoMemory> {
+    match at {
+        Place::Whole => Ok(()),
+        Place::End => out.extend_from_slice(b" (behind the last entry)"),
+        Place::Entry(place) => write_one(
+            b" (entry ",
+            place.saturating_add(1),
+            entry_line(place),
+            out,
+        ),
+        Place::Process(number) => write_one(b" (process ", number, process_line(log, number), out),
+        Place::Span { process, span } => {
+            let line = span_line(log, process, span);
+            write_two(b" (process ", process, b", span ", span, line, out)
+        }
+        Place::Snapshot { observer, snapshot } => {
+            let line = snapshot_line(log, observer, snapshot);
+            write_two(
+                b" (observer ",
+                observer,
+                b", snapshot ",
+                snapshot,
+                line,
+                out,
+            )
+        }
+    }
+}
+
+fn write_one(word: &[u8], number: usize, line: usize, out: &mut ByteList) -> Result<(), NoMemory> {
+    out.extend_from_slice(word)?;
+    print_number(number as u64, out)?;
+    write_line(line, out)
+}
+
+fn write_two(
+    word: &[u8],
+    number: usize,
+    other: &[u8],
+    place: usize,
+    line: usize,
+    out: &mut ByteList,
+) -> Result<(), NoMemory> {
+    out.extend_from_slice(word)?;
+    print_number(number as u64, out)?;
+    write_one(other, place.saturating_add(1), line, out)
+}
+
+fn write_line(line: usize, out: &mut ByteList) -> Result<(), NoMemory> {
+    out.extend_from_slice(b", line ")?;
+    print_number(line as u64, out)?;
+    out.extend_from_slice(b")")
+}

@@ -1,0 +1,4 @@
+pub mod ReadParts
+pub mod ScriptParts
+pub mod Taken
+pub mod Written
