@@ -18,6 +18,7 @@ use Rattle.prgr_core.specs.Step.{IsSound as IsProgressSound}
 use Rattle.prgr_core.proofs.Parts.{some_same}
 use Rattle.prgr_core.proofs.SoundParts.{is_member}
 use Rattle.prgr_core.proofs.SoundMembers.{is_value_true}
+use Rattle.prgr_core.proofs.WatcherSteps.{is_claimed_true}
 use Rattle.area_core.specs.Readers.{has_root, in_member, in_watcher, held_generations, readable_generations}
 use Rattle.area_core.proofs.Joined.{any_joined}
 
@@ -99,15 +100,11 @@ claimed_is : (phase : Phase) → IsClaimed phase → is_claimed phase ≡ true
 claimed_is (Claimed c) claimed = refl
 claimed_is phase claimed = absurd claimed.1
 
-claimed_by : (phase : Phase) → is_claimed phase ≡ true → IsClaimed phase
-claimed_by (Claimed c) e = (c, refl)
-claimed_by phase e = absurd (cc)
-
 watcher_held : (w : Watcher) (g : ℕ) → IsClaimed w.phase → w.generation ≡ Some g → list_any (λ x. x == g) (in_watcher w) ≡ true
 watcher_held w g claimed holds = has_held g (is_claimed w.phase) w.generation (claimed_is w.phase claimed) holds
 
 held_watcher : (w : Watcher) (g : ℕ) → list_any (λ x. x == g) (in_watcher w) ≡ true → IsClaimed w.phase × (w.generation ≡ Some g)
-held_watcher w g e = let both = held_has g (is_claimed w.phase) w.generation e in (claimed_by w.phase both.0, both.1)
+held_watcher w g e = let both = held_has g (is_claimed w.phase) w.generation e in (is_claimed_true w.phase both.0, both.1)
 
 -- ---- all
 
