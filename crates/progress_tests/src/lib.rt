@@ -8,4 +8,6 @@ mod later;
 #[cfg(test)]
 mod tables;
 #[cfg(test)]
+mod waits;
+#[cfg(test)]
 mod watchers;

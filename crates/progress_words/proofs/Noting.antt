@@ -1,11 +1,11 @@
 -- Who has joined a note has learnt of at least as many generations as the note.
-use Rattle.std.proofs.Common.{◌≡◌, ℕ, ◌<◌, ◌≤◌, Bool, true, false, cond, List, length, refl, sym, ap, subst, ◌∙◌, arith}
+use Rattle.std.proofs.Common.{◌≡◌, ◌≤◌, Bool, true, false, cond, List, length, refl, sym, subst, arith}
 use Rattle.std.specs.Prelude.{nat_lt}
 use Rattle.std.proofs.lemmas.Bool.{ltb-false}
 use Rattle.area_core.specs.declared.table.Published.{Published}
 use Rattle.shared_words.specs.declared.view.NoteView.{NoteView}
 use Rattle.shared_words.specs.declared.view.MemberView.{MemberView}
-use Rattle.shared_words.specs.Notes.{longer, note_joined}
+use Rattle.shared_words.specs.Notes.{note_joined}
 
 by_length : (b : Bool) (mine other : List Published) → nat_lt (length mine) (length other) ≡ b → length other ≤ length (cond b other mine)
 by_length true mine other is = omega arith

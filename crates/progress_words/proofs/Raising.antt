@@ -1,10 +1,9 @@
 -- A leader that has found all members done may raise the counter, and what it knows at each end of a try.
-use Rattle.std.proofs.Common.{◌≡◌, ℕ, ◌+◌, ◌<◌, ◌≤◌, Bool, true, false, ◌||◌, List, [], length, refl, sym, ap, subst, ◌∙◌, arith}
+use Rattle.std.proofs.Common.{◌≡◌, ℕ, ◌+◌, ◌<◌, ◌≤◌, Bool, false, List, length, refl, sym, ap, subst, ◌∙◌, arith}
 use Rattle.std.specs.Prelude.{Option, Some, None, ◌==◌}
 use Rattle.std.proofs.lemmas.Bool.{eq-eqb, or_right}
 use Rattle.std.proofs.lemmas.List.{length-replicate}
 use Rattle.prgr_core.specs.declared.member.TheConstants.{LAST_VALUE, MOST_MEMBERS}
-use Rattle.prgr_core.specs.declared.member.Role.TheVariants.{Leads}
 use Rattle.prgr_core.specs.Members as members
 use Rattle.shared_words.specs.declared.opening.Opening.{Opening}
 use Rattle.shared_words.specs.declared.view.MemberView.{MemberView}

@@ -17,8 +17,8 @@ use Rattle.shared_words.specs.declared.view.View.TheVariants.{Member}
 use Rattle.shared_words.specs.Seats.{IsSameSeat}
 use Rattle.shared_words.specs.Kinds.{KnowsAsLeader, scans_of, known_counter, word_scanned}
 use Rattle.progress_words.specs.Tokens.{view_of, IsMemberOf, IsSameMember}
-use Rattle.progress_words.specs.Leads.{IsLeader, LeadsAt}
-use Rattle.progress_words.specs.Advances.{with_counter, words_found, AreDone, AreAllDone, IsBehind, HasFound}
+use Rattle.progress_words.specs.Leads.{LeadsAt}
+use Rattle.progress_words.specs.Advances.{words_found, AreDone, IsBehind, HasFound}
 use Rattle.progress_words.specs.declared.advances.Lag.{Lag}
 use Rattle.progress_words.proofs.Tokens.{still_token, same_again, view_is}
 

@@ -1,7 +1,7 @@
 -- What the writer waits for: a value of the counter that no thread reaches while it reads a generation before the one
 -- that the value was taken at.
 -- Source: Erlang/OTP erts internal documentation, ThreadProgress, on operations that are scheduled for later.
-use Rattle.std.specs.Prelude.{◌≡◌, ℕ, ◌+◌, ◌<◌, ◌≤◌}
+use Rattle.std.specs.Prelude.{◌≡◌, ℕ, ◌<◌, ◌≤◌}
 use Rattle.atomic_table.specs.Table.{State}
 use Rattle.prgr_core.specs.Invariant.{CounterInRange}
 use Rattle.term_core.specs.declared.generation.Generation.{Generation}

@@ -1,4 +1,4 @@
-use Rattle.std.proofs.Common.{◌≡◌, arith}
+use Rattle.std.proofs.Common.{arith}
 use Rattle.progress_words.specs.Tokens.{view_of}
 use Rattle.progress_words.proofs.Tokens.{view_is}
 use Rattle.progress_words.proofs.Raising.{leads_loaded, leads_looked, still_leader, fresh_leader, may_raise_found}

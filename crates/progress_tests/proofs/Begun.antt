@@ -1,0 +1,60 @@
+-- The tokens of a table of two members as they begin.
+use Rattle.std.proofs.Common.{◌≡◌, ℕ, ◌+◌, ◌<◌, List, [], ◌∷◌, ◌++◌, length, length-append, refl, sym, ap, subst, ◌∙◌, arith}
+use Rattle.std.specs.Prelude.{Some, slice_get}
+use Rattle.atomic_table.specs.Seated.{TableId}
+use Rattle.shared_words.specs.declared.seats.Member as tokens
+use Rattle.shared_words.specs.declared.view.MemberView.{MemberView}
+use Rattle.shared_words.specs.declared.view.View.TheVariants.{Member}
+use Rattle.shared_words.specs.Seats.{member_of}
+use Rattle.shared_words.specs.Opening.{member_begun}
+use Rattle.shared_words.specs.Making.{IsMemberBegun, AreMembersBegun}
+use Rattle.shared_words.specs.Kinds.{MayLead, MayWait}
+use Rattle.shared_words.proofs.ShownMembers.{still_at}
+use Rattle.progress_words.specs.Tokens.{view_of, IsMemberOf}
+
+got_last : {A : Type 0} (xs : List A) (x : A) → slice_get (xs ++ x ∷ []) (length xs) ≡ Some x
+got_last [] x = refl
+got_last (y ∷ ys) x = got_last ys x
+
+-- what is known of a token as it begins
+pub record IsFresh (table : TableId) (k : ℕ) (token : tokens.Member) : Type 0 where
+  pub of : IsMemberOf table token
+  pub view : view_of token ≡ member_begun k
+
+fresh : (table : TableId) (k : ℕ) (token : tokens.Member) → k < 2 → IsMemberBegun table k token → IsFresh table k token
+fresh table k token few begun =
+    let view : view_of token ≡ member_begun k = ap member_of begun.view in
+    let number = begun.number_is in record {
+      of = record {
+        few = omega arith;
+        of_table = begun.of_table;
+        view = begun.view ∙ ap Member (sym view);
+        numbered = ap (λ (m : MemberView). m.member.number) view ∙ sym number;
+      };
+      view = view;
+    }
+
+-- the token that was taken out last is the first member's
+pub first_begun : (table : TableId) (all rest few : List tokens.Member) (first second : tokens.Member) → all ≡ rest ++ second ∷ [] → rest ≡ few ++ first ∷ [] → AreMembersBegun table 2 all → IsFresh table 0 first
+first_begun table all rest few first second taken taken' begun =
+    let two : length all ≡ 2 = begun.all in
+    let long : length all ≡ length (rest ++ second ∷ []) = ap length taken in
+    let short : length rest ≡ length (few ++ first ∷ []) = ap length taken' in
+    let none : length few ≡ 0 = omega (arith, two, long, short, length-append rest (second ∷ []), length-append few (first ∷ [])) in
+    let there : slice_get rest 0 ≡ Some first = ap (λ (xs : List tokens.Member). slice_get xs 0) taken' ∙ ap (λ (i : ℕ). slice_get (few ++ first ∷ []) i) (sym none) ∙ got_last few first in
+    fresh table 0 first (omega arith) (begun.each 0 first (ap (λ (xs : List tokens.Member). slice_get xs 0) taken ∙ still_at rest (second ∷ []) 0 first there))
+
+-- the token that was taken out first is the second member's
+pub second_begun : (table : TableId) (all rest : List tokens.Member) (second : tokens.Member) → all ≡ rest ++ second ∷ [] → AreMembersBegun table 2 all → IsFresh table 1 second
+second_begun table all rest second taken begun =
+    let two : length all ≡ 2 = begun.all in
+    let long : length all ≡ length (rest ++ second ∷ []) = ap length taken in
+    let one : length rest ≡ 1 = omega (arith, two, long, length-append rest (second ∷ [])) in
+    fresh table 1 second (omega arith) (begun.each 1 second (ap (λ (xs : List tokens.Member). slice_get xs 1) taken ∙ ap (λ (i : ℕ). slice_get (rest ++ second ∷ []) i) (sym one) ∙ got_last rest second))
+
+-- who begins is awake and follows
+pub begun_may_lead : (m : MemberView) (k : ℕ) → m ≡ member_begun k → MayLead m
+begun_may_lead m k is = subst MayLead (sym is) (record { awake = refl; follows = refl })
+
+pub begun_may_wait : (m : MemberView) (k : ℕ) → m ≡ member_begun k → MayWait m
+begun_may_wait m k is = subst MayWait (sym is) (record { awake = refl; follows = refl })
