@@ -1,5 +1,4 @@
-ghost use Rattle.std.specs.Prelude.{◌≡◌, IfOk, IsErrOf};
-ghost use Rattle.prgr_core.specs.EventText.{EventText};
+ghost use Rattle.std.specs.Prelude.{IfOk, IsErrOf};
 ghost use Rattle.beam_tool.specs.Outside.{Rose};
 ghost use Rattle.beam_tool.specs.TopCall.{ReadVerdict, ListVerdict, ReplayOf, IsReplayable, IsLine, not_enabled_text, done_text};
 

@@ -1,4 +1,4 @@
-ghost use Rattle.std.specs.Prelude.{◌≡◌, IfOk, IsErrOf};
+ghost use Rattle.std.specs.Prelude.{IfOk, IsErrOf};
 ghost use Rattle.script_core.specs.Sound.{IsScript};
 ghost use Rattle.beam_tool.specs.Outside.{Rose};
 ghost use Rattle.beam_tool.specs.TopCall.{ReadVerdict, ScriptVerdict, ReportOf};

@@ -1,5 +1,5 @@
 // A source and a sink in memory that work in pieces and fail at calls that are told before.
-ghost use Rattle.std.specs.Prelude.{◌≡◌, ◌+◌, ◌-◌, ◌<◌, ◌≤◌, ◌↔◌, ◌++◌, [], length, take, drop, min, Some, IfOk, OnOk, OnErr, IsErr, Contains};
+ghost use Rattle.std.specs.Prelude.{◌≡◌, ◌-◌, ◌<◌, ◌≤◌, ◌↔◌, ◌++◌, [], length, take, drop, min, Some, IfOk, OnOk, OnErr, IsErr, Contains};
 ghost use Rattle.outside.specs.Outside.{HasCause, one_more};
 ghost use Rattle.outside.specs.Memory.{piece_of, source_after, sink_after};
 

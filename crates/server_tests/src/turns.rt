@@ -1,4 +1,4 @@
-ghost use Rattle.std.specs.Prelude.{◌≡◌, ◌<◌, ◌^◌, [], IfOk, IfSome, Some, length};
+ghost use Rattle.std.specs.Prelude.{◌≡◌, ◌<◌, ◌^◌, [], IfOk, IfSome, length};
 ghost use Rattle.mod_core.specs.Module.{IsModule};
 ghost use Rattle.server_core.specs.CommandTable.{AreTexts, IsOfText};
 ghost use Rattle.machine_core.specs.Process.{Words, process_of};

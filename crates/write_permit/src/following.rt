@@ -1,4 +1,4 @@
-ghost use Rattle.std.specs.Prelude.{◌≡◌, ◌≤◌, IfOk, OnOk, length};
+ghost use Rattle.std.specs.Prelude.{◌≡◌, ◌≤◌, OnOk, length};
 ghost use Rattle.write_permit.specs.Agreement.{CanFollow, CanPromote, all_promoted, followed, new_modules};
 
 use module_table::ModuleTable;
