@@ -12,7 +12,7 @@ use Rattle.prgr_core.specs.Step.{after, after_all, opening, StopsAt}
 use Rattle.prgr_core.proofs.Grammars.{reading_complete}
 use Rattle.beam_tool.specs.declared.form.Form.{Form}
 use Rattle.beam_tool.specs.declared.form.Form.TheVariants as forms
-use Rattle.beam_tool.specs.declared.check_form.TheConstants.{LONGEST_CHECK}
+use Rattle.outside.specs.declared.check_input.TheConstants.{LONGEST_CHECK}
 use Rattle.script_core.specs.declared.script.TheConstants.{LONGEST_SCRIPT}
 use Rattle.script_core.specs.declared.script.Script.{Script}
 use Rattle.script_text.specs.declared.fault.ScriptFault.{ScriptFault}
@@ -25,10 +25,12 @@ use Rattle.report_text.specs.declared.fault.ReportFault.TheVariants as report_fa
 use Rattle.report_text.specs.ReportText.{FaultOf as ReportFaultOf}
 use Rattle.run_log.specs.Report.{rendering_of}
 use Rattle.run_log.specs.WellFormed.{IsWellFormed}
-use Rattle.beam_tool.specs.Outside.{Rose}
-use Rattle.beam_tool.specs.Parting.{script_part, report_part}
-use Rattle.beam_tool.specs.TopCall.{WasRead, IsTooLong, IsNoScript, HasNoFault, IsScriptRead, IsReportOf, IsReportRead, HasScriptAndReport, HasFaultyReport, IsUnlawful, IsLine, ReportOf, made, ScriptVerdict, report, refusal, refusal_text, ReplayOf, all_made, stopped, ListVerdict, replay, fault, ReportVerdict, report_refused, lawful, not_lawful, CheckVerdict, script_refused, judged, ReadVerdict, whole_text, long_text, report_syntax_text, lawful_text, not_lawful_text, done_text, not_enabled_text, Verdict, misread, run, check, progress, Answered, Reported, Checked, SourceFailed, SinkFailed, Delivered, whole, cut, Ends, written, cut_off, source_failed, no_memory}
-use Rattle.beam_tool.proofs.ScriptParts.{parts_are_whole, part_of_script, part_behind_script}
+use Rattle.outside.specs.Outside.{Rose}
+use Rattle.outside.specs.Parting.{script_part, report_part}
+use Rattle.outside.specs.Answers.{IsLine, refusal_text, report_syntax_text}
+use Rattle.outside.specs.Inputs.{WasRead, IsTooLong, IsNoScript, HasNoFault, IsScriptRead, IsReportOf, IsReportRead, HasScriptAndReport, HasFaultyReport}
+use Rattle.beam_tool.specs.TopCall.{IsUnlawful, ReportOf, made, ScriptVerdict, report, refusal, ReplayOf, all_made, stopped, ListVerdict, replay, fault, ReportVerdict, report_refused, lawful, not_lawful, CheckVerdict, script_refused, judged, ReadVerdict, whole_text, long_text, lawful_text, not_lawful_text, done_text, not_enabled_text, Verdict, misread, run, check, progress, Answered, Reported, Checked, SourceFailed, SinkFailed, Delivered, whole, cut, Ends, written, cut_off, source_failed, no_memory}
+use Rattle.outside.proofs.ScriptParts.{parts_are_whole, part_of_script, part_behind_script}
 
 -- ---- what the bytes come to
 
@@ -189,14 +191,10 @@ check_log (whole_text _ _ _ _ r (judged _ _ _ _ rs v)) = report_log v
 check_log (long_text l) = refl
 
 no_log_verdict : {left left' : Option (List ℕ)} {form : Option Form} {status : ℕ} {log : Option RunLog} {text : List ℕ} → Verdict left left' form status log text → status ≢ 0 → log ≡ None
-no_log_verdict misread d = refl
 no_log_verdict (run _ _ _ _ (whole_text _ _ _ _ r (report _ _ _ _ t h (made _ _ l e)))) d = absurd (d refl)
-no_log_verdict (run _ _ _ _ (whole_text _ _ _ _ r (refusal _ q bare))) d = refl
-no_log_verdict (run _ _ _ _ (long_text l)) d = refl
 no_log_verdict (check _ _ _ v) d = check_log v
 no_log_verdict (progress _ _ _ (whole_text _ _ _ _ r (replay _ _ _ _ t v))) d = replay_log v
-no_log_verdict (progress _ _ _ (whole_text _ _ _ _ r (fault _ e))) d = refl
-no_log_verdict (progress _ _ _ (long_text l)) d = refl
+no_log_verdict v d = refl
 
 pub no_log_of : {form : Option Form} {left left' : Option (List ℕ)} {sf sf' : ℕ} {got got' : Option (List ℕ)} {kf kf' : ℕ} {status : ℕ} {log : Option RunLog} → Ends form left left' sf sf' got got' kf kf' status log → status ≢ 0 → status ≢ 5 → log ≡ None
 no_log_of (written _ _ _ v a) d c = no_log_verdict v d
@@ -446,20 +444,6 @@ report_of bytes s status log text t sane r = report s status log text t sane r
 pub refusal_of : (bytes : List ℕ) (f : ScriptFault) (status : ℕ) (log : Option RunLog) (text : List ℕ) → FaultOf bytes f ⊎ (f ≡ faults.NoMemory) → ((s : Script) → ScriptText bytes s → f ≡ faults.NoMemory) → IsLine 3 (refusal_text f) status log text → (f ≡ faults.NoMemory → ⊥) → ScriptVerdict bytes status log text
 refusal_of bytes f status log text (inl q) only line known = by_line (ScriptVerdict bytes) 3 (refusal_text f) status log text (refusal f q (λ s t. known (only s t))) line
 refusal_of bytes f status log text (inr e) only line known = absurd (known e)
-
-two_faults : (f : ReportFault) (line : ℕ) → f ≡ report_faults.Syntax line → f ≡ report_faults.NoMemory → ⊥
-two_faults f line e h = cc
-
--- the fault of a report is the answer to it
-pub report_refused_of : (s : Script) (bytes : List ℕ) (f : ReportFault) (line status : ℕ) (log : Option RunLog) (text : List ℕ) → f ≡ report_faults.Syntax line → ReportFaultOf s.names bytes f ⊎ (f ≡ report_faults.NoMemory) → ((l : RunLog) → IsWellFormed s.names l → rendering_of s.names l ≡ bytes → f ≡ report_faults.NoMemory) → IsLine 3 (report_syntax_text line) status log text → ReportVerdict s bytes status log text
-report_refused_of s bytes f line status log text e (inl q) only is =
-    by_line (ReportVerdict s bytes) 3 (report_syntax_text line) status log text (report_refused line (subst (ReportFaultOf s.names bytes) e q) (λ l r. two_faults f line e (only l r.formed r.text_is))) is
-report_refused_of s bytes f line status log text e (inr h) only is = absurd (two_faults f line e h)
-
--- the answer to a report is that of its script's bytes
-pub judged_of : (bytes part behind : List ℕ) (s : Script) (status : ℕ) (log : Option RunLog) (text : List ℕ) → part ≡ script_part bytes → behind ≡ report_part bytes → ScriptText part s → ((other : Script) → ScriptText part other → other ≡ s) → HasNoFault part → ReportVerdict s behind status log text → CheckVerdict bytes status log text
-judged_of bytes part behind s status log text pe be t only sane v =
-    judged s status log text (subst (λ (b : List ℕ). IsScriptRead b s) pe (record { text = t; only = only; sane = sane })) (subst (λ (b : List ℕ). ReportVerdict s b status log text) be v)
 
 -- the fault of a script's part is the answer to the bytes
 pub script_refused_of : (bytes part : List ℕ) (f : ScriptFault) (status : ℕ) (log : Option RunLog) (text : List ℕ) → part ≡ script_part bytes → FaultOf part f ⊎ (f ≡ faults.NoMemory) → ((s : Script) → ScriptText part s → f ≡ faults.NoMemory) → IsLine 3 (refusal_text f) status log text → (f ≡ faults.NoMemory → ⊥) → CheckVerdict bytes status log text

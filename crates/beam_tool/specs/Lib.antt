@@ -1,5 +1,1 @@
-pub mod Memory
-pub mod Outside
-pub mod Parting
-pub mod Transfer
 pub mod TopCall

@@ -1,7 +1,7 @@
 -- What the top call comes to: the form of its words, and for each status what it was answered for and what was written.
 -- What is said of the source's or the sink's bytes holds where these are told.
 -- Source: this project's command line.
-use Rattle.std.specs.Prelude.{◌≡◌, ◌≢◌, ℕ, ◌<◌, ◌≤◌, ◌&&◌, List, [], ◌∷◌, ◌++◌, length, Some, None, option_map, IfSome, OnSome, bytes_eq, codes, decimal, if◌then◌else◌}
+use Rattle.std.specs.Prelude.{◌≡◌, ◌≢◌, ℕ, ◌≤◌, ◌&&◌, List, [], ◌∷◌, ◌++◌, length, Some, None, option_map, bytes_eq, codes, decimal, if◌then◌else◌}
 use Rattle.std.specs.List.{find, range_with_len}
 use Rattle.std.specs.declared.option.Option.{Option}
 use Rattle.std.specs.declared.result.Result.TheVariants.{Err}
@@ -11,30 +11,24 @@ use Rattle.prgr_core.specs.declared.progress.Progress.{Progress}
 use Rattle.prgr_core.specs.EventText.{EventText}
 use Rattle.prgr_core.specs.Reading.{reading}
 use Rattle.prgr_core.specs.Step.{after_all, opening, StopsAt}
-use Rattle.beam_tool.specs.declared.check_form.TheConstants.{LONGEST_CHECK}
+use Rattle.outside.specs.declared.check_input.TheConstants.{LONGEST_CHECK}
 use Rattle.beam_tool.specs.declared.form.TheConstants.{MOST_SCHEDULERS}
 use Rattle.beam_tool.specs.declared.form.Form.{Form}
 use Rattle.beam_tool.specs.declared.form.Form.TheVariants as forms
-use Rattle.beam_tool.specs.declared.fault.ReadFault.{ReadFault}
-use Rattle.beam_tool.specs.declared.fault.ReadFault.TheVariants.{Failed, NoMemory}
-use Rattle.beam_tool.specs.declared.answer.Stop.{Stop}
-use Rattle.beam_tool.specs.declared.answer.Stop.TheVariants as stops
-use Rattle.beam_tool.specs.declared.answer.Stop.TheVariants.{SourceFault}
 use Rattle.script_core.specs.declared.script.TheConstants.{LONGEST_SCRIPT}
 use Rattle.script_core.specs.declared.script.Script.{Script}
 use Rattle.script_text.specs.declared.fault.ScriptFault.{ScriptFault}
 use Rattle.script_text.specs.declared.fault.ScriptFault.TheVariants as faults
-use Rattle.script_text.specs.FaultText.{fault_text}
 use Rattle.script_text.specs.ScriptText.{ScriptText, FaultOf}
 use Rattle.run_log.specs.declared.logs.RunLog.{RunLog}
 use Rattle.run_log.specs.Report.{rendering_of, line_of}
 use Rattle.run_log.specs.Legal.{Legal}
-use Rattle.run_log.specs.WellFormed.{IsWellFormed}
-use Rattle.report_text.specs.declared.fault.ReportFault.{ReportFault}
 use Rattle.report_text.specs.declared.fault.ReportFault.TheVariants as report_faults
 use Rattle.report_text.specs.ReportText.{FaultOf as ReportFaultOf}
-use Rattle.beam_tool.specs.Outside.{Rose, GetsPrefix}
-use Rattle.beam_tool.specs.Parting.{script_part, report_part}
+use Rattle.outside.specs.Answers.{refusal_text, report_syntax_text}
+use Rattle.outside.specs.Inputs.{HasNoFault, HasScriptAndReport, IsNoReport, IsNoScript, IsReportRead, IsScriptRead, IsTooLong, WasRead}
+use Rattle.outside.specs.Outside.{Rose, GetsPrefix}
+use Rattle.outside.specs.Parting.{script_part, report_part}
 
 -- the counts of schedulers that may be asked for
 abbrev pub scheduler_counts : List ℕ
@@ -58,10 +52,6 @@ form_of (command ∷ option ∷ count ∷ more ∷ rest) = None
 abbrev pub not_understood_text : List ℕ
 not_understood_text = line_of (codes "words not understood")
 
--- the line for a text that is refused, by its fault
-abbrev pub refusal_text : ScriptFault → List ℕ
-refusal_text f = line_of (fault_text f)
-
 -- the line for a text that is over the limit
 abbrev pub too_long_text : List ℕ
 too_long_text = refusal_text faults.FileTooLong
@@ -69,10 +59,6 @@ too_long_text = refusal_text faults.FileTooLong
 -- the line for an event list whose first faulty line this is
 abbrev pub syntax_text : ℕ → List ℕ
 syntax_text line = refusal_text (faults.Syntax line)
-
--- the line for a report whose first faulty line this is, counted from the first line of the report
-abbrev pub report_syntax_text : ℕ → List ℕ
-report_syntax_text line = line_of (codes "refused report " ++ decimal line ++ codes " syntax")
 
 -- the line for a report of a lawful log
 abbrev pub lawful_text : List ℕ
@@ -90,80 +76,15 @@ not_enabled_text index = line_of (codes "not enabled " ++ decimal index)
 abbrev pub done_text : ℕ → Progress → List ℕ
 done_text events state = line_of (codes "done events " ++ decimal events ++ codes " counter " ++ decimal state.counter ++ codes " generation " ++ decimal state.generation)
 
--- the bytes are the text of no script
-abbrev pub IsNoScript : List ℕ → Type 0
-IsNoScript bytes = (s : Script) → ScriptText bytes s → ⊥
-
--- the bytes have no fault of a script's text
-abbrev pub HasNoFault : List ℕ → Type 0
-HasNoFault bytes = (f : ScriptFault) → FaultOf bytes f → ⊥
-
--- the bytes are the text of this script and of no other, and have no fault
-pub record IsScriptRead (bytes : List ℕ) (s : Script) : Type 0 where
-  pub text : ScriptText bytes s
-  pub only : (other : Script) → ScriptText bytes other → other ≡ s
-  pub sane : HasNoFault bytes
-
--- the text is the report of this log, whose atoms have these names
-pub record IsReportOf (names : List (List ℕ)) (text : List ℕ) (log : RunLog) : Type 0 where
-  pub formed : IsWellFormed names log
-  pub text_is : rendering_of names log ≡ text
-
--- the text is the report of no log, with the atoms of these names
-abbrev pub IsNoReport : List (List ℕ) → List ℕ → Type 0
-IsNoReport names text = (log : RunLog) → IsReportOf names text log → ⊥
-
--- the text has no fault of a report
-abbrev pub HasNoReportFault : List (List ℕ) → List ℕ → Type 0
-HasNoReportFault names text = (f : ReportFault) → ReportFaultOf names text f → ⊥
-
--- the text is the report of this log and of no other, and has no fault
-pub record IsReportRead (names : List (List ℕ)) (text : List ℕ) (log : RunLog) : Type 0 where
-  pub report : IsReportOf names text log
-  pub only : (other : RunLog) → IsReportOf names text other → other ≡ log
-  pub sane : HasNoReportFault names text
-
--- the bytes are the text of this script, and behind it the report of this log
-pub record HasScriptAndReport (bytes : List ℕ) (s : Script) (log : RunLog) : Type 0 where
-  pub front : List ℕ
-  pub behind : List ℕ
-  pub whole : bytes ≡ front ++ behind
-  pub text : ScriptText front s
-  pub report : IsReportOf s.names behind log
-
--- the bytes are the text of this script, and what stands behind it is a report with this fault
-pub record HasFaultyReport (bytes : List ℕ) (s : Script) (f : ReportFault) : Type 0 where
-  pub front : List ℕ
-  pub behind : List ℕ
-  pub whole : bytes ≡ front ++ behind
-  pub text : ScriptText front s
-  pub fault : ReportFaultOf s.names behind f
-
 -- the log is not lawful for the script
 abbrev pub IsUnlawful : Script → RunLog → Type 0
 IsUnlawful s log = Legal s log → ⊥
-
--- what was left of the source is over the limit
-abbrev pub IsTooLong : ℕ → Option (List ℕ) → Type 0
-IsTooLong limit left = IfSome left (λ bytes. limit < length bytes)
-
--- the source was read to its end, and these are its bytes, within the limit
-pub record WasRead (limit : ℕ) (left left_after : Option (List ℕ)) (bytes : List ℕ) : Type 0 where
-  pub told : IfSome left (λ told. told ≡ bytes)
-  pub to_end : OnSome left (left_after ≡ Some [])
-  pub short : length bytes ≤ limit
 
 -- an event list that the machine can be given: 1 to 16 members, and at most 4 watchers
 pub record IsReplayable (events : Events) : Type 0 where
   pub some_member : 1 ≤ events.members
   pub few_members : events.members ≤ 16
   pub few_watchers : events.watchers ≤ 4
-
--- the answer of one line under a status
-pub record IsLine (wanted : ℕ) (line : List ℕ) (status : ℕ) (log : Option RunLog) (text : List ℕ) : Type 0 where
-  pub status_is : status ≡ wanted
-  pub log_is : log ≡ None
-  pub text_is : text ≡ line
 
 -- the answer to a script: a history of one code server for it, and its report
 pub data ReportOf (s : Script) : ℕ → Option RunLog → List ℕ → Type 0 where
@@ -258,8 +179,3 @@ pub data Ends (form : Option Form) (left left_after : Option (List ℕ)) (source
   cut_off : (status : ℕ) (log : Option RunLog) (text : List ℕ) → Verdict left left_after form status log text → Rose sink_faults sink_faults_after → GetsPrefix got got_after text → Ends form left left_after source_faults source_faults_after got got_after sink_faults sink_faults_after 5 log
   source_failed : form ≢ None → Rose source_faults source_faults_after → Ends form left left_after source_faults source_faults_after got got_after sink_faults sink_faults_after 4 None
   no_memory : form ≢ None → Ends form left left_after source_faults source_faults_after got got_after sink_faults sink_faults_after 6 None
-
--- why a call stops that found this fault of its source
-abbrev pub StopsFor : ReadFault → Stop → Type 0
-StopsFor Failed stop = stop ≡ SourceFault
-StopsFor NoMemory stop = stop ≡ stops.NoMemory

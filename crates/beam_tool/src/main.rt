@@ -1,35 +1,23 @@
 //! The program: it runs a loader script on a code server and reports what the run did.
 #![tactic(auto)]
 
-mod answer;
 mod check_form;
 #[cfg(test)]
 mod check_tests;
-mod fault;
 mod form;
 mod gate;
-mod memory;
 #[cfg(test)]
 mod outside_tests;
-mod parting;
-mod piece;
 mod progress_form;
-mod refusal;
 mod run_form;
 #[cfg(test)]
 mod run_tests;
-mod sink;
-mod source;
-mod standard;
-mod sure;
 #[cfg(test)]
 mod tests;
 mod top;
-mod transfer;
 
-use answer::NO_MEMORY;
 use gate::NoGate;
-use standard::{StdSink, StdSource};
+use outside::{NO_MEMORY, StdSink, StdSource};
 use std::alloc::Global;
 use std::env;
 use std::io::ErrorKind;

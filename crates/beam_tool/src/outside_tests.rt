@@ -1,8 +1,7 @@
-use crate::fault::{Failed, ReadFault};
-use crate::memory::{MemSink, MemSource};
-use crate::standard::{StdSink, StdSource};
-use crate::sure::{SureSink, SureSource};
-use crate::transfer::{Input, read_whole, write_whole};
+use outside::{
+    Failed, Input, MemSink, MemSource, ReadFault, StdSink, StdSource, SureSink, SureSource,
+    read_whole, write_whole,
+};
 use std::alloc::Global;
 use std::test::Fail;
 use term_core::{ByteList, CountList, NoMemory};

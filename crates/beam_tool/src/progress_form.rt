@@ -1,11 +1,9 @@
 ghost use Rattle.std.specs.Prelude.{IfOk, IsErrOf};
-ghost use Rattle.beam_tool.specs.Outside.{Rose};
-ghost use Rattle.beam_tool.specs.TopCall.{ReadVerdict, ListVerdict, ReplayOf, IsReplayable, IsLine, not_enabled_text, done_text};
+ghost use Rattle.outside.specs.Outside.{Rose};
+ghost use Rattle.outside.specs.Answers.{IsLine};
+ghost use Rattle.beam_tool.specs.TopCall.{ReadVerdict, ListVerdict, ReplayOf, IsReplayable, not_enabled_text, done_text};
 
-use crate::answer::{Answer, DONE, NOT_ALLOWED, Stop};
-use crate::refusal::refusal;
-use crate::source::Source;
-use crate::transfer::{Input, read_whole};
+use outside::{Answer, DONE, Input, NOT_ALLOWED, Source, Stop, read_whole, refusal};
 use prgr_core::{EventFault, Events, PrgrState, ReplayFault, read_events, replay};
 use script_core::LONGEST_SCRIPT;
 use script_text::ScriptFault;

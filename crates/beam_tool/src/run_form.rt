@@ -1,13 +1,10 @@
 ghost use Rattle.std.specs.Prelude.{IfOk, IsErrOf};
 ghost use Rattle.script_core.specs.Sound.{IsScript};
-ghost use Rattle.beam_tool.specs.Outside.{Rose};
+ghost use Rattle.outside.specs.Outside.{Rose};
 ghost use Rattle.beam_tool.specs.TopCall.{ReadVerdict, ScriptVerdict, ReportOf};
 
-use crate::answer::{Answer, DONE, Stop};
-use crate::refusal::refusal;
-use crate::source::Source;
-use crate::transfer::{Input, read_whole};
 use lap_runner::run_laps;
+use outside::{Answer, DONE, Input, Source, Stop, read_whole, refusal};
 use run_log::render;
 use script_core::{LONGEST_SCRIPT, Script};
 use script_text::{ScriptFault, read_script};

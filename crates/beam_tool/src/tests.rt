@@ -1,7 +1,6 @@
 use crate::gate::NoGate;
-use crate::memory::{MemSink, MemSource};
-use crate::sure::{SureSink, SureSource};
 use crate::top::beam_top;
+use outside::{MemSink, MemSource, SureSink, SureSource};
 use std::alloc::{AllocError, Global};
 use std::sync::Wait;
 use std::test::Fail;

@@ -10,21 +10,20 @@ ghost use Rattle.script_text.specs.ScriptText.{ScriptText, FaultOf};
 ghost use Rattle.run_log.specs.declared.logs.RunLog.{RunLog as RunLogValue};
 ghost use Rattle.run_log.specs.Legal.{Legal};
 ghost use Rattle.report_text.specs.declared.fault.ReportFault.{ReportFault};
-ghost use Rattle.beam_tool.specs.Outside.{Rose};
-ghost use Rattle.beam_tool.specs.Parting.{script_part};
-ghost use Rattle.beam_tool.specs.TopCall.{form_of as the_form_of, HasScriptAndReport, HasFaultyReport, IsUnlawful, lawful_text, not_lawful_text, Verdict, Answered, Reported, Checked, SourceFailed, SinkFailed, Delivered, Ends};
+ghost use Rattle.outside.specs.Outside.{Rose};
+ghost use Rattle.outside.specs.Parting.{script_part};
+ghost use Rattle.outside.specs.Inputs.{HasScriptAndReport, HasFaultyReport};
+ghost use Rattle.beam_tool.specs.TopCall.{form_of as the_form_of, IsUnlawful, lawful_text, not_lawful_text, Verdict, Answered, Reported, Checked, SourceFailed, SinkFailed, Delivered, Ends};
 
-use crate::answer::{
-    Answer, DONE, NO_MEMORY, NOT_ALLOWED, NOT_UNDERSTOOD, REFUSED, SINK_FAULT, SOURCE_FAULT, Stop,
-};
-use crate::check_form::{LONGEST_CHECK, check_answer};
+use crate::check_form::check_answer;
 use crate::form::{Form, form_of};
 use crate::gate::Gate;
 use crate::progress_form::progress_answer;
 use crate::run_form::run_answer;
-use crate::sink::Sink;
-use crate::source::Source;
-use crate::transfer::write_whole;
+use outside::{
+    Answer, DONE, LONGEST_CHECK, NO_MEMORY, NOT_ALLOWED, NOT_UNDERSTOOD, REFUSED, SINK_FAULT,
+    SOURCE_FAULT, Sink, Source, Stop, write_whole,
+};
 use run_log::RunLog;
 use script_core::LONGEST_SCRIPT;
 use std::alloc::Global;

@@ -1,7 +1,7 @@
 -- The answer to what was read, or to a text over the limit.
 use Rattle.std.proofs.Common.{ℕ, ◌≤◌, List, length, sym, subst}
 use Rattle.beam_tool.specs.TopCall.{ReadVerdict, CheckVerdict, too_long_text, long_text}
-use Rattle.beam_tool.specs.declared.check_form.TheConstants.{LONGEST_CHECK}
+use Rattle.outside.specs.declared.check_input.TheConstants.{LONGEST_CHECK}
 use Rattle.beam_tool.proofs.TopCalls.{by_slice, by_line}
 use Rattle.beam_tool.proofs.check_form.check_answer.Goals as goal
 
