@@ -21,13 +21,10 @@ use Rattle.script_text.specs.ScriptText.{ScriptText, FaultOf}
 use Rattle.run_log.specs.declared.logs.RunLog.{RunLog}
 use Rattle.run_log.specs.Legal.{Legal}
 use Rattle.report_text.specs.declared.fault.ReportFault.{ReportFault}
-use Rattle.report_text.specs.declared.fault.ReportFault.TheVariants as report_faults
 use Rattle.report_text.specs.ReportText.{FaultOf as ReportFaultOf}
-use Rattle.run_log.specs.Report.{rendering_of}
-use Rattle.run_log.specs.WellFormed.{IsWellFormed}
 use Rattle.outside.specs.Outside.{Rose}
 use Rattle.outside.specs.Parting.{script_part, report_part}
-use Rattle.outside.specs.Answers.{IsLine, refusal_text, report_syntax_text}
+use Rattle.outside.specs.Answers.{IsLine, refusal_text}
 use Rattle.outside.specs.Inputs.{WasRead, IsTooLong, IsNoScript, HasNoFault, IsScriptRead, IsReportOf, IsReportRead, HasScriptAndReport, HasFaultyReport}
 use Rattle.beam_tool.specs.TopCall.{IsUnlawful, ReportOf, made, ScriptVerdict, report, refusal, ReplayOf, all_made, stopped, ListVerdict, replay, fault, ReportVerdict, report_refused, lawful, not_lawful, CheckVerdict, script_refused, judged, ReadVerdict, whole_text, long_text, lawful_text, not_lawful_text, done_text, not_enabled_text, Verdict, misread, run, check, progress, Answered, Reported, Checked, SourceFailed, SinkFailed, Delivered, whole, cut, Ends, written, cut_off, source_failed, no_memory}
 use Rattle.outside.proofs.ScriptParts.{parts_are_whole, part_of_script, part_behind_script}
