@@ -13,9 +13,11 @@ pub record Taking (T : Type 0) : Type 0 where
   pub taken : List T
   pub told : List T
 
+-- what the end that posts shows can be coded, as each value of a model must be
 abbrev pub posting_code : {T : Type 0} → Coded T → Coded (Posting T)
 posting_code {T} code = code_by (ℕ × List T) (coded× coded_ℕ (coded_list code)) (λ p. (p.number, p.put)) (λ p. record { number = p.0; put = p.1 }) (λ _. refl)
 
+-- and so can what the end that takes shows
 abbrev pub taking_code : {T : Type 0} → Coded T → Coded (Taking T)
 taking_code {T} code =
     code_by

@@ -34,10 +34,6 @@ named_as one other serial frames literals Both n =
       | inr literal ↦ literals_in other serial (literals (record { place = n.place; word = n.word; at = n.at; passes = literal }))
     ]
 
--- what the slot names at rest the last mark names
-pub rest_last : (p : ProcessView) → IsAtRest p → (kind : LookKind) (serial : ℕ) → Names kind p.slot.anchors serial → Names kind (last_names p.marks) serial
-rest_last p rest kind serial = named_as p.slot.anchors (last_names p.marks) serial (rest.frames serial).0 (rest.literals serial).0 kind
-
 -- and what the last mark names the slot names
 pub last_rest : (p : ProcessView) → IsAtRest p → (kind : LookKind) (serial : ℕ) → Names kind (last_names p.marks) serial → Names kind p.slot.anchors serial
 last_rest p rest kind serial = named_as (last_names p.marks) p.slot.anchors serial (rest.frames serial).1 (rest.literals serial).1 kind

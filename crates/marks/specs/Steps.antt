@@ -42,19 +42,23 @@ opening_process = record { slot = record { turns = 0; anchors = opening_words AN
 abbrev pub nothing_kept : WriterKept
 nothing_kept = record { waits = []; anchors = []; turns = []; dropped = []; lingering = [] }
 
--- one more of each is kept
+-- one more wait that is over is kept
 abbrev pub with_wait : WriterKept → EndedWait → WriterKept
 with_wait k w = record k { waits = w ∷ k.waits }
 
+-- one more anchor that was looked at is kept
 abbrev pub with_looked : WriterKept → LookedAnchor → WriterKept
 with_looked k l = record k { anchors = l ∷ k.anchors }
 
+-- one more turn word that was loaded is kept
 abbrev pub with_read : WriterKept → ReadTurn → WriterKept
 with_read k t = record k { turns = t ∷ k.turns }
 
+-- one more area that was released or purged is kept
 abbrev pub with_dropped : WriterKept → DroppedArea → WriterKept
 with_dropped k d = record k { dropped = d ∷ k.dropped }
 
+-- one more answer that a process lingers is kept
 abbrev pub with_lingering : WriterKept → LingeringFrame → WriterKept
 with_lingering k l = record k { lingering = l ∷ k.lingering }
 

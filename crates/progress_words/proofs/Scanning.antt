@@ -2,7 +2,7 @@
 use Rattle.std.proofs.Common.{◌≡◌, ℕ, zero, suc, ◌+◌, ◌<◌, ◌≤◌, Bool, true, false, cond, List, [], ◌∷◌, length, refl, sym, ap, subst, ◌∙◌, arith}
 use mathlib.Core.Logic.{dite}
 use native.Mathlib.Decide.{ℕ_discrete}
-use Rattle.std.specs.Prelude.{Option, None, Some, slice_get, slice_set, unwrap_or, IsTrue, ◌==◌}
+use Rattle.std.specs.Prelude.{Option, Some, slice_get, slice_set, unwrap_or, IsTrue, ◌==◌}
 use Rattle.std.proofs.lemmas.Bool.{eq-eqb, or_left, or_right}
 use Rattle.prgr_core.specs.declared.member.TheConstants.{WAITING, MOST_MEMBERS}
 use Rattle.prgr_core.specs.declared.member.Role.{Role}
@@ -84,11 +84,6 @@ pub leads_through : (counter : ℕ) (words : List ℕ) (m : MemberView) → Lead
 leads_through counter [] m h = h
 leads_through counter (word ∷ words) m h = leads_on counter (length words) word (words_found words m) (leads_through counter words m h)
 
--- a look at members changes neither the number nor the word nor what was learnt
-pub number_stays : (words : List ℕ) (m : MemberView) → (words_found words m).member.number ≡ m.member.number
-number_stays [] m = refl
-number_stays (word ∷ words) m = number_stays words m
-
 -- each member that was found done is scanned
 pub are_scanned : (counter : ℕ) (words : List ℕ) (m : MemberView) → LeadsAt counter m → AreDone counter words → length words ≤ MOST_MEMBERS → (j : ℕ) → j < length words → IsTrue (members.has_scanned (scans_of (words_found words m).member.role) j)
 are_scanned counter [] m h done few j within = absurd (omega arith)
@@ -124,18 +119,6 @@ waits_done counter word is = or_left (members.is_waiting word) (word == counter 
 -- and who has confirmed the value after the counter
 pub confirmed_done : (counter word : ℕ) → word ≡ counter + 1 → members.is_done counter word ≡ true
 confirmed_done counter word is = or_right (members.is_waiting word) (word == counter + 1) (eq-eqb word (counter + 1) is)
-
--- none was looked at yet
-pub none_looked_at : (table : TableId) (counter : ℕ) (old : tokens.Member) → IsMemberOf table old → HaveLooked table counter old 0 old
-none_looked_at table counter old token = record {
-  token = token;
-  same = record { seat = record { same_table = refl; same_number = refl; same_slots = refl }; number = refl };
-  root = refl;
-  words = [];
-  all = refl;
-  done = tt;
-  view = refl;
-}
 
 module _ (table : TableId) (counter : ℕ) (old mid new : tokens.Member) (k word : ℕ) (h : HaveLooked table counter old k mid) (seat : IsSameSeat mid.seat new.seat) (number : new.number ≡ mid.number) (at : new.seat.me.0 ≡ Member (word_scanned k word (view_of mid))) where
   pub next_token : IsMemberOf table new
@@ -182,7 +165,3 @@ module _ (table : TableId) (counter : ℕ) (old mid new : tokens.Member) (k word
     });
     view = next_view;
   }
-
--- all are done
-pub all_looked_at : (table : TableId) (counter : ℕ) (old : tokens.Member) (count : ℕ) (new : tokens.Member) → HaveLooked table counter old count new → HasFound count counter (view_of old) (view_of new) None
-all_looked_at table counter old count new h = record { words = h.words; cause = record { all = h.all; done = h.done }; view = h.view }

@@ -48,11 +48,12 @@ joined generation made (span ∷ next ∷ spans) = span ∷ joined generation ma
 abbrev pub turned : ServerState → Stand → Stand
 turned s p = record { process = (turn_of s p.process).process; spans = joined s.generation (turn_of s p.process).made p.spans; fin = fin_after (turn_of s p.process).end }
 
--- a process after a lap, in which each that has not ended has one turn
+-- a process after a lap, by its end, if it has ended: then it has no turn
 abbrev pub lapped_as : ServerState → Stand → Option End → Stand
 lapped_as s p None = turned s p
 lapped_as s p (Some fin) = p
 
+-- a process after a lap, in which each that has not ended has one turn
 abbrev pub lapped : ServerState → Stand → Stand
 lapped s p = lapped_as s p p.fin
 

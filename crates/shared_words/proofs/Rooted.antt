@@ -1,27 +1,17 @@
 -- The root word that a member's token keeps is that of the generation that the member holds: at first, after a load of
 -- the root behind one of the counter, and as long as generation and what was learnt of it stay.
-use Rattle.std.proofs.Common.{◌≡◌, ℕ, ◌<◌, List, ◌++◌, length, length-append, Bool, true, false, cond, refl, sym, ap, subst, ◌∙◌, arith}
-use Rattle.std.specs.Prelude.{Option, unwrap_or, slice_get}
+use Rattle.std.proofs.Common.{◌≡◌, ℕ, ◌<◌, List, length, Bool, true, false, cond, refl, sym, ap, subst, ◌∙◌, arith}
 use Rattle.prgr_core.specs.declared.member.Member as machines
 use Rattle.prgr_core.specs.Members as members
 use Rattle.prgr_core.specs.Step.{has_loaded}
 use Rattle.term_core.specs.declared.generation.Generation.{Generation}
 use Rattle.area_core.specs.declared.table.Published.{Published}
-use Rattle.area_core.specs.Step.{opening_published}
-use Rattle.shared_words.specs.declared.table.TheConstants.{OPENING_ROOT}
 use Rattle.shared_words.specs.declared.view.MemberView.{MemberView}
 use Rattle.shared_words.specs.declared.view.View.{View}
 use Rattle.shared_words.specs.declared.view.View.TheVariants.{Member}
 use Rattle.shared_words.specs.Views.{newest, published_at, root_word, seen}
-use Rattle.shared_words.specs.Opening.{member_begun}
 use Rattle.shared_words.specs.Seats.{member_of, IsRooted}
 use Rattle.shared_words.specs.Kinds.{RootLoaded}
-use Rattle.shared_words.specs.Rule.{IsBeginning}
-use Rattle.shared_words.proofs.ShownMembers.{still_at, there_is}
-
--- a member as it begins
-pub rooted_begun : (k : ℕ) → IsRooted OPENING_ROOT (member_begun k)
-rooted_begun k = record { learnt = omega arith; held = refl }
 
 -- the generation of a member that has loaded the counter, and then the root
 generation_found : (b : Bool) (g : ℕ) (a : machines.Member) → b ≡ true → (cond b (members.root_loaded g a) a).generation ≡ g
@@ -38,16 +28,3 @@ rooted_by_load Served m new found loaded told =
       learnt = subst (λ (g : ℕ). g < length xs) (sym held) (omega arith);
       held = told.root ∙ ap (λ (g : ℕ). root_word (published_at xs g).root g) (sym held);
     })
-
--- as long as the generation is the same one, and what was learnt of it
-pub rooted_stays : (root root' : ℕ) (m n : MemberView) → root' ≡ root → n.member.generation ≡ m.member.generation → IsBeginning m.seen n.seen → IsRooted root m → IsRooted root' n
-rooted_stays root root' m n same generation learnt h =
-    let g : ℕ = m.member.generation in
-    let within = h.learnt in
-    let still : slice_get n.seen g ≡ slice_get m.seen g =
-    ap (λ (xs : List Published). slice_get xs g) learnt.1 ∙ still_at m.seen learnt.0 g (published_at m.seen g) (there_is m.seen g opening_published within) ∙ sym (there_is m.seen g opening_published within) in
-    let longer : length n.seen ≡ length (m.seen ++ learnt.0) = ap length learnt.1 in
-    record {
-      learnt = subst (λ (x : ℕ). x < length n.seen) (sym generation) (omega (arith, longer, length-append m.seen learnt.0));
-      held = same ∙ h.held ∙ ap (λ (o : Option Published). root_word (unwrap_or o opening_published).root g) (sym still) ∙ ap (λ (x : ℕ). root_word (published_at n.seen x).root x) (sym generation);
-    }

@@ -29,6 +29,7 @@ abbrev pub taken_with : View → View → View
 taken_with (Member m) (Writer w) = Writer (with_member m w)
 taken_with other v = v
 
+-- the same, as the join of two seats asks for it: what was known first, then of the seat that comes in
 abbrev pub member_taken : View → View → View
 member_taken v other = taken_with other v
 
@@ -42,6 +43,7 @@ pub record HasAllMembers (members : List tokens.Member) (old new : WriterView) :
 abbrev pub AreKnown : WriterView → Type 0
 AreKnown w = (k : ℕ) (m : MemberView) → slice_get w.members k ≡ Some m → MemberKnows w k m
 
+-- what the last load tells the writer, who knows the same behind it
 pub record members_seen (st : Step (Unit {0})) (me : Sat) (found : ℕ) (me' : Sat) : Type 0 where
   pub same : me' ≡ me
   pub known : (w : WriterView) → me.0 ≡ Writer w → AreKnown w

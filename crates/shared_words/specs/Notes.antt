@@ -37,6 +37,7 @@ pub record SplitsNote (opening : Opening) (process : ℕ) (w : WriterView) : Typ
   pub out : opening.members + opening.watchers ≤ w.handed
   pub may : MaySplitNote w process
 
+-- the same of any view: the writer's alone may make a note
 abbrev pub IsSplittingNote : Opening → ℕ → View → Type 0
 IsSplittingNote opening process (Writer w) = SplitsNote opening process w
 IsSplittingNote opening process v = ⊥
@@ -66,5 +67,6 @@ abbrev pub joined_with : View → View → View
 joined_with (Note n) (Member m) = Member (note_joined n m)
 joined_with other v = v
 
+-- the same, as the join of two seats asks for it: what was known first, then of the seat that comes in
 abbrev pub note_join : View → View → View
 note_join v other = joined_with other v

@@ -85,6 +85,7 @@ kept_left w value Nowhere = w.kept
 abbrev pub with_word : ℕ → ℕ → WriterView → WriterView
 with_word word value w = record w { words = slice_set w.words word value; kept = kept_left w value (kind_at word) }
 
+-- what the store of a word leaves of the writer's view
 abbrev pub word_stored : Step (Unit {0}) → Sat → ℕ → Sat → Type 0
 word_stored st me stored me' = me' ≡ (Writer (with_word st.word stored (writer_of me.0)), me.1)
 
@@ -129,6 +130,7 @@ pub record IsRootOf (root : Root) (code bp term : ℕ) : Type 0 where
 abbrev pub with_next : Published → WriterView → WriterView
 with_next p w = record w { published = w.published ++ p ∷ []; kept = kept_next w p }
 
+-- what the store of the root leaves of the writer's view
 abbrev pub root_stored : Published → Step (Unit {0}) → Sat → ℕ → Sat → Type 0
 root_stored p st me stored me' = me' ≡ (Writer (with_next p (writer_of me.0)), me.1)
 
@@ -158,6 +160,7 @@ pub record IsWordUnder (g : ℕ) (p : Published) (word found : ℕ) : Type 0 whe
 abbrev pub WordTells : View → ℕ → ℕ → Type 0
 WordTells v word found = (g : ℕ) (p : Published) → held v ≡ Some g → slice_get (seen v) g ≡ Some p → IsWordUnder g p word found
 
+-- what the load of a word tells and leaves: the view is as before
 pub record word_loaded (st : Step (Unit {0})) (me : Sat) (found : ℕ) (me' : Sat) : Type 0 where
   pub same : me' ≡ me
   pub tells : WordTells me.0 st.word found
