@@ -46,56 +46,28 @@ fn the_counter_follows_the_members(rt: HostRuntime) -> Result<(), Fail> {
         return Ok(());
     };
     let answer = lead(&shared, &mut first);
-    assert_eq!(rt; answer, Lead::Led, "nobody led");
+    assert_eq!(rt; answer, Lead::Led);
     let Lead::Led = answer else {
         return Ok(());
     };
     let need = later(&shared, &mut writer);
-    assert_eq!(rt; need, 3, "two above the counter");
-    assert_eq!(rt;
-        advance(&shared, &mut first),
-        Advance::Advanced(2),
-        "both words are 2"
-    );
+    assert_eq!(rt; need, 3);
+    assert_eq!(rt; advance(&shared, &mut first), Advance::Advanced(2));
     let behind = Advance::Behind {
         member: 0,
         confirmed: 2,
     };
-    assert_eq!(rt;
-        advance(&shared, &mut first),
-        behind,
-        "its own word is behind"
-    );
+    assert_eq!(rt; advance(&shared, &mut first), behind);
     let short = NotYet {
         need: 3,
         current: 2,
     };
-    assert_eq!(rt;
-        reached(&shared, &mut writer, need),
-        Err(short),
-        "one value short"
-    );
+    assert_eq!(rt; reached(&shared, &mut writer, need), Err(short));
     wait(&shared, &mut second);
-    assert_eq!(rt;
-        report(&shared, &mut first),
-        0,
-        "generation 0 alone is there"
-    );
-    assert_eq!(rt;
-        advance(&shared, &mut first),
-        Advance::Advanced(3),
-        "the other waits"
-    );
-    assert_eq!(rt;
-        reached(&shared, &mut writer, need),
-        Ok(()),
-        "two values on"
-    );
-    assert_eq!(rt;
-        wake(&shared, &mut second),
-        0,
-        "generation 0 alone is there"
-    );
+    assert_eq!(rt; report(&shared, &mut first), 0);
+    assert_eq!(rt; advance(&shared, &mut first), Advance::Advanced(3));
+    assert_eq!(rt; reached(&shared, &mut writer, need), Ok(()));
+    assert_eq!(rt; wake(&shared, &mut second), 0);
     give_up(&shared, &mut first);
     Ok(())
 }
