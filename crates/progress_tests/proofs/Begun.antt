@@ -2,10 +2,12 @@
 use Rattle.std.proofs.Common.{◌≡◌, ℕ, ◌<◌, List, [], ◌∷◌, ◌++◌, length, length-append, refl, sym, ap, subst, ◌∙◌, arith}
 use Rattle.std.specs.Prelude.{Some, slice_get}
 use Rattle.atomic_table.specs.Seated.{TableId}
+use Rattle.prgr_core.specs.declared.member.TheConstants.{MOST_MEMBERS}
+use Rattle.shared_words.specs.declared.table.TheConstants.{OPENING_ROOT}
 use Rattle.shared_words.specs.declared.seats.Member as tokens
 use Rattle.shared_words.specs.declared.view.MemberView.{MemberView}
 use Rattle.shared_words.specs.declared.view.View.TheVariants.{Member}
-use Rattle.shared_words.specs.Seats.{member_of}
+use Rattle.shared_words.specs.Seats.{IsRooted, member_of}
 use Rattle.shared_words.specs.Opening.{member_begun}
 use Rattle.shared_words.specs.Making.{IsMemberBegun, AreMembersBegun}
 use Rattle.shared_words.specs.Kinds.{MayLead, MayWait}
@@ -20,9 +22,14 @@ got_last (y ∷ ys) x = got_last ys x
 pub record IsFresh (table : TableId) (k : ℕ) (token : tokens.Member) : Type 0 where
   pub of : IsMemberOf table token
   pub view : view_of token ≡ member_begun k
+  pub rooted : IsRooted token.root (view_of token)
 
-fresh : (table : TableId) (k : ℕ) (token : tokens.Member) → k < 2 → IsMemberBegun table k token → IsFresh table k token
-fresh table k token few begun =
+-- the root word of generation 0 is the one that the token keeps
+begun_rooted : (k : ℕ) → IsRooted OPENING_ROOT (member_begun k)
+begun_rooted k = record { learnt = omega arith; held = refl }
+
+pub fresh_of : (table : TableId) (k : ℕ) (token : tokens.Member) → k < MOST_MEMBERS → IsMemberBegun table k token → IsFresh table k token
+fresh_of table k token few begun =
     let view : view_of token ≡ member_begun k = ap member_of begun.view in
     let number = begun.number_is in record {
       of = record {
@@ -32,6 +39,7 @@ fresh table k token few begun =
         numbered = ap (λ (m : MemberView). m.member.number) view ∙ sym number;
       };
       view = view;
+      rooted = subst (λ (z : ℕ × MemberView). IsRooted z.0 z.1) (λ i. (sym begun.root_is i, sym view i)) (begun_rooted k);
     }
 
 -- the token that was taken out last is the first member's
@@ -42,7 +50,7 @@ first_begun table all rest few first second taken taken' begun =
     let short : length rest ≡ length (few ++ first ∷ []) = ap length taken' in
     let none : length few ≡ 0 = omega (arith, two, long, short, length-append rest (second ∷ []), length-append few (first ∷ [])) in
     let there : slice_get rest 0 ≡ Some first = ap (λ (xs : List tokens.Member). slice_get xs 0) taken' ∙ ap (λ (i : ℕ). slice_get (few ++ first ∷ []) i) (sym none) ∙ got_last few first in
-    fresh table 0 first (omega arith) (begun.each 0 first (ap (λ (xs : List tokens.Member). slice_get xs 0) taken ∙ still_at rest (second ∷ []) 0 first there))
+    fresh_of table 0 first (omega arith) (begun.each 0 first (ap (λ (xs : List tokens.Member). slice_get xs 0) taken ∙ still_at rest (second ∷ []) 0 first there))
 
 -- the token that was taken out first is the second member's
 pub second_begun : (table : TableId) (all rest : List tokens.Member) (second : tokens.Member) → all ≡ rest ++ second ∷ [] → AreMembersBegun table 2 all → IsFresh table 1 second
@@ -50,7 +58,7 @@ second_begun table all rest second taken begun =
     let two : length all ≡ 2 = begun.all in
     let long : length all ≡ length (rest ++ second ∷ []) = ap length taken in
     let one : length rest ≡ 1 = omega (arith, two, long, length-append rest (second ∷ [])) in
-    fresh table 1 second (omega arith) (begun.each 1 second (ap (λ (xs : List tokens.Member). slice_get xs 1) taken ∙ ap (λ (i : ℕ). slice_get (rest ++ second ∷ []) i) (sym one) ∙ got_last rest second))
+    fresh_of table 1 second (omega arith) (begun.each 1 second (ap (λ (xs : List tokens.Member). slice_get xs 1) taken ∙ ap (λ (i : ℕ). slice_get (rest ++ second ∷ []) i) (sym one) ∙ got_last rest second))
 
 -- who begins is awake and follows
 pub begun_may_lead : (m : MemberView) (k : ℕ) → m ≡ member_begun k → MayLead m

@@ -1,1 +1,5 @@
 mod Begun
+mod Emptied
+mod Ended
+mod Leading
+mod Noted

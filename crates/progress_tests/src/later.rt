@@ -26,6 +26,16 @@ fn the_first_that_is_due(rt: HostRuntime) -> Result<(), Fail> {
     Ok(())
 }
 
+/// The second push hands its operation back, and the first one stays.
+#[test]
+fn room_for_one(rt: HostRuntime) -> Result<(), Fail> {
+    let mut later: Later<u32> = Later::new(rt.alloc(), 1)?;
+    assert_eq!(rt; later.push(5, 50), Ok(()));
+    assert_eq!(rt; later.push(3, 30), Err(30));
+    assert_eq!(rt; later.due(5), Some(50));
+    Ok(())
+}
+
 #[test]
 fn no_room_at_all(rt: HostRuntime) -> Result<(), Fail> {
     let mut later: Later<u32> = Later::new(rt.alloc(), 0)?;

@@ -2,9 +2,13 @@
 #![tactic(auto)]
 
 #[cfg(test)]
+mod ends;
+#[cfg(test)]
 mod event_lists;
 #[cfg(test)]
 mod later;
+#[cfg(test)]
+mod published;
 #[cfg(test)]
 mod tables;
 #[cfg(test)]

@@ -4,26 +4,23 @@
 ghost use Rattle.std.specs.Prelude.{◌≡◌, IfSome};
 ghost use Rattle.shared_words.specs.Making.{AreMembersBegun};
 ghost use Rattle.shared_words.specs.Opening.{member_begun};
+ghost use Rattle.shared_words.specs.Seats.{IsRooted};
 ghost use Rattle.progress_words.specs.Tokens.{view_of, IsMemberOf};
 
+use crate::published::publishing::Any;
 use progress_words::*;
-use shared_words::{Member, Parts, Served, Shared};
+use shared_words::{Member, Parts, Shared};
 use std::test::Fail;
 
-/// Generations of which nothing is said.
-struct Any;
-
-impl Served for Any {
-    ghost served = { λ _. Unit {0} };
-}
-
 /// The tokens of both members of a table.
-fn both_members(shared: &Shared<Any>, mut members: Vec<Member>) -> Option<(Member, Member)>
+pub fn both_members(shared: &Shared<Any>, mut members: Vec<Member>) -> Option<(Member, Member)>
     requires begun { AreMembersBegun shared.now.table.shared.table_id 2 members.items }
     ensures first { IfSome result (λ both. IsMemberOf shared.now.table.shared.table_id both.0) }
     ensures first_view { IfSome result (λ both. view_of both.0 ≡ member_begun 0) }
+    ensures first_root { IfSome result (λ both. IsRooted both.0.root (view_of both.0)) }
     ensures second { IfSome result (λ both. IsMemberOf shared.now.table.shared.table_id both.1) }
     ensures second_view { IfSome result (λ both. view_of both.1 ≡ member_begun 1) }
+    ensures second_root { IfSome result (λ both. IsRooted both.1.root (view_of both.1)) }
 {
     let second = members.pop()?;
     let first = members.pop()?;

@@ -12,3 +12,9 @@ returns-clause-second c = (second_begun c.args.shared.now.table.shared.table_id 
 
 pub returns-clause-second_view : goal.returns-clause-second_view
 returns-clause-second_view c = (second_begun c.args.shared.now.table.shared.table_id _ _ c.in_ok-second.second c.in_ok-second.ensures.items c.requires.begun).view
+
+pub returns-clause-first_root : goal.returns-clause-first_root
+returns-clause-first_root c = (first_begun c.args.shared.now.table.shared.table_id _ _ _ c.in_ok-first.first c.in_ok-second.second c.in_ok-second.ensures.items c.in_ok-first.ensures.items c.requires.begun).rooted
+
+pub returns-clause-second_root : goal.returns-clause-second_root
+returns-clause-second_root c = (second_begun c.args.shared.now.table.shared.table_id _ _ c.in_ok-second.second c.in_ok-second.ensures.items c.requires.begun).rooted

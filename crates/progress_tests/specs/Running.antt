@@ -1,0 +1,33 @@
+-- What the tests on threads begin with and end with: a writer that published the empty generation alone, and members that
+-- report and may take the lead.
+use Rattle.std.specs.Prelude.{◌≡◌, ℕ, List, [], slice_get, Some}
+use Rattle.atomic_table.specs.Seated.{TableId}
+use Rattle.area_core.specs.declared.table.Published.{Published}
+use Rattle.area_core.specs.Map.{word_at}
+use Rattle.area_core.specs.Blocks.{Among}
+use Rattle.area_core.specs.Step.{opening_published}
+use Rattle.shared_words.specs.declared.seats.Member as tokens
+use Rattle.shared_words.specs.declared.view.WriterView.{WriterView}
+use Rattle.shared_words.specs.Kinds.{MayLead}
+use Rattle.progress_words.specs.Tokens.{view_of, IsMemberOf}
+
+-- nothing but the empty generation was published, each word of a block is 0, and no area is kept
+pub record IsEmpty (w : WriterView) : Type 0 where
+  pub published : (p : Published) → Among w.published p → p ≡ opening_published
+  pub words : (place : ℕ) → word_at w.words place ≡ 0
+  pub kept : w.kept ≡ []
+
+-- the member is one of this table, is awake and follows
+pub record IsReady (table : TableId) (token : tokens.Member) : Type 0 where
+  pub of : IsMemberOf table token
+  pub may : MayLead (view_of token)
+
+-- the member of each place has its number, and is ready
+pub record AreReady (table : TableId) (members : List tokens.Member) : Type 0 where
+  pub each : (k : ℕ) (token : tokens.Member) → slice_get members k ≡ Some token → IsReady table token
+  pub numbered : (k : ℕ) (token : tokens.Member) → slice_get members k ≡ Some token → token.number ≡ k
+
+-- the same member, which is ready again
+pub record HasReported (table : TableId) (old new : tokens.Member) : Type 0 where
+  pub ready : IsReady table new
+  pub number : new.number ≡ old.number

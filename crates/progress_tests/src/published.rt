@@ -1,0 +1,5 @@
+//! Tests of tables whose writer publishes while members report.
+
+mod grace;
+mod notes;
+pub mod publishing;
