@@ -117,6 +117,28 @@ module _ {T : Type 0} where
             }) (at_snoc now r u j e);
       }
 
+  -- what was taken is told
+  pub gives_receipt : (place : ℕ) (d : Dealing T) → d.takes ≡ true → Forks IsFair place d d (dealing false false [] [] d.taken)
+  gives_receipt place d may items ends h at = let r : Dealing T = dealing false false [] [] d.taken in let mine = h.fit place d at in let now : List (Dealing T) = set ends place d in
+      let old : All (FitsEnd h.poster h.taker h.put h.taken) now = all_set (FitsEnd h.poster h.taker h.put h.taken) ends place d mine (λ j u other e. h.fit j u e) in
+      record {
+        poster = h.poster;
+        taker = h.taker;
+        put = h.put;
+        taken = h.taken;
+        balance = h.balance;
+        fit = λ j u e. ⊎_elim (λ x. old j u x)
+            (λ (same : r ≡ u). record {
+              posts = λ p. absurd (not_so (ap (λ (y : Dealing T). y.posts) same ∙ p));
+              takes = λ p. absurd (not_so (ap (λ (y : Dealing T). y.takes) same ∙ p));
+              told = subst (λ (y : Dealing T). IsPrefix y.told h.put) same (items, ap (λ l. l ++ items) (mine.takes may).1 ∙ sym h.balance);
+            }) (at_snoc now r u j e);
+      }
+
+  -- the end that posts learns that what it was told was posted by it
+  pub reads_receipt : (place : ℕ) (d : Dealing T) → d.posts ≡ true → Learns IsFair place d (λ _. IsPrefix d.told d.put)
+  reads_receipt place d may items ends h at = let mine = h.fit place d at in (mine.told.0, mine.told.1 ∙ sym (mine.posts may).1)
+
   -- what was told reaches the end that takes
   pub hears : (place : ℕ) (d : Dealing T) (other : ℕ) (e : Dealing T) → Merges IsFair place d other e (dealing d.posts d.takes d.put d.taken e.told) spent
   hears place d other e items ends h at apart at' = let both : Dealing T = dealing d.posts d.takes d.put d.taken e.told in let mine = h.fit place d at in

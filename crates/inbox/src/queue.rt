@@ -5,7 +5,7 @@ ghost use Rattle.inbox.specs.Ends.{IsSettled, heard, posted, took};
 
 use crate::ends::{Poster, Taker};
 use crate::names::InboxNames;
-use crate::rule::{Dealing, Fair, Posted, Settling, Taken, Telling};
+use crate::rule::{Dealing, Fair, Posted, Receipt, Settling, Taken, Telling};
 use crossbeam_queue::RuledSegQueue;
 use std::marker::{Model, PhantomData};
 use std::sync::Wait;
@@ -71,15 +71,20 @@ impl<T: Drop, N: InboxNames> Inbox<T, N> {
         self.line.ruled.pop_as::<Taken, R>(rt, &mut taker.pass)
     }
 
-    /// Tells the taker of all that was posted so far.
-    pub fn tell(&self, poster: &mut Poster<T, N>, taker: &mut Taker<T, N>)
+    /// Tells the taker of all that was posted so far. It may wait for another thread in the same step.
+    pub fn tell<R: Wait>(&self, rt: &R, poster: &mut Poster<T, N>, taker: &mut Taker<T, N>)
         requires poster { poster.old.number ≡ self.now }
         requires taker { taker.old.number ≡ self.now }
         ensures poster { poster.new ≡ poster.old }
         ensures taker { taker.new ≡ heard taker.old poster.old.put }
+        // What was taken was posted.
+        ensures posted { IsPrefix taker.old.taken poster.old.put }
     {
         let news = self.line.ruled.another::<Telling>(&mut poster.pass);
         self.line.ruled.absorb::<Telling>(&mut taker.pass, news);
+        let receipt = self.line.ruled.another::<Receipt>(&mut taker.pass);
+        self.line.ruled.absorb::<Telling>(&mut poster.pass, receipt);
+        self.line.ruled.len_as::<Receipt, R>(rt, &mut poster.pass);
     }
 
     /// Brings the ends together, and answers how many items are left.

@@ -61,6 +61,24 @@ impl<T> Join<Dealing<T>> for Telling {
     ghost spent = { spent };
 }
 
+/// What was taken so far is told, and was posted.
+pub struct Receipt;
+
+impl<T> Split<Dealing<T>> for Receipt {
+    ghost use Rattle.std.specs.Prelude.{false, []};
+    ghost use Rattle.inbox.specs.Dealings.{dealing};
+
+    ghost left = { λ d. d };
+
+    ghost right = { λ d. dealing false false [] [] d.taken };
+}
+
+impl<T> Lesson<T, Dealing<T>> for Receipt {
+    ghost use mathlib.Core.List.{IsPrefix};
+
+    ghost fact = { λ d _. IsPrefix d.told d.put };
+}
+
 /// Both ends come together.
 pub struct Settling;
 

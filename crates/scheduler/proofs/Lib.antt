@@ -1,5 +1,7 @@
 pub mod Coming
+pub mod Crossing
 pub mod Laps
+pub mod Later
 pub mod Passing
 pub mod Slices
 pub mod Taking

@@ -1,5 +1,5 @@
 //! A scheduler, and a slice of its work.
-ghost use Rattle.std.specs.Prelude.{◌≡◌, ◌↔◌, IfOk, Some, slice_get};
+ghost use Rattle.std.specs.Prelude.{◌≡◌, ◌↔◌, [], IfOk, Some, slice_get};
 ghost use Rattle.slab.specs.Slab.{slab_len};
 ghost use Rattle.scheduler.specs.Held.{AreReady, HaveEnded};
 ghost use Rattle.scheduler.specs.Arrivals.{HadSlice};
@@ -43,6 +43,30 @@ pub struct Scheduler<N: InboxNames> {
 }
 
 impl<N: InboxNames> Scheduler<N> {
+    /// A scheduler without processes, over the inbox of its number. It takes no memory.
+    pub fn new(alloc: Global, number: u32, taker: Taker<Newcomer, N>) -> Scheduler<N>
+        ensures number { result.number ≡ number }
+        ensures taker { result.taker ≡ taker }
+        ensures going { result.going.slots ≡ [] }
+        ensures ended { result.ended.items ≡ [] }
+    {
+        Scheduler {
+            alloc,
+            number,
+            taker,
+            going: Slab::new(alloc),
+            ended: Vec::new(alloc),
+        }
+    }
+
+    /// Hands over the processes that have ended, in the order of their ends, and the end of its inbox that takes. Those that go on are dropped.
+    pub fn close(self) -> (Vec<ProcessRun>, Taker<Newcomer, N>)
+        ensures ended { result.0.items ≡ self.ended.items }
+        ensures taker { result.1 ≡ self.taker }
+    {
+        (self.ended, self.taker)
+    }
+
     /// Runs its processes for 16 laps over the server's newest generation. In a lap it takes its inbox, and then each of its
     /// processes that goes on has one turn.
     ///
