@@ -3,4 +3,4 @@
 
 mod laws;
 
-pub use laws::{made_names_are_in_order, made_texts_are_within};
+pub use laws::{made_names_are_in_order, made_texts_are_texts, made_texts_are_within};
