@@ -12,6 +12,12 @@ use Rattle.shared_words.specs.Opening.{member_begun}
 use Rattle.shared_words.specs.Making.{IsMemberBegun, AreMembersBegun}
 use Rattle.shared_words.specs.Kinds.{MayLead, MayWait}
 use Rattle.shared_words.proofs.ShownMembers.{still_at}
+use Rattle.marks.specs.Names.{IsAtRest}
+use Rattle.marks.specs.Steps.{opening_process, nothing_kept}
+use Rattle.marks.proofs.Opening.{opens}
+use Rattle.shared_words.specs.declared.view.ProcessSlot.{ProcessSlot}
+use Rattle.shared_words.specs.Processes.{slot_in, note_in, under_of, AreAtRest}
+use Rattle.shared_words.proofs.SlotFrames.{rests}
 use Rattle.progress_words.specs.Tokens.{view_of, IsMemberOf}
 
 got_last : {A : Type 0} (xs : List A) (x : A) → slice_get (xs ++ x ∷ []) (length xs) ≡ Some x
@@ -64,5 +70,13 @@ second_begun table all rest second taken begun =
 pub begun_may_lead : (m : MemberView) (k : ℕ) → m ≡ member_begun k → MayLead m
 begun_may_lead m k is = subst MayLead (sym is) (record { awake = refl; follows = refl })
 
+-- a member without a slot is between turns
+pub empty_rests : (m : MemberView) → m.slots ≡ [] → AreAtRest m
+empty_rests m none_stored process =
+    let asleep = under_of (record (member_begun 0) { member = record (member_begun 0).member { word = 0 } }) in
+    let rest = rests asleep process opening_process nothing_kept refl (opens asleep process) in
+    let empty : IsAtRest (record opening_process { note = note_in m.notes process }) = record { frames = rest.frames; literals = rest.literals } in
+    subst (λ (xs : List ProcessSlot). IsAtRest (record { slot = (slot_in xs process).slot; marks = (slot_in xs process).marks; note = note_in m.notes process })) (sym none_stored) empty
+
 pub begun_may_wait : (m : MemberView) (k : ℕ) → m ≡ member_begun k → MayWait m
-begun_may_wait m k is = subst MayWait (sym is) (record { awake = refl; follows = refl })
+begun_may_wait m k is = subst MayWait (sym is) (record { awake = refl; follows = refl; rest = empty_rests (member_begun k) refl })

@@ -31,7 +31,7 @@ pub fn both_members(shared: &Shared<Any>, mut members: Vec<Member>) -> Option<(M
 /// A member that waits holds back no progress, and the value that the writer took is reached once the
 /// counter has gone on by two.
 #[test]
-#[tactic(auto, using(crate::proofs::Begun::begun_may_lead, crate::proofs::Begun::begun_may_wait))]
+#[tactic(auto, using(crate::proofs::Begun::begun_may_lead, crate::proofs::Begun::begun_may_wait, crate::proofs::Begun::empty_rests))]
 fn the_counter_follows_the_members(rt: HostRuntime) -> Result<(), Fail> {
     let (shared, parts) = Shared::<Any>::new(rt.alloc(), 2, 0)?;
     let Parts {

@@ -9,9 +9,9 @@ use Rattle.term_core.specs.declared.generation.Generation.{Generation}
 use Rattle.shared_words.specs.declared.view.MemberView.{MemberView}
 use Rattle.shared_words.specs.declared.view.View.{View}
 use Rattle.shared_words.specs.declared.view.View.TheVariants.{Member}
-use Rattle.shared_words.specs.Views.{held}
 use Rattle.shared_words.specs.Seats.{member_of, IsRooted}
-use Rattle.shared_words.specs.Kinds.{counter_found, RootLoaded, value_confirmed}
+use Rattle.shared_words.specs.Processes.{AreAtRest}
+use Rattle.shared_words.specs.Kinds.{MayLoadRoot, counter_found, RootLoaded, value_confirmed, now_entering}
 use Rattle.shared_words.proofs.Rooted.{rooted_by_load}
 use Rattle.progress_words.specs.Reports.{IsAwake, Reported}
 use Rattle.progress_words.specs.Leads.{IsLeader}
@@ -43,3 +43,15 @@ rooted_now Served old v w counter found root new first loaded last same =
     let told = subst (λ (x : View). RootLoaded Served x w found) first loaded in
     let held = rooted_by_load Served (with_counter counter old) w found refl told in
     subst (λ (z : ℕ × MemberView). IsRooted z.0 z.1) (λ i. (sym same i, sym last i)) (record { learnt = held.learnt; held = held.held })
+
+-- between turns a member that has loaded the counter may load the root
+pub may_load_root : (old new : View) (counter : ℕ) → old ≡ Member (member_of old) → new ≡ counter_found counter old → (IsAwake (member_of old) → AreAtRest (member_of old)) → MayLoadRoot new
+may_load_root old new counter is found rest =
+    subst MayLoadRoot (sym (found ∙ ap (counter_found counter) is)) (λ loaded awake. rest awake)
+
+-- a member that enters is not awake
+pub entering_rests : (old new : MemberView) → new ≡ now_entering old → IsAwake new → AreAtRest new
+entering_rests old new is awake = absurd (asleep (ap (λ (m : MemberView). members.is_value m.member.word) (sym is) ∙ awake))
+  where
+    asleep : members.is_value ENTERING ≡ true → ⊥
+    asleep e = absurd (cc)

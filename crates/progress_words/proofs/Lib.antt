@@ -4,3 +4,4 @@ mod Scanning
 mod Passing
 mod Raising
 mod Noting
+mod Slots

@@ -120,12 +120,12 @@ waits_done counter word is = or_left (members.is_waiting word) (word == counter 
 pub confirmed_done : (counter word : ℕ) → word ≡ counter + 1 → members.is_done counter word ≡ true
 confirmed_done counter word is = or_right (members.is_waiting word) (word == counter + 1) (eq-eqb word (counter + 1) is)
 
-module _ (table : TableId) (counter : ℕ) (old mid new : tokens.Member) (k word : ℕ) (h : HaveLooked table counter old k mid) (seat : IsSameSeat mid.seat new.seat) (number : new.number ≡ mid.number) (at : new.seat.me.0 ≡ Member (word_scanned k word (view_of mid))) where
+module _ (table : TableId) (counter : ℕ) (old mid new : tokens.Member) (k word : ℕ) (h : HaveLooked table counter old k mid) (seat : IsSameSeat mid.seat new.seat) (number : new.number ≡ mid.number) (anchors : new.anchors.items ≡ mid.anchors.items) (at : new.seat.me.0 ≡ Member (word_scanned k word (view_of mid))) where
   pub next_token : IsMemberOf table new
   next_token = still_token table mid new (word_scanned k word (view_of mid)) h.token seat number at refl
 
   pub next_same : IsSameMember old new
-  next_same = record { seat = same_again old.seat mid.seat new.seat h.same.seat seat; number = number ∙ h.same.number }
+  next_same = record { seat = same_again old.seat mid.seat new.seat h.same.seat seat; number = number ∙ h.same.number; anchors = anchors ∙ h.same.anchors }
 
   pub next_view : view_of new ≡ words_found (word ∷ h.words) (view_of old)
   next_view = view_is new.seat (word_scanned k word (view_of mid)) at ∙ (λ i. word_scanned (sym h.all i) word (h.view i))

@@ -19,10 +19,11 @@ view_of token = member_of token.seat.me.0
 abbrev pub IsMemberOf : TableId → members.Member → Type 0
 IsMemberOf table token = IsMemberSeat table token.number token.seat
 
--- the same token, with or without a new view
+-- the same token, with or without a new view; its copy of the anchors is as before
 pub record IsSameMember (old new : members.Member) : Type 0 where
   pub seat : IsSameSeat old.seat new.seat
   pub number : new.number ≡ old.number
+  pub anchors : new.anchors.items ≡ old.anchors.items
 
 -- what the writer knows
 abbrev pub written_by : writers.Writer → WriterView

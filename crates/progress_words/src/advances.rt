@@ -51,6 +51,7 @@ pub fn advance<N: Served>(shared: &Shared<N>, member: &mut Member) -> Advance
     ensures root { member.new.root ≡ member.old.root }
     ensures leads { IsLeader (view_of member.new) }
     ensures looked { HasLooked shared.now.table.shared.key.members (view_of member.old) (view_of member.new) result }
+    ensures slots { (view_of member.new).slots ≡ (view_of member.old).slots }
 {
     let counter = shared.load_counter(member);
     if counter == LAST_VALUE {

@@ -17,6 +17,7 @@ pub fn lead<N: Served>(shared: &Shared<N>, member: &mut Member) -> Lead
     ensures same { IsSameMember member.old member.new }
     ensures root { member.new.root ≡ member.old.root }
     ensures tried { HasTried (view_of member.old) (view_of member.new) result }
+    ensures slots { (view_of member.new).slots ≡ (view_of member.old).slots }
     ensures led { result ≡ Lead.Led → IsLeader (view_of member.new) }
     ensures held { (by : ℕ) → result ≡ Lead.Held by → view_of member.new ≡ view_of member.old }
 {

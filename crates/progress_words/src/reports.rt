@@ -2,6 +2,7 @@
 
 ghost use Rattle.std.specs.Prelude.{◌≡◌, false};
 ghost use Rattle.prgr_core.specs.Members.{is_waiting};
+ghost use Rattle.shared_words.specs.Processes.{AreAtRest};
 ghost use Rattle.shared_words.specs.Seats.{IsRooted};
 ghost use Rattle.shared_words.specs.Kinds.{MayWait, MayEnter, now_waiting, now_entering};
 ghost use Rattle.progress_words.specs.Tokens.{view_of, IsMemberOf, IsSameMember};
@@ -14,10 +15,11 @@ use shared_words::{Member, Served, Shared};
 const GENERATION_UNIT: u64 = 32;
 
 /// Loads the counter and then the root, and confirms the value after that counter.
-#[tactic(auto, using(crate::proofs::Confirming::rooted_now))]
+#[tactic(auto, using(crate::proofs::Confirming::rooted_now, crate::proofs::Confirming::may_load_root))]
 fn confirm_newest<N: Served>(shared: &Shared<N>, member: &mut Member) -> u64
     requires token { IsMemberOf shared.now.table.shared.table_id member.old }
     requires awake { is_waiting (view_of member.old).member.word ≡ false }
+    requires rest { IsAwake (view_of member.old) → AreAtRest (view_of member.old) }
     ensures token { IsMemberOf shared.now.table.shared.table_id member.new }
     ensures same { IsSameMember member.old member.new }
     ensures reported { Reported N.served (view_of member.old) (view_of member.new) result }
@@ -38,6 +40,7 @@ fn confirm_newest<N: Served>(shared: &Shared<N>, member: &mut Member) -> u64
 pub fn report<N: Served>(shared: &Shared<N>, member: &mut Member) -> u64
     requires token { IsMemberOf shared.now.table.shared.table_id member.old }
     requires awake { IsAwake (view_of member.old) }
+    requires rest { AreAtRest (view_of member.old) }
     ensures token { IsMemberOf shared.now.table.shared.table_id member.new }
     ensures same { IsSameMember member.old member.new }
     ensures reported { Reported N.served (view_of member.old) (view_of member.new) result }
@@ -62,7 +65,7 @@ pub fn wait<N: Served>(shared: &Shared<N>, member: &mut Member)
 }
 
 /// Ends a wait: stores that the member enters, then reports.
-#[tactic(auto, using(crate::proofs::Confirming::awake_now))]
+#[tactic(auto, using(crate::proofs::Confirming::awake_now, crate::proofs::Confirming::entering_rests))]
 pub fn wake<N: Served>(shared: &Shared<N>, member: &mut Member) -> u64
     requires token { IsMemberOf shared.now.table.shared.table_id member.old }
     requires waits { MayEnter (view_of member.old) }

@@ -1,5 +1,5 @@
 -- A load of the counter keeps the rule, whatever seat loads it.
-use Rattle.std.proofs.Common.{◌≡◌, ℕ, zero, suc, ◌≤◌, inl, inr, ne_eqb, Bool, false, cond, List, set, refl, sym, ap, subst, ◌∙◌, arith}
+use Rattle.std.proofs.Common.{◌≡◌, ℕ, zero, suc, ◌≤◌, inl, inr, ne_eqb, Bool, false, cond, List, [], append-nil, set, refl, sym, ap, subst, ◌∙◌, arith}
 use mathlib.Core.Option.{none, some, some-injective}
 use lib.ListN.{get_elem?}
 use lib.Seq.{set-get_or}
@@ -26,6 +26,7 @@ use Rattle.shared_words.specs.Shown.{progress_of}
 use Rattle.shared_words.specs.Kinds.{Sat, MayLoadCounter, counter_kept, counter_found, counter_loaded}
 use Rattle.shared_words.specs.Rule.{MayBeRead, blocks_shown, Knows, RunningRule}
 use Rattle.shared_words.proofs.ShownMembers.{shown_at, there, still_at}
+use Rattle.shared_words.proofs.SlotFrames.{goes_on, LooksStay, looks_same, looks_stay, marks_stay, ended_still}
 use Rattle.shared_words.proofs.Frames.{after_step, same_rest, progress_set, member_step}
 
 -- ---- by a member
@@ -54,6 +55,7 @@ module _ {Served : Generation → Type 0} {opening : Opening} (s : State (Unit {
         own = r.machine.own_words k m.member shown;
         others = λ j other. refl;
         leader = r.machine.leader_made;
+        slots = goes_on r.writer m (members.counter_loaded c m.member) refl refl;
       })
 
   -- a member that leads does not wait
@@ -84,14 +86,17 @@ module _ {Served : Generation → Type 0} {opening : Opening} (s : State (Unit {
 
   writer_loads : RunningRule Served opening (after_step s s.words 0 (Writer (counter_kept (slice_index s.words COUNTER) r.writer)))
   writer_loads =
-      let c : ℕ = slice_index s.words COUNTER in record {
+      let c : ℕ = slice_index s.words COUNTER in
+      let w' = counter_kept c r.writer in
+      let stay : LooksStay s.words s.words r.writer w' = looks_same s.words r.writer w' refl (ended_still r.writer w' _ [] refl (sym (append-nil r.writer.published)) r.words.reached) in record {
         writer = counter_kept c r.writer;
         seats = r.seats;
         views = ap (λ (vs : List View). set vs 0 (Writer (counter_kept c r.writer))) r.views;
-        published = record { made = r.published.made; watched = r.published.watched; some = r.published.some; served = r.published.served; old_stays = r.published.old_stays; retired_stays = r.published.retired_stays; notes_fit = r.published.notes_fit };
+        published = record { made = r.published.made; staffed = r.published.staffed; watched = r.published.watched; some = r.published.some; served = r.published.served; old_stays = r.published.old_stays; retired_stays = r.published.retired_stays; notes_fit = r.published.notes_fit };
         words = record {
           all = r.words.all;
           root = r.words.root;
+          mirror = r.words.mirror;
           mirrored = r.words.mirrored;
           reached = omega arith;
           blocks = fewer_count (blocks_shown s.words r.writer) (MayBeRead r.writer) (MayBeRead (counter_kept c r.writer)) r.words.blocks (fewer c r.words.reached);
@@ -106,6 +111,9 @@ module _ {Served : Generation → Type 0} {opening : Opening} (s : State (Unit {
         handed = r.handed;
         out = r.out;
         at_home = λ k m at. same_knows c k (Member m) (r.at_home k m at);
+        looks = looks_stay s.words s.words r.writer w' stay r.looks;
+        marks = marks_stay s.words s.words r.writer w' r.seats r.seats stay refl refl r.marks;
+        come = λ number among. record { made = (r.come number among).made; spent = (r.come number among).spent };
       }
 
   -- ---- by any seat

@@ -1,12 +1,13 @@
 -- What a step leaves of the rule: one lemma for the steps of a member, and one for loads by the writer.
-use Rattle.std.proofs.Common.{◌≡◌, ℕ, suc, ◌+◌, ◌<◌, ◌≤◌, ◌⊎◌, List, ◌++◌, length, drop, set, get_or-set_other, get_or-set_same, length-set, refl, sym, ap, subst, ◌∙◌, arith, ⊎_elim}
-use mathlib.Core.Option.{some}
+use Rattle.std.proofs.Common.{◌≡◌, ℕ, suc, ◌+◌, ◌%◌, ◌<◌, ◌≤◌, ◌⊎◌, inl, inr, List, ◌++◌, length, drop, set, get_or-set_other, get_or-set_same, length-set, refl, sym, ap, subst, ◌∙◌, arith, ⊎_elim}
+use mathlib.Core.Option.{some, some-injective}
 use mathlib.Core.Logic.{dite}
 use native.Mathlib.Decide.{ℕ_discrete}
 use lib.ListN.{get_elem?}
 use Rattle.std.specs.Prelude.{Some, slice_get, slice_set, slice_index}
 use Rattle.atomic_table.specs.Table.{State}
-use Rattle.atomic_table.proofs.Lists.{at_set}
+use Rattle.atomic_table.proofs.Lists.{at_set, set_else}
+use Rattle.prgr_core.specs.declared.member.TheConstants.{MOST_MEMBERS}
 use Rattle.prgr_core.specs.declared.member.Member as machines
 use Rattle.prgr_core.specs.declared.event.PrgrEvent.{PrgrEvent}
 use Rattle.prgr_core.specs.declared.progress.Progress.{Progress}
@@ -14,18 +15,20 @@ use Rattle.prgr_core.specs.Step.{after, with_member, IsSound}
 use Rattle.prgr_core.proofs.Parts.{slice_get-slice_set}
 use Rattle.prgr_core.proofs.Sound.{keeps_sound}
 use Rattle.term_core.specs.declared.generation.Generation.{Generation}
-use Rattle.area_core.specs.declared.map.TheConstants.{SLOTS_START}
-use Rattle.area_core.specs.Map.{word_at, opening_words}
-use Rattle.area_core.specs.Blocks.{BlockInvariant}
+use Rattle.area_core.specs.declared.map.TheConstants.{SLOTS_START, PROCESSES, ANCHORS}
+use Rattle.area_core.specs.Map.{word_at, opening_words, slot_place}
+use Rattle.area_core.specs.Blocks.{Among, BlockInvariant}
 use Rattle.shared_words.specs.declared.table.TheConstants.{ROOT, COUNTER, LEAD, DELAYS, CONFIRMED}
 use Rattle.shared_words.specs.declared.opening.Opening.{Opening}
 use Rattle.shared_words.specs.declared.view.MemberView.{MemberView}
 use Rattle.shared_words.specs.declared.view.WriterView.{WriterView}
 use Rattle.shared_words.specs.declared.view.View.{View}
-use Rattle.shared_words.specs.declared.view.View.TheVariants.{Member}
-use Rattle.shared_words.specs.Shown.{members_shown, watchers_shown, leader_in, progress_of}
-use Rattle.shared_words.specs.Rule.{MayBeRead, WordsAgree, MemberKnows, Knows, RunningRule}
-use Rattle.shared_words.proofs.ShownMembers.{shown_set, shown_behind, watchers_behind, drop_set, there}
+use Rattle.shared_words.specs.declared.view.View.TheVariants.{Member, Spent}
+use Rattle.shared_words.specs.Shown.{members_shown, views_shown, watchers_shown, leader_in, progress_of}
+use Rattle.shared_words.specs.Rule.{MayBeRead, WordsAgree, SlotKnown, MarksKept, HasCome, MemberKnows, Knows, RunningRule}
+use Rattle.shared_words.proofs.ShownMembers.{shown_set, shown_behind, shown_length, watchers_behind, drop_set, there, within_get}
+use Rattle.shared_words.proofs.ShownViews.{views_at, views_set, views_behind}
+use Rattle.shared_words.proofs.SlotFrames.{same_behind, same_slot, slot_still, SlotsGoOn, slot_goes_on}
 
 -- the state of a table after a step that moves no slot
 abbrev pub after_step : State (Unit {0}) View → List ℕ → ℕ → View → State (Unit {0}) View
@@ -57,7 +60,8 @@ pub words_kept : (words words' : List ℕ) (w : WriterView) → KeepsRest words 
 words_kept words words' w rest h = record {
   all = rest.all ∙ h.all;
   root = rest.root ∙ h.root;
-  mirrored = ap (λ (ws : List ℕ). opening_words SLOTS_START ++ ws) rest.behind ∙ h.mirrored;
+  mirror = h.mirror;
+  mirrored = λ place late. same_behind words words' rest.behind place (omega arith) ∙ h.mirrored place late;
   reached = (let before = h.reached in let later = rest.counter in omega arith);
   blocks = subst (λ (ws : List ℕ). BlockInvariant (record { word = word_at (opening_words SLOTS_START ++ ws); published = w.published; kept = w.kept }) (MayBeRead w)) (sym rest.behind) h.blocks;
 }
@@ -88,43 +92,91 @@ pub moves_sound : (p q : Progress) → IsSound p → Moves p q → IsSound q
 moves_sound p q sound moves = ⊎_elim (λ (made : (event : PrgrEvent) × (after p event ≡ Some q)). keeps_sound p made.0 q sound made.1) (λ (same : q ≡ p). subst IsSound (sym same) sound) moves
 
 -- what a step of a member, with a new view and new words, owes: its event, and what its words and views are
-pub record MemberStep (words words' : List ℕ) (w : WriterView) (seats : List View) (k : ℕ) (m : MemberView) : Type 0 where
+pub record MemberChange (words words' : List ℕ) (w : WriterView) (seats : List View) (k : ℕ) (old m : MemberView) : Type 0 where
+  pub agree : WordsAgree words' w
+  pub knows : MemberKnows w k m
+  pub moves : Moves (progress_of words w seats) (progress_of words' w (set seats k (Member m)))
+  pub own : slice_index words' (CONFIRMED + k) ≡ m.member.word
+  pub others : (j : ℕ) → (j ≡ k → ⊥) → j < length w.members ⊎ (j < MOST_MEMBERS) → slice_index words' (CONFIRMED + j) ≡ slice_index words (CONFIRMED + j)
+  pub leader : slice_index words' LEAD ≤ length w.members
+  pub mine : (process : ℕ) → process < PROCESSES → process % length w.members ≡ k → SlotKnown words w old process → SlotKnown words' w m process
+  pub elsewhere : (process place : ℕ) → process < PROCESSES → (process % length w.members ≡ k → ⊥) → place ≤ ANCHORS → slice_index words' (slot_place process place) ≡ slice_index words (slot_place process place)
+
+-- the same of a step that stores no word of a slot or block
+pub record MemberStep (words words' : List ℕ) (w : WriterView) (seats : List View) (k : ℕ) (old m : MemberView) : Type 0 where
   pub rest : KeepsRest words words'
   pub knows : MemberKnows w k m
   pub moves : Moves (progress_of words w seats) (progress_of words' w (set seats k (Member m)))
   pub own : slice_index words' (CONFIRMED + k) ≡ m.member.word
   pub others : (j : ℕ) → (j ≡ k → ⊥) → slice_index words' (CONFIRMED + j) ≡ slice_index words (CONFIRMED + j)
   pub leader : slice_index words' LEAD ≤ length w.members
+  pub slots : SlotsGoOn w old m
 
 module _ {Served : Generation → Type 0} {opening : Opening} (s : State (Unit {0}) View) (r : RunningRule Served opening s) where
   -- the words of all members, after one has another
-  own_words : (words' : List ℕ) (k : ℕ) (m : MemberView) → k < length r.seats → MemberStep s.words words' r.writer r.seats k m
+  own_words : (words' : List ℕ) (k : ℕ) (old m : MemberView) → k < length r.seats → MemberChange s.words words' r.writer r.seats k old m
       → (j : ℕ) (a : machines.Member) → slice_get (members_shown r.writer.members (set r.seats k (Member m))) j ≡ Some a → slice_index words' (CONFIRMED + j) ≡ a.word
-  own_words words' k m within step j a at =
+  own_words words' k old m within step j a at =
       let now : slice_get (slice_set (members_shown r.writer.members r.seats) k m.member) j ≡ Some a = ap (λ (xs : List machines.Member). slice_get xs j) (sym (shown_set r.writer.members r.seats k m step.knows.made within)) ∙ at in
       ⊎_elim (λ (t : (j ≡ k) × (a ≡ m.member)). ap (λ (i : ℕ). slice_index words' (CONFIRMED + i)) t.0 ∙ step.own ∙ ap (λ (x : machines.Member). x.word) (sym t.1))
-      (λ (t : (j ≡ k → ⊥) × (slice_get (members_shown r.writer.members r.seats) j ≡ Some a)). step.others j t.0 ∙ r.machine.own_words j a t.1)
+      (λ (t : (j ≡ k → ⊥) × (slice_get (members_shown r.writer.members r.seats) j ≡ Some a)). step.others j t.0 (inl (subst (λ (n : ℕ). j < n) (shown_length r.writer.members r.seats) (within_get (members_shown r.writer.members r.seats) j a t.1))) ∙ r.machine.own_words j a t.1)
       (slice_get-slice_set (members_shown r.writer.members r.seats) k m.member j a now)
 
+  -- what is known of all processes, after a step of one member
+  marks_after : (words' : List ℕ) (k : ℕ) (old m : MemberView) → get_elem? r.seats k ≡ some (Member old) → MemberChange s.words words' r.writer r.seats k old m → MarksKept words' r.writer (set r.seats k (Member m))
+  marks_after words' k old m at step process j n below own here =
+      let now : slice_get (slice_set (views_shown r.writer.members r.seats) k m) j ≡ Some n = ap (λ (xs : List MemberView). slice_get xs j) (sym (views_set r.writer.members r.seats k m step.knows.made (there r.seats k (Member old) at))) ∙ here in
+      ⊎_elim (λ (t : (j ≡ k) × (n ≡ m)). subst (λ (x : MemberView). SlotKnown words' r.writer x process) (sym t.1)
+      (step.mine process below (own ∙ t.0) (r.marks process k old below (own ∙ t.0) (views_at r.writer.members r.seats k old step.knows.made at))))
+      (λ (t : (j ≡ k → ⊥) × (slice_get (views_shown r.writer.members r.seats) j ≡ Some n)). slot_still s.words words' r.writer r.writer n process refl (λ place within. step.elsewhere process place below (λ e. t.0 (sym own ∙ e)) within) (r.marks process j n below own t.1))
+      (slice_get-slice_set (views_shown r.writer.members r.seats) k m j n now)
+
+  -- who came in did not make the step
+  come_after : (k : ℕ) (old : MemberView) (v : View) → get_elem? r.seats k ≡ some (Member old) → (number : ℕ) → Among r.writer.taken number → HasCome r.writer (set r.seats k v) number
+  come_after k old v at number among =
+      let come = r.come number among in
+      record {
+        made = come.made;
+        spent = set_else r.seats k number v (λ same. other (sym at ∙ ap (get_elem? r.seats) (sym same) ∙ come.spent)) ∙ come.spent;
+      }
+    where
+      other : some (Member old) ≡ some Spent → ⊥
+      other e = (let is : Member old ≡ Spent = some-injective (Member old) Spent e in absurd (cc))
+
   -- the rule after a step of a member
-  pub member_step : (words' : List ℕ) (k : ℕ) (old m : MemberView) → get_elem? r.seats k ≡ some (Member old) → MemberStep s.words words' r.writer r.seats k m → RunningRule Served opening (after_step s words' (suc k) (Member m))
-  member_step words' k old m at step = record {
+  pub member_changes : (words' : List ℕ) (k : ℕ) (old m : MemberView) → get_elem? r.seats k ≡ some (Member old) → MemberChange s.words words' r.writer r.seats k old m → RunningRule Served opening (after_step s words' (suc k) (Member m))
+  member_changes words' k old m at step = record {
     writer = r.writer;
     seats = set r.seats k (Member m);
     views = ap (λ (vs : List View). set vs (suc k) (Member m)) r.views;
     published = r.published;
-    words = words_kept s.words words' r.writer step.rest r.words;
+    words = step.agree;
     each_seat = seats_kept r.writer r.seats k (Member m) r.each_seat step.knows;
     machine = record {
       progress = moves_sound (progress_of s.words r.writer r.seats) (progress_of words' r.writer (set r.seats k (Member m))) r.machine.progress step.moves;
-      own_words = own_words words' k m (there r.seats k (Member old) at) step;
-      others_wait = λ j late few. step.others j (λ same. (let made = step.knows.made in absurd (omega arith))) ∙ r.machine.others_wait j late few;
+      own_words = own_words words' k old m (there r.seats k (Member old) at) step;
+      others_wait = λ j late few. step.others j (λ same. (let made = step.knows.made in absurd (omega arith))) (inr few) ∙ r.machine.others_wait j late few;
       leader_made = step.leader;
     };
     handed = λ more. length-set r.seats k (Member m) ∙ r.handed more;
     out = omega (arith, r.out, length-set r.seats k (Member m));
     at_home = r.at_home;
+    looks = r.looks;
+    marks = marks_after words' k old m at step;
+    come = come_after k old (Member m) at;
   }
+
+  pub member_step : (words' : List ℕ) (k : ℕ) (old m : MemberView) → get_elem? r.seats k ≡ some (Member old) → MemberStep s.words words' r.writer r.seats k old m → RunningRule Served opening (after_step s words' (suc k) (Member m))
+  member_step words' k old m at step = member_changes words' k old m at (record {
+    agree = words_kept s.words words' r.writer step.rest r.words;
+    knows = step.knows;
+    moves = step.moves;
+    own = step.own;
+    others = λ j other few. step.others j other;
+    leader = step.leader;
+    mine = λ process below own h. slot_goes_on s.words words' r.writer old m process step.slots step.rest.behind h;
+    elsewhere = λ process place below other within. same_slot s.words words' step.rest.behind process place;
+  })
 
   -- the rule after a step by a seat behind those of members and watchers, which leaves the words
   pub behind_step : (k : ℕ) (v : View) → length r.writer.members + length r.writer.watchers ≤ k → Knows r.writer k v → RunningRule Served opening (after_step s s.words (suc k) v)
@@ -145,4 +197,10 @@ module _ {Served : Generation → Type 0} {opening : Opening} (s : State (Unit {
         handed = λ more. length-set r.seats k v ∙ r.handed more;
         out = omega (arith, r.out, length-set r.seats k v);
         at_home = r.at_home;
+        looks = r.looks;
+        marks = λ process j m below own at. r.marks process j m below own (ap (λ (xs : List MemberView). slice_get xs j) (sym (views_behind r.writer.members r.seats k v (omega (arith, behind)))) ∙ at);
+        come = λ number among.
+            let come = r.come number among in
+            let made = come.made in
+            record { made = come.made; spent = set_else r.seats k number v (λ e. absurd (omega (arith, behind))) ∙ come.spent };
       }

@@ -6,7 +6,6 @@ use Rattle.std.specs.Prelude.{Some, slice_get, slice_index}
 use Rattle.atomic_table.specs.Table.{keeps, step, Allows}
 use Rattle.prgr_core.proofs.Parts.{slice_get-push_at}
 use Rattle.term_core.specs.declared.generation.Generation.{Generation}
-use Rattle.area_core.specs.Map.{word_at}
 use Rattle.shared_words.specs.declared.opening.Opening.{Opening}
 use Rattle.shared_words.specs.declared.view.WriterView.{WriterView}
 use Rattle.shared_words.specs.declared.view.View.TheVariants.{Writer}
@@ -14,7 +13,7 @@ use Rattle.shared_words.specs.Seats.{Place, writer_of}
 use Rattle.shared_words.specs.Kinds.{Sat}
 use Rattle.shared_words.specs.Rule.{RunningRule}
 use Rattle.shared_words.specs.Closing.{IsLastWord, word_seen}
-use Rattle.shared_words.proofs.ShownWords.{shown_word}
+use Rattle.shared_words.proofs.MemberJoins.{slot_brought}
 use Rattle.shared_words.proofs.Frames.{after_step}
 use Rattle.shared_words.proofs.CounterLoads.{same_step}
 use Rattle.shared_words.proofs.WriterFrames.{writer_at}
@@ -32,7 +31,13 @@ see_word_is_allowed Served about slots id word me s r wide at fits = (
         let seat = writer_at s r id w (at ∙ ap some view) in
         subst (λ (x : WriterView). IsLastWord x word (slice_index s.words word)) seat.1 (record {
           root = λ here. ap (λ (i : ℕ). slice_index s.words i) here ∙ r.words.root;
-          behind = λ late. sym (shown_word s.words word late) ∙ ap (λ (ws : List ℕ). word_at ws word) r.words.mirrored;
+          slots = λ process m brought.
+              let known = slot_brought s r process m brought in
+              record {
+                turns = λ here. ap (λ (i : ℕ). slice_index s.words i) here ∙ known.turns;
+                anchors = λ anchor x at here. ap (λ (i : ℕ). slice_index s.words i) here ∙ known.anchors anchor x at;
+              };
+          behind = λ late. r.words.mirrored word late;
         });
   },
 )

@@ -32,6 +32,7 @@ use Rattle.shared_words.specs.Seats.{member_of}
 use Rattle.shared_words.specs.Kinds.{Sat, KnowsAsLeader, MayScan, MayRaise, scans_of, known_counter, word_scanned, scanned, counter_raised, raised}
 use Rattle.shared_words.specs.Rule.{RunningRule}
 use Rattle.shared_words.proofs.ShownMembers.{shown_at, shown_length, there, there_is, within_get, watchers_length}
+use Rattle.shared_words.proofs.SlotFrames.{goes_on}
 use Rattle.shared_words.proofs.Frames.{after_step, same_rest, progress_set, member_step}
 use Rattle.shared_words.proofs.MemberStores.{seat_of}
 use Rattle.shared_words.proofs.LeaderSteps.{still_knows, machine_store}
@@ -99,6 +100,7 @@ module _ {Served : Generation → Type 0} {opening : Opening} (s : State (Unit {
           own = r.machine.own_words k m.member shown;
           others = λ x apart. refl;
           leader = r.machine.leader_made;
+          slots = goes_on r.writer m (members.leading_with (scan_of (known_counter m) scans j (slice_index s.words (CONFIRMED + j))) m.member) refl refl;
         })
 
     -- the word of a member is at most the value after the counter, unless it waits

@@ -29,6 +29,7 @@ use Rattle.shared_words.specs.Seats.{member_of}
 use Rattle.shared_words.specs.Kinds.{Sat, IsLeader, MayLead, lead_found, lead_taken, lead_given, lead_dropped}
 use Rattle.shared_words.specs.Rule.{MemberKnows, RunningRule}
 use Rattle.shared_words.proofs.ShownMembers.{shown_at, shown_length, there}
+use Rattle.shared_words.proofs.SlotFrames.{goes_on}
 use Rattle.shared_words.proofs.Frames.{after_step, stored_front, progress_set, progress_words, member_step}
 use Rattle.shared_words.proofs.CounterLoads.{same_step}
 use Rattle.shared_words.proofs.MemberStores.{seat_of}
@@ -66,6 +67,7 @@ module _ {Served : Generation → Type 0} {opening : Opening} (s : State (Unit {
         own = get_or-set_other s.words i (CONFIRMED + k) x 0 (λ e. absurd (omega arith)) ∙ r.machine.own_words k m.member (shown_at r.writer.members r.seats k m knows.made at) ∙ sym word;
         others = λ j other. get_or-set_other s.words i (CONFIRMED + j) x 0 (λ e. absurd (omega arith));
         leader = subst (λ (n : ℕ). n ≤ length r.writer.members) (sym lead) small;
+        slots = goes_on r.writer m a word generation;
       })
 
 -- ---- the lead

@@ -1,4 +1,6 @@
 pub mod ShownMembers
+pub mod ShownViews
+pub mod SlotFrames
 pub mod Frames
 pub mod CounterLoads
 pub mod RootLoads
@@ -9,11 +11,15 @@ pub mod OpeningRule
 pub mod WordsBegun
 pub mod Handing
 pub mod SoundState
+pub mod ClearLooks
 pub mod Waits
 pub mod Rooted
+pub mod SlotStores
 pub mod WriterFrames
+pub mod SlotLoads
 pub mod ShownWords
 pub mod WordStores
+pub mod Mirrors
 pub mod RootStores
 pub mod WordLoads
 pub mod WriterSeats

@@ -1,5 +1,5 @@
 -- The stores of a member keep the rule: of its own word, of the leader's word and of the counter.
-use Rattle.std.proofs.Common.{◌≡◌, ℕ, zero, suc, ◌+◌, ◌<◌, ◌≤◌, inl, List, length, set, get_or-set_other, get_or-set_same, refl, sym, ap, subst, ◌∙◌, arith}
+use Rattle.std.proofs.Common.{◌≡◌, ℕ, zero, suc, ◌+◌, ◌<◌, ◌≤◌, inl, true, List, length, set, get_or-set_other, get_or-set_same, refl, sym, ap, subst, ◌∙◌, arith}
 use mathlib.Core.Option.{none, some, some-injective}
 use lib.ListN.{get_elem?}
 use Rattle.std.specs.Prelude.{Some, slice_get, slice_index, IsTrue}
@@ -13,9 +13,14 @@ use Rattle.prgr_core.specs.declared.member.Loaded.TheVariants.{Nothing, Counter,
 use Rattle.prgr_core.specs.declared.progress.Progress.{Progress}
 use Rattle.prgr_core.specs.declared.event.PrgrEvent.{PrgrEvent}
 use Rattle.prgr_core.specs.declared.event.PrgrEvent.TheVariants as prgr
+use Rattle.prgr_core.specs.Members as members
+use Rattle.prgr_core.specs.Members.{HasLoaded}
+use Rattle.prgr_core.specs.Invariant.{CounterInRange, LoadedIsNear}
 use Rattle.prgr_core.specs.Step.{after, with_member, reported}
+use Rattle.prgr_core.proofs.SoundParts.{is_member}
 use Rattle.term_core.specs.declared.generation.Generation.{Generation}
 use Rattle.area_core.specs.Step.{confirms}
+use Rattle.area_core.proofs.Held.{value_is}
 use Rattle.shared_words.specs.declared.table.TheConstants.{COUNTER, LEAD, DELAYS, CONFIRMED}
 use Rattle.shared_words.specs.declared.opening.Opening.{Opening}
 use Rattle.area_core.specs.declared.table.Published.{Published}
@@ -29,6 +34,8 @@ use Rattle.shared_words.specs.Seats.{member_of}
 use Rattle.shared_words.specs.Kinds.{Sat, MayConfirm, value_confirmed, confirmed}
 use Rattle.shared_words.specs.Rule.{IsBeginning, RunningRule}
 use Rattle.shared_words.proofs.ShownMembers.{shown_at, shown_length, there}
+use Rattle.shared_words.specs.Processes.{process_of, under_of}
+use Rattle.shared_words.proofs.SlotFrames.{SlotsGoOn, known_awake}
 use Rattle.shared_words.proofs.Frames.{after_step, stored_front, progress_set, progress_words, member_step}
 
 module _ {Served : Generation → Type 0} {opening : Opening} (s : State (Unit {0}) View) (r : RunningRule Served opening s) where
@@ -58,9 +65,9 @@ confirmed_event p k a value at (CounterAndRoot c) is may =
 
 module _ {Served : Generation → Type 0} {opening : Opening} (s : State (Unit {0}) View) (r : RunningRule Served opening s) where
   -- a store of a member's word, which is an event of that member
-  pub own_store : (k value : ℕ) (old m : MemberView) (event : PrgrEvent) → get_elem? r.seats k ≡ some (Member old) → m.member.number ≡ old.member.number → m.seen ≡ old.seen → m.notes ≡ old.notes → m.member.generation ≡ old.member.generation → m.member.word ≡ value
+  pub own_store : (k value : ℕ) (old m : MemberView) (event : PrgrEvent) → get_elem? r.seats k ≡ some (Member old) → m.member.number ≡ old.member.number → m.seen ≡ old.seen → m.notes ≡ old.notes → m.member.generation ≡ old.member.generation → m.member.word ≡ value → SlotsGoOn r.writer old m
       → after (progress_of s.words r.writer r.seats) event ≡ Some (with_member (progress_of s.words r.writer r.seats) k m.member) → RunningRule Served opening (after_step s (set s.words (CONFIRMED + k) value) (suc k) (Member m))
-  own_store k value old m event at number learnt noted generation word made =
+  own_store k value old m event at number learnt noted generation word slots made =
       let knows = r.each_seat k (Member old) at in
       let few_members = few s r k old at in
       let size = r.words.all in
@@ -83,7 +90,17 @@ module _ {Served : Generation → Type 0} {opening : Opening} (s : State (Unit {
         own = get_or-set_same s.words (CONFIRMED + k) value 0 (omega arith) ∙ sym word;
         others = λ j other. get_or-set_other s.words (CONFIRMED + k) (CONFIRMED + j) value 0 (λ e. other (omega arith));
         leader = subst (λ (n : ℕ). n ≤ length r.writer.members) (sym (get_or-set_other s.words (CONFIRMED + k) LEAD value 0 (λ e. absurd (omega arith)))) r.machine.leader_made;
+        slots = slots;
       })
+
+-- what a report confirms is a value
+confirms_value : (value counter : ℕ) (loaded : Loaded) → CounterInRange counter → ((c : ℕ) → HasLoaded loaded c → c ≤ counter) → IsTrue (confirms value loaded) → members.is_value value ≡ true
+confirms_value value counter Nothing range near may = absurd (cc)
+confirms_value value counter (Counter c) range near may = absurd (cc)
+confirms_value value counter (CounterAndRoot c) range near may =
+    let is : value ≡ c + 1 = eqb-true value (c + 1) may in
+    let below : c ≤ counter = near c refl in
+    value_is value (omega (arith, is), omega (arith, is, below, range))
 
 -- a report may store its value
 pub confirm_is_allowed : (Served : Generation → Type 0) (opening : Opening) (slots id number value : ℕ) (me : Sat) → me.0 ≡ Member (member_of me.0) → (member_of me.0).member.number ≡ number → MayConfirm value (member_of me.0)
@@ -94,7 +111,14 @@ confirm_is_allowed Served opening slots id number value me is numbered may s r w
     let k = seat.0 in
     let knows = r.each_seat k (Member m) seat.2 in
     let place : number ≡ k = sym numbered ∙ knows.numbered in
-    let stored = own_store s r k value m (value_confirmed value m) (prgr.Report k) seat.2 refl refl refl refl refl
+    let shown = shown_at r.writer.members r.seats k m knows.made seat.2 in
+    let near : LoadedIsNear (slice_index s.words COUNTER) m.member = r.machine.progress.invariant.loads_near m.member (is_member (progress_of s.words r.writer r.seats) r.machine.progress k m.member shown) in
+    let range = r.machine.progress.invariant.counter_in_range in
+    let slots : SlotsGoOn r.writer m (value_confirmed value m) = record {
+      slots = refl;
+      known = λ process h. known_awake (under_of m) (members.is_value value) process (process_of m process) r.writer.looks (λ awake. confirms_value value (slice_index s.words COUNTER) m.member.loaded range (λ c loaded. (near c loaded).0) may) h;
+    } in
+    let stored = own_store s r k value m (value_confirmed value m) (prgr.Report k) seat.2 refl refl refl refl refl slots
     (confirmed_event (progress_of s.words r.writer r.seats) k m.member value (shown_at r.writer.members r.seats k m knows.made seat.2) m.member.loaded refl may) in (
       Member (value_confirmed value m),
       keeps,

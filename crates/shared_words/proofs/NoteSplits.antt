@@ -4,6 +4,7 @@ use mathlib.Core.Option.{some, some-injective}
 use lib.ListN.{get_elem?}
 use Rattle.std.specs.Prelude.{Some, slice_get}
 use Rattle.atomic_table.specs.Table.{State, Splits}
+use Rattle.atomic_table.proofs.Lists.{at_longer}
 use Rattle.prgr_core.specs.declared.member.Member as machines
 use Rattle.prgr_core.specs.declared.watcher.Watcher as watching
 use Rattle.prgr_core.specs.Step.{IsSound}
@@ -22,6 +23,8 @@ use Rattle.shared_words.specs.Rule.{NoteFits, Knows, RunningRule}
 use Rattle.shared_words.proofs.ShownMembers.{still_at}
 use Rattle.shared_words.proofs.OpeningRule.{last_get, at_push}
 use Rattle.shared_words.proofs.RootLoads.{whole}
+use Rattle.shared_words.proofs.ShownViews.{views_more}
+use Rattle.shared_words.proofs.SlotFrames.{LooksStay, looks_same, looks_stay, marks_stay, ended_as}
 use Rattle.shared_words.proofs.WriterFrames.{WriterGrows, knows_more}
 
 -- ---- a seat more at the end
@@ -53,12 +56,14 @@ splits process s r may =
     let behind : length w.members + length w.watchers ≤ length r.seats = omega (arith, r.published.made, r.published.watched, may.out, r.out) in
     let same = members_more w.members r.seats (Note n) (omega (arith, behind)) in
     let more : WriterGrows w w' = record { members = refl; watchers = refl; learnt = λ xs is. is; noted = λ note among. (among.0, still_at w.notes (note_number process w ∷ []) among.0 note among.1) } in
+    let stay : LooksStay s.words s.words w w' = looks_same s.words w w' refl (ended_as w w' refl refl (omega arith)) in
     record {
       writer = w';
       seats = r.seats ++ Note n ∷ [];
       views = ap (λ (vs : List View). set vs 0 (Writer w') ++ Note n ∷ []) r.views;
       published = record {
         made = r.published.made;
+        staffed = r.published.staffed;
         watched = r.published.watched;
         some = r.published.some;
         served = r.published.served;
@@ -68,7 +73,7 @@ splits process s r may =
             (λ (last : (among.0 ≡ length w.notes) × (note ≡ note_number process w)). subst (NoteFits w.published) (sym last.1) (record { process = may.may.below; counted = omega (arith, first) }))
             (slice_get-push_at w.notes (note_number process w) among.0 note among.1);
       };
-      words = record { all = r.words.all; root = r.words.root; mirrored = r.words.mirrored; reached = r.words.reached; blocks = r.words.blocks };
+      words = record { all = r.words.all; root = r.words.root; mirror = r.words.mirror; mirrored = r.words.mirrored; reached = r.words.reached; blocks = r.words.blocks };
       each_seat = λ place v at. ⊎_elim (λ (t : get_elem? r.seats place ≡ some v). knows_more w w' more place v (r.each_seat place v t))
           (λ (t : (place ≡ length r.seats) × (Note n ≡ v)). subst (λ (z : ℕ × View). Knows w' z.0 z.1) (λ i. (sym t.0 i, t.1 i)) (record {
             behind = behind;
@@ -86,6 +91,9 @@ splits process s r may =
       handed = λ few. absurd (omega (arith, few, r.published.made, may.out));
       out = omega (arith, r.out, length-append r.seats (Note n ∷ []));
       at_home = λ k x at. knows_more w w' more k (Member x) (r.at_home k x at);
+      looks = looks_stay s.words s.words w w' stay r.looks;
+      marks = marks_stay s.words s.words w w' r.seats (r.seats ++ Note n ∷ []) stay refl (views_more w.members r.seats (Note n) (omega (arith, behind))) r.marks;
+      come = λ number among. record { made = (r.come number among).made; spent = at_longer r.seats (Note n ∷ []) number Spent (r.come number among).spent };
     }
 
 -- the writer may split a note once all other seats are handed out

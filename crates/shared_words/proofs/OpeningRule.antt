@@ -4,8 +4,10 @@ use mathlib.Core.Option.{some, some-injective, some-ne-none}
 use mathlib.Core.Logic.{dite}
 use native.Mathlib.Decide.{ℕ_discrete}
 use lib.ListN.{get_elem?}
-use Rattle.std.specs.Prelude.{Some, slice_get, slice_index, unwrap_or}
+use Rattle.std.specs.Prelude.{Some, Option, slice_get, slice_index, unwrap_or}
 use Rattle.atomic_table.specs.Table.{State, opening, Splits}
+use Rattle.atomic_table.proofs.Lists.{at_longer}
+use Rattle.std.proofs.lemmas.List.{length-replicate}
 use Rattle.prgr_core.specs.declared.member.TheConstants.{MOST_MEMBERS}
 use Rattle.prgr_core.specs.declared.member.Member as machines
 use Rattle.prgr_core.specs.declared.watcher.Watcher as watching
@@ -14,13 +16,16 @@ use Rattle.prgr_core.specs.Step as starting
 use Rattle.prgr_core.proofs.Parts.{slice_get-push_at}
 use Rattle.prgr_core.proofs.Opening.{opening_sound}
 use Rattle.term_core.specs.declared.generation.Generation.{Generation}
-use Rattle.area_core.specs.declared.map.TheConstants.{TABLE_WORDS, SLOTS_START}
+use Rattle.area_core.specs.declared.map.TheConstants.{TABLE_WORDS, SLOTS_START, ANCHORS}
 use Rattle.area_core.specs.declared.table.Published.{Published}
 use Rattle.area_core.specs.Generations.{has_serial}
-use Rattle.area_core.specs.Map.{word_at, opening_words}
+use Rattle.area_core.specs.Map.{word_at, opening_words, slot_place}
 use Rattle.area_core.specs.Step.{empty_generation, opening_published}
 use Rattle.area_core.proofs.Counted.{opened}
 use Rattle.area_core.proofs.Opened.{blocks_opened}
+use Rattle.marks.specs.Kept.{IsBacked}
+use Rattle.marks.specs.Steps.{nothing_kept}
+use Rattle.marks.proofs.Opening.{opens}
 use Rattle.shared_words.specs.declared.opening.Opening.{Opening}
 use Rattle.shared_words.specs.declared.view.MemberView.{MemberView}
 use Rattle.shared_words.specs.declared.view.WatcherView.{WatcherView}
@@ -30,16 +35,19 @@ use Rattle.shared_words.specs.declared.view.View.TheVariants.{Writer, Member, Wa
 use Rattle.shared_words.specs.Shown.{member_shown, members_shown, watchers_shown, leader_in, progress_of, block_words}
 use Rattle.shared_words.specs.Opening.{member_begun, members_begun, watcher_begun, watchers_begun, writer_begun, opening_view}
 use Rattle.shared_words.specs.Making.{AreBegun, HasSeatsAtHome, handed_on, handed_out}
-use Rattle.shared_words.proofs.ShownMembers.{there_is, still_at}
-use Rattle.shared_words.specs.Rule.{Knows, MemberKnows, MayBeRead, RunningRule}
+use Rattle.shared_words.specs.Processes.{under_of}
+use Rattle.shared_words.specs.Rule.{Knows, MemberKnows, MayBeRead, SlotKnown, RunningRule}
+use Rattle.shared_words.proofs.ShownMembers.{there_is, still_at, drop_none}
+use Rattle.shared_words.proofs.ShownViews.{views_none, views_push}
+use Rattle.shared_words.proofs.SlotFrames.{LooksStay, looks_same, looks_stay, marks_stay, ended_as}
 
 -- ---- lists
 
 -- words that are all 0
-abbrev AreEmpty : List ℕ → Type 0
+abbrev pub AreEmpty : List ℕ → Type 0
 AreEmpty words = (place : ℕ) → word_at words place ≡ 0
 
-empty_replicate : (n : ℕ) → AreEmpty (replicate n 0)
+pub empty_replicate : (n : ℕ) → AreEmpty (replicate n 0)
 empty_replicate zero place = refl
 empty_replicate (suc n) zero = refl
 empty_replicate (suc n) (suc place) = empty_replicate n place
@@ -105,10 +113,6 @@ unfolding watchers_begun
 watched_length zero = refl
 watched_length (suc n) = let before = watched_length n in omega (arith, length-append (watchers_begun n) (watcher_begun n ∷ []))
 
-pub drop_none : {A : Type 0} (n : ℕ) → drop {A = A} n [] ≡ []
-drop_none zero = refl
-drop_none (suc n) = refl
-
 pub last_get : {A : Type 0} (xs : List A) (x : A) → slice_get (xs ++ x ∷ []) (length xs) ≡ Some x
 last_get [] x = refl
 last_get (y ∷ ys) x = last_get ys x
@@ -155,6 +159,31 @@ member_knows members watchers k m at =
       noted = λ note among. absurd (cc);
     })
 
+-- ---- the slots at first
+
+pub opening_empty : (n : ℕ) → AreEmpty (opening_words n)
+opening_empty n = subst AreEmpty (opened n) (empty_replicate n)
+
+none_at : {X : Type 0} (i : ℕ) (x : X) → slice_get {X = X} [] i ≡ Some x → ⊥
+none_at i x at = absurd (cc)
+
+none_backed : IsBacked nothing_kept
+none_backed = record {
+  anchors = λ l among. absurd (none_at among.0 l among.1);
+  turns = λ t among. absurd (none_at among.0 t among.1);
+  dropped = λ d among. absurd (none_at among.0 d among.1);
+  lingering = λ l among. absurd (none_at among.0 l among.1);
+}
+
+-- what is known of a process at first
+slot_begins : (words : List ℕ) (members watchers k process : ℕ) → ((place : ℕ) → SLOTS_START ≤ place → slice_index words place ≡ 0) → SlotKnown words (writer_begun members watchers) (member_begun k) process
+slot_begins words members watchers k process empty = record {
+  turns = empty (slot_place process 0) (omega arith);
+  anchors = λ place word at. empty (slot_place process (place + 1)) (omega arith) ∙ sym (opening_empty ANCHORS place) ∙ ap (λ (o : Option ℕ). unwrap_or o 0) at;
+  narrow = omega arith;
+  known = opens (under_of (member_begun k)) process;
+}
+
 never : false ≡ true → ⊥
 never e = (cc)
 
@@ -163,8 +192,8 @@ only x p zero at = cc
 only x p (suc g) at = absurd (cc)
 
 -- the rule holds of a table as it begins
-pub rule_begins : (Served : Generation → Type 0) (about : Opening) (words : List ℕ) → about.members ≤ MOST_MEMBERS → about.watchers ≤ MOST_WATCHERS → Served empty_generation → AreBegun about.members words → RunningRule Served about (opening words [] (opening_view about.members about.watchers))
-rule_begins Served about words few few_watchers served begun =
+pub rule_begins : (Served : Generation → Type 0) (about : Opening) (words : List ℕ) → 1 ≤ about.members → about.members ≤ MOST_MEMBERS → about.watchers ≤ MOST_WATCHERS → Served empty_generation → AreBegun about.members words → RunningRule Served about (opening words [] (opening_view about.members about.watchers))
+rule_begins Served about words first few few_watchers served begun =
     let w : WriterView = writer_begun about.members about.watchers in
     let watched = ap (watchers_shown (watchers_begun about.watchers)) (drop_none (length (members_begun about.members))) ∙ watchers_opened about.watchers in
     record {
@@ -173,6 +202,7 @@ rule_begins Served about words few few_watchers served begun =
       views = refl;
       published = record {
         made = begun_length about.members;
+        staffed = (let n = begun_length about.members in omega arith);
         watched = watched_length about.watchers;
         some = omega arith;
         served = λ p among. subst (λ (q : Published). Served q.state) (only opening_published p among.0 among.1) served;
@@ -180,7 +210,7 @@ rule_begins Served about words few few_watchers served begun =
         retired_stays = λ g later p q serial le at_p at_q old. absurd (never (subst (λ (x : Published). has_serial x.state.retired serial ≡ true) (sym (only opening_published p g at_p)) old));
         notes_fit = λ note among. absurd (let at = among.1 in cc);
       };
-      words = record { all = begun.all; root = begun.root; mirrored = words_opened SLOTS_START TABLE_WORDS words begun.all (omega arith) begun.behind; reached = omega arith; blocks = blocks_opened (word_at (block_words words)) (blocks_empty about.members words begun) (MayBeRead w) };
+      words = record { all = begun.all; root = begun.root; mirror = ap (λ (ws : List ℕ). length ws) (sym (opened TABLE_WORDS)) ∙ length-replicate {A = ℕ} TABLE_WORDS 0; mirrored = λ place late. begun.behind place (omega arith) ∙ sym (opening_empty TABLE_WORDS place); reached = omega arith; blocks = blocks_opened (word_at (block_words words)) (blocks_empty about.members words begun) (MayBeRead w) };
       each_seat = λ place v at. absurd (some-ne-none v (sym at));
       machine = record {
         progress = subst starting.IsSound
@@ -195,6 +225,11 @@ rule_begins Served about words few few_watchers served begun =
       handed = λ more. refl;
       out = omega arith;
       at_home = member_knows about.members about.watchers;
+      looks = record { backed = none_backed; over = λ wait among. absurd (none_at among.0 wait among.1) };
+      marks = λ process k m below own at.
+          let here = ap (λ (xs : List MemberView). slice_get xs k) (sym (views_none (members_begun about.members))) ∙ at in
+          subst (λ (x : MemberView). SlotKnown words w x process) (sym (begun_at about.members k m here).0) (slot_begins words about.members about.watchers k process begun.behind);
+      come = λ number among. absurd (none_at among.0 number among.1);
     }
 
 -- ---- a seat is handed out
@@ -235,12 +270,13 @@ hands_out s r more =
     let same = shown_push w.members r.seats m (ap (slice_get w.members) long ∙ there) in
     let behind = drop_short (length w.members) r.seats (omega arith) in
     let behind' = drop_short (length w.members) (r.seats ++ Member m ∷ []) (omega (arith, length-append r.seats (Member m ∷ []))) in
+    let stay : LooksStay s.words s.words w w' = looks_same s.words w w' refl (ended_as w w' refl refl (omega arith)) in
     record {
       writer = w';
       seats = r.seats ++ Member m ∷ [];
       views = ap (λ (vs : List View). set vs 0 (Writer w') ++ Member m ∷ []) r.views;
-      published = record { made = r.published.made; watched = r.published.watched; some = r.published.some; served = r.published.served; old_stays = r.published.old_stays; retired_stays = r.published.retired_stays; notes_fit = r.published.notes_fit };
-      words = record { all = r.words.all; root = r.words.root; mirrored = r.words.mirrored; reached = r.words.reached; blocks = r.words.blocks };
+      published = record { made = r.published.made; staffed = r.published.staffed; watched = r.published.watched; some = r.published.some; served = r.published.served; old_stays = r.published.old_stays; retired_stays = r.published.retired_stays; notes_fit = r.published.notes_fit };
+      words = record { all = r.words.all; root = r.words.root; mirror = r.words.mirror; mirrored = r.words.mirrored; reached = r.words.reached; blocks = r.words.blocks };
       each_seat = λ place v at. ⊎_elim (λ (t : get_elem? r.seats place ≡ some v). same_handed w (w.handed + 1) place v (r.each_seat place v t))
           (λ (t : (place ≡ length r.seats) × (Member m ≡ v)). subst (λ (z : ℕ × View). Knows w' z.0 z.1) (λ i. (sym (t.0 ∙ long) i, t.1 i)) (same_handed w (w.handed + 1) w.handed (Member m) (r.at_home w.handed m there)))
           (at_push r.seats (Member m) place v at);
@@ -253,6 +289,9 @@ hands_out s r more =
       handed = λ still. length-append r.seats (Member m ∷ []) ∙ ap (λ (n : ℕ). n + 1) long;
       out = omega (arith, r.out, length-append r.seats (Member m ∷ []));
       at_home = λ k x at. same_handed w (w.handed + 1) k (Member x) (r.at_home k x at);
+      looks = looks_stay s.words s.words w w' stay r.looks;
+      marks = marks_stay s.words s.words w w' r.seats (r.seats ++ Member m ∷ []) stay refl (views_push w.members r.seats m (ap (slice_get w.members) long ∙ there)) r.marks;
+      come = λ number among. record { made = (r.come number among).made; spent = at_longer r.seats (Member m ∷ []) number Spent (r.come number among).spent };
     }
 
 -- the writer may hand out a member's seat while one is at home

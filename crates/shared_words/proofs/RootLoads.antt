@@ -1,10 +1,11 @@
 -- A load of the root keeps the rule, whatever seat loads it, and tells of the generations so far.
-use Rattle.std.proofs.Common.{◌≡◌, ℕ, zero, suc, ◌<◌, inl, inr, Bool, true, false, cond, List, [], ◌∷◌, length, length-append, append-nil, refl, sym, ap, subst, ◌∙◌, arith}
+use Rattle.std.proofs.Common.{◌≡◌, ℕ, zero, suc, ◌<◌, ◌≤◌, inl, inr, Bool, true, false, cond, List, [], ◌∷◌, length, length-append, append-nil, refl, sym, ap, subst, ◌∙◌, arith}
 use mathlib.Core.Option.{none, some, some-injective}
 use lib.ListN.{get_elem?}
 use lib.Seq.{set-get_or}
 use Rattle.std.specs.Prelude.{Some, None, slice_get, slice_index}
 use Rattle.std.specs.Option.{option_and_then}
+use Rattle.std.proofs.lemmas.Bool.{cases_Bool}
 use Rattle.atomic_table.specs.Table.{State, keeps, step, Allows}
 use Rattle.prgr_core.specs.declared.member.Member as machines
 use Rattle.prgr_core.specs.declared.progress.Progress.{Progress}
@@ -27,6 +28,13 @@ use Rattle.shared_words.specs.Shown.{progress_of}
 use Rattle.shared_words.specs.Kinds.{Sat, MayLoadRoot, member_with_root, root_found, RootLoaded, root_loaded}
 use Rattle.shared_words.specs.Rule.{IsBeginning, MayBeRead, RunningRule}
 use Rattle.shared_words.proofs.ShownMembers.{shown_at, there, there_is, set_same}
+use Rattle.marks.specs.declared.kept.WriterKept.{WriterKept}
+use Rattle.marks.specs.Names.{IsAtRest}
+use Rattle.marks.specs.Kept.{IsKnown}
+use Rattle.marks.specs.Steps.{holding}
+use Rattle.marks.proofs.MemberSteps.{known_at_rest}
+use Rattle.shared_words.specs.Processes.{process_of, under_of, AreAtRest}
+use Rattle.shared_words.proofs.SlotFrames.{published_begins, rests}
 use Rattle.shared_words.proofs.Frames.{after_step, same_rest, progress_set, Moves, member_step, behind_step}
 use Rattle.shared_words.proofs.CounterLoads.{same_step}
 
@@ -43,6 +51,21 @@ word_kept false g a = refl
 within : (b : Bool) (g n : ℕ) (a : machines.Member) → g < n → a.generation < n → (cond b (members.root_loaded g a) a).generation < n
 within true g n a newest old = newest
 within false g n a newest old = old
+
+-- what is known of a process, once its member has learnt of all generations
+root_known : (b : Bool) (all : List Published) (m : MemberView) (process : ℕ) (k : WriterKept) → (b ≡ true → IsAtRest (process_of m process)) → m.member.generation ≤ newest all → IsBeginning m.seen all → m.member.generation < length m.seen
+    → IsKnown (under_of m) process (process_of m process) k → IsKnown (under_of (record m { member = cond b (members.root_loaded (newest all) m.member) m.member; seen = all })) process (process_of m process) k
+root_known true all m process k rest later begins learnt h = known_at_rest (under_of m) (under_of (record m { member = members.root_loaded (newest all) m.member; seen = all })) process (process_of m process) k h (rest refl) later
+root_known false all m process k rest later begins learnt h =
+    subst (λ (p : Published). IsKnown (holding (members.is_value m.member.word) m.member.generation p) process (process_of m process) k) (sym (published_begins m.seen all m.member.generation begins learnt)) h
+
+-- a process whose member is not awake, or asks for it, is at rest
+rests_then : (m : MemberView) (process : ℕ) (k : WriterKept) → (members.is_value m.member.word ≡ true → AreAtRest m) → IsKnown (under_of m) process (process_of m process) k → IsAtRest (process_of m process)
+rests_then m process k asked h =
+    elim (cases_Bool (members.is_value m.member.word)) as (λ _. IsAtRest (process_of m process)) [
+      | inl awake ↦ asked awake process
+      | inr asleep ↦ rests (under_of m) process (process_of m process) k asleep h
+    ]
 
 root_moves : (p : Progress) (k : ℕ) (a : machines.Member) → slice_get p.members k ≡ Some a → (b : Bool) → has_loaded a.loaded ≡ b → Moves p (with_member p k (cond b (members.root_loaded p.generation a) a))
 root_moves p k a at true is = inl (
@@ -97,8 +120,8 @@ module _ {Served : Generation → Type 0} {opening : Opening} (s : State (Unit {
   }
 
   -- a member
-  member_loads : (k : ℕ) (m : MemberView) → get_elem? r.seats k ≡ some (Member m) → RunningRule Served opening (after_step s s.words (suc k) (root_found all (Member m)))
-  member_loads k m at =
+  member_loads : (k : ℕ) (m : MemberView) → get_elem? r.seats k ≡ some (Member m) → MayLoadRoot (Member m) → RunningRule Served opening (after_step s s.words (suc k) (root_found all (Member m)))
+  member_loads k m at may =
       let knows = r.each_seat k (Member m) at in
       let p = progress_of s.words r.writer r.seats in
       let b = has_loaded m.member.loaded in
@@ -118,6 +141,10 @@ module _ {Served : Generation → Type 0} {opening : Opening} (s : State (Unit {
         own = r.machine.own_words k m.member shown ∙ sym (word_kept b g m.member);
         others = λ j other. refl;
         leader = r.machine.leader_made;
+        slots = record {
+          slots = refl;
+          known = λ process h. root_known b all m process r.writer.looks (λ loaded. rests_then m process r.writer.looks (may loaded) h) (let learnt = shorter m.seen all knows.seen m.member.generation knows.holds in omega (arith, learnt)) knows.seen knows.holds h;
+        };
       })
 
   -- a note
@@ -132,7 +159,7 @@ module _ {Served : Generation → Type 0} {opening : Opening} (s : State (Unit {
 
   behind_loads : (k : ℕ) (v : View) → get_elem? r.seats k ≡ some v → MayLoadRoot v → Goes (suc k) v
   behind_loads k (Writer w) here may = absurd (r.each_seat k (Writer w) here)
-  behind_loads k (Member m) here may = (member_loads k m here, told (Member m) (root_found all (Member m)) refl (r.each_seat k (Member m) here).seen (r.each_seat k (Member m) here).noted refl)
+  behind_loads k (Member m) here may = (member_loads k m here may, told (Member m) (root_found all (Member m)) refl (r.each_seat k (Member m) here).seen (r.each_seat k (Member m) here).noted refl)
   behind_loads k (Watcher w) here may = absurd may
   behind_loads k (Note n) here may = (note_loads k n here, told (Note n) (root_found all (Note n)) refl (r.each_seat k (Note n) here).seen (λ note among. subst (Among r.writer.notes) (only_note n.note note among.0 among.1) (r.each_seat k (Note n) here).noted) refl)
   behind_loads k Spent here may = absurd may

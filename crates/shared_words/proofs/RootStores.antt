@@ -1,5 +1,5 @@
 -- A store of the root keeps the rule: what is published next stands in the words, and earlier generations as before.
-use Rattle.std.proofs.Common.{◌≡◌, ℕ, ◌+◌, ◌*◌, ◌≤◌, ◌⊎◌, inl, inr, ⊎_elim, Bool, true, List, [], ◌∷◌, ◌++◌, length, length-append, length-set, append_assoc, set, get_or-set_other, get_or-set_same, refl, sym, ap, subst, ◌∙◌, arith}
+use Rattle.std.proofs.Common.{◌≡◌, ℕ, ◌+◌, ◌*◌, ◌≤◌, ◌⊎◌, inl, inr, ⊎_elim, Bool, true, List, [], ◌∷◌, ◌++◌, length, length-append, length-set, append_assoc, append-nil, set, get_or-set_other, get_or-set_same, refl, sym, ap, subst, ◌∙◌, arith}
 use mathlib.Core.Option.{none, some}
 use Rattle.std.specs.Prelude.{◌==◌, Some, Option, unwrap_or, slice_get, slice_index}
 use Rattle.std.specs.List.{list_any}
@@ -10,7 +10,7 @@ use Rattle.prgr_core.specs.Step.{IsSound}
 use Rattle.prgr_core.proofs.Parts.{slice_get-push_at}
 use Rattle.prgr_core.proofs.Sound.{keeps_sound}
 use Rattle.term_core.specs.declared.generation.Generation.{Generation}
-use Rattle.area_core.specs.declared.map.TheConstants.{SLOTS_START}
+use Rattle.area_core.specs.declared.map.TheConstants.{SLOTS_START, RETIRE_START}
 use Rattle.area_core.specs.declared.table.Published.{Published}
 use Rattle.area_core.specs.declared.table.KeptArea.{KeptArea}
 use Rattle.area_core.specs.Map.{word_at, opening_words, slot_place}
@@ -33,6 +33,9 @@ use Rattle.shared_words.specs.Kinds.{Sat}
 use Rattle.shared_words.specs.Rule.{IsBeginning, MayBeRead, RunningRule}
 use Rattle.shared_words.specs.Publishing.{kept_next, StandsFor, FreshStand, MayPublish, IsRootOf, with_next, root_stored}
 use Rattle.shared_words.proofs.ShownMembers.{drop_set}
+use Rattle.shared_words.proofs.ShownWords.{shown_word}
+use Rattle.shared_words.proofs.SlotFrames.{ended_still}
+use Rattle.shared_words.proofs.Mirrors.{code_mirrored, breakpoints_mirrored, terms_mirrored, area_mirrored, image_mirrored}
 use Rattle.shared_words.proofs.OpeningRule.{last_get}
 use Rattle.shared_words.proofs.Frames.{after_step, progress_words}
 use Rattle.shared_words.proofs.WriterFrames.{writer_step, writer_at}
@@ -60,7 +63,7 @@ begins_longer xs published p is = (is.0 ++ p ∷ [], ap (λ (ys : List Published
 
 -- ---- the blocks
 
-module _ (words : List ℕ) (w : WriterView) (sound : BlockInvariant (record { word = word_at words; published = w.published; kept = w.kept }) (MayBeRead w)) (p : Published) (stands : StandsFor w p) (fresh : FreshStand w p) (mirrored : words ≡ w.words) where
+module _ (words : List ℕ) (w : WriterView) (sound : BlockInvariant (record { word = word_at words; published = w.published; kept = w.kept }) (MayBeRead w)) (p : Published) (stands : StandsFor w p) (fresh : FreshStand w p) (mirrored : (place : ℕ) → RETIRE_START ≤ place → word_at words place ≡ word_at w.words place) where
   abbrev b : Blocks
   b = record { word = word_at words; published = w.published; kept = w.kept }
 
@@ -73,10 +76,6 @@ module _ (words : List ℕ) (w : WriterView) (sound : BlockInvariant (record { w
       ⊎_elim (λ (before : slice_get w.published g ≡ Some q). old g q counts before)
       (λ (last : (g ≡ length w.published) × (q ≡ p)). subst (λ (z : ℕ × Published). Holds z.0 z.1) (λ i. (sym last.0 i, sym last.1 i)) new)
       (slice_get-push_at w.published p g q at)
-
-  -- what the writer knows of its words is said of these
-  by_mirror : (Holds : (ℕ → ℕ) → Type 0) → Holds (word_at w.words) → Holds (word_at words)
-  by_mirror Holds h = subst (λ (ws : List ℕ). Holds (word_at ws)) (sym mirrored) h
 
   more : (test : KeptArea → Bool) → list_any test w.kept ≡ true → list_any test (kept_next w p) ≡ true
   more test passes = any_joined test w.kept (fresh_areas w.kept p) ∙ or_left (list_any test w.kept) (list_any test (fresh_areas w.kept p)) passes
@@ -91,11 +90,11 @@ module _ (words : List ℕ) (w : WriterView) (sound : BlockInvariant (record { w
 
   old_area : (g : ℕ) (q : Published) → MayBeRead w g → slice_get w.published g ≡ Some q → (k : KeptArea) → (Among w.kept k) ⊎ (Among (fresh_areas w.kept p) k) → AreaStands (word_at words) k g q
   old_area g q counts at k (inl was) = sound.areas_stand g q counts at k was
-  old_area g q counts at k (inr new) = by_mirror (λ (word : ℕ → ℕ). AreaStands word k g q) (fresh.areas g q counts at k new)
+  old_area g q counts at k (inr new) = area_mirrored (word_at w.words) (word_at words) mirrored k g q (fresh.areas g q counts at k new)
 
   image : (k : KeptArea) → (Among w.kept k) ⊎ (Among (fresh_areas w.kept p) k) → ImageStands (word_at words) k
   image k (inl was) = sound.images_stand k was
-  image k (inr new) = by_mirror (λ (word : ℕ → ℕ). ImageStands word k) (fresh.images k new)
+  image k (inr new) = image_mirrored (word_at w.words) (word_at words) mirrored k (fresh.images k new)
 
   fit : (k : KeptArea) → (Among w.kept k) ⊎ (Among (fresh_areas w.kept p) k) → FitsBlock k
   fit k (inl was) = sound.kept_fit k was
@@ -105,12 +104,12 @@ module _ (words : List ℕ) (w : WriterView) (sound : BlockInvariant (record { w
   blocks_next = record {
     roots_fit = each_after (λ g q. RootFits q.root) stands.root sound.roots_fit;
     instances_placed = each_after (λ g q. InstancesPlaced q) stands.placed sound.instances_placed;
-    code_stands = each_after (λ g q. CodeStands (word_at words) q) (by_mirror (λ (word : ℕ → ℕ). CodeStands word p) stands.code) sound.code_stands;
-    breakpoints_stand = each_after (λ g q. BreakpointsStand (word_at words) q) (by_mirror (λ (word : ℕ → ℕ). BreakpointsStand word p) stands.breakpoints) sound.breakpoints_stand;
-    terms_stand = each_after (λ g q. TermsStand (term_words (word_at words) q.root) q) (by_mirror (λ (word : ℕ → ℕ). TermsStand (term_words word p.root) p) stands.terms) sound.terms_stand;
+    code_stands = each_after (λ g q. CodeStands (word_at words) q) (code_mirrored (word_at w.words) (word_at words) mirrored p stands.code) sound.code_stands;
+    breakpoints_stand = each_after (λ g q. BreakpointsStand (word_at words) q) (breakpoints_mirrored (word_at w.words) (word_at words) mirrored p stands.breakpoints) sound.breakpoints_stand;
+    terms_stand = each_after (λ g q. TermsStand (term_words (word_at words) q.root) q) (terms_mirrored (word_at w.words) (word_at words) mirrored p stands.terms) sound.terms_stand;
     used_kept = each_after (λ g q. UsedAreKept (kept_next w p) q) stands.used (λ g q counts at serial uses. more (is_kept_as q serial) (sound.used_kept g q counts at serial uses));
     areas_stand = each_after (λ g q. (k : KeptArea) → Among (kept_next w p) k → AreaStands (word_at words) k g q)
-        (λ k among. by_mirror (λ (word : ℕ → ℕ). AreaStands word k (length w.published) p) (stands.areas k among))
+        (λ k among. area_mirrored (word_at w.words) (word_at words) mirrored k (length w.published) p (stands.areas k among))
         (λ g q counts at k among. old_area g q counts at k (either_kept k among));
     images_stand = λ k among. image k (either_kept k among);
     kept_fit = λ k among. fit k (either_kept k among);
@@ -145,9 +144,15 @@ module _ {Served : Generation → Type 0} {opening : Opening} (s : State (Unit {
       (get_or-set_other s.words ROOT LEAD x 0 (λ e. absurd (omega arith)))
       (get_or-set_other s.words ROOT DELAYS x 0 (λ e. absurd (omega arith)))
       (get_or-set_other s.words ROOT (DELAYS + 1) x 0 (λ e. absurd (omega arith))) in
-      writer_step s r words' w' (record { members = refl; watchers = refl; learnt = λ xs is. begins_longer xs w.published p is; noted = λ note is. is }) refl refl
+      writer_step s r words' w' (record { members = refl; watchers = refl; learnt = λ xs is. begins_longer xs w.published p is; noted = λ note is. is }) refl refl refl
+      (record {
+        looks = refl;
+        ended = ended_still w w' [] (p ∷ []) (sym (append-nil w.pairs)) refl (omega arith);
+        slots = λ process place below few. get_or-set_other s.words ROOT (slot_place process place) x 0 (λ e. absurd (omega (arith, e)));
+      })
       (record {
         made = r.published.made;
+        staffed = r.published.staffed;
         watched = r.published.watched;
         some = omega (arith, length-append w.published (p ∷ []));
         served = all_served p may.served;
@@ -158,9 +163,10 @@ module _ {Served : Generation → Type 0} {opening : Opening} (s : State (Unit {
       (record {
         all = length-set s.words ROOT x ∙ r.words.all;
         root = get_or-set_same s.words ROOT x 0 (omega (arith, size)) ∙ sym (root_next w.published p code bp term n root number);
-        mirrored = ap (λ (ws : List ℕ). opening_words SLOTS_START ++ ws) behind ∙ r.words.mirrored;
+        mirror = r.words.mirror;
+        mirrored = λ place late. get_or-set_other s.words ROOT place x 0 (λ e. absurd (omega (arith, e, late))) ∙ r.words.mirrored place late;
         reached = (let same = get_or-set_other s.words ROOT COUNTER x 0 (λ e. absurd (omega arith)) in let before = r.words.reached in omega arith);
-        blocks = subst (λ (ws : List ℕ). BlockInvariant (record { word = word_at (opening_words SLOTS_START ++ ws); published = w'.published; kept = w'.kept }) (MayBeRead w)) (sym behind) (blocks_next (block_words s.words) w r.words.blocks p may.stands may.fresh r.words.mirrored);
+        blocks = subst (λ (ws : List ℕ). BlockInvariant (record { word = word_at (opening_words SLOTS_START ++ ws); published = w'.published; kept = w'.kept }) (MayBeRead w)) (sym behind) (blocks_next (block_words s.words) w r.words.blocks p may.stands may.fresh (λ place late. shown_word s.words place (omega (arith, late)) ∙ r.words.mirrored place late));
       })
       (record {
         progress = subst IsSound (sym (shown ∙ (λ i. record q { generation = one_more i }))) (keeps_sound q prgr.Publish (record q { generation = newest w.published + 1 }) r.machine.progress refl);

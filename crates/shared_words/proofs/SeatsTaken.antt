@@ -1,15 +1,16 @@
 -- What the writer knows while the seats of members come in, the last one first.
-use Rattle.std.proofs.Common.{◌≡◌, ℕ, zero, suc, ◌+◌, ◌<◌, ◌≤◌, List, [], ◌∷◌, ◌++◌, length, length-append, length-set, append-nil, append_assoc, refl, sym, ap, ◌∙◌, arith}
+use Rattle.std.proofs.Common.{◌≡◌, ℕ, zero, suc, ◌+◌, ◌%◌, ◌<◌, ◌≤◌, List, [], ◌∷◌, ◌++◌, length, length-append, length-set, append-nil, append_assoc, refl, sym, ap, subst, ◌∙◌, arith}
 use mathlib.Core.Logic.{dite}
 use native.Mathlib.Decide.{ℕ_discrete}
 use Rattle.std.specs.Prelude.{Option, Some, slice_get, slice_set}
 use Rattle.std.specs.Option.{option_map}
 use Rattle.atomic_table.specs.Seated.{TableId}
+use Rattle.area_core.specs.Blocks.{Among}
 use Rattle.shared_words.specs.declared.seats.Member as tokens
 use Rattle.shared_words.specs.declared.view.WriterView.{WriterView}
 use Rattle.shared_words.specs.declared.view.View.TheVariants.{Writer}
 use Rattle.shared_words.specs.Seats.{Place, IsSameSeat, IsMemberSeat, member_of, writer_of}
-use Rattle.shared_words.specs.Closing.{AreAllMembers, with_member, member_taken, HasAllMembers, AreKnown}
+use Rattle.shared_words.specs.Closing.{AreAllMembers, with_member, member_taken, HasAllMembers, AreKnown, AreMarked, HaveMarks}
 use Rattle.shared_words.specs.Rule.{IsBeginning}
 use Rattle.shared_words.proofs.ShownMembers.{still_at, within_get}
 use Rattle.shared_words.proofs.OpeningRule.{last_get}
@@ -33,11 +34,12 @@ set_there (y ∷ ys) (suc k) (suc j) x apart = set_there ys k j x (λ e. apart (
 pub record HasTaken (members left : List tokens.Member) (old new : Place) : Type 0 where
   pub seat : IsSameSeat old new
   pub view : new.me.0 ≡ Writer (writer_of new.me.0)
-  pub same : writer_of new.me.0 ≡ record (writer_of old.me.0) { members = (writer_of new.me.0).members }
+  pub same : writer_of new.me.0 ≡ record (writer_of old.me.0) { members = (writer_of new.me.0).members; taken = (writer_of new.me.0).taken }
   pub long : length (writer_of new.me.0).members ≡ length (writer_of old.me.0).members
   pub rest : List tokens.Member
   pub split : members ≡ left ++ rest
   pub each : (k : ℕ) (token : tokens.Member) → length left ≤ k → slice_get members k ≡ Some token → slice_get (writer_of new.me.0).members k ≡ Some (member_of token.seat.me.0)
+  pub come : (k : ℕ) (token : tokens.Member) → length left ≤ k → slice_get members k ≡ Some token → Among (writer_of new.me.0).taken k
 
 -- none at first
 pub none_taken : (members : List tokens.Member) (old : Place) → old.me.0 ≡ Writer (writer_of old.me.0) → HasTaken members members old old
@@ -49,6 +51,7 @@ none_taken members old is = record {
   rest = [];
   split = sym (append-nil members);
   each = λ k token late at. absurd (let within = within_get members k token at in omega arith);
+  come = λ k token late at. absurd (let within = within_get members k token at in omega arith);
 }
 
 -- the last of those that are left
@@ -74,7 +77,7 @@ taken_next table members left few member old new newer all h is same taken =
     record {
       seat = record { same_table = same.same_table ∙ h.seat.same_table; same_number = same.same_number ∙ h.seat.same_number; same_slots = same.same_slots ∙ h.seat.same_slots };
       view = view ∙ ap Writer (sym here);
-      same = here ∙ ap (λ (x : WriterView). with_member m x) h.same ∙ ap (λ (x : WriterView). record (writer_of old.me.0) { members = x.members }) (sym here);
+      same = here ∙ ap (λ (x : WriterView). with_member m x) h.same ∙ ap (λ (x : WriterView). record (writer_of old.me.0) { members = x.members; taken = x.taken }) (sym here);
       long = ap (λ (x : WriterView). length x.members) here ∙ length-set w.members m.member.number m ∙ h.long;
       rest = member ∷ h.rest;
       split = h.split ∙ ap (λ (xs : List tokens.Member). xs ++ h.rest) is ∙ append_assoc few (member ∷ []) h.rest;
@@ -85,9 +88,23 @@ taken_next table members left few member old new newer all h is same taken =
           let mine : Some member ≡ Some token = sym last.0 ∙ ap (slice_get members) (sym first) ∙ at in
           ap (slice_get (slice_set w.members (length few) m)) first ∙ set_here w.members (length few) m room ∙ ap (λ (o : Option tokens.Member). option_map (λ (t : tokens.Member). member_of t.seat.me.0) o) mine)
           (λ (other : k ≡ length few → ⊥). set_there w.members (length few) k m other ∙ h.each k token (omega (arith, late, other, size)) at);
+      come = λ k token late at.
+          subst (λ (x : WriterView). Among x.taken k) (sym here) (dite (ℕ_discrete k (length few))
+          (λ (first : k ≡ length few). (0, ap Some (number ∙ sym first)))
+          (λ (other : k ≡ length few → ⊥). let before = h.come k token (omega (arith, late, other, size)) at in (suc before.0, before.1)));
     }
 
 -- ---- the end
+
+-- what is known of the processes of each member
+pub each_marked : (members : List tokens.Member) (old new : WriterView) → HasAllMembers members old new → length members ≡ length old.members → AreMarked new → HaveMarks members new
+each_marked members old new h all marked process token below at =
+    let many : length new.members ≡ length members = h.long ∙ sym all in
+    marked process (member_of token.seat.me.0) (record {
+      below = below;
+      come = subst (λ (n : ℕ). Among new.taken (process % n)) (sym many) (h.come (process % length members) token at);
+      knew = ap (λ (n : ℕ). slice_get new.members (process % n)) many ∙ h.each (process % length members) token at;
+    })
 
 -- what each member had learnt is the beginning of what was published
 pub each_begins : (members : List tokens.Member) (old new : WriterView) → HasAllMembers members old new → AreKnown new → (k : ℕ) (token : tokens.Member) → slice_get members k ≡ Some token → IsBeginning (member_of token.seat.me.0).seen new.published

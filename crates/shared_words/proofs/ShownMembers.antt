@@ -32,6 +32,10 @@ shown_behind (kept ∷ members) [] k v behind = refl
 shown_behind (kept ∷ members) (seat ∷ seats) zero v behind = absurd (omega arith)
 shown_behind (kept ∷ members) (seat ∷ seats) (suc k) v behind = ap (λ (xs : List machines.Member). member_shown kept seat ∷ xs) (shown_behind members seats k v (omega arith))
 
+pub drop_none : {A : Type 0} (n : ℕ) → drop {A = A} n [] ≡ []
+drop_none zero = refl
+drop_none (suc n) = refl
+
 -- a write in front leaves what is behind
 pub drop_set : {A : Type 0} (n k : ℕ) (xs : List A) (x : A) → k < n → drop n (set xs k x) ≡ drop n xs
 drop_set zero k xs x front = absurd (omega arith)

@@ -6,7 +6,7 @@ use Rattle.area_core.specs.declared.map.TheConstants.{SLOTS_START, TABLE_WORDS}
 use Rattle.area_core.specs.Map.{word_at, opening_words}
 use Rattle.shared_words.specs.Shown.{block_words}
 use Rattle.shared_words.proofs.SoundState.{front_length}
-use Rattle.shared_words.proofs.OpeningRule.{drop_none}
+use Rattle.shared_words.proofs.ShownMembers.{drop_none}
 
 -- behind other words in front
 set_behind : (front words : List ℕ) (k x : ℕ) → length front ≤ k → k < length words → front ++ drop (length front) (set words k x) ≡ set (front ++ drop (length front) words) k x

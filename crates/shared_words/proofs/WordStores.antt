@@ -1,7 +1,9 @@
 -- A store into a word of a block, or a retire or doom word, keeps the block invariant for the generations that count,
 -- and so the rule.
-use Rattle.std.proofs.Common.{◌≡◌, ℕ, ◌+◌, ◌-◌, ◌*◌, ◌/◌, ◌<◌, ◌≤◌, ◌⊎◌, true, false, not, ◌&&◌, List, length, length-set, set, get_or-set_other, refl, sym, ap, subst, ◌∙◌, arith}
+use Rattle.std.proofs.Common.{◌≡◌, ℕ, ◌+◌, ◌-◌, ◌*◌, ◌/◌, ◌<◌, ◌≤◌, ◌⊎◌, true, false, not, ◌&&◌, List, length, length-set, set, get_or-set_other, get_or-set_same, refl, sym, ap, subst, ◌∙◌, arith}
 use mathlib.Core.Option.{none, some}
+use mathlib.Core.Logic.{dite}
+use native.Mathlib.Decide.{ℕ_discrete}
 use Rattle.std.specs.Prelude.{◌==◌, Some, slice_get, slice_set, slice_index, IsTrue}
 use Rattle.std.proofs.lemmas.Bool.{and_from, lt-ltb, le-ltb, eq-eqb, eqb-true, true≢false}
 use Rattle.std.proofs.lemmas.Bool.Decides.{nat_tests}
@@ -9,16 +11,16 @@ use Rattle.atomic_table.specs.Table.{State, keeps, step, Allows}
 use Rattle.prgr_core.specs.Step.{IsSound}
 use Rattle.term_core.specs.declared.area.AreaRef.{AreaRef}
 use Rattle.term_core.specs.declared.generation.Generation.{Generation}
-use Rattle.area_core.specs.declared.map.TheConstants.{TABLE_WORDS, SLOTS_START, BIG_WORDS, BREAKPOINTS_START, TERMS_START, EXPORT_ENTRIES, FUNCTIONS}
+use Rattle.area_core.specs.declared.map.TheConstants.{TABLE_WORDS, SLOTS_START, RETIRE_START, BIG_WORDS, BREAKPOINTS_START, TERMS_START, EXPORT_ENTRIES, FUNCTIONS}
 use Rattle.area_core.specs.declared.map.WordKind.{WordKind}
 use Rattle.area_core.specs.declared.map.WordKind.TheVariants.{Machine, Slot, Retire, Doom, InBlock, Nowhere}
 use Rattle.area_core.specs.declared.table.Published.{Published}
 use Rattle.area_core.specs.declared.table.KeptArea.{KeptArea}
 use Rattle.area_core.specs.Map.{word_at, kind_at, block_place, retire_place, doom_place, breakpoint_at, entry_at, slot_place}
 use Rattle.area_core.specs.Generations.{is_instance, is_retired, is_doomed, is_traced, has_function, is_entry_word, tells, names}
-use Rattle.area_core.specs.Blocks.{Blocks, BlockInvariant, Among, RootFits, IsForInstances}
+use Rattle.area_core.specs.Blocks.{Blocks, BlockInvariant, Among, RootFits, IsForInstances, IsAnchor}
 use Rattle.area_core.specs.Readers.{reads_in_block, has_instance_in}
-use Rattle.area_core.proofs.Places.{kind_place, kind_retire_place, kind_doom_place, word_here}
+use Rattle.area_core.proofs.Places.{kind_place, kind_retire_place, kind_doom_place, word_here, word_there}
 use Rattle.area_core.proofs.Tests.{some_passes, filter_gives}
 use Rattle.area_core.proofs.Frames.{code_after, breakpoints_after, terms_after, entries_after, retired_after, doomed_after, images_after, named_after, apart_after}
 use Rattle.area_core.proofs.BlockStores.{stored_off, block_within, same_block}
@@ -33,7 +35,11 @@ use Rattle.shared_words.specs.Kinds.{Sat}
 use Rattle.shared_words.specs.Rule.{MayBeRead, MachineHolds, RunningRule}
 use Rattle.shared_words.specs.Publishing.{FitsInBlock, FitsRetire, FitsDoom, FitsWord, MayStoreWord, is_released, kept_left, with_word, word_stored}
 use Rattle.shared_words.proofs.ShownMembers.{within_get}
-use Rattle.shared_words.proofs.ShownWords.{shown_stored, shown_words}
+use Rattle.marks.specs.declared.kept.LookKind.TheVariants.{Both}
+use Rattle.shared_words.specs.Slots.{IsClear}
+use Rattle.shared_words.proofs.ShownWords.{shown_stored, shown_word, shown_words}
+use Rattle.shared_words.proofs.SlotFrames.{ended_as}
+use Rattle.shared_words.proofs.ClearLooks.{clear_word, names_neither}
 use Rattle.shared_words.proofs.Frames.{after_step, progress_words}
 use Rattle.shared_words.proofs.AreaReleases.{unless, not_both, released}
 use Rattle.shared_words.proofs.WriterFrames.{writer_step, writer_at}
@@ -178,23 +184,23 @@ owes_by w value Slot fits = absurd fits
 owes_by w value Nowhere fits = absurd fits
 
 -- what is kept then meets the invariant before the store
-left_sound : (w : WriterView) (words : List ℕ) (value : ℕ) (kind : WordKind) → words ≡ w.words → FitsWord w value kind → BlockInvariant (record { word = word_at words; published = w.published; kept = w.kept }) (MayBeRead w) → BlockInvariant (record { word = word_at words; published = w.published; kept = kept_left w value kind }) (MayBeRead w)
-left_sound w words value (InBlock block at) mirrored fits sound = sound
-left_sound w words value (Retire block) mirrored fits sound =
+left_sound : (w : WriterView) (words : List ℕ) (value : ℕ) (kind : WordKind) → ((serial process anchor : ℕ) → IsClear w Both serial → IsAnchor process anchor → names (word_at words (slot_place process anchor)) serial ≡ false) → FitsWord w value kind → BlockInvariant (record { word = word_at words; published = w.published; kept = w.kept }) (MayBeRead w) → BlockInvariant (record { word = word_at words; published = w.published; kept = kept_left w value kind }) (MayBeRead w)
+left_sound w words value (InBlock block at) clear fits sound = sound
+left_sound w words value (Retire block) clear fits sound =
     released (record { word = word_at words; published = w.published; kept = w.kept }) (MayBeRead w) sound (λ (x : KeptArea). not ((x.area.block == block) && is_released w value x))
     (λ g p counts here k among uses. unless (k.area.block == block) (is_released w value k) (λ same goes. true≢false (sym uses ∙ fits.unused g p counts here k among (eqb-true k.area.block block same) goes)))
     (λ k process anchor among is named. unless (k.area.block == block) (is_released w value k)
-    (λ same goes. true≢false (sym named ∙ ap (λ (ws : List ℕ). names (word_at ws (slot_place process anchor)) k.area.serial) mirrored ∙ fits.unnamed k process anchor among (eqb-true k.area.block block same) goes is)))
-left_sound w words value (Doom block) mirrored fits sound = sound
-left_sound w words value Machine mirrored fits sound = sound
-left_sound w words value Slot mirrored fits sound = sound
-left_sound w words value Nowhere mirrored fits sound = sound
+    (λ same goes. true≢false (sym named ∙ clear k.area.serial process anchor (fits.cleared k among (eqb-true k.area.block block same) goes) is)))
+left_sound w words value (Doom block) clear fits sound = sound
+left_sound w words value Machine clear fits sound = sound
+left_sound w words value Slot clear fits sound = sound
+left_sound w words value Nowhere clear fits sound = sound
 
--- the word is one behind those of the machine
-pub word_placed : (w : WriterView) (word value : ℕ) (kind : WordKind) → kind_at word ≡ kind → FitsWord w value kind → (SLOTS_START ≤ word) × (word < TABLE_WORDS)
+-- the word is one behind the slots
+pub word_placed : (w : WriterView) (word value : ℕ) (kind : WordKind) → kind_at word ≡ kind → FitsWord w value kind → (RETIRE_START ≤ word) × (word < TABLE_WORDS)
 word_placed w word value (InBlock block at) is fits = (behind word block at is, block_within word block at is)
   where
-    behind : (word block at : ℕ) → kind_at word ≡ InBlock block at → 21 ≤ word
+    behind : (word block at : ℕ) → kind_at word ≡ InBlock block at → 1109 ≤ word
     behind word block at is = grind (arith, nat_tests)
 word_placed w word value (Retire block) is fits = (let at = kind_retire_place word block is in (omega (arith, at.0), omega (arith, at.0, at.1)))
 word_placed w word value (Doom block) is fits = (let at = kind_doom_place word block is in (omega (arith, at.0), omega (arith, at.0, at.1)))
@@ -202,7 +208,19 @@ word_placed w word value Machine is fits = absurd fits
 word_placed w word value Slot is fits = absurd fits
 word_placed w word value Nowhere is fits = absurd fits
 
+-- a store into both leaves what is mirrored
+mirrored_still : (mirror words : List ℕ) (word value place : ℕ) → word < length mirror → word < length words → slice_index words place ≡ word_at mirror place → slice_index (set words word value) place ≡ word_at (set mirror word value) place
+mirrored_still mirror words word value place one other same =
+    dite (ℕ_discrete place word)
+    (λ (here : place ≡ word). ap (λ (i : ℕ). slice_index (set words word value) i) here ∙ get_or-set_same words word value 0 other ∙ sym (word_here mirror word value one) ∙ ap (λ (i : ℕ). word_at (set mirror word value) i) (sym here))
+    (λ (apart : place ≡ word → ⊥). get_or-set_other words word place value 0 (λ e. apart e) ∙ same ∙ sym (word_there mirror word value place apart))
+
 module _ {Served : Generation → Type 0} {opening : Opening} (s : State (Unit {0}) View) (r : RunningRule Served opening s) where
+  -- what a look in both kinds found clear no anchor that is shown names
+  unnamed_shown : (serial process anchor : ℕ) → IsClear r.writer Both serial → IsAnchor process anchor → names (word_at (block_words s.words) (slot_place process anchor)) serial ≡ false
+  unnamed_shown serial process anchor clear is =
+      ap (λ (x : ℕ). names x serial) (shown_word s.words (slot_place process anchor) (omega arith)) ∙ names_neither (slice_index s.words (slot_place process anchor)) serial (clear_word s r Both serial clear process anchor is)
+
   -- ---- a store behind the words of the machine leaves the machine
   pub machine_kept : (w' : WriterView) (word value : ℕ) → SLOTS_START ≤ word → w'.members ≡ r.writer.members → progress_of s.words w' r.seats ≡ progress_of s.words r.writer r.seats → MachineHolds (set s.words word value) w' r.seats
   machine_kept w' word value late members same =
@@ -230,19 +248,25 @@ module _ {Served : Generation → Type 0} {opening : Opening} (s : State (Unit {
       let late = placed.0 in
       let within = placed.1 in
       let size = r.words.all in
-      let shown = shown_stored s.words word value late (omega (arith, size)) in
+      let shown = shown_stored s.words word value (omega (arith, late)) (omega (arith, size)) in
       let w' : WriterView = with_word word value w in
-      writer_step s r (set s.words word value) w' (record { members = refl; watchers = refl; learnt = λ xs is. is; noted = λ note is. is }) refl refl
-      (record { made = r.published.made; watched = r.published.watched; some = r.published.some; served = r.published.served; old_stays = r.published.old_stays; retired_stays = r.published.retired_stays; notes_fit = r.published.notes_fit })
+      writer_step s r (set s.words word value) w' (record { members = refl; watchers = refl; learnt = λ xs is. is; noted = λ note is. is }) refl refl refl
+      (record {
+        looks = refl;
+        ended = ended_as w w' refl refl (omega arith);
+        slots = λ process place below few. get_or-set_other s.words word (slot_place process place) value 0 (λ e. absurd (omega (arith, e, late, below, few)));
+      })
+      (record { made = r.published.made; staffed = r.published.staffed; watched = r.published.watched; some = r.published.some; served = r.published.served; old_stays = r.published.old_stays; retired_stays = r.published.retired_stays; notes_fit = r.published.notes_fit })
       (record {
         all = length-set s.words word value ∙ r.words.all;
         root = get_or-set_other s.words word ROOT value 0 (λ e. absurd (omega arith)) ∙ r.words.root;
-        mirrored = shown ∙ ap (λ (ws : List ℕ). set ws word value) r.words.mirrored;
+        mirror = length-set w.words word value ∙ r.words.mirror;
+        mirrored = λ place behind. mirrored_still w.words s.words word value place (let mirror = r.words.mirror in omega (arith, within, mirror)) (omega (arith, within, size)) (r.words.mirrored place behind);
         reached = (let same = get_or-set_other s.words word COUNTER value 0 (λ e. absurd (omega arith)) in let before = r.words.reached in omega arith);
         blocks = subst (λ (ws : List ℕ). BlockInvariant (record { word = word_at ws; published = w.published; kept = kept_left w value (kind_at word) }) (MayBeRead w)) (sym shown)
-            (stored (block_words s.words) w.published (kept_left w value (kind_at word)) (MayBeRead w) (shown_words s.words r.words.all) word value within (kind_at word) refl (left_sound w (block_words s.words) value (kind_at word) r.words.mirrored may r.words.blocks) (owes_by w value (kind_at word) may));
+            (stored (block_words s.words) w.published (kept_left w value (kind_at word)) (MayBeRead w) (shown_words s.words r.words.all) word value within (kind_at word) refl (left_sound w (block_words s.words) value (kind_at word) (λ serial process anchor clear is. unnamed_shown serial process anchor clear is) may r.words.blocks) (owes_by w value (kind_at word) may));
       })
-      (machine_kept w' word value late refl refl)
+      (machine_kept w' word value (omega (arith, late)) refl refl)
 
 -- the writer may store a word of a block
 pub store_word_is_allowed : (Served : Generation → Type 0) (opening : Opening) (slots id word value : ℕ) (me : Sat) → me.0 ≡ Writer (writer_of me.0) → MayStoreWord (writer_of me.0) word value

@@ -14,7 +14,9 @@ use Rattle.shared_words.specs.declared.view.WriterView.{WriterView}
 use Rattle.shared_words.specs.declared.view.View.{View}
 use Rattle.shared_words.specs.declared.view.View.TheVariants.{Writer, Member, Watcher, Note, Spent}
 use Rattle.shared_words.specs.Seats.{writer_of}
-use Rattle.shared_words.specs.Rule.{IsBeginning, PublishedKept, WordsAgree, Knows, MachineHolds, RunningRule}
+use Rattle.shared_words.specs.Shown.{views_shown}
+use Rattle.shared_words.specs.Rule.{IsBeginning, PublishedKept, LooksKept, WordsAgree, MarksKept, Knows, MachineHolds, RunningRule}
+use Rattle.shared_words.proofs.SlotFrames.{LooksStay, looks_stay, marks_stay}
 use Rattle.shared_words.proofs.Frames.{after_step}
 
 -- the writer knows what it knew, and more was published, or more notes were made
@@ -49,8 +51,8 @@ knows_more w w' more place Spent h = h
 
 module _ {Served : Generation → Type 0} {opening : Opening} (s : State (Unit {0}) View) (r : RunningRule Served opening s) where
   -- the rule after a step of the writer
-  pub writer_step : (words' : List ℕ) (w' : WriterView) → WriterGrows r.writer w' → w'.members ≡ r.writer.members → w'.handed ≡ r.writer.handed → PublishedKept Served opening w' → WordsAgree words' w' → MachineHolds words' w' r.seats → RunningRule Served opening (after_step s words' 0 (Writer w'))
-  writer_step words' w' more members handed published words machine = record {
+  pub writer_changes : (words' : List ℕ) (w' : WriterView) → WriterGrows r.writer w' → w'.members ≡ r.writer.members → w'.handed ≡ r.writer.handed → w'.taken ≡ r.writer.taken → PublishedKept Served opening w' → WordsAgree words' w' → MachineHolds words' w' r.seats → LooksKept w' → MarksKept words' w' r.seats → RunningRule Served opening (after_step s words' 0 (Writer w'))
+  writer_changes words' w' more members handed taken published words machine looks marks = record {
     writer = w';
     seats = r.seats;
     views = ap (λ (vs : List View). set vs 0 (Writer w')) r.views;
@@ -61,7 +63,18 @@ module _ {Served : Generation → Type 0} {opening : Opening} (s : State (Unit {
     handed = λ few. r.handed (subst (λ (z : ℕ × List MemberView). z.0 < length z.1) (λ i. (handed i, members i)) few) ∙ sym handed;
     out = subst (λ (n : ℕ). n ≤ length r.seats) (sym handed) r.out;
     at_home = λ k m at. knows_more r.writer w' more k (Member m) (r.at_home k m (ap (λ (xs : List MemberView). slice_get xs k) (sym members) ∙ at));
+    looks = looks;
+    marks = marks;
+    come = λ number among.
+        let come = r.come number (subst (λ (xs : List ℕ). Among xs number) taken among) in
+        record { made = subst (λ (n : ℕ). number < n) (sym more.members) come.made; spent = come.spent };
   }
+
+  -- the same of a step that leaves the slots, and what is kept of looks
+  pub writer_step : (words' : List ℕ) (w' : WriterView) → WriterGrows r.writer w' → w'.members ≡ r.writer.members → w'.handed ≡ r.writer.handed → w'.taken ≡ r.writer.taken → LooksStay s.words words' r.writer w' → PublishedKept Served opening w' → WordsAgree words' w' → MachineHolds words' w' r.seats → RunningRule Served opening (after_step s words' 0 (Writer w'))
+  writer_step words' w' more members handed taken stay published words machine =
+      writer_changes words' w' more members handed taken published words machine (looks_stay s.words words' r.writer w' stay r.looks)
+      (marks_stay s.words words' r.writer w' r.seats r.seats stay more.members (ap (λ (xs : List MemberView). views_shown xs r.seats) members) r.marks)
 
   -- the seat with a writer's view is the first
   pub writer_at : (id : ℕ) (w : WriterView) → get_elem? s.views id ≡ some (Writer w) → (id ≡ 0) × (r.writer ≡ w)

@@ -25,6 +25,7 @@ use Rattle.shared_words.specs.declared.view.WriterView.{WriterView}
 use Rattle.shared_words.specs.declared.view.View.{View}
 use Rattle.shared_words.specs.declared.view.View.TheVariants.{Writer, Member, Watcher, Note, Spent}
 use Rattle.shared_words.specs.Views.{newest, newest_root, published_at, seen, notes_of}
+use Rattle.shared_words.specs.Processes.{AreAtRest}
 use Rattle.shared_words.specs.Rule.{IsBeginning}
 use Rattle.shared_words.specs.Seats.{member_of}
 
@@ -65,10 +66,11 @@ pub record counter_loaded (st : Step (Unit {0})) (me : Sat) (counter : ℕ) (me'
 
 -- ---- the load of the root
 
--- who may load the root. A watcher makes no step yet
+-- who may load the root: a member that is awake and has loaded the counter only while no turn of its processes is under way.
+-- A watcher makes no step yet
 abbrev pub MayLoadRoot : View → Type 0
 MayLoadRoot (Writer w) = Unit {0}
-MayLoadRoot (Member m) = Unit {0}
+MayLoadRoot (Member m) = IsTrue (has_loaded m.member.loaded) → IsTrue (members.is_value m.member.word) → AreAtRest m
 MayLoadRoot (Watcher w) = ⊥
 MayLoadRoot (Note n) = Unit {0}
 MayLoadRoot Spent = ⊥
@@ -117,10 +119,11 @@ confirmed st me value me' = me' ≡ (Member (value_confirmed value (member_of me
 
 -- ---- the stores by which a member begins and ends to wait
 
--- it may begin to wait: it is awake, and does not lead
+-- it may begin to wait: it is awake, and does not lead, and no turn of its processes is under way
 pub record MayWait (m : MemberView) : Type 0 where
   pub awake : IsTrue (members.is_value m.member.word)
   pub follows : IsTrue (follows m.member.role)
+  pub rest : AreAtRest m
 
 -- it waits
 abbrev pub now_waiting : MemberView → MemberView

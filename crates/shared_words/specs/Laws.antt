@@ -1,17 +1,25 @@
 -- What holds of every state that meets the rule.
-use Rattle.std.specs.Prelude.{◌≡◌, ℕ}
+use Rattle.std.specs.Prelude.{◌≡◌, ℕ, List, Some, true, false, slice_get, slice_index}
 use mathlib.Core.Option.{some}
 use lib.ListN.{get_elem?}
 use Rattle.atomic_table.specs.Table.{State}
 use Rattle.term_core.specs.declared.generation.Generation.{Generation}
 use Rattle.area_core.specs.declared.map.WordKind.TheVariants.{InBlock}
-use Rattle.area_core.specs.Map.{kind_at}
-use Rattle.area_core.specs.Step.{IsSound}
+use Rattle.area_core.specs.declared.table.Published.{Published}
+use Rattle.area_core.specs.Map.{kind_at, slot_place}
+use Rattle.area_core.specs.Blocks.{IsAnchor}
+use Rattle.area_core.specs.Step.{IsReadable, IsSound}
+use Rattle.marks.specs.declared.kept.LookKind.{LookKind}
+use Rattle.marks.specs.Names.{names_in}
+use Rattle.marks.specs.Kept.{comes_to}
+use Rattle.marks.specs.Steps.{holding}
 use Rattle.shared_words.specs.declared.opening.Opening.{Opening}
+use Rattle.shared_words.specs.declared.view.WriterView.{WriterView}
 use Rattle.shared_words.specs.declared.view.View.{View}
 use Rattle.shared_words.specs.Shown.{state_of}
 use Rattle.shared_words.specs.Rule.{RunningRule}
 use Rattle.shared_words.specs.Publishing.{MayStoreWord, MayLoadWord}
+use Rattle.shared_words.specs.Slots.{IsClear}
 
 -- the state that words and views show meets the progress invariant and the block invariant
 abbrev pub ShowsSound : (Generation → Type 0) → Type 0
@@ -20,3 +28,12 @@ ShowsSound Served = (opening : Opening) (s : State (Unit {0}) View) (r : Running
 -- a word of a block that some seat may load is none that the writer may store
 abbrev pub KeepsWhatIsRead : (Generation → Type 0) → Type 0
 KeepsWhatIsRead Served = (opening : Opening) (s : State (Unit {0}) View) (r : RunningRule Served opening s) (id word value block at : ℕ) (v : View) → get_elem? s.views id ≡ some v → kind_at word ≡ InBlock block at → MayLoadWord word v → MayStoreWord r.writer word value → ⊥
+
+-- no slot names the area in the kind, and no turn under a generation that a thread may read comes to it
+pub record IsOutOfUse (words : List ℕ) (w : WriterView) (seats : List View) (kind : LookKind) (serial : ℕ) : Type 0 where
+  pub unnamed : (process anchor : ℕ) → IsAnchor process anchor → names_in kind (slice_index words (slot_place process anchor)) serial ≡ false
+  pub unreached : (g : ℕ) (p : Published) → IsReadable (state_of words w seats) g → slice_get w.published g ≡ Some p → comes_to (holding true g p) kind serial ≡ false
+
+-- so it is of each area that a look found clear, while the writer keeps the look
+abbrev pub ClearHolds : (Generation → Type 0) → Type 0
+ClearHolds Served = (opening : Opening) (s : State (Unit {0}) View) (r : RunningRule Served opening s) (kind : LookKind) (serial : ℕ) → IsClear r.writer kind serial → IsOutOfUse s.words r.writer r.seats kind serial

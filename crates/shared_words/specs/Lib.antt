@@ -1,9 +1,11 @@
 pub mod Views
+pub mod Processes
 pub mod Shown
 pub mod Rule
 pub mod Opening
 pub mod Seats
 pub mod Kinds
+pub mod Slots
 pub mod Publishing
 pub mod Notes
 pub mod Closing

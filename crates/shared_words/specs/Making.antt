@@ -10,6 +10,7 @@ use Rattle.atomic_table.specs.Seated.{TableId}
 use Rattle.shared_words.specs.declared.seats.Member as tokens
 use Rattle.shared_words.specs.declared.view.WriterView.{WriterView}
 use Rattle.shared_words.specs.Opening.{member_begun, writer_begun}
+use Rattle.shared_words.specs.Processes.{AreCopied}
 use Rattle.shared_words.specs.Seats.{Place, IsSeatOf}
 
 -- ---- words
@@ -70,6 +71,7 @@ pub record IsMemberBegun (table : TableId) (number : ℕ) (token : tokens.Member
   pub view : token.seat.me.0 ≡ Member (member_begun number)
   pub number_is : token.number ≡ number
   pub root_is : token.root ≡ OPENING_ROOT
+  pub copied : AreCopied token.anchors.items (member_begun number)
 
 -- the tokens of the first members, in the order of their numbers
 pub record AreMembersBegun (table : TableId) (count : ℕ) (members : List tokens.Member) : Type 0 where

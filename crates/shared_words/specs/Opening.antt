@@ -4,6 +4,7 @@ use Rattle.prgr_core.specs.Step.{opening_member, opening_watcher}
 use Rattle.area_core.specs.declared.map.TheConstants.{TABLE_WORDS}
 use Rattle.area_core.specs.Map.{opening_words}
 use Rattle.area_core.specs.Step.{opening_published}
+use Rattle.marks.specs.Steps.{nothing_kept}
 use Rattle.shared_words.specs.declared.view.MemberView.{MemberView}
 use Rattle.shared_words.specs.declared.view.WatcherView.{WatcherView}
 use Rattle.shared_words.specs.declared.view.WriterView.{WriterView}
@@ -41,6 +42,8 @@ writer_begun members watchers = record {
   watchers = watchers_begun watchers;
   notes = [];
   patched = [];
+  looks = nothing_kept;
+  taken = [];
 }
 
 abbrev pub opening_view : ℕ → ℕ → View

@@ -11,13 +11,14 @@ use Rattle.area_core.specs.declared.map.WordKind.TheVariants.{Machine, Slot, Ret
 use Rattle.area_core.specs.declared.table.Root.{Root}
 use Rattle.area_core.specs.declared.table.Published.{Published}
 use Rattle.area_core.specs.declared.table.KeptArea.{KeptArea}
-use Rattle.area_core.specs.Map.{word_at, entry_at, slot_place, kind_at}
-use Rattle.area_core.specs.Generations.{is_used, is_retired, is_doomed, is_traced, has_function, is_entry_word, tells, names}
+use Rattle.area_core.specs.Map.{word_at, entry_at, kind_at}
+use Rattle.area_core.specs.Generations.{is_used, is_retired, is_doomed, is_traced, has_function, is_entry_word, tells}
 use Rattle.area_core.specs.Stores.{is_released_at}
-use Rattle.area_core.specs.Blocks.{Blocks, BlockInvariant, EachCounted, Among, RootFits, InstancesPlaced, CodeStands, BreakpointsStand, term_words, UsedAreKept, FitsBlock, ImageStands, AreaStands, KeptApart, IsAnchor}
+use Rattle.area_core.specs.Blocks.{Blocks, BlockInvariant, EachCounted, Among, RootFits, InstancesPlaced, CodeStands, BreakpointsStand, term_words, UsedAreKept, FitsBlock, ImageStands, AreaStands, KeptApart}
 use Rattle.area_core.specs.Terms.{TermsStand}
 use Rattle.area_core.specs.Readers.{reads_in_block, held_by_member, is_read_under}
 use Rattle.area_core.specs.Roots.{fresh_areas}
+use Rattle.marks.specs.declared.kept.LookKind.TheVariants.{Both}
 use Rattle.shared_words.specs.declared.view.WriterView.{WriterView}
 use Rattle.shared_words.specs.declared.view.View.{View}
 use Rattle.shared_words.specs.declared.view.View.TheVariants.{Writer, Member, Watcher, Note, Spent}
@@ -25,6 +26,7 @@ use Rattle.shared_words.specs.Views.{newest, seen, held}
 use Rattle.shared_words.specs.Seats.{writer_of}
 use Rattle.shared_words.specs.Rule.{MayBeRead, OldStays, RetiredStays}
 use Rattle.shared_words.specs.Kinds.{Sat}
+use Rattle.shared_words.specs.Slots.{IsClear}
 
 -- the blocks as the writer knows them
 abbrev pub blocks_known : WriterView → Blocks
@@ -49,11 +51,11 @@ abbrev pub is_released : WriterView → ℕ → KeptArea → Bool
 is_released w value k = is_released_at (slice_get w.published (newest w.published)) value k
 
 -- the retire word of a block tells of each area that is kept in it whether it is retired; an area that is released is used
--- by no generation that may be read, and no slot names it
+-- by no generation that may be read, and a look in both kinds was clear of it
 pub record FitsRetire (w : WriterView) (block value : ℕ) : Type 0 where
   pub tells_of : EachMayBeRead w (λ g p. (k : KeptArea) → Among w.kept k → k.area.block ≡ block → is_released w value k ≡ false → tells value g ≡ is_retired p k.area.serial)
   pub unused : EachMayBeRead w (λ g p. (k : KeptArea) → Among w.kept k → k.area.block ≡ block → is_released w value k ≡ true → is_used p k.area.serial ≡ false)
-  pub unnamed : (k : KeptArea) (process anchor : ℕ) → Among w.kept k → k.area.block ≡ block → is_released w value k ≡ true → IsAnchor process anchor → names (word_at w.words (slot_place process anchor)) k.area.serial ≡ false
+  pub cleared : (k : KeptArea) → Among w.kept k → k.area.block ≡ block → is_released w value k ≡ true → IsClear w Both k.area.serial
 
 -- the doom word of a block tells of each area that is kept in it, and not retired, whether it is doomed
 abbrev pub FitsDoom : WriterView → ℕ → ℕ → Type 0

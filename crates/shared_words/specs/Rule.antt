@@ -2,7 +2,7 @@
 -- Source: Erlang/OTP erts internal documentation, ThreadProgress and CodeLoading. The words and the clauses are this
 -- project's own. The clauses are grouped by what they read: the writer's view alone, the words and the writer's view,
 -- the view of each seat, and the state of the progress machine.
-use Rattle.std.specs.Prelude.{◌≡◌, ℕ, ◌+◌, ◌<◌, ◌≤◌, List, ◌∷◌, ◌++◌, length, slice_index, slice_get, Some, false, IsTrue}
+use Rattle.std.specs.Prelude.{◌≡◌, ℕ, ◌+◌, ◌%◌, ◌^◌, ◌<◌, ◌≤◌, Bool, ◌||◌, List, ◌∷◌, ◌++◌, length, slice_index, slice_get, Some, false, IsTrue}
 use mathlib.Core.Option.{some}
 use lib.ListN.{get_elem?}
 use Rattle.atomic_table.specs.Table.{State}
@@ -11,11 +11,17 @@ use Rattle.prgr_core.specs.declared.member.Member as machines
 use Rattle.prgr_core.specs.declared.member.Retirement.{Retirement}
 use Rattle.prgr_core.specs.Step.{IsSound}
 use Rattle.term_core.specs.declared.generation.Generation.{Generation}
-use Rattle.area_core.specs.declared.map.TheConstants.{TABLE_WORDS, PROCESSES}
+use Rattle.area_core.specs.declared.map.TheConstants.{TABLE_WORDS, PROCESSES, RETIRE_START}
 use Rattle.area_core.specs.declared.table.Published.{Published}
 use Rattle.area_core.specs.Generations.{is_current, is_used, is_retired, has_serial}
-use Rattle.area_core.specs.Map.{word_at}
+use Rattle.area_core.specs.Map.{word_at, slot_place}
 use Rattle.area_core.specs.Blocks.{Blocks, BlockInvariant, Among}
+use Rattle.marks.specs.declared.kept.LookKind.{LookKind}
+use Rattle.marks.specs.declared.kept.LookKind.TheVariants.{Frame, Both}
+use Rattle.marks.specs.declared.kept.EndedWait.{EndedWait}
+use Rattle.marks.specs.declared.kept.WriterKept.{WriterKept}
+use Rattle.marks.specs.declared.mark.ProcessView.{ProcessView}
+use Rattle.marks.specs.Kept.{Under, IsKnown, IsBacked}
 use Rattle.shared_words.specs.declared.table.TheConstants.{ROOT, COUNTER, LEAD, CONFIRMED}
 use Rattle.shared_words.specs.declared.opening.Opening.{Opening}
 use Rattle.shared_words.specs.declared.view.NoteNumber.{NoteNumber}
@@ -26,7 +32,8 @@ use Rattle.shared_words.specs.declared.view.WriterView.{WriterView}
 use Rattle.shared_words.specs.declared.view.View.{View}
 use Rattle.shared_words.specs.declared.view.View.TheVariants.{Writer, Member, Watcher, Note, Spent}
 use Rattle.shared_words.specs.Views.{newest_root}
-use Rattle.shared_words.specs.Shown.{members_shown, progress_of, block_words}
+use Rattle.shared_words.specs.Shown.{members_shown, views_shown, progress_of, block_words}
+use Rattle.shared_words.specs.Processes.{process_of, under_of}
 
 -- ---- the writer's view alone
 
@@ -53,6 +60,8 @@ pub record NoteFits (published : List Published) (note : NoteNumber) : Type 0 wh
 pub record PublishedKept (Served : Generation → Type 0) (opening : Opening) (w : WriterView) : Type 0 where
   -- so many members were made
   pub made : length w.members ≡ opening.members
+  -- at least one
+  pub staffed : 0 < length w.members
   -- so many watchers were made
   pub watched : length w.watchers ≡ opening.watchers
   -- generation 0 is there
@@ -65,6 +74,27 @@ pub record PublishedKept (Served : Generation → Type 0) (opening : Opening) (w
   pub retired_stays : RetiredStays w.published
   -- notes tell of processes and of published generations
   pub notes_fit : (note : NoteNumber) → Among w.notes note → NoteFits w.published note
+
+-- ---- what the writer keeps of waits and looks
+
+-- no turn under this generation or a later one comes to the area in the kind: it is retired, or for frames an old instance
+abbrev pub is_gone : Published → LookKind → ℕ → Bool
+is_gone p Frame serial = is_retired p serial || has_serial p.state.old serial
+is_gone p Both serial = is_retired p serial
+
+-- a wait is over: the counter that the writer has loaded reached what it took at a generation in which the area is gone
+pub record HasEnded (w : WriterView) (wait : EndedWait) : Type 0 where
+  pub need : ℕ
+  pub kept : Among w.pairs (record { generation = wait.generation; need = need })
+  pub reached : need ≤ w.counter
+  pub published : Published
+  pub at : slice_get w.published wait.generation ≡ Some published
+  pub gone : IsTrue (is_gone published wait.kind wait.serial)
+
+-- what is kept of looks stands on waits that are over
+pub record LooksKept (w : WriterView) : Type 0 where
+  pub backed : IsBacked w.looks
+  pub over : (wait : EndedWait) → Among w.looks.waits wait → HasEnded w wait
 
 -- ---- the words and the writer's view
 
@@ -83,8 +113,9 @@ pub record WordsAgree (words : List ℕ) (w : WriterView) : Type 0 where
   pub all : length words ≡ TABLE_WORDS
   -- the root is that of the newest generation
   pub root : slice_index words ROOT ≡ newest_root w.published
-  -- the words of slots and blocks are those that the writer has stored
-  pub mirrored : block_words words ≡ w.words
+  -- the words behind the slots are those that the writer has stored
+  pub mirror : length w.words ≡ TABLE_WORDS
+  pub mirrored : (place : ℕ) → RETIRE_START ≤ place → slice_index words place ≡ word_at w.words place
   -- the counter has reached what the writer loaded
   pub reached : w.counter ≤ slice_index words COUNTER
   -- blocks, areas and entry words are those of the generations that may be read
@@ -127,6 +158,31 @@ Knows w place (Watcher v) = WatcherKnows w place v
 Knows w place (Note n) = NoteKnows w place n
 Knows w place Spent = Unit {0}
 
+-- ---- the slots
+
+-- what is known of a process, by what its member knows of it, and what the writer keeps
+pub record SlotStands (words : List ℕ) (k : WriterKept) (u : Under) (process : ℕ) (p : ProcessView) : Type 0 where
+  -- the words of its slot are those that the member has stored
+  pub turns : slice_index words (slot_place process 0) ≡ p.slot.turns
+  pub anchors : (place word : ℕ) → slice_get p.slot.anchors place ≡ Some word → slice_index words (slot_place process (place + 1)) ≡ word
+  -- its turn word ends at the end of a u32
+  pub narrow : p.slot.turns < 2 ^ 32
+  -- its marks, and what the writer keeps of looks and answers
+  pub known : IsKnown u process p k
+
+abbrev pub SlotKnown : List ℕ → WriterView → MemberView → ℕ → Type 0
+SlotKnown words w m process = SlotStands words w.looks (under_of m) process (process_of m process)
+
+-- so it is of each process
+abbrev pub MarksKept : List ℕ → WriterView → List View → Type 0
+MarksKept words w seats =
+    (process k : ℕ) (m : MemberView) → process < PROCESSES → process % length w.members ≡ k → slice_get (views_shown w.members seats) k ≡ Some m → SlotKnown words w m process
+
+-- the seat of a member that came in is spent
+pub record HasCome (w : WriterView) (seats : List View) (number : ℕ) : Type 0 where
+  pub made : number < length w.members
+  pub spent : get_elem? seats number ≡ some Spent
+
 -- ---- the machine
 
 -- the state of the progress machine, and the words of its members
@@ -157,3 +213,7 @@ pub record RunningRule (Served : Generation → Type 0) (opening : Opening) (s :
   pub out : writer.handed ≤ length seats
   -- a member knows what it must also while its seat is at home
   pub at_home : (k : ℕ) (m : MemberView) → slice_get writer.members k ≡ Some m → MemberKnows writer k m
+  pub looks : LooksKept writer
+  pub marks : MarksKept s.words writer seats
+  -- who came in has no seat of its own
+  pub come : (number : ℕ) → Among writer.taken number → HasCome writer seats number

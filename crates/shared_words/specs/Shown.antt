@@ -30,6 +30,18 @@ members_shown [] seats = []
 members_shown (kept ∷ members) [] = kept.member ∷ members_shown members []
 members_shown (kept ∷ members) (seat ∷ seats) = member_shown kept seat ∷ members_shown members seats
 
+-- what the member knows: as its seat has it, or as it is kept where the seat is not a member's
+abbrev pub view_shown : MemberView → View → MemberView
+view_shown kept (Member m) = m
+view_shown kept _ = kept
+
+-- what the members know: each as its seat has it, or as the writer keeps it while the seat is not handed out, and once it
+-- came in
+abbrev pub views_shown : List MemberView → List View → List MemberView
+views_shown [] seats = []
+views_shown (kept ∷ members) [] = kept ∷ views_shown members []
+views_shown (kept ∷ members) (seat ∷ seats) = view_shown kept seat ∷ views_shown members seats
+
 -- the same of a watcher
 abbrev pub watcher_shown : WatcherView → View → watching.Watcher
 watcher_shown kept (Watcher w) = w.watcher

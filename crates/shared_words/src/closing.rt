@@ -4,7 +4,7 @@ ghost use Rattle.std.specs.Prelude.{◌≡◌, ◌+◌, ◌<◌, ℕ, length, If
 ghost use Rattle.shared_words.specs.declared.seats.Member as tokens;
 ghost use Rattle.shared_words.specs.declared.view.View.TheVariants as views;
 ghost use Rattle.shared_words.specs.Seats.{IsSeatOf, IsSameSeat, IsWriterSeat, writer_of, member_of};
-ghost use Rattle.shared_words.specs.Closing.{AreAllMembers, HasAllMembers, AreLastWords, member_taken};
+ghost use Rattle.shared_words.specs.Closing.{AreAllMembers, HasAllMembers, HaveMarks, AreLastWords, member_taken};
 ghost use Rattle.shared_words.specs.Rule.{IsBeginning};
 ghost use Rattle.area_core.specs.declared.map.TheConstants.{TABLE_WORDS};
 
@@ -65,6 +65,7 @@ pub fn close<N: Served>(shared: Shared<N>, parts: Parts) -> Result<Closed<N>, No
     requires members { AreAllMembers shared.table.shared.table_id shared.table.shared.key.members parts.members.items }
     ensures generation { IfOk result (λ closed. closed.writer.generation ≡ parts.writer.generation) }
     ensures members { IfOk result (λ closed. HasAllMembers parts.members.items (writer_of parts.writer.seat.me.0) (writer_of closed.writer.seat.me.0)) }
+    ensures marks { IfOk result (λ closed. HaveMarks parts.members.items (writer_of closed.writer.seat.me.0)) }
     ensures seen { IfOk result (λ closed. (k : ℕ) (token : tokens.Member) → slice_get parts.members.items k ≡ Some token → IsBeginning (member_of token.seat.me.0).seen (writer_of closed.writer.seat.me.0).published) }
 {
     let Shared { table, members: _ } = shared;

@@ -1,6 +1,6 @@
 //! What holds of every state that meets the rule, not only of those that a run reaches.
 
-ghost use Rattle.shared_words.specs.Laws.{ShowsSound, KeepsWhatIsRead};
+ghost use Rattle.shared_words.specs.Laws.{ShowsSound, KeepsWhatIsRead, ClearHolds};
 
 use crate::law::Served;
 
@@ -13,4 +13,11 @@ pub fn rule_shows_a_sound_state<N: Served>()
 /// No word of a block that some token may load is one that the writer may store.
 pub fn what_is_loaded_is_not_stored<N: Served>()
     ensures { KeepsWhatIsRead N.served }
+{}
+
+/// An area that a look found clear in a kind is out of use: no slot names it in that kind, and no turn
+/// under a generation that some thread may read comes to it. It is so at any time, as the writer never
+/// forgets a look.
+pub fn clear_areas_are_out_of_use<N: Served>()
+    ensures { ClearHolds N.served }
 {}

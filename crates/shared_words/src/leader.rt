@@ -20,6 +20,7 @@ impl<N: Served> Shared<N> {
         ensures token { IsSameSeat member.old.seat member.new.seat }
         ensures number { member.new.number ≡ member.old.number }
         ensures root { member.new.root ≡ member.old.root }
+        ensures anchors { member.new.anchors.items ≡ member.old.anchors.items }
         ensures near { is_waiting result ≡ false → result ≤ known_counter (member_of member.old.seat.me.0) + 1 }
         ensures view { member.new.seat.me.0 ≡ views.Member (word_scanned other result (member_of member.old.seat.me.0)) }
     {
@@ -36,6 +37,7 @@ impl<N: Served> Shared<N> {
         ensures token { IsSameSeat member.old.seat member.new.seat }
         ensures number { member.new.number ≡ member.old.number }
         ensures root { member.new.root ≡ member.old.root }
+        ensures anchors { member.new.anchors.items ≡ member.old.anchors.items }
         ensures view { member.new.seat.me.0 ≡ views.Member (counter_raised (member_of member.old.seat.me.0)) }
     {
         self.table
@@ -51,6 +53,7 @@ impl<N: Served> Shared<N> {
         ensures token { IsSameSeat member.old.seat member.new.seat }
         ensures number { member.new.number ≡ member.old.number }
         ensures root { member.new.root ≡ member.old.root }
+        ensures anchors { member.new.anchors.items ≡ member.old.anchors.items }
         ensures leader { result ≤ MOST_MEMBERS }
         ensures view { member.new.seat.me.0 ≡ views.Member (lead_found result (member_of member.old.seat.me.0)) }
     {
@@ -67,6 +70,7 @@ impl<N: Served> Shared<N> {
         ensures token { IsSameSeat member.old.seat member.new.seat }
         ensures number { member.new.number ≡ member.old.number }
         ensures root { member.new.root ≡ member.old.root }
+        ensures anchors { member.new.anchors.items ≡ member.old.anchors.items }
         ensures view { member.new.seat.me.0 ≡ views.Member (lead_given (member_of member.old.seat.me.0)) }
     {
         self.table

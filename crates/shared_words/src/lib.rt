@@ -15,6 +15,7 @@ mod pass;
 mod plays;
 mod root;
 mod seats;
+mod slots;
 mod table;
 mod view;
 mod words;
@@ -22,10 +23,14 @@ mod writer;
 
 pub use closing::{Closed, close};
 pub use law::Served;
-pub use laws::{rule_shows_a_sound_state, what_is_loaded_is_not_stored};
+pub use laws::{
+    clear_areas_are_out_of_use, rule_shows_a_sound_state, what_is_loaded_is_not_stored,
+};
 pub use opening::Opening;
 pub use pass::Pass;
 pub use seats::{Member, Note, Parts, Writer};
 pub use table::{COUNTER, LEAD, ROOT, Shared};
-pub use view::{MemberView, NoteNumber, NoteView, View, WatcherView, WriterView};
+pub use view::{
+    MemberView, NoteNumber, NoteView, ProcessSlot, ProcessSlotList, View, WatcherView, WriterView,
+};
 pub use writer::Next;

@@ -1,10 +1,10 @@
 //! How a table is made.
 
-ghost use Rattle.std.specs.Prelude.{◌≡◌, ◌≤◌, ◌<◌, IfOk, OnOk};
+ghost use Rattle.std.specs.Prelude.{◌≡◌, ◌≤◌, ◌<◌, ◌*◌, IfOk, OnOk};
 ghost use Rattle.prgr_core.specs.declared.member.TheConstants.{MOST_MEMBERS, OPENING_WORD, WAITING};
 ghost use Rattle.area_core.specs.declared.map.TheConstants.{TABLE_WORDS};
 ghost use Rattle.area_core.specs.Step.{empty_generation};
-ghost use Rattle.shared_words.specs.declared.table.TheConstants.{OPENING_ROOT};
+ghost use Rattle.shared_words.specs.declared.table.TheConstants.{OPENING_ROOT, PROCESSES, ANCHORS};
 ghost use Rattle.shared_words.specs.Making.{AreBegun, HasSeatsAtHome, IsHanding, AreMembersBegun, handed_on, handed_out};
 ghost use Rattle.shared_words.specs.Seats.{IsSeatOf, IsSameSeat, IsWriterSeat};
 
@@ -13,7 +13,7 @@ use crate::opening::Opening;
 use crate::pass::Words;
 use crate::plays::HandOut;
 use crate::seats::{Member, Parts, Writer};
-use crate::table::{CONFIRMED, COUNTER, OPENING_ROOT, Shared};
+use crate::table::{ANCHORS, CONFIRMED, COUNTER, OPENING_ROOT, PROCESSES, Shared};
 use crate::view::View;
 use area_core::TABLE_WORDS;
 use atomic_table::{Seat, Table};
@@ -48,7 +48,12 @@ fn opening_words(alloc: Global, members: u32, count: usize) -> Result<Vec<u64>, 
 }
 
 /// The token of the member of this number, whose seat is the next that the writer hands out.
-fn hand_out<N: Served>(table: &Words<N>, writer: &mut Seat<(), View>, number: u32) -> Member
+fn hand_out<N: Served>(
+    table: &Words<N>,
+    writer: &mut Seat<(), View>,
+    number: u32,
+    anchors: Vec<u64>,
+) -> Member
     requires token { IsSeatOf table.now.table_id writer.old }
     requires home { HasSeatsAtHome table.now.key writer.old.me.0 }
     requires words { 0 < table.now.table_id.words }
@@ -58,12 +63,14 @@ fn hand_out<N: Served>(table: &Words<N>, writer: &mut Seat<(), View>, number: u3
     ensures member { result.seat.me.0 ≡ handed_out writer.old.me.0 }
     ensures number { result.number ≡ number }
     ensures root { result.root ≡ OPENING_ROOT }
+    ensures anchors { result.anchors ≡ anchors }
 {
     let seat = table.split_seat::<HandOut>(writer);
     Member {
         seat,
         number,
         root: OPENING_ROOT,
+        anchors,
     }
 }
 
@@ -73,8 +80,10 @@ fn hand_out_all<N: Served>(
     table: &Words<N>,
     writer: &mut Seat<(), View>,
     members: u32,
+    anchors: usize,
 ) -> Result<Vec<Member>, AllocError>
     requires token { IsHanding table.now.table_id table.now.key 0 writer.old }
+    requires anchors { anchors ≡ PROCESSES * ANCHORS }
     requires members { members ≡ table.now.key.members }
     requires words { 0 < table.now.table_id.words }
     ensures writer { OnOk result (IsHanding table.now.table_id table.now.key members writer.new) }
@@ -82,7 +91,8 @@ fn hand_out_all<N: Served>(
 {
     let mut tokens = Vec::with_capacity(alloc, members as usize)?;
     for number in 0..members {
-        tokens.push_reserved(hand_out(table, writer, number));
+        let none = Vec::from_elem(alloc, 0u64, anchors)?;
+        tokens.push_reserved(hand_out(table, writer, number, none));
     }
     Ok(tokens)
 }
@@ -102,7 +112,8 @@ impl<N: Served> Shared<N> {
         let words = opening_words(alloc, members, TABLE_WORDS as usize)?;
         let opening = Opening { members, watchers };
         let (table, mut seat) = Table::of_words(alloc, words.as_slice(), &opening)?;
-        let tokens = hand_out_all(alloc, &table.shared, &mut seat, members)?;
+        let anchors = PROCESSES as usize * ANCHORS as usize;
+        let tokens = hand_out_all(alloc, &table.shared, &mut seat, members, anchors)?;
         let writer = Writer {
             seat,
             generation: 0,

@@ -20,6 +20,7 @@ impl<N: Served> Shared<N> {
         ensures token { IsSameSeat member.old.seat member.new.seat }
         ensures number { member.new.number ≡ member.old.number }
         ensures root { member.new.root ≡ member.old.root }
+        ensures anchors { member.new.anchors.items ≡ member.old.anchors.items }
         ensures view { member.new.seat.me.0 ≡ views.Member (value_confirmed value (member_of member.old.seat.me.0)) }
     {
         let word = CONFIRMED as usize + member.number as usize;
@@ -28,13 +29,15 @@ impl<N: Served> Shared<N> {
             .store::<Confirm>(&mut member.seat, word, value);
     }
 
-    /// Stores into the member's word that it waits: it reads nothing, and holds back no progress.
+    /// Stores into the member's word that it waits: it reads nothing, and holds back no progress. None of
+    /// its processes has a turn under way.
     pub fn store_waiting(&self, member: &mut Member)
         requires token { IsMemberSeat self.now.table.shared.table_id member.old.number member.old.seat }
         requires may { MayWait (member_of member.old.seat.me.0) }
         ensures token { IsSameSeat member.old.seat member.new.seat }
         ensures number { member.new.number ≡ member.old.number }
         ensures root { member.new.root ≡ member.old.root }
+        ensures anchors { member.new.anchors.items ≡ member.old.anchors.items }
         ensures view { member.new.seat.me.0 ≡ views.Member (now_waiting (member_of member.old.seat.me.0)) }
     {
         let word = CONFIRMED as usize + member.number as usize;
@@ -50,6 +53,7 @@ impl<N: Served> Shared<N> {
         ensures token { IsSameSeat member.old.seat member.new.seat }
         ensures number { member.new.number ≡ member.old.number }
         ensures root { member.new.root ≡ member.old.root }
+        ensures anchors { member.new.anchors.items ≡ member.old.anchors.items }
         ensures view { member.new.seat.me.0 ≡ views.Member (now_entering (member_of member.old.seat.me.0)) }
     {
         let word = CONFIRMED as usize + member.number as usize;

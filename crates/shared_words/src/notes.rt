@@ -71,6 +71,7 @@ impl<N: Served> Shared<N> {
         ensures token { IsSameSeat member.old.seat member.new.seat }
         ensures number { member.new.number ≡ member.old.number }
         ensures root { member.new.root ≡ member.old.root }
+        ensures anchors { member.new.anchors.items ≡ member.old.anchors.items }
         ensures view { member.new.seat.me.0 ≡ views.Member (note_joined (note_of note.seat.me.0) (member_of member.old.seat.me.0)) }
     {
         let Note { seat, process: _ } = note;

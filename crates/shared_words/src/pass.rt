@@ -15,7 +15,7 @@ pub type Words<N> = Shared<(), View, Opening, Law<N>>;
 
 /// A token of one seat.
 pub trait Pass {
-    ghost use Rattle.std.specs.Prelude.{ℕ, Option};
+    ghost use Rattle.std.specs.Prelude.{ℕ, List, Option};
     ghost use Rattle.shared_words.specs.Seats.{Place};
 
     /// The seat.
@@ -28,18 +28,23 @@ pub trait Pass {
     /// The root word that a member keeps; none of another token.
     ghost root: { Self → Option ℕ };
 
+    /// The anchors of processes that a member keeps; none of another token.
+    ghost anchors: { Self → List ℕ };
+
     /// Loads a word. The calls for each kind of step stand on it.
     fn load<M: Play<(), View>, N: Served>(&mut self, table: &Words<N>, word: usize) -> u64
         requires { MayLoad N.served table.now.key table.now.table_id M.then (seat self.old) word }
         ensures loaded { HasLoaded table.now.table_id M.then (seat self.old) (seat self.new) word result }
         ensures number { number self.new ≡ number self.old }
-        ensures root { root self.new ≡ root self.old };
+        ensures root { root self.new ≡ root self.old }
+        ensures anchors { anchors self.new ≡ anchors self.old };
 
     /// Keeps the root word that was loaded, where the token keeps one.
     fn keep_root(&mut self, found: u64)
         ensures seat { seat self.new ≡ seat self.old }
         ensures number { number self.new ≡ number self.old }
-        ensures root { root self.new ≡ option_map (λ _. found) (root self.old) };
+        ensures root { root self.new ≡ option_map (λ _. found) (root self.old) }
+        ensures anchors { anchors self.new ≡ anchors self.old };
 }
 
 impl Pass for Member {
@@ -51,6 +56,8 @@ impl Pass for Member {
 
     ghost root = { λ member. Some member.root };
 
+    ghost anchors = { λ member. member.anchors.items };
+
     fn load<M: Play<(), View>, N: Served>(&mut self, table: &Words<N>, word: usize) -> u64 {
         table.load::<M>(&mut self.seat, word)
     }
@@ -61,13 +68,15 @@ impl Pass for Member {
 }
 
 impl Pass for Writer {
-    ghost use Rattle.std.specs.Prelude.{None};
+    ghost use Rattle.std.specs.Prelude.{None, []};
 
     ghost seat = { λ writer. writer.seat };
 
     ghost number = { λ writer. writer.generation };
 
     ghost root = { λ _. None };
+
+    ghost anchors = { λ _. [] };
 
     fn load<M: Play<(), View>, N: Served>(&mut self, table: &Words<N>, word: usize) -> u64 {
         table.load::<M>(&mut self.seat, word)
@@ -77,13 +86,15 @@ impl Pass for Writer {
 }
 
 impl Pass for Note {
-    ghost use Rattle.std.specs.Prelude.{None};
+    ghost use Rattle.std.specs.Prelude.{None, []};
 
     ghost seat = { λ note. note.seat };
 
     ghost number = { λ note. note.process };
 
     ghost root = { λ _. None };
+
+    ghost anchors = { λ _. [] };
 
     fn load<M: Play<(), View>, N: Served>(&mut self, table: &Words<N>, word: usize) -> u64 {
         table.load::<M>(&mut self.seat, word)

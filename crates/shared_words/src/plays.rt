@@ -4,10 +4,12 @@ ghost use Rattle.shared_words.specs.Kinds.{counter_loaded, root_loaded, confirme
 ghost use Rattle.shared_words.specs.Publishing.{word_stored, root_stored, word_loaded};
 ghost use Rattle.shared_words.specs.Notes.{note_left, note_right, note_join};
 ghost use Rattle.shared_words.specs.Making.{handed_on, handed_out};
+ghost use Rattle.shared_words.specs.Slots.{slot_stored, slot_loaded};
 ghost use Rattle.shared_words.specs.Closing.{member_taken, members_seen, word_seen};
 
 use crate::law::Served;
 use crate::notes::Spawned;
+use crate::slots::Looking;
 use crate::view::View;
 use crate::writer::Next;
 use atomic_table::{Join, Play, Split};
@@ -108,6 +110,22 @@ pub struct LoadWord;
 
 impl Play<(), View> for LoadWord {
     ghost then = { word_loaded };
+}
+
+/// The store of a word of the slot of a process.
+pub struct StoreSlot;
+
+impl Play<(), View> for StoreSlot {
+    ghost then = { slot_stored };
+}
+
+/// A load of a word of a slot, as part of a look or outside every look.
+pub struct LoadSlot<K> {
+    marker: PhantomData<K>,
+}
+
+impl<K: Looking> Play<(), View> for LoadSlot<K> {
+    ghost then = { slot_loaded K.look };
 }
 
 /// A note is split from the writer's seat.

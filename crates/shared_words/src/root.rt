@@ -12,13 +12,15 @@ use crate::table::{ROOT, Shared};
 
 impl<N: Served> Shared<N> {
     /// Loads the root. The token has then learnt of all generations up to that of the root; a member
-    /// that has loaded the counter holds that generation from now on. A member keeps the root word.
+    /// that has loaded the counter holds that generation from now on, and none of its processes has a
+    /// turn under way. A member keeps the root word.
     pub fn load_root<P: Pass>(&self, pass: &mut P) -> u64
         requires token { IsSeatOf self.now.table.shared.table_id (P.seat pass.old) }
         requires may { MayLoadRoot (P.seat pass.old).me.0 }
         ensures token { IsSameSeat (P.seat pass.old) (P.seat pass.new) }
         ensures number { P.number pass.new ≡ P.number pass.old }
         ensures root { P.root pass.new ≡ option_map (λ _. result) (P.root pass.old) }
+        ensures anchors { P.anchors pass.new ≡ P.anchors pass.old }
         ensures view { RootLoaded N.served (P.seat pass.old).me.0 (P.seat pass.new).me.0 result }
     {
         let found = pass.load::<LoadRoot<N>, N>(&self.table.shared, ROOT as usize);

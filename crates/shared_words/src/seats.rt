@@ -1,8 +1,12 @@
 //! The tokens, each with one seat.
 
-ghost use Rattle.std.specs.Prelude.{◌≡◌};
+ghost use Rattle.std.specs.Prelude.{◌≡◌, ◌-◌, ◌<◌, ◌≤◌};
+ghost use Rattle.shared_words.specs.declared.table.TheConstants.{PROCESSES, ANCHORS};
+ghost use Rattle.area_core.specs.Map.{word_at};
+ghost use Rattle.shared_words.specs.Processes.{AreCopied, process_of};
 ghost use Rattle.shared_words.specs.Seats.{IsRooted, member_of, root_held};
 
+use crate::table::ANCHORS;
 use crate::view::View;
 use atomic_table::Seat;
 
@@ -12,6 +16,8 @@ pub struct Member {
     pub(crate) seat: Seat<(), View>,
     pub(crate) number: u32,
     pub(crate) root: u64,
+    /// A copy of the anchors of all processes, 16 of each in a row. Those of other members' are 0.
+    pub(crate) anchors: Vec<u64>,
 }
 
 impl Member {
@@ -21,6 +27,16 @@ impl Member {
         ensures { result ≡ root_held (member_of self.now.seat.me.0) }
     {
         self.root
+    }
+
+    /// An anchor of the slot of one of the member's processes, the anchors counted from 1.
+    pub fn anchor(&self, process: u32, place: u32) -> u64
+        requires copied { AreCopied self.now.anchors.items (member_of self.now.seat.me.0) }
+        requires process { process < PROCESSES }
+        requires place { (1 ≤ place) × (place ≤ ANCHORS) }
+        ensures { result ≡ word_at (process_of (member_of self.now.seat.me.0) process).slot.anchors (place - 1) }
+    {
+        self.anchors[process as usize * ANCHORS as usize + (place as usize - 1)]
     }
 }
 

@@ -28,6 +28,18 @@ pub const DELAYS: u32 = 3;
 /// The first of the confirmed words of the members.
 pub const CONFIRMED: u32 = 5;
 
+/// The first word of the slots of processes.
+pub const SLOTS: u32 = 21;
+
+/// How many processes have slots.
+pub const PROCESSES: u32 = 64;
+
+/// How many words a slot has: the turns done, then the anchors.
+pub const SLOT_WORDS: u32 = 17;
+
+/// How many anchors a slot has.
+pub const ANCHORS: u32 = 16;
+
 /// The words that all threads share.
 #[derive(Drop)]
 pub struct Shared<N: Served> {

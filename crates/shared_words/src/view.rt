@@ -1,8 +1,9 @@
 //! What each seat at the table knows. No value of these types is made: they are for clauses alone.
 
 use area_core::{KeptList, PublishedList};
+use marks::{MarkList, Slot, WriterKept};
 use prgr_core::{Member, RetirementList, Watcher};
-use term_core::{Items, WordList};
+use term_core::{CountList, Items, WordList};
 
 /// A process for which a note was split, and the newest generation then.
 pub struct NoteNumber {
@@ -13,6 +14,16 @@ pub struct NoteNumber {
 /// The notes of processes in a row.
 pub type NoteNumberList = Items<NoteNumber>;
 
+/// What a member keeps of one of its processes: the words of its slot, and the marks of its turns.
+pub struct ProcessSlot {
+    pub process: u32,
+    pub slot: Slot,
+    pub marks: MarkList,
+}
+
+/// Slots of processes in a row.
+pub type ProcessSlotList = Items<ProcessSlot>;
+
 /// What a member knows.
 pub struct MemberView {
     /// Its record in the progress machine, with its own word.
@@ -21,8 +32,9 @@ pub struct MemberView {
     pub seen: PublishedList,
     /// The notes that it has joined.
     pub notes: NoteNumberList,
-    /// The words of the slots of its processes. There are none yet.
-    pub slots: WordList,
+    /// The slots of its processes, the newest store first. A process without one names nothing, and has
+    /// done no turn.
+    pub slots: ProcessSlotList,
 }
 
 /// What a watcher knows.
@@ -53,8 +65,8 @@ pub struct WriterView {
     pub counter: u64,
     /// The areas that were published and not released.
     pub kept: KeptList,
-    /// The words of slots and blocks, which it alone stores, at their places in the table; 0 at the
-    /// places in front of them.
+    /// The words behind the slots, which it alone stores, at their places in the table; what stands at
+    /// the places in front of them is of no account.
     pub words: WordList,
     /// Each member, as it is while its seat is not handed out.
     pub members: MemberViewList,
@@ -66,6 +78,11 @@ pub struct WriterView {
     pub notes: NoteNumberList,
     /// The entry words that a patch has stored. There are none yet.
     pub patched: WordList,
+    /// What it keeps of waits that are over, of anchors and turn words that it has looked at, and of its
+    /// answers.
+    pub looks: WriterKept,
+    /// The numbers of the members whose seats came in to its own.
+    pub taken: CountList,
 }
 
 /// What a seat knows, whatever seat it is.

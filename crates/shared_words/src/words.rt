@@ -18,6 +18,7 @@ impl<N: Served> Shared<N> {
         ensures token { IsSameSeat (P.seat pass.old) (P.seat pass.new) }
         ensures number { P.number pass.new ≡ P.number pass.old }
         ensures root { P.root pass.new ≡ P.root pass.old }
+        ensures anchors { P.anchors pass.new ≡ P.anchors pass.old }
         ensures view { (P.seat pass.new).me.0 ≡ (P.seat pass.old).me.0 }
         ensures tells { WordTells (P.seat pass.old).me.0 word result }
     {

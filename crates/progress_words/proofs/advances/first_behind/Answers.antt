@@ -26,8 +26,8 @@ returns-then-confirmed-counter-clause-found g c =
     let load = c.load_confirmed-confirmed in
     let there : c.loop-other.other < key.members = subst (λ (n : ℕ). c.loop-other.other < n) c.members-other-end.ensures.members c.loop-other-test.true in
     let awake : members.is_waiting load.result ≡ false = ne_eqb load.result WAITING c.if-confirmed.true in
-    let below = below_next c.args.shared.now.table.shared.table_id c.args.counter c.args.member.now c.loop-other.member load.new.member c.loop-other.other load.result h load.ensures.token load.ensures.number load.ensures.view c.requires.leads awake load.ensures.near c.if-confirmed-counter.true in
-    one_behind c.args.shared.now.table.shared.table_id c.args.counter c.args.member.now c.loop-other.member load.new.member c.loop-other.other load.result h load.ensures.token load.ensures.number load.ensures.view key.members (record { member = c.loop-other.other; confirmed = load.result }) refl refl there awake below
+    let below = below_next c.args.shared.now.table.shared.table_id c.args.counter c.args.member.now c.loop-other.member load.new.member c.loop-other.other load.result h load.ensures.token load.ensures.number load.ensures.anchors load.ensures.view c.requires.leads awake load.ensures.near c.if-confirmed-counter.true in
+    one_behind c.args.shared.now.table.shared.table_id c.args.counter c.args.member.now c.loop-other.member load.new.member c.loop-other.other load.result h load.ensures.token load.ensures.number load.ensures.anchors load.ensures.view key.members (record { member = c.loop-other.other; confirmed = load.result }) refl refl there awake below
 
 -- one more is done
 pub loop-other-preserved : goal.loop-other-preserved
@@ -37,4 +37,4 @@ loop-other-preserved g c =
       | else-confirmed-via-then-confirmed+else-confirmed-counter w ↦ confirmed_done c.args.counter load.result w.if-confirmed-counter.false
       | else-confirmed-via-else-confirmed w ↦ waits_done c.args.counter load.result w.if-confirmed.false
     ] in
-    one_more c.args.shared.now.table.shared.table_id c.args.counter c.args.member.now c.loop-other.member load.new.member c.loop-other.other load.result c.loop-other.invariant load.ensures.token load.ensures.number load.ensures.view load.ensures.root done
+    one_more c.args.shared.now.table.shared.table_id c.args.counter c.args.member.now c.loop-other.member load.new.member c.loop-other.other load.result c.loop-other.invariant load.ensures.token load.ensures.number load.ensures.anchors load.ensures.view load.ensures.root done

@@ -2,9 +2,10 @@ use Rattle.std.proofs.Common.{◌≡◌, sym, ap, subst, ◌∙◌, arith}
 use Rattle.area_core.specs.declared.map.TheConstants.{TABLE_WORDS}
 use Rattle.shared_words.specs.declared.view.WriterView.{WriterView}
 use Rattle.shared_words.specs.Seats.{member_of, writer_of}
+use Rattle.shared_words.specs.Closing.{HaveMarks}
 use Rattle.shared_words.specs.Rule.{IsBeginning}
 use Rattle.shared_words.proofs.MemberJoins.{see_members_is_allowed}
-use Rattle.shared_words.proofs.SeatsTaken.{each_begins}
+use Rattle.shared_words.proofs.SeatsTaken.{each_begins, each_marked}
 use Rattle.shared_words.proofs.closing.close.Goals as goal
 
 -- the last load is one that the rule allows
@@ -20,3 +21,9 @@ pub returns-clause-seen : goal.returns-clause-seen
 returns-clause-seen g c = λ k token at.
     subst (λ (w : WriterView). IsBeginning (member_of token.seat.me.0).seen w.published) (sym (ap (λ m. writer_of m.0) c.load.ensures.2.same))
     (each_begins _ _ _ c.take_in_all.ensures.members (c.load.ensures.2.known _ c.take_in_all.ensures.view) k token at)
+
+-- what is known of the processes of each member
+pub returns-clause-marks : goal.returns-clause-marks
+returns-clause-marks g c =
+    subst (λ (w : WriterView). HaveMarks c.args.parts.members.items w) (sym (ap (λ m. writer_of m.0) c.load.ensures.2.same))
+    (each_marked _ _ _ c.take_in_all.ensures.members (c.requires.members.all ∙ sym c.requires.token.made) (c.load.ensures.2.marked _ c.take_in_all.ensures.view))

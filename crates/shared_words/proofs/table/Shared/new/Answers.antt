@@ -11,7 +11,7 @@ pub of_words-requires : goal.of_words-requires
 of_words-requires g c =
     let none : c.args.watchers ≡ 0 = c.requires.watchers in
     let few : c.args.watchers ≤ MOST_WATCHERS = omega arith in
-    rule_begins g.N.Served.served _ c.as_slice.result.now c.requires.members.1 few c.requires.served (subst (λ (ws : List ℕ). AreBegun c.args.members ws) (sym c.as_slice.ensures.value) c.in_ok-words.ensures)
+    rule_begins g.N.Served.served _ c.as_slice.result.now c.requires.members.0 c.requires.members.1 few c.requires.served (subst (λ (ws : List ℕ). AreBegun c.args.members ws) (sym c.as_slice.ensures.value) c.in_ok-words.ensures)
 
 -- the writer has handed out all seats
 pub returns-clause-token : goal.returns-clause-token

@@ -1,0 +1,441 @@
+-- A store of a word of a slot by a member keeps the rule.
+use Rattle.std.proofs.Common.{◌≡◌, ◌≢◌, ℕ, zero, suc, ◌+◌, ◌-◌, ◌*◌, ◌%◌, ◌^◌, ◌<◌, ◌≤◌, ◌⊎◌, inl, inr, Bool, true, cond, ◌||◌, List, ◌∷◌, length, length-set, set, get_or-set_other, get_or-set_same, refl, sym, ap, subst, ◌∙◌, arith}
+use mathlib.Core.Option.{none, some}
+use mathlib.Core.Logic.{dite}
+use native.Mathlib.Decide.{ℕ_discrete}
+use lib.ListN.{get_elem?}
+use Rattle.std.specs.Prelude.{◌==◌, nat_le, Some, slice_get, slice_set, slice_index}
+use Rattle.std.proofs.lemmas.Bool.{cases_Bool, and_from, and_parts, or_cases, or_left, or_right, eq-eqb, ne_eqb, eqb-true, eqb-false, not-true, leb-true, le-leb}
+use Rattle.atomic_table.specs.Table.{State, keeps, step, Allows}
+use Rattle.prgr_core.specs.Members as members
+use Rattle.prgr_core.specs.declared.progress.Progress.{Progress}
+use Rattle.prgr_core.proofs.Parts.{slice_get-slice_set}
+use Rattle.term_core.specs.declared.generation.Generation.{Generation}
+use Rattle.area_core.specs.declared.map.TheConstants.{PROCESSES, ANCHORS}
+use Rattle.area_core.specs.declared.map.WordKind.TheVariants.{Slot}
+use Rattle.area_core.specs.declared.table.Published.{Published}
+use Rattle.area_core.specs.declared.table.Table.{Table}
+use Rattle.area_core.specs.Map.{word_at, slot_place}
+use Rattle.area_core.specs.Generations.{is_current, is_instance, is_key_area, is_kept, has_serial, serial_in, is_naming, names_frame, names_literal}
+use Rattle.area_core.specs.Blocks.{Blocks, BlockInvariant, IsAnchor}
+use Rattle.area_core.proofs.Places.{kind_slot, slots_differ, word_here, word_there}
+use Rattle.area_core.proofs.BlockStores.{stored_off}
+use Rattle.area_core.proofs.Frames.{code_after, breakpoints_after, terms_after, entries_after, retired_after, doomed_after, images_after}
+use Rattle.area_core.proofs.SlotStores.{slot_word_kept}
+use Rattle.area_core.proofs.Anchors.{frame_kept, literal_kept, used_is_kept}
+use Rattle.marks.specs.declared.kept.LookKind.{LookKind}
+use Rattle.marks.specs.declared.kept.LookKind.TheVariants.{Frame, Both}
+use Rattle.marks.specs.declared.kept.WriterKept.{WriterKept}
+use Rattle.marks.specs.declared.mark.ProcessView.{ProcessView}
+use Rattle.marks.specs.Names.{names_in, HasAnchor}
+use Rattle.marks.specs.Kept.{Under, comes_to, IsBacked, AreOverFor}
+use Rattle.marks.specs.Steps.{holding, HasNote, MayBecome, IsNextTurn}
+use Rattle.marks.proofs.MemberSteps.{anchor_stored, turn_stored}
+use Rattle.shared_words.specs.declared.table.TheConstants.{ROOT, COUNTER, LEAD, DELAYS, CONFIRMED}
+use Rattle.shared_words.specs.declared.opening.Opening.{Opening}
+use Rattle.shared_words.specs.declared.view.ProcessSlot.{ProcessSlot}
+use Rattle.shared_words.specs.declared.view.MemberView.{MemberView}
+use Rattle.shared_words.specs.declared.view.WriterView.{WriterView}
+use Rattle.shared_words.specs.declared.view.View.{View}
+use Rattle.shared_words.specs.declared.view.View.TheVariants.{Member}
+use Rattle.shared_words.specs.Views.{published_at}
+use Rattle.shared_words.specs.Shown.{views_shown, progress_of, state_of}
+use Rattle.shared_words.specs.Seats.{member_of}
+use Rattle.shared_words.specs.Processes.{slot_in, process_of, under_of, note_in, AreCopied}
+use Rattle.shared_words.specs.Kinds.{Sat}
+use Rattle.shared_words.specs.Rule.{MayBeRead, SlotStands, SlotKnown, WordsAgree, MemberKnows, RunningRule}
+use Rattle.shared_words.specs.Slots.{process_at, place_at, FitsAnchor, FitsSlot, MayStoreSlot, process_stored, slot_with, with_slot, slot_stored}
+use Rattle.shared_words.proofs.ShownMembers.{shown_at, shown_length, set_same, there, there_is, within_get}
+use Rattle.shared_words.proofs.ShownViews.{views_at}
+use Rattle.shared_words.proofs.ShownWords.{shown_stored, shown_word}
+use Rattle.shared_words.proofs.SoundState.{shows_sound}
+use Rattle.shared_words.proofs.SlotFrames.{anchor_word, slot_still}
+use Rattle.shared_words.proofs.Frames.{after_step, progress_set, progress_words, member_changes}
+use Rattle.shared_words.proofs.ClearLooks.{awake_reads, awake_published, all_over}
+use Rattle.shared_words.proofs.MemberStores.{seat_of}
+
+-- ---- what an anchor may become
+
+-- a literal that is newly named is the area of a key, or this anchor names it for a frame
+module _ (p : Published) (anchors : List ℕ) (place value : ℕ) (at : slice_get anchors place ≡ Some (word_at anchors place)) (fits : FitsAnchor p anchors place value) where
+  abbrev old : ℕ
+  old = word_at anchors place
+
+  -- an area that some anchor names for a frame stands in this one, where this one may name it
+  framed_here : (serial : ℕ) → names_literal value serial ≡ true → HasAnchor names_frame anchors serial → names_frame old serial ≡ true
+  framed_here serial named h =
+      dite (ℕ_discrete h.place place)
+      (λ (here : h.place ≡ place). ap (λ (x : ℕ). names_frame x serial) (same_word here) ∙ h.passes)
+      (λ (other : h.place ≡ place → ⊥). absurd (fits.apart h.place h.word h.at other (literal_some value serial named) (frame_some h.word serial h.passes) (frame_serial h.word serial h.passes ∙ sym (literal_serial value serial named))))
+    where
+      same_word : h.place ≡ place → old ≡ h.word
+      same_word here = (let mine = at in let its = h.at in cc)
+
+      frame_serial : (word serial : ℕ) → names_frame word serial ≡ true → serial_in word ≡ serial
+      frame_serial word serial named = eqb-true (serial_in word) serial (and_parts (word % 2 == 1) (serial_in word == serial) named).1
+
+      literal_serial : (word serial : ℕ) → names_literal word serial ≡ true → serial_in word ≡ serial
+      literal_serial word serial named = eqb-true (serial_in word) serial (and_parts (nat_le 2 (word % 4)) (serial_in word == serial) named).1
+
+      frame_some : (word serial : ℕ) → names_frame word serial ≡ true → word ≢ 0
+      frame_some word serial named zero_word = (let odd = eqb-true (word % 2) 1 (and_parts (word % 2 == 1) (serial_in word == serial) named).0 in absurd (omega (arith, odd, zero_word)))
+
+      literal_some : (word serial : ℕ) → names_literal word serial ≡ true → word ≢ 0
+      literal_some word serial named zero_word = (let high = leb-true 2 (word % 4) (and_parts (nat_le 2 (word % 4)) (serial_in word == serial) named).0 in absurd (omega (arith, high, zero_word)))
+
+  -- a literal that it newly names a turn comes to, where this anchor does not name the area already
+  new_literal : (serial : ℕ) → names_literal value serial ≡ true → (names_in Both old serial ≡ true) ⊎ (is_key_area p serial ≡ true)
+  new_literal serial named =
+      elim (fits.literal serial named) as (λ _. (names_in Both old serial ≡ true) ⊎ (is_key_area p serial ≡ true)) [
+        | inl before ↦ inl (or_right (names_frame old serial) (names_literal old serial) before)
+        | inr others ↦ elim others as (λ _. (names_in Both old serial ≡ true) ⊎ (is_key_area p serial ≡ true)) [
+          | inl key ↦ inr key
+          | inr framed ↦ inl (or_left (names_frame old serial) (names_literal old serial) (framed_here serial named framed))
+        ]
+      ]
+
+  newly : (awake : Bool) (g : ℕ) (kind : LookKind) (serial : ℕ) → names_in kind value serial ≡ true → (names_in kind old serial ≡ true) ⊎ (comes_to (holding awake g p) kind serial ≡ true)
+  newly awake g Frame serial named = fits.frame serial named
+  newly awake g Both serial named =
+      elim (or_cases (names_frame value serial) (names_literal value serial) named) as (λ _. (names_in Both old serial ≡ true) ⊎ (comes_to (holding awake g p) Both serial ≡ true)) [
+        | inl frame ↦ elim (fits.frame serial frame) as (λ _. (names_in Both old serial ≡ true) ⊎ (comes_to (holding awake g p) Both serial ≡ true)) [
+          | inl before ↦ inl (or_left (names_frame old serial) (names_literal old serial) before)
+          | inr current ↦ inr (or_left (is_current p serial) (is_key_area p serial) current)
+        ]
+        | inr literal ↦ elim (new_literal serial literal) as (λ _. (names_in Both old serial ≡ true) ⊎ (comes_to (holding awake g p) Both serial ≡ true)) [
+          | inl before ↦ inl before
+          | inr key ↦ inr (or_right (is_current p serial) (is_key_area p serial) key)
+        ]
+      ]
+
+  pub may_become : (awake : Bool) (g : ℕ) → MayBecome (holding awake g p) old value
+  may_become awake g = record { newly = newly awake g; stays = fits.stays; kills = fits.kills }
+
+-- ---- what is known of the process
+
+module _ (words : List ℕ) (k : WriterKept) (u : Under) (process : ℕ) (p : ProcessView) (h : SlotStands words k u process p) (backed : IsBacked k) (over : AreOverFor u k) (has : HasNote p.note u) (room : slot_place process 16 < length words) where
+  turns_known : (value : ℕ) → value < 2 ^ 32 → IsNextTurn p value → SlotStands (set words (slot_place process 0) value) k u process (process_stored 0 value u.generation p)
+  turns_known value narrow next = record {
+    turns = get_or-set_same words (slot_place process 0) value 0 (omega (arith, room));
+    anchors = λ place word at. get_or-set_other words (slot_place process 0) (slot_place process (place + 1)) value 0 (λ e. absurd (omega (arith, e))) ∙ h.anchors place word at;
+    narrow = narrow;
+    known = turn_stored u process p k value h.known backed over has next;
+  }
+
+  anchor_known : (place value : ℕ) → place < ANCHORS → u.awake ≡ true → slice_get p.slot.anchors place ≡ Some (word_at p.slot.anchors place) → MayBecome u (word_at p.slot.anchors place) value
+      → SlotStands (set words (slot_place process (suc place)) value) k u process (process_stored (suc place) value u.generation p)
+  anchor_known place value few awake at may = record {
+    turns = get_or-set_other words (slot_place process (suc place)) (slot_place process 0) value 0 (λ e. absurd (omega (arith, e))) ∙ h.turns;
+    anchors = λ a word there.
+        elim (slice_get-slice_set p.slot.anchors place value a word there) as (λ _. slice_index (set words (slot_place process (suc place)) value) (slot_place process (a + 1)) ≡ word) [
+          | inl here ↦
+              let same : slot_place process (a + 1) ≡ slot_place process (suc place) = omega (arith, here.0) in
+              ap (λ (i : ℕ). slice_index (set words (slot_place process (suc place)) value) i) same ∙ get_or-set_same words (slot_place process (suc place)) value 0 (omega (arith, room, few)) ∙ sym here.1
+          | inr other ↦
+              let apart = other.0 in
+              get_or-set_other words (slot_place process (suc place)) (slot_place process (a + 1)) value 0 (λ e. apart (omega (arith, e))) ∙ h.anchors a word other.1
+        ];
+    narrow = h.narrow;
+    known = anchor_stored u process p k place (word_at p.slot.anchors place) value h.known backed over awake has at may;
+  }
+
+-- ---- the slots of a member
+
+-- the slot that was stored last
+slot_here : (slots : List ProcessSlot) (process : ℕ) (p : ProcessView) → slot_in (slot_with process p ∷ slots) process ≡ slot_with process p
+slot_here slots process p = ap (λ (b : Bool). cond b (slot_with process p) (slot_in slots process)) (eq-eqb process process refl)
+
+slot_else : (slots : List ProcessSlot) (process other : ℕ) (p : ProcessView) → (other ≡ process → ⊥) → slot_in (slot_with process p ∷ slots) other ≡ slot_in slots other
+slot_else slots process other p apart = ap (λ (b : Bool). cond b (slot_with process p) (slot_in slots other)) (ne_eqb process other (λ e. apart (sym e)))
+
+module _ (process place value : ℕ) (m : MemberView) where
+  pub process_here : process_of (with_slot process place value m) process ≡ process_stored place value m.member.generation (process_of m process)
+  process_here = by_place place
+    where
+      by_place : (place : ℕ) → process_of (with_slot process place value m) process ≡ process_stored place value m.member.generation (process_of m process)
+      by_place zero = ap (λ (s : ProcessSlot). record { slot = s.slot; marks = s.marks; note = note_in m.notes process }) (slot_here m.slots process (process_stored 0 value m.member.generation (process_of m process)))
+      by_place (suc n) = ap (λ (s : ProcessSlot). record { slot = s.slot; marks = s.marks; note = note_in m.notes process }) (slot_here m.slots process (process_stored (suc n) value m.member.generation (process_of m process)))
+
+  pub process_else : (other : ℕ) → (other ≡ process → ⊥) → process_of (with_slot process place value m) other ≡ process_of m other
+  process_else other apart = ap (λ (s : ProcessSlot). record { slot = s.slot; marks = s.marks; note = note_in m.notes other }) (slot_else m.slots process other (process_stored place value m.member.generation (process_of m process)) apart)
+
+-- ---- the rule
+
+module _ {Served : Generation → Type 0} {opening : Opening} (s : State (Unit {0}) View) (r : RunningRule Served opening s) (k : ℕ) (m : MemberView) (at : get_elem? r.seats k ≡ some (Member m)) (process place value : ℕ) (may : MayStoreSlot opening process place value m) where
+  knows : MemberKnows r.writer k m
+  knows = r.each_seat k (Member m) at
+
+  abbrev words' : List ℕ
+  words' = set s.words (slot_place process place) value
+
+  abbrev w : WriterView
+  w = r.writer
+
+  abbrev t : Table
+  t = state_of s.words r.writer r.seats
+
+  -- the process is this member's
+  own : process % length r.writer.members ≡ k
+  own = ap (λ (n : ℕ). process % n) r.published.made ∙ may.own ∙ knows.numbered
+
+  -- what it knows is shown
+  in_view : slice_get (views_shown r.writer.members r.seats) k ≡ Some m
+  in_view = views_at r.writer.members r.seats k m knows.made at
+
+  -- what is known of the process
+  known : SlotKnown s.words r.writer m process
+  known = r.marks process k m may.below own in_view
+
+  room : slot_place process 16 < length s.words
+  room = (let below = may.below in let size = r.words.all in omega (arith, below, size))
+
+  abbrev p : Published
+  p = published_at m.seen m.member.generation
+
+  -- the word of an anchor in the state that is shown
+  shown_anchor : (place x : ℕ) → slice_get (process_of m process).slot.anchors place ≡ Some x → word_at t.words (slot_place process (place + 1)) ≡ x
+  shown_anchor place x here = shown_word s.words (slot_place process (place + 1)) (omega arith) ∙ known.anchors place x here
+
+  place_within : (a x : ℕ) → slice_get (process_of m process).slot.anchors a ≡ Some x → a < 16
+  place_within a x here = (let within = within_get (process_of m process).slot.anchors a x here in let wide = known.known.wide in omega (arith, within, wide))
+
+  -- what an anchor names is kept
+  named_frame : (a x serial : ℕ) → slice_get (process_of m process).slot.anchors a ≡ Some x → names_frame x serial ≡ true → is_kept t.kept serial ≡ true
+  named_frame a x serial here named =
+      let within = place_within a x here in
+      frame_kept t (shows_sound s r) process may.below (a + 1) serial (omega arith) (omega (arith, within)) (ap (λ (y : ℕ). names_frame y serial) (shown_anchor a x here) ∙ named)
+
+  named_literal : (a x serial : ℕ) → slice_get (process_of m process).slot.anchors a ≡ Some x → names_literal x serial ≡ true → is_kept t.kept serial ≡ true
+  named_literal a x serial here named =
+      let within = place_within a x here in
+      literal_kept t (shows_sound s r) process may.below (a + 1) serial (omega arith) (omega (arith, within)) (ap (λ (y : ℕ). names_literal y serial) (shown_anchor a x here) ∙ named)
+
+  -- what its generation uses is kept
+  used : (serial : ℕ) → (is_current p serial ≡ true) ⊎ (is_key_area p serial ≡ true) → is_kept t.kept serial ≡ true
+  used serial comes = used_is_kept t (shows_sound s r) process may.below m.member.generation p serial (awake_reads s r k m in_view may.awake) (awake_published s r k m in_view may.awake)
+      (elim comes as (λ _. (is_instance p serial || is_key_area p serial) ≡ true) [
+        | inl current ↦ or_left (is_instance p serial) (is_key_area p serial) (or_left (is_current p serial) (has_serial p.state.old serial) current)
+        | inr key ↦ or_right (is_instance p serial) (is_key_area p serial) key
+      ])
+
+  module _ (a : ℕ) (few : a < 16) (fits : FitsAnchor p (process_of m process).slot.anchors a value) where
+    here : slice_get (process_of m process).slot.anchors a ≡ Some (word_at (process_of m process).slot.anchors a)
+    here = there_is (process_of m process).slot.anchors a 0 (let wide = known.known.wide in omega (arith, few, wide))
+
+    by_frame : (serial : ℕ) → names_frame value serial ≡ true → is_kept t.kept serial ≡ true
+    by_frame serial named =
+        elim (fits.frame serial named) as (λ _. is_kept t.kept serial ≡ true) [ inl before ↦ named_frame a _ serial here before | inr current ↦ used serial (inl current) ]
+
+    by_literal : (serial : ℕ) → names_literal value serial ≡ true → is_kept t.kept serial ≡ true
+    by_literal serial named =
+        elim (fits.literal serial named) as (λ _. is_kept t.kept serial ≡ true) [
+          | inl before ↦ named_literal a _ serial here before
+          | inr others ↦ elim others as (λ _. is_kept t.kept serial ≡ true) [
+            | inl key ↦ used serial (inr key)
+            | inr framed ↦ named_frame framed.place framed.word serial framed.at framed.passes
+          ]
+        ]
+
+    -- what the word names is kept
+    names_kept : is_naming value ≡ true → is_kept t.kept (serial_in value) ≡ true
+    names_kept naming =
+        elim (cases_Bool (value % 2 == 1)) as (λ _. is_kept t.kept (serial_in value) ≡ true) [
+          | inl odd ↦ by_frame (serial_in value) (and_from (value % 2 == 1) (serial_in value == serial_in value) odd (eq-eqb (serial_in value) (serial_in value) refl))
+          | inr even ↦
+              let some_kind = eqb-false (value % 4) 0 (not-true (value % 4 == 0) naming) in
+              let whole = eqb-false (value % 2) 1 even in
+              by_literal (serial_in value) (and_from (nat_le 2 (value % 4)) (serial_in value == serial_in value) (le-leb 2 (value % 4) (two value some_kind whole)) (eq-eqb (serial_in value) (serial_in value) refl))
+        ]
+      where
+        two : (value : ℕ) → (value % 4 ≡ 0 → ⊥) → (value % 2 ≡ 1 → ⊥) → 2 ≤ value % 4
+        two value some_kind whole = omega (arith)
+
+    -- and stands in no other anchor
+    names_apart : (anchor : ℕ) → IsAnchor process anchor → anchor ≢ suc a → value ≢ 0 → word_at t.words (slot_place process anchor) ≢ 0 → serial_in (word_at t.words (slot_place process anchor)) ≢ serial_in value
+    names_apart anchor is other some_value standing =
+        let word = anchor_word s.words r.writer.looks (under_of m) process (process_of m process) known anchor is in
+        let first = is.first in
+        let shown : word_at t.words (slot_place process anchor) ≡ word.0 = shown_word s.words (slot_place process anchor) (omega arith) ∙ word.2 in
+        λ e. fits.apart (anchor - 1) word.0 word.1 (λ same. other (omega (arith, same, first))) some_value (λ empty. standing (shown ∙ empty)) (ap serial_in (sym shown) ∙ e)
+
+  -- the test of an anchor, by its place
+  by_place : (n : ℕ) → n ≡ place → FitsSlot m process n value → (1 ≤ place → is_naming value ≡ true → is_kept t.kept (serial_in value) ≡ true)
+      × ((anchor : ℕ) → IsAnchor process anchor → 1 ≤ place → anchor ≢ place → value ≢ 0 → word_at t.words (slot_place process anchor) ≢ 0 → serial_in (word_at t.words (slot_place process anchor)) ≢ serial_in value)
+  by_place zero is fits = (λ first. absurd (omega (arith, is, first)), λ anchor there first. absurd (omega (arith, is, first)))
+  by_place (suc a) is fits =
+      let last = may.last in
+      let few : a < 16 = omega (arith, is, last) in (
+        λ first naming. names_kept a few fits naming,
+        λ anchor there first other. names_apart a few fits anchor there (λ e. other (e ∙ is)),
+      )
+
+  -- blocks and slots stand after the store
+  after_blocks : BlockInvariant (record { word = word_at (set t.words (slot_place process place) value); published = r.writer.published; kept = r.writer.kept }) (MayBeRead r.writer)
+  after_blocks =
+      let tests = by_place place refl may.fits in
+      let slots = (slot_word_kept t (shows_sound s r) process place value may.below may.last tests.0 tests.1).blocks in
+      let b : Blocks = record { word = word_at t.words; published = r.writer.published; kept = r.writer.kept } in
+      let new : ℕ → ℕ = word_at (set t.words (slot_place process place) value) in
+      let off = stored_off t.words (slot_place process place) value Slot (kind_slot process place may.below may.last) in
+      let sound = r.words.blocks in
+      record {
+        roots_fit = sound.roots_fit;
+        instances_placed = sound.instances_placed;
+        code_stands = code_after b (MayBeRead r.writer) new Slot off sound (λ g p counts here root entry within same. absurd (cc));
+        breakpoints_stand = breakpoints_after b (MayBeRead r.writer) new Slot off sound (λ g p counts here root a among instance placed function few same. absurd (cc));
+        terms_stand = terms_after b (MayBeRead r.writer) new Slot off sound (λ g p counts here root at within same. absurd (cc));
+        used_kept = sound.used_kept;
+        areas_stand = λ g p counts here k among. record {
+          entries = entries_after b (MayBeRead r.writer) new Slot off sound g p counts here k among (λ function has same none. absurd (cc));
+          retired = retired_after b (MayBeRead r.writer) new Slot off sound g p counts here k among (λ same. absurd (cc));
+          doomed = doomed_after b (MayBeRead r.writer) new Slot off sound g p counts here k among (λ same big unretired. absurd (cc));
+        };
+        images_stand = λ k among. images_after b (MayBeRead r.writer) new Slot off sound k among (λ place old has plain same. absurd (cc));
+        kept_fit = sound.kept_fit;
+        kept_apart = sound.kept_apart;
+        named_kept = slots.named_kept;
+        anchors_apart = slots.anchors_apart;
+      }
+
+  agrees : WordsAgree (set s.words (slot_place process place) value) r.writer
+  agrees =
+      let below = may.below in
+      let last = may.last in
+      let size = r.words.all in
+      let shown = shown_stored s.words (slot_place process place) value (omega arith) (omega (arith, below, last, size)) in
+      record {
+        all = length-set s.words (slot_place process place) value ∙ r.words.all;
+        root = get_or-set_other s.words (slot_place process place) ROOT value 0 (λ e. absurd (omega (arith, e))) ∙ r.words.root;
+        mirror = r.words.mirror;
+        mirrored = λ other late. get_or-set_other s.words (slot_place process place) other value 0 (λ e. absurd (omega (arith, e, late, below, last))) ∙ r.words.mirrored other late;
+        reached = (let same = get_or-set_other s.words (slot_place process place) COUNTER value 0 (λ e. absurd (omega (arith, e))) in let before = r.words.reached in omega arith);
+        blocks = subst (λ (ws : List ℕ). BlockInvariant (record { word = word_at ws; published = r.writer.published; kept = r.writer.kept }) (MayBeRead r.writer)) (sym shown) after_blocks;
+      }
+
+  -- what is known of the process after the store
+  stored_slot : (n : ℕ) → n ≤ 16 → FitsSlot m process n value → SlotStands (set s.words (slot_place process n) value) r.writer.looks (under_of m) process (process_stored n value m.member.generation (process_of m process))
+  stored_slot zero last fits = turns_known s.words r.writer.looks (under_of m) process (process_of m process) known r.looks.backed (all_over s r k m in_view may.awake) may.noted room value fits.0 fits.1
+  stored_slot (suc a) last fits =
+      let few : a < 16 = omega (arith, last) in
+      let here = here a few fits in
+      anchor_known s.words r.writer.looks (under_of m) process (process_of m process) known r.looks.backed (all_over s r k m in_view may.awake) may.noted room a value few may.awake here
+      (may_become p (process_of m process).slot.anchors a value here fits (members.is_value m.member.word) m.member.generation)
+
+  mine : (other : ℕ) → other < PROCESSES → SlotKnown s.words r.writer m other → SlotKnown (set s.words (slot_place process place) value) r.writer (with_slot process place value m) other
+  mine other below h =
+      dite (ℕ_discrete other process)
+      (λ (same : other ≡ process). subst (λ (i : ℕ). SlotKnown (set s.words (slot_place process place) value) r.writer (with_slot process place value m) i) (sym same)
+      (subst (λ (q : ProcessView). SlotStands (set s.words (slot_place process place) value) r.writer.looks (under_of m) process q) (sym (process_here process place value m)) (stored_slot place may.last may.fits)))
+      (λ (apart : other ≡ process → ⊥). subst (λ (q : ProcessView). SlotStands (set s.words (slot_place process place) value) r.writer.looks (under_of m) other q) (sym (process_else process place value m other apart))
+      (slot_still s.words (set s.words (slot_place process place) value) r.writer r.writer m other refl
+      (λ a within. get_or-set_other s.words (slot_place process place) (slot_place other a) value 0 (λ e. apart (slots_differ other a process place within may.last e).0)) h))
+
+  pub stores_slot : RunningRule Served opening (after_step s (set s.words (slot_place process place) value) (suc k) (Member (with_slot process place value m)))
+  stores_slot =
+      let m' = with_slot process place value m in
+      let shown = shown_at r.writer.members r.seats k m knows.made at in
+      let few_members = r.machine.progress.few in
+      let many = shown_length r.writer.members r.seats in
+      let made = knows.made in
+      let q : Progress = progress_of s.words r.writer r.seats in
+      let front = progress_words s.words (set s.words (slot_place process place) value) r.writer r.seats (slice_index s.words COUNTER) (slice_index s.words LEAD)
+      (get_or-set_other s.words (slot_place process place) COUNTER value 0 (λ e. absurd (omega (arith, e))))
+      (get_or-set_other s.words (slot_place process place) LEAD value 0 (λ e. absurd (omega (arith, e))))
+      (get_or-set_other s.words (slot_place process place) DELAYS value 0 (λ e. absurd (omega (arith, e))))
+      (get_or-set_other s.words (slot_place process place) (DELAYS + 1) value 0 (λ e. absurd (omega (arith, e)))) in
+      member_changes s r (set s.words (slot_place process place) value) k m m' at (record {
+        agree = agrees;
+        knows = record { numbered = knows.numbered; made = knows.made; seen = knows.seen; holds = knows.holds; noted = knows.noted };
+        moves = inr (progress_set (set s.words (slot_place process place) value) r.writer r.seats k m' knows.made (there r.seats k (Member m) at) ∙ (λ i. record (front i) { members = slice_set (front i).members k m.member }) ∙ (λ i. record q { members = set_same q.members k m.member shown i }));
+        own = get_or-set_other s.words (slot_place process place) (CONFIRMED + k) value 0 (λ e. absurd (omega (arith, e, few_members, many, made))) ∙ r.machine.own_words k m.member shown;
+        others = λ j other few. get_or-set_other s.words (slot_place process place) (CONFIRMED + j) value 0 (λ e. elim few as (λ _. ⊥) [ inl low ↦ absurd (omega (arith, e, few_members, many, low)) | inr low ↦ absurd (omega (arith, e, low)) ]);
+        leader = subst (λ (n : ℕ). n ≤ length r.writer.members) (sym (get_or-set_other s.words (slot_place process place) LEAD value 0 (λ e. absurd (omega (arith, e))))) r.machine.leader_made;
+        mine = λ other below own h. mine other below h;
+        elsewhere = λ other a below apart within. get_or-set_other s.words (slot_place process place) (slot_place other a) value 0 (λ e. apart (ap (λ (i : ℕ). i % length r.writer.members) (slots_differ other a process place within may.last e).0 ∙ own));
+      })
+
+-- a member may store a word of the slot of one of its processes
+pub store_slot_is_allowed : (Served : Generation → Type 0) (opening : Opening) (slots id process place value : ℕ) (me : Sat) → me.0 ≡ Member (member_of me.0) → MayStoreSlot opening process place value (member_of me.0)
+    → Allows (RunningRule Served opening) slots id me (slot_place process place) (λ _. value) (λ _. slot_stored (step slots (slot_place process place) value 0 none) me value)
+store_slot_is_allowed Served opening slots id process place value me is may s r wide at fits =
+    let m = member_of me.0 in
+    let seat = seat_of s r id m (at ∙ ap some is) in
+    let last = may.last in
+    let process_is : process_at (slot_place process place) ≡ process = omega (arith, last) in
+    let place_is : place_at (slot_place process place) ≡ place = omega (arith, last) in (
+      Member (with_slot process place value m),
+      keeps,
+      tt,
+      subst (λ (i : ℕ). RunningRule Served opening (after_step s (set s.words (slot_place process place) value) i (Member (with_slot process place value m)))) (sym seat.1) (stores_slot s r seat.0 m seat.2 process place value may),
+      (λ i. (Member (with_slot (sym process_is i) (sym place_is i) value m), me.1)),
+    )
+
+-- the same of a word that is known to be this one
+pub store_slot_may : (Served : Generation → Type 0) (opening : Opening) (slots id process place value word : ℕ) (me : Sat) → word ≡ slot_place process place → me.0 ≡ Member (member_of me.0) → MayStoreSlot opening process place value (member_of me.0)
+    → Allows (RunningRule Served opening) slots id me word (λ _. value) (λ _. slot_stored (step slots word value 0 none) me value)
+store_slot_may Served opening slots id process place value word me same is may =
+    subst (λ (n : ℕ). Allows (RunningRule Served opening) slots id me n (λ _. value) (λ _. slot_stored (step slots n value 0 none) me value)) (sym same) (store_slot_is_allowed Served opening slots id process place value me is may)
+
+-- ---- the copy of the anchors
+
+module _ (anchors : List ℕ) (process value : ℕ) (m : MemberView) (h : AreCopied anchors m) (below : process < PROCESSES) where
+  -- the turns done are none of them
+  pub copied_turns : AreCopied anchors (with_slot process 0 value m)
+  copied_turns = record {
+    all = h.all;
+    wide = λ other few. ap (λ (xs : List ℕ). length xs) (anchors_same other) ∙ h.wide other few;
+    each = λ other place few within. h.each other place few within ∙ ap (λ (xs : List ℕ). word_at xs place) (sym (anchors_same other));
+  }
+    where
+      anchors_same : (other : ℕ) → (process_of (with_slot process 0 value m) other).slot.anchors ≡ (process_of m other).slot.anchors
+      anchors_same other =
+          dite (ℕ_discrete other process)
+          (λ (same : other ≡ process). ap (λ (i : ℕ). (process_of (with_slot process 0 value m) i).slot.anchors) same ∙ ap (λ (q : ProcessView). q.slot.anchors) (process_here process 0 value m) ∙ ap (λ (i : ℕ). (process_of m i).slot.anchors) (sym same))
+          (λ (apart : other ≡ process → ⊥). ap (λ (q : ProcessView). q.slot.anchors) (process_else process 0 value m other apart))
+
+  -- an anchor is one
+  pub copied_anchor : (place : ℕ) → place < ANCHORS → AreCopied (set anchors (process * ANCHORS + place) value) (with_slot process (suc place) value m)
+  copied_anchor place few = record {
+    all = length-set anchors (process * ANCHORS + place) value ∙ h.all;
+    wide = λ other low. dite (ℕ_discrete other process)
+        (λ (same : other ≡ process). ap (λ (xs : List ℕ). length xs) (this other same) ∙ length-set (process_of m process).slot.anchors place value ∙ h.wide process below)
+        (λ (apart : other ≡ process → ⊥). ap (λ (xs : List ℕ). length xs) (another other apart) ∙ h.wide other low);
+    each = λ other at low within. dite (ℕ_discrete other process)
+        (λ (same : other ≡ process).
+        ap (λ (i : ℕ). word_at (set anchors (process * ANCHORS + place) value) (i * ANCHORS + at)) same
+        ∙ stored_both at within
+        ∙ ap (λ (xs : List ℕ). word_at xs at) (sym (this other same)))
+        (λ (apart : other ≡ process → ⊥).
+        word_there anchors (process * ANCHORS + place) value (other * ANCHORS + at) (λ e. apart (omega (arith, e, few, within)))
+        ∙ h.each other at low within
+        ∙ ap (λ (xs : List ℕ). word_at xs at) (sym (another other apart)));
+  }
+    where
+      this : (other : ℕ) → other ≡ process → (process_of (with_slot process (suc place) value m) other).slot.anchors ≡ set (process_of m process).slot.anchors place value
+      this other same = ap (λ (i : ℕ). (process_of (with_slot process (suc place) value m) i).slot.anchors) same ∙ ap (λ (q : ProcessView). q.slot.anchors) (process_here process (suc place) value m)
+
+      another : (other : ℕ) → (other ≡ process → ⊥) → (process_of (with_slot process (suc place) value m) other).slot.anchors ≡ (process_of m other).slot.anchors
+      another other apart = ap (λ (q : ProcessView). q.slot.anchors) (process_else process (suc place) value m other apart)
+
+      stored_both : (at : ℕ) → at < ANCHORS → word_at (set anchors (process * ANCHORS + place) value) (process * ANCHORS + at) ≡ word_at (set (process_of m process).slot.anchors place value) at
+      stored_both at within =
+          let all = h.all in
+          let wide = h.wide process below in
+          dite (ℕ_discrete at place)
+          (λ (same : at ≡ place). ap (λ (i : ℕ). word_at (set anchors (process * ANCHORS + place) value) (process * ANCHORS + i)) same ∙ word_here anchors (process * ANCHORS + place) value (omega (arith, all, few, below))
+          ∙ sym (word_here (process_of m process).slot.anchors place value (omega (arith, wide, few))) ∙ ap (λ (i : ℕ). word_at (set (process_of m process).slot.anchors place value) i) (sym same))
+          (λ (apart : at ≡ place → ⊥). word_there anchors (process * ANCHORS + place) value (process * ANCHORS + at) (λ e. apart (omega (arith, e)))
+          ∙ h.each process at below within ∙ sym (word_there (process_of m process).slot.anchors place value at apart))
+
+-- after the store of an anchor, by what the code stores
+pub copied_next : (anchors after : List ℕ) (process place value index : ℕ) (m : MemberView) (v : View) → v ≡ Member (with_slot process place value m) → AreCopied anchors m → process < PROCESSES → place ≤ ANCHORS → 0 < place → index ≡ process * ANCHORS + (place - 1) → after ≡ set anchors index value
+    → AreCopied after (member_of v)
+copied_next anchors after process zero value index m v view h below last first at stored = absurd (omega (arith, first))
+copied_next anchors after process (suc place) value index m v view h below last first at stored =
+    let same : index ≡ process * ANCHORS + place = omega (arith, at) in
+    subst (λ (z : List ℕ × View). AreCopied z.0 (member_of z.1)) (λ i. (sym (stored ∙ ap (λ (j : ℕ). set anchors j value) same) i, sym view i)) (copied_anchor anchors process value m h below place (omega (arith, last)))
+
+-- after that of the turns done
+pub copied_done : (anchors : List ℕ) (process place value : ℕ) (m : MemberView) (v : View) → v ≡ Member (with_slot process place value m) → AreCopied anchors m → process < PROCESSES → place ≡ 0 → AreCopied anchors (member_of v)
+copied_done anchors process place value m v view h below none_done =
+    subst (λ (x : View). AreCopied anchors (member_of x)) (sym (view ∙ ap (λ (n : ℕ). Member (with_slot process n value m)) none_done)) (copied_turns anchors process value m h below)
