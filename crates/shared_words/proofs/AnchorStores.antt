@@ -29,38 +29,51 @@ use Rattle.shared_words.specs.Slots.{FitsAnchor, process_stored, slot_with, with
 
 -- ---- what an anchor may become
 
+frame_serial : (word serial : ℕ) → names_frame word serial ≡ true → serial_in word ≡ serial
+frame_serial word serial named = eqb-true (serial_in word) serial (and_parts (word % 2 == 1) (serial_in word == serial) named).1
+
+literal_serial : (word serial : ℕ) → names_literal word serial ≡ true → serial_in word ≡ serial
+literal_serial word serial named = eqb-true (serial_in word) serial (and_parts (nat_le 2 (word % 4)) (serial_in word == serial) named).1
+
+frame_some : (word serial : ℕ) → names_frame word serial ≡ true → word ≢ 0
+frame_some word serial named zero_word = (let odd = eqb-true (word % 2) 1 (and_parts (word % 2 == 1) (serial_in word == serial) named).0 in absurd (omega (arith, odd, zero_word)))
+
+literal_some : (word serial : ℕ) → names_literal word serial ≡ true → word ≢ 0
+literal_some word serial named zero_word = (let high = leb-true 2 (word % 4) (and_parts (nat_le 2 (word % 4)) (serial_in word == serial) named).0 in absurd (omega (arith, high, zero_word)))
+
 -- a literal that is newly named is the area of a key, or this anchor names it for a frame
 module _ (p : Published) (anchors : List ℕ) (place value : ℕ) (at : slice_get anchors place ≡ Some (word_at anchors place)) (fits : FitsAnchor p anchors place value) (apart : (other word : ℕ) → slice_get anchors other ≡ Some word → other ≢ place → value ≢ 0 → word ≢ 0 → serial_in word ≢ serial_in value) where
   abbrev old : ℕ
   old = word_at anchors place
 
-  -- an area that some anchor names for a frame stands in this one, where this one may name it
-  framed_here : (serial : ℕ) → names_literal value serial ≡ true → HasAnchor names_frame anchors serial → names_frame old serial ≡ true
-  framed_here serial named h =
+  -- an anchor of the area of this word is this one
+  here_of : (test : ℕ → ℕ → Bool) (serial : ℕ) (h : HasAnchor test anchors serial) → value ≢ 0 → serial_in value ≡ serial → h.word ≢ 0 → serial_in h.word ≡ serial → test old serial ≡ true
+  here_of test serial h some_value of some_word its =
       dite (ℕ_discrete h.place place)
-      (λ (here : h.place ≡ place). ap (λ (x : ℕ). names_frame x serial) (same_word here) ∙ h.passes)
-      (λ (other : h.place ≡ place → ⊥). absurd (apart h.place h.word h.at other (literal_some value serial named) (frame_some h.word serial h.passes) (frame_serial h.word serial h.passes ∙ sym (literal_serial value serial named))))
+      (λ (here : h.place ≡ place). ap (λ (x : ℕ). test x serial) (same_word here) ∙ h.passes)
+      (λ (other : h.place ≡ place → ⊥). absurd (apart h.place h.word h.at other some_value some_word (its ∙ sym of)))
     where
       same_word : h.place ≡ place → old ≡ h.word
       same_word here = (let mine = at in let its = h.at in cc)
 
-      frame_serial : (word serial : ℕ) → names_frame word serial ≡ true → serial_in word ≡ serial
-      frame_serial word serial named = eqb-true (serial_in word) serial (and_parts (word % 2 == 1) (serial_in word == serial) named).1
+  frame_here : (serial : ℕ) → names_frame value serial ≡ true → HasAnchor names_frame anchors serial → names_frame old serial ≡ true
+  frame_here serial named h = here_of names_frame serial h (frame_some value serial named) (frame_serial value serial named) (frame_some h.word serial h.passes) (frame_serial h.word serial h.passes)
 
-      literal_serial : (word serial : ℕ) → names_literal word serial ≡ true → serial_in word ≡ serial
-      literal_serial word serial named = eqb-true (serial_in word) serial (and_parts (nat_le 2 (word % 4)) (serial_in word == serial) named).1
+  literal_here : (serial : ℕ) → names_literal value serial ≡ true → HasAnchor names_literal anchors serial → names_literal old serial ≡ true
+  literal_here serial named h = here_of names_literal serial h (literal_some value serial named) (literal_serial value serial named) (literal_some h.word serial h.passes) (literal_serial h.word serial h.passes)
 
-      frame_some : (word serial : ℕ) → names_frame word serial ≡ true → word ≢ 0
-      frame_some word serial named zero_word = (let odd = eqb-true (word % 2) 1 (and_parts (word % 2 == 1) (serial_in word == serial) named).0 in absurd (omega (arith, odd, zero_word)))
+  framed_here : (serial : ℕ) → names_literal value serial ≡ true → HasAnchor names_frame anchors serial → names_frame old serial ≡ true
+  framed_here serial named h = here_of names_frame serial h (literal_some value serial named) (literal_serial value serial named) (frame_some h.word serial h.passes) (frame_serial h.word serial h.passes)
 
-      literal_some : (word serial : ℕ) → names_literal word serial ≡ true → word ≢ 0
-      literal_some word serial named zero_word = (let high = leb-true 2 (word % 4) (and_parts (nat_le 2 (word % 4)) (serial_in word == serial) named).0 in absurd (omega (arith, high, zero_word)))
+  -- a frame that it newly names is current
+  new_frame : (serial : ℕ) → names_frame value serial ≡ true → (names_frame old serial ≡ true) ⊎ (is_current p serial ≡ true)
+  new_frame serial named = elim (fits.frame serial named) as (λ _. (names_frame old serial ≡ true) ⊎ (is_current p serial ≡ true)) [ inl before ↦ inl (frame_here serial named before) | inr current ↦ inr current ]
 
   -- a literal that it newly names a turn comes to, where this anchor does not name the area already
   new_literal : (serial : ℕ) → names_literal value serial ≡ true → (names_in Both old serial ≡ true) ⊎ (is_key_area p serial ≡ true)
   new_literal serial named =
       elim (fits.literal serial named) as (λ _. (names_in Both old serial ≡ true) ⊎ (is_key_area p serial ≡ true)) [
-        | inl before ↦ inl (or_right (names_frame old serial) (names_literal old serial) before)
+        | inl before ↦ inl (or_right (names_frame old serial) (names_literal old serial) (literal_here serial named before))
         | inr others ↦ elim others as (λ _. (names_in Both old serial ≡ true) ⊎ (is_key_area p serial ≡ true)) [
           | inl key ↦ inr key
           | inr framed ↦ inl (or_left (names_frame old serial) (names_literal old serial) (framed_here serial named framed))
@@ -68,10 +81,10 @@ module _ (p : Published) (anchors : List ℕ) (place value : ℕ) (at : slice_ge
       ]
 
   newly : (awake : Bool) (g : ℕ) (kind : LookKind) (serial : ℕ) → names_in kind value serial ≡ true → (names_in kind old serial ≡ true) ⊎ (comes_to (holding awake g p) kind serial ≡ true)
-  newly awake g Frame serial named = fits.frame serial named
+  newly awake g Frame serial named = new_frame serial named
   newly awake g Both serial named =
       elim (or_cases (names_frame value serial) (names_literal value serial) named) as (λ _. (names_in Both old serial ≡ true) ⊎ (comes_to (holding awake g p) Both serial ≡ true)) [
-        | inl frame ↦ elim (fits.frame serial frame) as (λ _. (names_in Both old serial ≡ true) ⊎ (comes_to (holding awake g p) Both serial ≡ true)) [
+        | inl frame ↦ elim (new_frame serial frame) as (λ _. (names_in Both old serial ≡ true) ⊎ (comes_to (holding awake g p) Both serial ≡ true)) [
           | inl before ↦ inl (or_left (names_frame old serial) (names_literal old serial) before)
           | inr current ↦ inr (or_left (is_current p serial) (is_key_area p serial) current)
         ]

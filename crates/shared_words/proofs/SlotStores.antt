@@ -111,12 +111,12 @@ module _ {Served : Generation → Type 0} {opening : Opening} (s : State (Unit {
 
     by_frame : (serial : ℕ) → names_frame value serial ≡ true → is_kept t.kept serial ≡ true
     by_frame serial named =
-        elim (fits.frame serial named) as (λ _. is_kept t.kept serial ≡ true) [ inl before ↦ named_frame a _ serial here before | inr current ↦ used serial (inl current) ]
+        elim (fits.frame serial named) as (λ _. is_kept t.kept serial ≡ true) [ inl before ↦ named_frame before.place before.word serial before.at before.passes | inr current ↦ used serial (inl current) ]
 
     by_literal : (serial : ℕ) → names_literal value serial ≡ true → is_kept t.kept serial ≡ true
     by_literal serial named =
         elim (fits.literal serial named) as (λ _. is_kept t.kept serial ≡ true) [
-          | inl before ↦ named_literal a _ serial here before
+          | inl before ↦ named_literal before.place before.word serial before.at before.passes
           | inr others ↦ elim others as (λ _. is_kept t.kept serial ≡ true) [
             | inl key ↦ used serial (inr key)
             | inr framed ↦ named_frame framed.place framed.word serial framed.at framed.passes
