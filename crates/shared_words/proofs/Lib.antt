@@ -14,6 +14,7 @@ pub mod SoundState
 pub mod ClearLooks
 pub mod Waits
 pub mod Rooted
+pub mod AnchorStores
 pub mod SlotStores
 pub mod WriterFrames
 pub mod SlotLoads

@@ -68,21 +68,6 @@ empty_behind (suc n) (x ∷ xs) behind place = empty_behind n xs (λ k late. beh
 blocks_empty : (members : ℕ) (words : List ℕ) → AreBegun members words → AreEmpty (block_words words)
 blocks_empty members words begun = empty_both (opening_words SLOTS_START) (drop SLOTS_START words) (subst AreEmpty (opened SLOTS_START) (empty_replicate SLOTS_START)) (empty_behind SLOTS_START words begun.behind)
 
--- words that are all 0 are as many zeros
-zeros : (words : List ℕ) → ((place : ℕ) → slice_index words place ≡ 0) → words ≡ replicate (length words) 0
-zeros [] none = refl
-zeros (x ∷ xs) none = λ i. none 0 i ∷ zeros xs (λ place. none (suc place)) i
-
-zeros_behind : (m n : ℕ) (words : List ℕ) → length words ≡ n → m ≤ n → ((place : ℕ) → m ≤ place → slice_index words place ≡ 0) → replicate m 0 ++ drop m words ≡ replicate n 0
-zeros_behind zero n words long few none = zeros words (λ place. none place (omega arith)) ∙ ap (λ (k : ℕ). replicate k 0) long
-zeros_behind (suc m) zero words long few none = absurd (omega arith)
-zeros_behind (suc m) (suc n) [] long few none = absurd (omega arith)
-zeros_behind (suc m) (suc n) (x ∷ xs) long few none = ap (λ (ws : List ℕ). 0 ∷ ws) (zeros_behind m n xs (omega arith) (omega arith) (λ place late. none (suc place) (omega arith)))
-
--- the words of slots and blocks at first
-words_opened : (m n : ℕ) (words : List ℕ) → length words ≡ n → m ≤ n → ((place : ℕ) → m ≤ place → slice_index words place ≡ 0) → opening_words m ++ drop m words ≡ opening_words n
-words_opened m n words long few none = ap (λ (front : List ℕ). front ++ drop m words) (sym (opened m)) ∙ zeros_behind m n words long few none ∙ opened n
-
 -- ---- the members and watchers
 
 shown_snoc : (members : List MemberView) (m : MemberView) → members_shown (members ++ m ∷ []) [] ≡ members_shown members [] ++ m.member ∷ []

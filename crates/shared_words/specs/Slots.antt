@@ -43,14 +43,19 @@ place_at word = (word - SLOTS_START) % SLOT_WORDS
 
 -- ---- the store of a word of a slot
 
+-- the word of an anchor names the area, or tells that its instance killed the process
+pub record IsOfArea (word serial : ℕ) : Type 0 where
+  pub some : word ≢ 0
+  pub of : serial_in word ≡ serial
+
 -- an anchor may become this word under a generation
 pub record FitsAnchor (p : Published) (anchors : List ℕ) (place value : ℕ) : Type 0 where
-  -- a frame that it newly names is current
-  pub frame : (serial : ℕ) → names_frame value serial ≡ true → (names_frame (word_at anchors place) serial ≡ true) ⊎ (is_current p serial ≡ true)
-  -- a literal that it newly names is the area of a key, or one that the slot names for a frame
-  pub literal : (serial : ℕ) → names_literal value serial ≡ true → (names_literal (word_at anchors place) serial ≡ true) ⊎ ((is_key_area p serial ≡ true) ⊎ HasAnchor names_frame anchors serial)
-  -- its area stands in no other anchor
-  pub apart : (other word : ℕ) → slice_get anchors other ≡ Some word → other ≢ place → value ≢ 0 → word ≢ 0 → serial_in word ≢ serial_in value
+  -- a frame that the slot newly names is current
+  pub frame : (serial : ℕ) → names_frame value serial ≡ true → HasAnchor names_frame anchors serial ⊎ (is_current p serial ≡ true)
+  -- a literal that it newly names is the area of a key, or one that it names for a frame
+  pub literal : (serial : ℕ) → names_literal value serial ≡ true → HasAnchor names_literal anchors serial ⊎ ((is_key_area p serial ≡ true) ⊎ HasAnchor names_frame anchors serial)
+  -- another anchor is of its area only where this one is: no two are
+  pub apart : (other word : ℕ) → slice_get anchors other ≡ Some word → other ≢ place → value ≢ 0 → word ≢ 0 → serial_in word ≡ serial_in value → IsOfArea (word_at anchors place) (serial_in value)
   -- an anchor that tells of a kill stays as it is
   pub stays : (serial : ℕ) → tells_kill (word_at anchors place) serial ≡ false
   -- only the instance of a frame that it named killed the process

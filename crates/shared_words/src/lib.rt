@@ -29,7 +29,7 @@ pub use laws::{
 pub use opening::Opening;
 pub use pass::Pass;
 pub use seats::{Member, Note, Parts, Writer};
-pub use table::{COUNTER, LEAD, ROOT, Shared};
+pub use table::{ANCHORS, COUNTER, LEAD, PROCESSES, ROOT, Shared};
 pub use view::{
     MemberView, NoteNumber, NoteView, ProcessSlot, ProcessSlotList, View, WatcherView, WriterView,
 };

@@ -73,6 +73,7 @@ impl<N: Served> Shared<N> {
     ///
     /// Source: Erlang/OTP, the manual pages of the module code and of persistent_term; the words are
     /// this project's own.
+    #[tactic(auto, using(crate::proofs::AnchorStores::copied_next, crate::proofs::AnchorStores::copied_done))]
     pub fn store_slot(&self, member: &mut Member, process: u32, place: u32, value: u64)
         requires token { IsMemberSeat self.now.table.shared.table_id member.old.number member.old.seat }
         requires copied { AreCopied member.old.anchors.items (member_of member.old.seat.me.0) }
