@@ -1,6 +1,10 @@
 pub mod Loads
 pub mod Agreement
 pub mod Logs
+pub mod Dooms
 pub mod Kept
+pub mod Ends
 pub mod Begun
 pub mod BookKeeps
+pub mod EndBooks
+pub mod BothHalves

@@ -1,8 +1,13 @@
 -- What a permit keeps: the journal leads to the server, each loader's entries are the first of its commands, and the module table agrees with the server.
 -- Source: this project's profile. A commit takes all its memory before its entry, so these facts hold after want of memory too.
-use Rattle.std.specs.Prelude.{◌≡◌, ℕ, ◌≤◌, true, List, [], ◌∷◌, length, take, slice_get, Some, None, IsSomeAnd}
+use Rattle.std.specs.Prelude.{◌≡◌, ℕ, ◌≤◌, Bool, true, List, [], ◌∷◌, length, take, slice_get, Some, None, IsSomeAnd}
 use Rattle.term_core.specs.declared.atom.AtomId.{AtomId}
+use Rattle.server_core.specs.declared.command.Cmd.{Cmd}
+use Rattle.server_core.specs.declared.command.Cmd.TheVariants as cmds
+use Rattle.server_core.specs.declared.command.Reply.TheVariants as replies
 use Rattle.server_core.specs.ServerState.{ServerState, IsSound, empty_state, old_of}
+use Rattle.server_core.specs.CommandTable.{published}
+use Rattle.server_core.specs.Decided.{with_doomed}
 use Rattle.script_core.specs.declared.script.Script.{Script}
 use Rattle.script_core.specs.declared.script.ScriptCmd.TheVariants.{Purge}
 use Rattle.script_core.specs.declared.script.ScriptCmd.{ScriptCmd}
@@ -15,8 +20,9 @@ use Rattle.write_permit.specs.declared.book.Book.{Book}
 use Rattle.write_permit.specs.declared.holder.Holder.{Holder}
 use Rattle.write_permit.specs.declared.holder.Holder.TheVariants.{Free, Held, Purging}
 use Rattle.write_permit.specs.declared.loader_run.LoaderRun.{LoaderRun}
+use Rattle.write_permit.specs.declared.mark.Mark.{Mark}
 use Rattle.write_permit.specs.Agreement.{Agrees}
-use Rattle.write_permit.specs.Permit.{PermitState, done_of, half_of, needs_permission, next_of}
+use Rattle.write_permit.specs.Permit.{PermitState, done_of, half_of, needs_permission, next_of, opening, purged_code}
 
 -- what a permit shows of what it keeps
 abbrev pub shown : Book → PermitState
@@ -51,6 +57,17 @@ abbrev pub HoldsJust : PermitState → Holder → Type 0
 HoldsJust p Free = p.server.doomed ≡ []
 HoldsJust p (Held by) = IsHeld p by
 HoldsJust p (Purging by name) = PurgeWaits p by name
+
+-- the last command of the server for a command of the loader that has the permission: the command is made at once, unless it purges old code, or its
+-- purge comes to its end
+abbrev pub EndsBy : PermitState → Holder → ScriptCmd → Cmd → Type 0
+EndsBy p Free command cmd = ⊥
+EndsBy p (Held by) command cmd = (purged_code p.server command ≡ None) × ((marks : List Mark) × (cmd ≡ opening p.server marks command))
+EndsBy p (Purging by name) command cmd = (killed : Bool) × (cmd ≡ cmds.Purge name killed)
+
+-- the server's state once old code is doomed
+abbrev pub after_doom : ServerState → ℕ → ServerState
+after_doom s serial = (published (with_doomed s serial) replies.Ok).state
 
 -- what every permit shows
 pub record IsPermit (p : PermitState) : Type 0 where

@@ -2,3 +2,4 @@ pub mod Looks
 pub mod Agreement
 pub mod Permit
 pub mod Book
+pub mod Purges

@@ -24,6 +24,15 @@ stands_in serial mark = list_any (is_frame_of serial) mark.names
 abbrev pub names_area : ℕ → Mark → Bool
 names_area serial mark = list_any (λ name. name.0 == serial) mark.names
 
+-- whether this is the instance that killed the process
+abbrev pub is_killer : ℕ → Option ℕ → Bool
+is_killer serial None = false
+is_killer serial (Some by) = by == serial
+
+-- whether the instance killed one of them
+abbrev pub some_killed : ℕ → List Mark → Bool
+some_killed serial marks = list_any (λ m. is_killer serial m.killed) marks
+
 -- whether one of them names the area
 abbrev pub is_named : List Mark → ℕ → Bool
 is_named marks serial = list_any (names_area serial) marks

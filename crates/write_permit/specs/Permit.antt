@@ -1,9 +1,11 @@
 -- The permit: the script, the journal so far, the server to which it leads, how far each loader is, and who may change the code. And what each of its calls makes of it.
 -- Source: this project's profile; the phases of a purge are those of the manual page `erlang`, on `purge_module`. A call that has no case here is not made.
 use Rattle.std.specs.Prelude.{ℕ, suc, ◌+◌, Bool, true, false, List, [], ◌∷◌, ◌++◌, length, min, slice_get, slice_set, Option, Some, None, option_map, option_and_then, unwrap_or}
+use Rattle.term_core.specs.declared.atom.AtomId.{AtomId}
 use Rattle.server_core.specs.declared.command.Applied.{Applied}
 use Rattle.server_core.specs.declared.command.Cmd.{Cmd}
 use Rattle.server_core.specs.declared.command.Cmd.TheVariants as cmds
+use Rattle.server_core.specs.declared.command.Linger.{Linger}
 use Rattle.server_core.specs.ServerState.{ServerState, old_of}
 use Rattle.server_core.specs.CommandTable.{Outcome, apply_of}
 use Rattle.script_core.specs.declared.script.Script.{Script}
@@ -15,16 +17,19 @@ use Rattle.run_log.specs.declared.logs.Who.{Who}
 use Rattle.run_log.specs.declared.logs.Who.TheVariants.{Loader, Runtime}
 use Rattle.run_log.specs.declared.underway.HalfPurge.{HalfPurge}
 use Rattle.run_log.specs.Legal.{commands_of}
+use Rattle.write_permit.specs.declared.answers.OpStep.{OpStep}
+use Rattle.write_permit.specs.declared.answers.OpStep.TheVariants.{Done, Lingers}
 use Rattle.write_permit.specs.declared.answers.Pumped.{Pumped}
 use Rattle.write_permit.specs.declared.answers.Pumped.TheVariants.{Released, Waiting, Nothing}
 use Rattle.write_permit.specs.declared.answers.Seize.{Seize}
 use Rattle.write_permit.specs.declared.answers.Seize.TheVariants as seizes
+use Rattle.write_permit.specs.declared.commands.OldCode.{OldCode}
 use Rattle.write_permit.specs.declared.holder.Holder.{Holder}
 use Rattle.write_permit.specs.declared.holder.Holder.TheVariants.{Free, Held, Purging}
 use Rattle.write_permit.specs.declared.loader_run.LoaderRun.{LoaderRun}
 use Rattle.write_permit.specs.declared.mark.Mark.{Mark}
 use Rattle.write_permit.specs.declared.spawned.Spawned.{Spawned}
-use Rattle.write_permit.specs.Looks.{first_free, lingering}
+use Rattle.write_permit.specs.Looks.{first_free, lingering, lingering_in, some_killed}
 
 -- what a permit shows
 pub record PermitState : Type 0 where
@@ -77,6 +82,12 @@ seized_by who Free = Held who
 seized_by who (Held by) = Held by
 seized_by who (Purging by name) = Purging by name
 
+-- who has the permission after want of memory: a loader gives it up where its command has no entry yet
+abbrev pub given_up : Holder → Holder
+given_up Free = Free
+given_up (Held by) = Free
+given_up (Purging by name) = Purging by name
+
 -- a permit after a call, with what the server answered
 pub record Step : Type 0 where
   pub state : PermitState
@@ -124,6 +135,58 @@ at_once_of p who = option_and_then (λ command. done_by p who command (opening p
 abbrev pub spawned_by : PermitState → ℕ → Option ScriptCmd → Option Spawned
 spawned_by p who (Some (Spawn target args)) = Some (record { process = spawn_number p.script.loaders who (done_of p.loaders who) })
 spawned_by p who command = None
+
+-- ---- commands that need the permission
+
+-- a permit after a call, with what the loader is told
+pub record Advanced : Type 0 where
+  pub state : PermitState
+  pub answer : OpStep
+
+-- a loader's command is done: the permission is free
+abbrev pub freed : Step → Advanced
+freed s = record { state = record (s.state) { holder = Free }; answer = Done s.answer }
+
+-- a loader's next command is done by this last command of the server
+abbrev pub ended_with : PermitState → ℕ → Cmd → Option Advanced
+ended_with p who cmd = option_and_then (λ command. option_map freed (done_by p who command cmd)) (next_of p who)
+
+-- the old code that a command purges in two halves: that of a purge, where there is some
+abbrev pub purged_code : ServerState → ScriptCmd → Option OldCode
+purged_code s (Purge name) = option_map (λ serial. record { «module» = name; serial = serial }) (old_of s name.0)
+purged_code s command = None
+
+-- the first half of a purge: the module's old code is doomed
+abbrev pub doomed_by : PermitState → ℕ → AtomId → Option PermitState
+doomed_by p who name = option_map (λ s. record (s.state) { holder = Purging who name }) (made_of p (Loader who) (cmds.Doom name))
+
+-- both halves of a purge are made, one after the other
+abbrev pub halves_made : PermitState → ℕ → AtomId → Bool → Option Step
+halves_made p who name killed = option_and_then (λ s. made_of s.state (Loader who) (cmds.Purge name killed)) (made_of p (Loader who) (cmds.Doom name))
+
+-- what a loader is told whose purge waits for a process; marks have no place and no word
+abbrev pub lingers_by : Linger → OpStep
+lingers_by l = Lingers l.process l.turn 0 0
+
+-- the second half: it waits for a process that stands in the doomed instance; else the instance goes, and the reply tells whether it killed one
+abbrev pub closed_unless : PermitState → List Mark → ℕ → OldCode → Option Linger → Option Advanced
+closed_unless p marks who code (Some linger) = Some (record { state = p; answer = lingers_by linger })
+closed_unless p marks who code None = ended_with p who (cmds.Purge code.«module» (some_killed code.serial marks))
+
+-- the same, by what the processes stand in
+abbrev pub closed : PermitState → List Mark → ℕ → OldCode → Option Advanced
+closed p marks who code = closed_unless p marks who code (lingering_in marks code.serial)
+
+-- a command begins, by the old code that it purges; where no process stands there, the purge goes on to its end
+abbrev pub begun : PermitState → List Mark → ℕ → ScriptCmd → Option OldCode → Option Advanced
+begun p marks who command None = ended_with p who (opening p.server marks command)
+begun p marks who command (Some code) = option_and_then (λ q. closed q marks who code) (doomed_by p who code.«module»)
+
+-- the loader that has the permission goes on: its next command begins, or its purge is in its second half
+abbrev pub advanced : PermitState → List Mark → ℕ → Holder → Option Advanced
+advanced p marks who Free = None
+advanced p marks who (Held by) = option_and_then (λ command. begun p marks who command (purged_code p.server command)) (next_of p who)
+advanced p marks who (Purging by name) = option_and_then (λ code. closed p marks who code) (purged_code p.server (Purge name))
 
 -- ---- areas
 

@@ -11,6 +11,22 @@ pub enum Seize {
     Held { by: u32 },
 }
 
+/// How far a command is that needs the permission.
+#[derive(Debug, Drop)]
+pub enum OpStep {
+    /// The command is done, with the answer of its last entry.
+    Done(Applied),
+    /// The purge waits: after this turn of this process a frame of it is of the doomed instance.
+    ///
+    /// Where it was found is told by place and word. Marks have neither, so both are 0.
+    Lingers {
+        process: u32,
+        turn: u32,
+        place: u32,
+        word: u64,
+    },
+}
+
 /// What a command gave that is made at once.
 #[derive(Debug, Drop)]
 pub struct AtOnce {

@@ -100,7 +100,7 @@ pub fn make(book: &mut Book, who: Who, cmd: Cmd) -> Result<Applied, NoMemory>
 }
 
 /// What a command changes that the command table has a case for.
-fn decided(server: &Server, cmd: &Cmd, texts: &ModuleList) -> Result<Change, NoMemory>
+pub fn decided(server: &Server, cmd: &Cmd, texts: &ModuleList) -> Result<Change, NoMemory>
     requires texts { AreTexts texts.now }
     requires put { IsOfText cmd.now }
     requires enabled { IsSome (apply_of texts.now server.now cmd.now) }

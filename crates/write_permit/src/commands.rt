@@ -1,7 +1,8 @@
 ghost use Rattle.std.specs.Prelude.{◌≡◌, IfOk};
 ghost use Rattle.server_core.specs.ServerState.{old_of};
+ghost use Rattle.script_core.specs.declared.script.ScriptCmd.TheVariants.{Purge};
 ghost use Rattle.write_permit.specs.Looks.{lingering};
-ghost use Rattle.write_permit.specs.Permit.{is_spawn, needs_permission, opening};
+ghost use Rattle.write_permit.specs.Permit.{is_spawn, needs_permission, opening, purged_code};
 
 use crate::looks::lingering_in;
 use crate::mark::MarkList;
@@ -9,6 +10,32 @@ use script_core::ScriptCmd;
 use server_core::{Cmd, Linger, RefList, Server};
 use std::alloc::Global;
 use term_core::{AtomId, NoMemory};
+
+/// Old code of a module.
+#[derive(Clone, Copy, Debug, PartialEq, Eq)]
+pub struct OldCode {
+    pub module: AtomId,
+    /// Its serial.
+    pub serial: u64,
+}
+
+/// The old code that the command purges in two halves: that of a purge, where there is some.
+pub fn purged_code(command: &ScriptCmd, server: &Server) -> Option<OldCode>
+    ensures { result ≡ purged_code server.now command.now }
+{
+    match command {
+        ScriptCmd::Purge(module) => old_code(*module, server),
+        _ => None,
+    }
+}
+
+/// The old code of a module, as a purge of it meets it.
+pub fn old_code(module: AtomId, server: &Server) -> Option<OldCode>
+    ensures { result ≡ purged_code server.now (Purge «module») }
+{
+    let serial = server.old(module)?;
+    Some(OldCode { module, serial })
+}
 
 /// Whether the command needs the permission.
 pub fn needs_permission(command: &ScriptCmd) -> bool

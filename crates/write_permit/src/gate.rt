@@ -24,3 +24,10 @@ pub struct NoGate;
 impl Gate for NoGate {
     fn at(&self, _place: Place, _who: u32) {}
 }
+
+/// Passes the gate once for each generation that a loader's command published: those behind the first number, up to the second.
+pub fn pass<G: Gate>(gate: &G, who: u32, before: u64, after: u64) {
+    for _ in before..after {
+        gate.at(Place::Committed, who);
+    }
+}

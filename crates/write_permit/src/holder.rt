@@ -1,3 +1,6 @@
+ghost use Rattle.std.specs.Prelude.{◌≡◌};
+ghost use Rattle.write_permit.specs.Permit.{given_up};
+
 use term_core::AtomId;
 
 /// Who has the permission to change the code, and how far its command is.
@@ -9,4 +12,15 @@ pub enum Holder {
     Held(u32),
     /// This loader has it. The old code of the module is doomed, and its purge waits for the second half.
     Purging { loader: u32, module: AtomId },
+}
+
+/// Who has it after want of memory: a loader gives it up where nothing of its command is in the journal.
+pub fn given_up(holder: Holder) -> Holder
+    ensures { result ≡ given_up holder }
+{
+    match holder {
+        Holder::Free => Holder::Free,
+        Holder::Held(_) => Holder::Free,
+        Holder::Purging { loader, module } => Holder::Purging { loader, module },
+    }
 }

@@ -7,15 +7,17 @@ mod commands;
 mod following;
 mod foretold;
 mod gate;
+mod halves;
 mod holder;
 mod loader_run;
 mod looks;
 mod mark;
+mod operations;
 mod permit;
 mod spawned;
 mod steps;
 
-pub use answers::{AtOnce, Finished, Pumped, Seize};
+pub use answers::{AtOnce, Finished, OpStep, Pumped, Seize};
 pub use gate::{Gate, NoGate, Place};
 pub use holder::Holder;
 pub use loader_run::LoaderRun;

@@ -1,5 +1,6 @@
-ghost use Rattle.std.specs.Prelude.{◌≡◌};
-ghost use Rattle.write_permit.specs.Looks.{first_free, is_frame, is_frame_of, is_named, lingering_in, names_area, stands_in};
+ghost use Rattle.std.specs.Prelude.{◌≡◌, ◌==◌};
+ghost use Rattle.std.specs.Option.{option_copied};
+ghost use Rattle.write_permit.specs.Looks.{first_free, is_frame, is_frame_of, is_killer, is_named, lingering_in, names_area, some_killed, stands_in};
 
 use crate::mark::{Mark, MarkList};
 use server_core::Linger;
@@ -18,6 +19,16 @@ pub fn lingering_in(marks: &MarkList, serial: u64) -> Option<Linger>
         }
     }
     None
+}
+
+/// Whether the instance killed one of the processes.
+pub fn some_killed(marks: &MarkList, serial: u64) -> bool
+    ensures { result ≡ some_killed serial marks.now }
+{
+    marks
+        .as_slice()
+        .iter()
+        .any(|mark| is_killer(serial, mark.killed))
 }
 
 /// The area that has waited longest of those that no process names.
@@ -69,5 +80,15 @@ fn is_frame(kind: Kind) -> bool
     match kind {
         Kind::Frame => true,
         Kind::Literal => false,
+    }
+}
+
+/// Whether this instance is the one that killed a process.
+fn is_killer(serial: u64, killed: Option<u64>) -> bool
+    ensures { result ≡ is_killer serial killed }
+{
+    match killed {
+        Some(by) => by == serial,
+        None => false,
     }
 }

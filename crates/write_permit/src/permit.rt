@@ -3,12 +3,14 @@ ghost use Rattle.std.specs.Option.{option_copied};
 ghost use Rattle.server_core.specs.ServerState.{empty_state};
 ghost use Rattle.script_core.specs.Sound.{IsScript};
 ghost use Rattle.write_permit.specs.Book.{IsPermit};
-ghost use Rattle.write_permit.specs.Permit.{at_once_of, needs_permission, next_of, pump_of, seize_answer, seized_by, spawned_by};
+ghost use Rattle.write_permit.specs.Permit.{advanced, at_once_of, given_up, holder_of, needs_permission, next_of, pump_of, seize_answer, seized_by, spawned_by};
 
-use crate::answers::{AtOnce, Finished, Pumped, Seize};
+use crate::answers::{AtOnce, Finished, OpStep, Pumped, Seize};
 use crate::book::{Book, begin};
+use crate::gate::{Gate, pass};
 use crate::holder::Holder;
 use crate::mark::MarkList;
+use crate::operations::advance;
 use crate::steps::{make_at_once, next_command, release_one};
 use run_log::EntryList;
 use script_core::{Script, ScriptCmd};
@@ -76,6 +78,30 @@ impl Permit {
             }
             Holder::Held(by) | Holder::Purging { loader: by, .. } => Seize::Held { by },
         }
+    }
+
+    /// Goes on with the next command of the loader that has the permission. The marks are whole.
+    ///
+    /// `Done` gives the permission up. A purge of old code is made in two halves: the code is doomed, and it goes in the first call
+    /// at which no mark has a frame there, which may be the same call; until then the answer is `Lingers`. After `NoMemory`
+    /// journal, server and modules are as before, and the loader gives the permission up unless its purge is in the second half.
+    /// The gate is passed once for each entry that published.
+    ///
+    /// Rule: the manual page `erlang`, on `purge_module`.
+    pub fn advance_op<G: Gate>(
+        &mut self,
+        marks: &MarkList,
+        who: u32,
+        gate: &G,
+    ) -> Result<OpStep, NoMemory>
+        requires { holder_of self.old.holder ≡ Some who }
+        ensures ok { IfOk result (λ step. advanced self.old marks.now who self.old.holder ≡ Some (record { state = self.new; answer = step })) }
+        ensures err { OnErr result (self.new ≡ record (self.old) { holder = given_up self.old.holder }) }
+    {
+        let before = self.book.server.generation();
+        let step = advance(&mut self.book, marks, who)?;
+        pass(gate, who, before, self.book.server.generation());
+        Ok(step)
     }
 
     /// Makes the next command of a loader, which is a spawn or a look for old code. After `NoMemory` the permit is as before.

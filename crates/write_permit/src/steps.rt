@@ -68,7 +68,7 @@ fn spawned(process: u32, spawns: bool) -> Option<Spawned>
 }
 
 /// One command more of the loader is done.
-fn count(loader: &mut LoaderRun, spawns: bool)
+pub fn count(loader: &mut LoaderRun, spawns: bool)
     requires done { loader.old.done + 1 < 2 ^ 64 }
     requires next { loader.old.next_process + 1 < 2 ^ 64 }
     ensures { loader.new ≡ record { done = loader.old.done + 1; next_process = loader.old.next_process + (if spawns then 1 else 0) } }
