@@ -1,12 +1,11 @@
 -- Before its first lap a run has made no command, and each process waits for its spawn.
-use Rattle.std.proofs.Common.{◌≡◌, ℕ, zero, suc, ◌+◌, ◌<◌, ◌≤◌, List, [], ◌∷◌, ◌++◌, length, length-append, append_assoc, drop, get_or, map, take, slice_get, sum_by, Some, None, option_map, refl, sym, ap, subst, ◌∙◌, arith}
-use Rattle.std.proofs.lemmas.Bool.{false≢true}
+use Rattle.std.proofs.Common.{◌≡◌, ℕ, zero, suc, ◌+◌, ◌<◌, ◌≤◌, List, [], ◌∷◌, ◌++◌, length, length-append, append_assoc, drop, get_or, map, slice_get, sum_by, Some, None, option_map, refl, sym, ap, subst, ◌∙◌, arith}
 use Rattle.std.proofs.lemmas.List.{append-nil, drop_all, drop_more, length-map}
 use Rattle.std.specs.List.{AllByRecursion}
 use Rattle.script_core.specs.declared.script.TheConstants.{MOST_PROCESSES}
 use Rattle.std.proofs.lemmas.List.Sums.{sum_by-cons}
 use Rattle.std.proofs.lemmas.Option.{none-some, same_Some, slice_get-map, slice_get_within}
-use Rattle.server_core.specs.ServerState.{IsSound, empty_state}
+use Rattle.server_core.specs.ServerState.{empty_state}
 use Rattle.machine_core.specs.Process.{Words}
 use Rattle.machine_core.specs.View.{server_words}
 use Rattle.script_core.specs.declared.script.Script.{Script}
@@ -15,39 +14,16 @@ use Rattle.script_core.specs.declared.script.ScriptCmd.TheVariants.{Spawn}
 use Rattle.script_core.specs.Sound.{IsCmdOf, IsScript}
 use Rattle.script_core.specs.Processes.{spawns_in, SpawnLine, spawns_from, spawns_of, spawn_count, spawn_number}
 use Rattle.mod_core.specs.declared.code.Module.{Module}
-use Rattle.run_log.specs.Journal.{newest_state, state_at}
-use Rattle.run_log.specs.Legal.{PurgesGo, Replays, commands_in, commands_of}
 use Rattle.script_core.proofs.JoinedPlaces.{JoinedAt, behind, get_behind, get_front, in_front, joined_at}
 use Rattle.lap_runner.specs.declared.process_run.ProcessRun.{ProcessRun}
 use Rattle.lap_runner.specs.declared.run.LoaderRun.{LoaderRun}
 use Rattle.lap_runner.specs.declared.run.Run.{Run}
-use Rattle.run_log.specs.History.{AreKnown, Each, IsHistory}
-use Rattle.lap_runner.specs.Runs.{DoomsJust, HasArity, IsRun, StandsIn, done_of, half_of, histories_of, history_of, loaders_from, waiting_from, waiting_of, waiting_stand}
-use Rattle.lap_runner.specs.Steps.{Stand, stand_in, stand_of}
-use Rattle.run_log.proofs.History.{known_at_start}
-use Rattle.run_log.proofs.HistoryLists.{each_map}
-use Rattle.run_log.proofs.HistoryMarks.{new_history}
+use Rattle.run_steps.specs.Stands.{Stand, waiting_stand}
+use Rattle.run_steps.proofs.Beginning as steps
+use Rattle.lap_runner.specs.Runs.{DoomsJust, HasArity, IsReadyIn, IsRun, done_of, half_of, loaders_from, state_of, waiting_from, waiting_of}
+use Rattle.lap_runner.specs.Steps.{stand_in, stand_of}
 use Rattle.run_log.proofs.ListPlaces.{all_weaker, get_within}
 use Rattle.script_core.proofs.SpawnLines.{lines_counted, number_further}
-
--- generation 0 is a sound state
-empty_sound : IsSound empty_state
-empty_sound = record {
-  modules = λ serial. tt;
-  current = λ name. tt;
-  old = λ name. tt;
-  apart = λ name serial h. absurd (none-some serial h);
-  one_doomed = omega arith;
-  doomed = λ serial h. absurd (false≢true h);
-  retired = λ serial h. absurd (false≢true h);
-  released = λ serial h. absurd (false≢true h);
-  live = omega arith;
-  terms = λ serial. tt;
-  keys = λ key. tt;
-  keys_apart = λ key other serial h. absurd (none-some serial h);
-  few_keys = omega arith;
-  few_areas = omega arith;
-}
 
 -- as many processes as spawns
 pub waiting_counted : (number : ℕ) (commands : List ScriptCmd) → length (waiting_from number commands) ≡ spawn_count commands
@@ -117,10 +93,7 @@ begins_at number (commands ∷ loaders) (suc k) l h =
     record { none = b.none; next = omega (arith, b.next, number_further commands loaders k 0) }
 
 module _ (s : Script) (run : Run) (server : run.server ≡ empty_state) (journal : run.journal ≡ []) (purging : run.purging ≡ None) (loaders : run.loaders.items ≡ loaders_from 0 s.loaders) (all_wait : (words : Words) → map (stand_of words) run.processes.items ≡ waiting_of 0 s.loaders) where
-  abbrev stand : ProcessRun → Stand
-  stand p = stand_in run.server p
-
-  processes : map stand run.processes.items ≡ waiting_of 0 s.loaders
+  processes : (state_of run).stands ≡ waiting_of 0 s.loaders
   processes = all_wait (server_words run.server)
 
   done_none : (k : ℕ) → done_of run.loaders.items k ≡ 0
@@ -132,41 +105,30 @@ module _ (s : Script) (run : Run) (server : run.server ≡ empty_state) (journal
       let n : l.next_process ≡ spawn_number s.loaders k 0 = omega (arith, b.next) in
       n ∙ ap (spawn_number s.loaders k) (sym b.none)
 
-  stand_at : (number : ℕ) (line : SpawnLine) (p : ProcessRun) → slice_get (spawns_of 0 s.loaders) number ≡ Some line → slice_get run.processes.items number ≡ Some p → waiting_stand number line.target line.args ≡ stand p
-  stand_at number line p line_is p_is =
-      let a : slice_get (map stand run.processes.items) number ≡ Some (stand p) = slice_get-map stand run.processes.items number ∙ ap (option_map stand) p_is in
+  stand_at : (number : ℕ) (line : SpawnLine) (x : Stand) → slice_get (spawns_of 0 s.loaders) number ≡ Some line → slice_get (state_of run).stands number ≡ Some x → x ≡ waiting_stand number line.target line.args
+  stand_at number line x line_is x_is =
       let b = waiting_at 0 0 s.loaders number line line_is in
       let e : 0 + number ≡ number = omega arith in
-      same_Some _ _ (sym (stand_same (0 + number) number line line e refl) ∙ sym b ∙ ap (λ ps. slice_get ps number) (sym processes) ∙ a)
+      same_Some _ _ (sym x_is ∙ ap (λ xs. slice_get xs number) processes ∙ b ∙ stand_same (0 + number) number line line e refl)
 
-  new_at : (number : ℕ) (p : ProcessRun) → slice_get run.processes.items number ≡ Some p → IsHistory 0 (history_of (state_at s.modules empty_state run.journal) (stand p))
-  new_at number p h =
-      let many : length run.processes.items ≡ length (spawns_of 0 s.loaders) = sym (length-map run.processes.items stand) ∙ ap length processes ∙ many_waiting 0 0 s.loaders in
-      let line = get_within (spawns_of 0 s.loaders) number (omega (arith, slice_get_within run.processes.items number p h, many)) in
-      subst (λ (x : Stand). IsHistory 0 (history_of (state_at s.modules empty_state run.journal) x)) (stand_at number line.0 p line.1 h)
-      (new_history 0 (history_of (state_at s.modules empty_state run.journal) (waiting_stand number line.0.target line.0.args)) refl refl refl)
+  many_stand : length (state_of run).stands ≡ length (spawns_of 0 s.loaders)
+  many_stand = ap length processes ∙ many_waiting 0 0 s.loaders
 
-  all_new : Each (histories_of (state_at s.modules empty_state run.journal) run.server run.processes.items) (IsHistory 0)
-  all_new = each_map (IsHistory 0) (λ p. history_of (state_at s.modules empty_state run.journal) (stand p)) run.processes.items new_at
+  -- each process waits
+  waits_at : (number : ℕ) (p : ProcessRun) → slice_get run.processes.items number ≡ Some p → IsReadyIn run.server p p.phase
+  waits_at number p h =
+      let there = slice_get-map (stand_in run.server) run.processes.items number ∙ ap (option_map (stand_in run.server)) h in
+      let line = get_within (spawns_of 0 s.loaders) number (omega (arith, slice_get_within (state_of run).stands number (stand_in run.server p) there, many_stand)) in
+      subst (IsReadyIn run.server p) (sym (ap (λ (x : Stand). x.phase) (stand_at number line.0 (stand_in run.server p) line.1 there))) tt
 
   -- before its first lap a run is as it should be
   pub begun_is : IsRun s run
   begun_is = record {
-    replays = subst (Replays s.modules empty_state) (sym journal) tt;
-    server = server ∙ ap (newest_state s.modules empty_state) (sym journal);
-    sound = subst IsSound (sym server) empty_sound;
-    purges = subst (λ j. PurgesGo s.modules empty_state None j (option_map half_of run.purging)) (sym journal) (sym (ap (option_map half_of) purging));
+    state = steps.begun_is s (state_of run) (record { server = server; journal = journal; done = done_none; half = ap (option_map half_of) purging; many = many_stand; each = stand_at });
     dooms = subst (DoomsJust s run.server run.loaders.items) (sym purging) (ap (λ x. x.doomed) server);
     loaders = ap length loaders ∙ many_loaders 0 s.loaders;
-    within = λ k. omega (arith, done_none k);
     numbers = number_of;
-    in_order = λ k. ap (commands_in k) journal ∙ ap (λ n. take n (commands_of s k)) (sym (done_none k));
-    processes = sym (length-map run.processes.items stand) ∙ ap length processes ∙ many_waiting 0 0 s.loaders;
-    process = λ number line p line_is p_is.
-        let same = sym (stand_at number line p line_is p_is) in
-        subst (StandsIn run.journal (state_at s.modules empty_state run.journal) run.server (done_of run.loaders.items line.loader) number line p) (sym (ap (λ (x : Stand). x.phase) same))
-        (record { process = ap (λ (x : Stand). x.process) same; spans = ap (λ (x : Stand). x.spans) same; still = omega (arith, done_none line.loader) });
-    answers = subst (λ j. AreKnown s.modules j (histories_of (state_at s.modules empty_state run.journal) run.server run.processes.items)) (sym journal) (known_at_start s.modules (histories_of (state_at s.modules empty_state run.journal) run.server run.processes.items) all_new);
+    ready = waits_at;
   }
 
 -- one more loader and its processes, of those that are left

@@ -1,5 +1,6 @@
 -- What the run has for the next command of a loader: the table's case for it, the loader, the process that it spawns.
 use Rattle.std.proofs.Common.{◌≡◌, ℕ, zero, suc, ◌<◌, Bool, true, List, [], ◌∷◌, length, slice_get, slice_set, Some, IsSome, option_map, unwrap_or, get_or, refl, sym, ap, subst, ◌∙◌, arith}
+use Rattle.std.proofs.lemmas.List.{length-map}
 use Rattle.std.proofs.lemmas.Option.{none-some, slice_get_within, slice_get_read}
 use Rattle.std.specs.List.{AllByRecursion}
 use Rattle.server_core.specs.declared.command.Cmd.{Cmd}
@@ -17,7 +18,8 @@ use Rattle.lap_runner.specs.declared.run.LoaderRun.{LoaderRun}
 use Rattle.lap_runner.specs.declared.run.Run.{Run}
 use Rattle.lap_runner.specs.Looks.{next_cmd}
 use Rattle.lap_runner.specs.Runs.{IsRun, done_of}
-use Rattle.lap_runner.specs.Steps.{Advances, CanSpawn, HasAdvanced, HasJoined, HasMade, SpawnsNext, loader_after, purging_after}
+use Rattle.run_steps.specs.Steps.{HasJoined}
+use Rattle.lap_runner.specs.Steps.{Advances, CanSpawn, HasAdvanced, HasMade, SpawnsNext, loader_after, purging_after, stand_in}
 use Rattle.run_log.proofs.ListPlaces.{all_at}
 use Rattle.lap_runner.proofs.Nexts.{next_enabled, next_of_text}
 use Rattle.script_core.proofs.SpawnLines.{spawn_at}
@@ -59,7 +61,7 @@ module _ (s : Script) (run : Run) (known : IsRun s run) (k : ℕ) (cmd : ScriptC
   spawn_there : (c : ScriptCmd) → cmd ≡ c → (n : ℕ) → n ≡ spawn_number s.loaders k (done_of run.loaders.items k) → CanSpawn c n run.processes.items
   spawn_there (Spawn target args) e n h =
       let line = spawn_at 0 s.loaders k (done_of run.loaders.items k) target args (next ∙ ap Some e) in
-      omega (arith, h, known.processes, slice_get_within (spawns_of 0 s.loaders) (spawn_number s.loaders k (done_of run.loaders.items k)) _ line)
+      omega (arith, h, known.state.processes.many, length-map run.processes.items (stand_in run.server), slice_get_within (spawns_of 0 s.loaders) (spawn_number s.loaders k (done_of run.loaders.items k)) _ line)
   spawn_there c e n h = tt
 
   -- the process that the command spawns is there

@@ -5,30 +5,33 @@ use Rattle.std.proofs.lemmas.Option.{none-some, same_Some, slice_get-get_or, sli
 use Rattle.std.specs.List.{list_any}
 use Rattle.std.proofs.Math.Bool.{or-false}
 use Rattle.server_core.specs.declared.command.Cmd.TheVariants as cmds
-use Rattle.server_core.specs.ServerState.{ServerState, empty_state, old_of}
+use Rattle.server_core.specs.ServerState.{ServerState, old_of}
 use Rattle.machine_core.specs.Holds.{is_among}
 use Rattle.machine_core.specs.Process.{frame_names}
 use Rattle.machine_core.specs.View.{server_words}
 use Rattle.script_core.specs.declared.script.Script.{Script}
 use Rattle.script_core.specs.declared.script.ScriptCmd.{ScriptCmd}
 use Rattle.run_log.specs.declared.logs.Entry.{Entry}
-use Rattle.run_log.specs.Journal.{state_at}
 use Rattle.script_core.specs.Processes.{SpawnLine}
 use Rattle.run_log.specs.Legal.{commands_of}
 use Rattle.run_log.proofs.SpanRuns.{some_and}
-use Rattle.lap_runner.specs.declared.process_run.Phase.{Phase}
-use Rattle.lap_runner.specs.declared.process_run.Phase.TheVariants.{Waiting, Going, Ended}
+use Rattle.run_steps.specs.declared.phase.Phase.{Phase}
+use Rattle.run_steps.specs.declared.phase.Phase.TheVariants.{Waiting, Going, Ended}
 use Rattle.lap_runner.specs.declared.process_run.ProcessRun.{ProcessRun}
 use Rattle.lap_runner.specs.declared.run.LoaderRun.{LoaderRun}
 use Rattle.lap_runner.specs.declared.run.Purging.{Purging}
 use Rattle.lap_runner.specs.declared.run.Run.{Run}
-use Rattle.lap_runner.specs.Observers.{KeepsGenerations}
-use Rattle.lap_runner.specs.Looks.{closing, goes_meanwhile, next_cmd, opening, some_killed, some_stands, stands_in, unread}
-use Rattle.lap_runner.specs.Runs.{AreIdle, all_made, one_goes, DoomsJust, IsReady, IsReadyIn, IsRun, PurgeWaits, Rests, StandsIn, done_of, fin_in, one_if, turns_left, work_left}
+use Rattle.run_steps.specs.Observers.{KeepsGenerations}
+use Rattle.run_steps.specs.Names.{stands_in, unread}
+use Rattle.run_steps.specs.Runs.{states_in}
+use Rattle.run_steps.specs.Stands.{Rests, fin_in}
+use Rattle.run_steps.specs.Standing.{StandsIn}
+use Rattle.lap_runner.specs.Looks.{closing, goes_meanwhile, next_cmd, opening, some_killed, some_stands}
+use Rattle.lap_runner.specs.Runs.{AreIdle, all_made, one_goes, DoomsJust, IsReady, IsReadyIn, IsRun, PurgeWaits, done_of, one_if, state_of, turns_left, work_left}
 use Rattle.lap_runner.specs.Steps.{HadItsTurn, HasMade, HasWaited, LapOf, stand_in}
 use Rattle.lap_runner.proofs.Enabled.{loader_there}
-use Rattle.lap_runner.proofs.Generations.{generations_more, generations_same}
-use Rattle.lap_runner.proofs.Frames.{stands_unread}
+use Rattle.run_steps.proofs.Generations.{generations_more, generations_same}
+use Rattle.run_steps.proofs.Frames.{stands_unread}
 use Rattle.lap_runner.proofs.Joining.{frames_over, line_for, stands_at}
 use Rattle.run_log.proofs.ListPlaces.{SetAt, get_within, here, set_at, set_there, there}
 use Rattle.lap_runner.proofs.Making.{made_keeps}
@@ -174,11 +177,11 @@ module _ (s : Script) (before now : Run) (count : ℕ) (made : Bool) (so_far : L
 past_loaders : (s : Script) (run : Run) → IsRun s run → (k : ℕ) → length s.loaders ≤ k → done_of run.loaders.items k ≡ length (commands_of s k)
 past_loaders s run known k past =
     let none : length (commands_of s k) ≡ 0 = ap (λ o. length (unwrap_or o [])) (slice_get_past s.loaders k past) in
-    let within = known.within k in
+    let within = known.state.journal.within k in
     omega (arith, none, within)
 
 -- a process that stands somewhere goes on
-stander_goes : (journal : List Entry) (states : ℕ → ServerState) (newest : ServerState) (done number : ℕ) (line : SpawnLine) (p : ProcessRun) (phase : Phase) → StandsIn journal states newest done number line p phase
+stander_goes : (journal : List Entry) (states : ℕ → ServerState) (newest : ServerState) (done number : ℕ) (line : SpawnLine) (p : ProcessRun) (phase : Phase) → StandsIn journal states newest.generation done number line (stand_in newest p) phase
     → (IsSome (fin_in phase) → (stand_in newest p).process.frames ≡ []) → (serial : ℕ) → stands_in serial (unread p.process) ≡ true → phase ≡ Going
 stander_goes journal states newest done number line p Waiting h over serial stands =
     absurd (false≢true (sym (ap (λ x. stands_in serial x) h.process) ∙ sym (stands_unread (server_words newest) p.process serial) ∙ stands))
@@ -208,7 +211,7 @@ module _ (s : Script) (run : Run) (known : IsRun s run) where
       let p = found.1.0 in
       let at = found.1.1.0 in
       one_goes k p at
-      (stander_goes run.journal (state_at s.modules empty_state run.journal) run.server _ k (line_for s run known k p at).0 p p.phase (stands_at s run known k p at) (frames_over s run known k p at)
+      (stander_goes run.journal (states_in s (state_of run)) run.server _ k (line_for s run known k p at).0 p p.phase (stands_at s run known k p at) (frames_over s run known k p at)
       serial found.1.1.1)
 
   closing_idle : (p : Purging) (serial : ℕ) (b : Bool) → some_stands serial run.processes.items ≡ b → (if b then None else Some (cmds.Purge p.«module» (some_killed serial run.processes.items))) ≡ None → AreIdle s run
@@ -262,7 +265,7 @@ module _ (s : Script) (before now : Run) (count : ℕ) (made : Bool) (commands :
   pub idle_read : length commands ≤ l.done → LoadersSoFar s before now (count + 1) made
   idle_read none =
       let e : length (commands_of s count) ≡ length commands = ap length (commands_read s count commands low commands_are) in
-      let within = so_far.run.within count in
+      let within = so_far.run.state.journal.within count in
       loader_idle s before now count made so_far (all_done (omega (arith, none, e, place_read, within)))
 
   -- the next command

@@ -1,10 +1,3 @@
-mod Generations
-mod Observing
-mod TurnLaws
-mod Taking
-mod Turning
-mod Dooms
-mod Frames
 mod Nexts
 mod Joining
 mod Looking

@@ -1,5 +1,5 @@
--- What the run looked at for a command is what its answer tells of the processes.
-use Rattle.std.proofs.Common.{◌≡◌, ◌||◌, ℕ, zero, suc, Bool, true, false, List, [], ◌∷◌, ◌++◌, slice_get, Option, Some, None, IfSome, IsTrue, if◌then◌else◌, refl, sym, ap, subst, ◌∙◌}
+-- What the laps looked at for a command is what its answer tells of the processes.
+use Rattle.std.proofs.Common.{◌≡◌, ◌||◌, ℕ, zero, suc, Bool, true, false, List, [], ◌∷◌, map, slice_get, Option, Some, None, IfSome, IsTrue, if◌then◌else◌, refl, sym, ap, subst, ◌∙◌}
 use Rattle.std.proofs.lemmas.Option.{none-some, same_Some}
 use Rattle.std.specs.List.{list_any}
 use Rattle.term_core.specs.declared.atom.AtomId.{AtomId}
@@ -7,27 +7,31 @@ use Rattle.term_core.proofs.Lists.{any_map}
 use Rattle.server_core.specs.declared.command.Cmd.{Cmd}
 use Rattle.server_core.specs.declared.command.Cmd.TheVariants as cmds
 use Rattle.server_core.specs.declared.command.Linger.{Linger}
-use Rattle.server_core.specs.ServerState.{ServerState, IsSound, empty_state, old_of}
-use Rattle.machine_core.specs.Process.{PlainProcess}
+use Rattle.server_core.specs.ServerState.{ServerState, old_of}
+use Rattle.machine_core.specs.Holds.{is_among}
+use Rattle.machine_core.specs.Process.{PlainProcess, names_of}
 use Rattle.machine_core.specs.View.{server_words}
 use Rattle.script_core.specs.declared.script.Script.{Script}
-use Rattle.run_log.specs.declared.logs.Who.{Who}
-use Rattle.run_log.specs.declared.logs.Entry.{Entry}
-use Rattle.run_log.specs.Journal.{newest_state, published_count, state_at}
-use Rattle.run_log.specs.Legal.{NamesNot, StandsNotIn}
 use Rattle.script_core.specs.Processes.{SpawnLine}
-use Rattle.lap_runner.specs.declared.process_run.Phase.{Phase}
-use Rattle.lap_runner.specs.declared.process_run.Phase.TheVariants.{Waiting, Going, Ended}
+use Rattle.run_log.specs.declared.logs.Entry.{Entry}
+use Rattle.run_log.specs.History.{Each, History, has_ended_by}
+use Rattle.run_log.specs.Legal.{NamesNot, StandsNotIn}
+use Rattle.run_log.proofs.HistoryLists.{each_map}
+use Rattle.run_log.proofs.SpanRuns.{some_at}
+use Rattle.run_steps.specs.declared.phase.Phase.{Phase}
+use Rattle.run_steps.specs.declared.phase.Phase.TheVariants.{Waiting, Going, Ended}
+use Rattle.run_steps.specs.Names.{names_area, stands_in, unread}
+use Rattle.run_steps.specs.Runs.{histories_in, states_in}
+use Rattle.run_steps.specs.Stands.{fin_in, history_of}
+use Rattle.run_steps.specs.Standing.{StandsIn}
+use Rattle.run_steps.specs.Steps.{LingersNow, MayGo, NoneNames, NoneStandsIn, TellsNow}
+use Rattle.run_steps.proofs.Frames.{any_same, names_unread, stands_unread}
 use Rattle.lap_runner.specs.declared.process_run.ProcessRun.{ProcessRun}
 use Rattle.lap_runner.specs.declared.run.Run.{Run}
-use Rattle.run_log.specs.History.{AreKnown, Each, History, IsSilent, has_ended_by}
-use Rattle.lap_runner.specs.Looks.{lingering, lingering_in, names_area, some_names, some_stands, stands_in, unread, was_killed_by}
-use Rattle.lap_runner.specs.Runs.{IsRun, StandsIn, fin_in, histories_of, history_of}
-use Rattle.lap_runner.specs.Steps.{HasJoined, stand_in}
-use Rattle.run_log.proofs.History.{linger_joins, purge_joins, release_joins, silent_joins, soft_purge_joins}
-use Rattle.run_log.proofs.HistoryLists.{each_map}
-use Rattle.lap_runner.proofs.Frames.{any_same, names_unread, stands_unread}
-use Rattle.lap_runner.proofs.Joining.{applied_at, generations_counted, history_at, line_for, next_newest, stands_at}
+use Rattle.lap_runner.specs.Looks.{lingering, lingering_in, some_names, some_stands, was_killed_by}
+use Rattle.lap_runner.specs.Runs.{IsRun, state_of}
+use Rattle.lap_runner.specs.Steps.{stand_in}
+use Rattle.lap_runner.proofs.Joining.{history_at, line_for, stands_at}
 use Rattle.lap_runner.proofs.Nexts.{HasPurgeLook, Looked}
 
 first_false : (a b : Bool) → (a || b) ≡ false → a ≡ false
@@ -83,92 +87,65 @@ killed_is serial Waiting = refl
 killed_is serial phase = refl
 
 -- a process has its number
-numbered_in : (journal : List Entry) (states : ℕ → ServerState) (newest : ServerState) (done number : ℕ) (line : SpawnLine) (p : ProcessRun) (phase : Phase) → StandsIn journal states newest done number line p phase → p.process.number ≡ number
+numbered_in : (journal : List Entry) (states : ℕ → ServerState) (newest : ServerState) (done number : ℕ) (line : SpawnLine) (p : ProcessRun) (phase : Phase) → StandsIn journal states newest.generation done number line (stand_in newest p) phase → p.process.number ≡ number
 numbered_in journal states newest done number line p Waiting w = ap (λ (x : PlainProcess). x.number) w.process
 numbered_in journal states newest done number line p Going g = g.was.numbered
 numbered_in journal states newest done number line p (Ended fin) o = o.was.numbered
 
-module _ (s : Script) (run : Run) (known : IsRun s run) (who : Who) (cmd : Cmd) (t : ServerState) (after : List Entry) (joined : HasJoined s.modules who cmd run.server t run.journal after) where
+module _ (s : Script) (run : Run) (known : IsRun s run) where
   abbrev states : ℕ → ServerState
-  states = state_at s.modules empty_state run.journal
-
-  abbrev newest : ServerState
-  newest = newest_state s.modules empty_state run.journal
+  states = states_in s (state_of run)
 
   abbrev ps : List ProcessRun
   ps = run.processes.items
 
   abbrev histories : List History
-  histories = histories_of states run.server ps
+  histories = histories_in s (state_of run)
 
   abbrev history : ProcessRun → History
   history p = history_of states (stand_in run.server p)
 
-  abbrev Told : Type 0
-  Told = AreKnown s.modules (run.journal ++ joined.entry ∷ []) histories
-
-  counted_newest : published_count run.journal ≡ newest.generation
-  counted_newest = generations_counted s run known ∙ ap (λ x. x.generation) known.server
-
   each_history : (P : History → Type 0) → Each ps (λ p. P (history p)) → Each histories P
-  each_history P each = each_map P history ps each
+  each_history P each = each_map P (history_of states) (map (stand_in run.server) ps) (each_map (λ x. P (history_of states x)) (stand_in run.server) ps each)
 
-  stand_apart : (serial : ℕ) → some_stands serial ps ≡ false → Each histories (λ h. StandsNotIn serial h.now)
+  stand_apart : (serial : ℕ) → some_stands serial ps ≡ false → NoneStandsIn serial histories
   stand_apart serial none =
       each_history (λ h. StandsNotIn serial h.now)
       (λ k p at. sym (stands_unread (server_words run.server) p.process serial) ∙ each_false (λ (p : ProcessRun). stands_in serial (unread p.process)) ps none k p at)
 
-  name_not : (serial : ℕ) → some_names serial ps ≡ false → Each histories (λ h. NamesNot serial h.now)
+  name_not : (serial : ℕ) → some_names serial ps ≡ false → NoneNames serial histories
   name_not serial none =
       each_history (λ h. NamesNot serial h.now)
       (λ k p at.
       let f = sym (names_unread (server_words run.server) p.process serial) ∙ each_false (λ (p : ProcessRun). names_area serial (unread p.process)) ps none k p at in
       record { frames = first_false _ _ f; literals = later_false _ _ f })
 
-  silent : (c : Cmd) → joined.entry.cmd ≡ c → IsSilent newest c → Told
-  silent c is h = silent_joins s.modules run.journal histories joined.entry known.answers (subst (IsSilent newest) (sym is) h)
-
-  old_newest : (name : AtomId) (old : Option ℕ) → old_of run.server name.0 ≡ old → old_of newest name.0 ≡ old
-  old_newest name old h = ap (λ x. old_of x name.0) (sym known.server) ∙ h
-
-  lingers_told : (name : AtomId) (serial : ℕ) (linger : Linger) → joined.entry.cmd ≡ cmds.SoftPurge name (Some linger) → old_of run.server name.0 ≡ Some serial → IsLingering serial ps linger → Told
-  lingers_told name serial linger is old l =
+  lingers_now : (serial : ℕ) (linger : Linger) → IsLingering serial ps linger → LingersNow serial linger histories
+  lingers_now serial linger l =
       let line = line_for s run known l.number l.process l.there in
       let numbered = numbered_in run.journal states run.server _ l.number line.0 l.process l.process.phase (stands_at s run known l.number l.process l.there) in
-      linger_joins s.modules run.journal histories known.answers counted_newest joined.entry name linger (history l.process) is
-      (ap (slice_get histories) (l.process_is ∙ numbered) ∙ history_at s run known l.number l.process l.there)
-      l.turn_is
-      (λ n at. subst (λ k. IsTrue (stands_in k (stand_in run.server l.process).process)) (same_Some serial n (sym (old_newest name (Some serial) old) ∙ at)) (sym (stands_unread (server_words run.server) l.process.process serial) ∙ l.stands))
+      some_at (slice_get histories linger.process) (λ h. (linger.turn ≡ h.now.turns) × IsTrue (is_among (names_of h.now).frames serial)) (history l.process)
+      (ap (slice_get histories) (l.process_is ∙ numbered) ∙ history_at s run known l.number l.process l.there) (l.turn_is, sym (stands_unread (server_words run.server) l.process.process serial) ∙ l.stands)
 
-  soft_purge_by : (name : AtomId) (lingers : Option Linger) (serial : ℕ) → joined.entry.cmd ≡ cmds.SoftPurge name lingers → old_of run.server name.0 ≡ Some serial → lingers ≡ lingering_in serial ps → Told
-  soft_purge_by name None serial is old looked =
-      soft_purge_joins s.modules run.journal histories known.answers counted_newest joined.entry name _ is (applied_at s run known who cmd t after joined)
-      (subst IsSound (sym (next_newest s run known who cmd t after joined)) joined.sound)
-      (λ n at. subst (λ k. Each histories (λ h. StandsNotIn k h.now)) (same_Some serial n (sym (old_newest name (Some serial) old) ∙ at)) (stand_apart serial (none_lingers serial ps (sym looked))))
-  soft_purge_by name (Some linger) serial is old looked = lingers_told name serial linger is old (lingers_at serial ps linger (sym looked))
+  soft_purge_by : (name : AtomId) (lingers : Option Linger) (old : Option ℕ) → old_of run.server name.0 ≡ old → lingers ≡ lingering old ps → TellsNow run.server histories (cmds.SoftPurge name lingers)
+  soft_purge_by name None None is looked = subst (λ o. IfSome o (λ serial. NoneStandsIn serial histories)) (sym is) tt
+  soft_purge_by name (Some linger) None is looked = subst (λ o. IfSome o (λ serial. LingersNow serial linger histories)) (sym is) tt
+  soft_purge_by name None (Some serial) is looked = subst (λ o. IfSome o (λ serial. NoneStandsIn serial histories)) (sym is) (stand_apart serial (none_lingers serial ps (sym looked)))
+  soft_purge_by name (Some linger) (Some serial) is looked = subst (λ o. IfSome o (λ serial. LingersNow serial linger histories)) (sym is) (lingers_now serial linger (lingers_at serial ps linger (sym looked)))
 
-  soft_purge_told : (name : AtomId) (lingers : Option Linger) (old : Option ℕ) → joined.entry.cmd ≡ cmds.SoftPurge name lingers → old_of run.server name.0 ≡ old → lingers ≡ lingering old ps → Told
-  soft_purge_told name lingers None is old looked = silent (cmds.SoftPurge name lingers) is (old_newest name None old)
-  soft_purge_told name lingers (Some serial) is old looked = soft_purge_by name lingers serial is old looked
+  purge_by : (killed : Bool) (old : Option ℕ) → IfSome old (λ serial. HasPurgeLook serial killed ps) → IfSome old (λ serial. MayGo serial killed histories)
+  purge_by killed None looked = tt
+  purge_by killed (Some serial) looked = record {
+    none = stand_apart serial looked.none;
+    told =
+        looked.told
+        ∙ any_same (λ p. was_killed_by serial p.phase) (λ p. has_ended_by serial (fin_in p.phase)) ps (λ p. killed_is serial p.phase)
+        ∙ sym (any_map (λ (h : History). has_ended_by serial h.fin) (history_of states) (map (stand_in run.server) ps) ∙ any_map (λ x. has_ended_by serial (history_of states x).fin) (stand_in run.server) ps);
+  }
 
-  purge_told : (name : AtomId) (killed : Bool) (old : Option ℕ) → joined.entry.cmd ≡ cmds.Purge name killed → old_of run.server name.0 ≡ old → IfSome old (λ serial. HasPurgeLook serial killed ps) → Told
-  purge_told name killed None is old looked = silent (cmds.Purge name killed) is (old_newest name None old)
-  purge_told name killed (Some serial) is old looked =
-      purge_joins s.modules run.journal histories known.answers counted_newest joined.entry name killed _ is (applied_at s run known who cmd t after joined)
-      (subst IsSound (sym (next_newest s run known who cmd t after joined)) joined.sound)
-      (λ n at. subst (λ k. Each histories (λ h. StandsNotIn k h.now)) (same_Some serial n (sym (old_newest name (Some serial) old) ∙ at)) (stand_apart serial looked.none))
-      (λ n at. subst (λ k. killed ≡ list_any (λ h. has_ended_by k h.fin) histories) (same_Some serial n (sym (old_newest name (Some serial) old) ∙ at))
-      (looked.told
-      ∙ any_same (λ p. was_killed_by serial p.phase) (λ p. has_ended_by serial (fin_in p.phase)) ps (λ p. killed_is serial p.phase)
-      ∙ sym (any_map (λ h. has_ended_by serial h.fin) history ps)))
-
-  told_by : (c : Cmd) → joined.entry.cmd ≡ c → Looked run.server ps c → Told
-  told_by (cmds.SoftPurge name lingers) is looked = soft_purge_told name lingers (old_of run.server name.0) is refl looked
-  told_by (cmds.Purge name killed) is looked = purge_told name killed (old_of run.server name.0) is refl looked
-  told_by (cmds.Release serial) is looked =
-      release_joins s.modules run.journal histories known.answers counted_newest joined.entry serial _ is (applied_at s run known who cmd t after joined) (subst IsSound known.server known.sound) (name_not serial looked)
-  told_by c is looked = silent c is tt
-
-  -- the entry's answer stands with those before it
-  pub answers_after : Looked run.server ps cmd → AreKnown s.modules after histories
-  answers_after looked = subst (λ j. AreKnown s.modules j histories) (sym joined.journal) (told_by cmd joined.cmd_is looked)
+  -- what was looked at is so now
+  pub tells_now : (cmd : Cmd) → Looked run.server ps cmd → TellsNow run.server histories cmd
+  tells_now (cmds.SoftPurge name lingers) looked = soft_purge_by name lingers (old_of run.server name.0) refl looked
+  tells_now (cmds.Purge name killed) looked = purge_by killed (old_of run.server name.0) looked
+  tells_now (cmds.Release serial) looked = name_not serial looked
+  tells_now cmd looked = tt

@@ -27,7 +27,7 @@ use Rattle.script_core.specs.declared.script.Script.{Script}
 use Rattle.lap_runner.specs.Looks.{closing, goes_meanwhile, lingering, next_cmd, opening, purge_opening, some_killed, some_names, some_stands}
 use Rattle.lap_runner.specs.Runs.{DoomsJust, half_of}
 use Rattle.lap_runner.specs.Steps.{purging_after}
-use Rattle.lap_runner.proofs.Dooms.{IsMeanwhile, delete_enabled, doom_enabled, doomed_kept, erase_enabled, idle_purge_enabled, idle_purge_keeps, load_enabled, purge_enabled, put_enabled, soft_purge_enabled, trace_enabled}
+use Rattle.run_steps.proofs.Dooms.{IsMeanwhile, delete_enabled, doom_enabled, doomed_kept, erase_enabled, idle_purge_enabled, idle_purge_keeps, load_enabled, purge_enabled, put_enabled, soft_purge_enabled, trace_enabled}
 use Rattle.run_log.proofs.SpanRuns.{some_and}
 
 -- a command that leaves what is doomed as it is: no half of a purge, but a purge where there is no old code

@@ -15,9 +15,9 @@ use Rattle.lap_runner.specs.declared.run.Purging.{Purging}
 use Rattle.lap_runner.specs.declared.run.Run.{Run}
 use Rattle.lap_runner.specs.Looks.{AreNamedBelow, IsLeastFree, some_names}
 use Rattle.lap_runner.specs.Runs.{DoomsJust, HasReleased, IsRun, half_of}
-use Rattle.lap_runner.specs.Steps.{HasJoined}
-use Rattle.lap_runner.proofs.Dooms.{doomed_kept, versions_kept}
-use Rattle.lap_runner.proofs.Generations.{generations_more, generations_same}
+use Rattle.run_steps.specs.Steps.{HasJoined}
+use Rattle.run_steps.proofs.Dooms.{doomed_kept, versions_kept}
+use Rattle.run_steps.proofs.Generations.{generations_more, generations_same}
 use Rattle.lap_runner.proofs.Making.{meanwhile_dooms, meanwhile_stands, stayed_keeps}
 
 few_or : (b : Bool) (x : ℕ) (xs ys : List ℕ) → length ys ≤ length xs → length (cond (not b) (x ∷ ys) ys) ≤ length (x ∷ xs)

@@ -1,30 +1,34 @@
 -- After a lap in which nothing was done no work is left.
-use Rattle.std.proofs.Common.{◌≡◌, ◌||◌, ℕ, true, false, List, [], ◌∷◌, length, slice_get, Some, None, IsSome, IsTrue, refl, sym, ap, subst, ◌∙◌, arith}
+use Rattle.std.proofs.Common.{◌≡◌, ◌||◌, ℕ, true, false, List, [], ◌∷◌, length, slice_get, Some, None, IsSome, IsTrue, option_map, refl, sym, ap, subst, ◌∙◌, arith}
 use Rattle.std.proofs.lemmas.Bool.{eq-eqb, false≢true}
 use Rattle.std.proofs.lemmas.Option.{slice_get_within}
 use Rattle.term_core.proofs.Lists.{none_passes}
-use Rattle.server_core.specs.ServerState.{ServerState, empty_state, is_serial_in}
+use Rattle.server_core.specs.ServerState.{ServerState, is_serial_in}
 use Rattle.machine_core.specs.Holds.{is_area_held}
 use Rattle.machine_core.specs.Process.{frame_names}
 use Rattle.machine_core.specs.View.{server_words}
 use Rattle.script_core.specs.declared.script.Script.{Script}
 use Rattle.run_log.specs.declared.logs.Entry.{Entry}
-use Rattle.run_log.specs.Journal.{state_at}
 use Rattle.script_core.specs.Processes.{SpawnLine}
 use Rattle.run_log.specs.Legal.{commands_of}
-use Rattle.lap_runner.specs.declared.process_run.Phase.{Phase}
-use Rattle.lap_runner.specs.declared.process_run.Phase.TheVariants.{Waiting, Going, Ended}
+use Rattle.run_steps.specs.declared.phase.Phase.{Phase}
+use Rattle.run_steps.specs.declared.phase.Phase.TheVariants.{Waiting, Going, Ended}
 use Rattle.lap_runner.specs.declared.process_run.ProcessRun.{ProcessRun}
 use Rattle.lap_runner.specs.declared.run.Run.{Run}
-use Rattle.lap_runner.specs.Looks.{AreNamed, names_area, some_names, unread}
-use Rattle.lap_runner.specs.Runs.{AreIdle, all_made, one_goes, HasNoWork, HasReleased, IsRun, Rests, StandsIn, done_of, fin_in}
+use Rattle.lap_runner.specs.Looks.{AreNamed, some_names}
+use Rattle.run_steps.specs.Names.{names_area, unread}
+use Rattle.run_steps.specs.Stands.{Rests, Stand, fin_in}
+use Rattle.run_steps.specs.Standing.{StandsIn}
+use Rattle.run_steps.specs.Runs.{states_in}
+use Rattle.lap_runner.specs.Runs.{AreIdle, all_made, one_goes, HasNoWork, HasReleased, IsRun, done_of, half_of, state_of}
 use Rattle.lap_runner.specs.Steps.{LapOf, stand_in}
-use Rattle.lap_runner.proofs.Frames.{names_unread}
+use Rattle.run_steps.proofs.Frames.{names_unread}
 use Rattle.lap_runner.proofs.Joining.{frames_over, line_for, stands_at}
+use Rattle.run_log.proofs.HistoryLists.{get_map}
 use Rattle.run_log.proofs.ListPlaces.{get_within}
 
 -- a process that rests names nothing
-names_none : (journal : List Entry) (states : ℕ → ServerState) (newest : ServerState) (done number : ℕ) (line : SpawnLine) (p : ProcessRun) (phase : Phase) → StandsIn journal states newest done number line p phase
+names_none : (journal : List Entry) (states : ℕ → ServerState) (newest : ServerState) (done number : ℕ) (line : SpawnLine) (p : ProcessRun) (phase : Phase) → StandsIn journal states newest.generation done number line (stand_in newest p) phase
     → (IsSome (fin_in phase) → (stand_in newest p).process.frames ≡ []) → Rests phase → (serial : ℕ) → names_area serial (unread p.process) ≡ false
 names_none journal states newest done number line p Waiting h over rests serial = names_unread (server_words newest) p.process serial ∙ ap (names_area serial) h.process
 names_none journal states newest done number line p Going h over rests serial = absurd rests
@@ -39,7 +43,7 @@ module _ (s : Script) (run : Run) (known : IsRun s run) (rest : (k : ℕ) (p : P
   none_named : (serial : ℕ) → some_names serial run.processes.items ≡ false
   none_named serial =
       none_passes (λ (p : ProcessRun). names_area serial (unread p.process)) run.processes.items
-      (λ k p at. names_none run.journal (state_at s.modules empty_state run.journal) run.server _ k (line_for s run known k p at).0 p p.phase (stands_at s run known k p at) (frames_over s run known k p at) (rest k p at) serial)
+      (λ k p at. names_none run.journal (states_in s (state_of run)) run.server _ k (line_for s run known k p at).0 p p.phase (stands_at s run known k p at) (frames_over s run known k p at) (rest k p at) serial)
 
   -- so what each of them would have to name is nothing
   nothing_retired : AreNamed run.server.retired run.processes.items → run.server.retired ≡ []
@@ -66,8 +70,8 @@ no_work s run turned after idle before now was is many loaders purging rest laps
     let p = get_within before k (omega (arith, slice_get_within now k q at_now, many)) in
     subst (λ (x : ProcessRun). Rests x.phase) (sym (rests_same run.server p.0 q p.0.phase (rest k p.0 p.1) (laps k p.0 q p.1 at_now))) (rest k p.0 p.1) in
     record {
-      purging = released.purging ∙ purging ∙ made.0;
+      half = ap (option_map half_of) (released.purging ∙ purging ∙ made.0);
       loaders = λ loader. ap (λ ls. done_of ls loader) (released.loaders ∙ loaders) ∙ made.1 loader;
-      processes = resting;
+      processes = λ k x at. let q = get_map (stand_in after.server) after.processes.items k x at in subst (λ (y : Stand). Rests y.phase) q.1.1 (resting k q.0 q.1.0);
       retired = nothing_retired s after released.run resting named;
     }

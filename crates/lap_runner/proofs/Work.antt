@@ -12,15 +12,17 @@ use Rattle.script_core.specs.declared.script.Script.{Script}
 use Rattle.script_core.specs.declared.script.ScriptCmd.{ScriptCmd}
 use Rattle.run_log.specs.Legal.{commands_of}
 use Rattle.run_log.specs.Journal.{ends_one}
-use Rattle.lap_runner.specs.declared.process_run.Phase.TheVariants.{Waiting, Going}
+use Rattle.run_steps.specs.declared.phase.Phase.TheVariants.{Waiting, Going}
 use Rattle.lap_runner.specs.declared.process_run.ProcessRun.{ProcessRun}
 use Rattle.lap_runner.specs.declared.run.LoaderRun.{LoaderRun}
 use Rattle.lap_runner.specs.declared.run.Run.{Run}
 use Rattle.lap_runner.specs.Runs.{IsReady, IsRun, commands_left, done_of, one_if, turns_in, turns_left, work_left}
-use Rattle.lap_runner.specs.Steps.{Advances, HadTurn, HasAdvanced, HasMade, HasStayed, loader_after, phase_after, purging_after, stand_in}
+use Rattle.run_steps.specs.Stands.{phase_after}
+use Rattle.run_steps.specs.Turns.{HadTurn}
+use Rattle.lap_runner.specs.Steps.{Advances, HasAdvanced, HasMade, HasStayed, loader_after, purging_after, stand_in}
 use Rattle.lap_runner.proofs.Nexts.{IsNext, at_once, between, first_half, next_is, second_half}
 use Rattle.script_core.specs.Processes.{commands_at}
-use Rattle.lap_runner.proofs.TurnLaws.{again_counted}
+use Rattle.run_steps.proofs.TurnLaws.{again_counted}
 use Rattle.lap_runner.proofs.Making.{Spawned, count_in, item, none_spawned, one_spawned, over, spawned, waiting_process}
 
 -- one command of a loader less

@@ -8,40 +8,14 @@ use Rattle.server_core.specs.declared.command.Cmd.{Cmd}
 use Rattle.server_core.specs.declared.command.Cmd.TheVariants as cmds
 use Rattle.server_core.specs.declared.command.Linger.{Linger}
 use Rattle.server_core.specs.ServerState.{ServerState, is_serial_in, old_of}
-use Rattle.machine_core.specs.Holds.{is_among, is_area_held}
-use Rattle.machine_core.specs.declared.process.Frame.{Frame}
-use Rattle.machine_core.specs.declared.process.Process.{Process}
-use Rattle.machine_core.specs.declared.process.Value.{Value}
-use Rattle.machine_core.specs.declared.process.Value.TheVariants.{Owned, Literal}
-use Rattle.machine_core.specs.Process.{PlainProcess, names_of, process_of}
 use Rattle.script_core.specs.declared.script.ScriptCmd.{ScriptCmd}
 use Rattle.script_core.specs.declared.script.ScriptCmd.TheVariants.{Load, Delete, SoftPurge, Purge, CheckOld, Put, Erase, Trace, Spawn}
 use Rattle.run_log.specs.Legal.{is_killed_by}
-use Rattle.lap_runner.specs.declared.process_run.Phase.{Phase}
-use Rattle.lap_runner.specs.declared.process_run.Phase.TheVariants.{Waiting, Going, Ended}
+use Rattle.run_steps.specs.declared.phase.Phase.{Phase}
+use Rattle.run_steps.specs.declared.phase.Phase.TheVariants.{Waiting, Going, Ended}
+use Rattle.run_steps.specs.Names.{names_area, stands_in, unread}
 use Rattle.lap_runner.specs.declared.process_run.ProcessRun.{ProcessRun}
 use Rattle.lap_runner.specs.declared.run.Purging.{Purging}
-
--- a process as it names areas, whose literals were not read: what it names does not depend on the words of the areas
-abbrev pub unread : Process → PlainProcess
-unread p = process_of (λ serial. []) p
-
--- whether a frame of the process is of this instance
-abbrev pub stands_in : ℕ → PlainProcess → Bool
-stands_in serial p = is_among (names_of p).frames serial
-
--- whether the value is a literal of this area
-abbrev pub is_literal_of : ℕ → Value → Bool
-is_literal_of serial (Owned term) = false
-is_literal_of serial (Literal at) = at.area.serial == serial
-
--- whether a register of the frame holds a literal of this area
-abbrev pub has_literal_of : ℕ → Frame → Bool
-has_literal_of serial f = list_any (is_literal_of serial) f.registers
-
--- whether the process names the area in any way
-abbrev pub names_area : ℕ → PlainProcess → Bool
-names_area serial p = is_area_held (names_of p) serial
 
 -- whether one of these processes stands in the instance
 abbrev pub some_stands : ℕ → List ProcessRun → Bool

@@ -1,39 +1,28 @@
 -- What each step does to a run: an entry joins the journal, a loader makes a command or waits, a process has a turn.
 -- Source: this project's order of laps. The definitions relate the run before a step to the one after it.
-use Rattle.std.specs.Prelude.{◌≡◌, ◌≢◌, ℕ, ◌+◌, ◌<◌, true, false, Bool, List, [], ◌∷◌, ◌++◌, length, slice_get, slice_set, Option, Some, None, IfSome, IsSomeAnd}
-use Rattle.mod_core.specs.declared.code.Module.{Module}
+use Rattle.std.specs.Prelude.{◌≡◌, ℕ, ◌+◌, ◌<◌, true, false, Bool, List, length, slice_get, slice_set, Option, Some, None, IsSomeAnd}
 use Rattle.server_core.specs.declared.command.Cmd.{Cmd}
 use Rattle.server_core.specs.declared.command.Cmd.TheVariants as cmds
-use Rattle.server_core.specs.ServerState.{ServerState, IsSound}
-use Rattle.server_core.specs.CommandTable.{apply_of}
-use Rattle.machine_core.specs.declared.process.TurnEnd.{TurnEnd}
-use Rattle.machine_core.specs.declared.process.TurnEnd.TheVariants as turns
-use Rattle.machine_core.specs.Process.{PlainProcess, Words, names_of, process_of}
-use Rattle.machine_core.specs.Turn.{MayTurn, turn_of}
+use Rattle.server_core.specs.ServerState.{ServerState}
+use Rattle.machine_core.specs.Process.{Words, names_of, process_of}
+use Rattle.machine_core.specs.Turn.{MayTurn}
 use Rattle.machine_core.specs.View.{server_words, shown_of}
 use Rattle.script_core.specs.declared.script.Script.{Script}
 use Rattle.script_core.specs.declared.script.ScriptCmd.{ScriptCmd}
 use Rattle.script_core.specs.declared.script.ScriptCmd.TheVariants.{Spawn}
 use Rattle.script_core.specs.Processes.{spawns_in}
-use Rattle.run_log.specs.declared.logs.Who.{Who}
 use Rattle.run_log.specs.declared.logs.Who.TheVariants.{Loader}
-use Rattle.run_log.specs.declared.logs.Entry.{Entry}
-use Rattle.run_log.specs.declared.logs.Span.{Span}
 use Rattle.run_log.specs.Journal.{ends_one}
-use Rattle.run_log.specs.WholeSpans.{last_generation}
-use Rattle.lap_runner.specs.declared.process_run.Phase.{Phase}
-use Rattle.lap_runner.specs.declared.process_run.Phase.TheVariants.{Waiting, Going, Ended}
+use Rattle.run_steps.specs.declared.phase.Phase.{Phase}
+use Rattle.run_steps.specs.declared.phase.Phase.TheVariants.{Waiting, Going, Ended}
+use Rattle.run_steps.specs.Stands.{Stand}
+use Rattle.run_steps.specs.Steps.{HasJoined}
+use Rattle.run_steps.specs.Turns.{HadTurn}
 use Rattle.lap_runner.specs.declared.process_run.ProcessRun.{ProcessRun}
 use Rattle.lap_runner.specs.declared.run.LoaderRun.{LoaderRun}
 use Rattle.lap_runner.specs.declared.run.Purging.{Purging}
 use Rattle.lap_runner.specs.declared.run.Run.{Run}
 use Rattle.lap_runner.specs.Looks.{next_cmd}
-
--- a process of the script as definitions see it, with its spans so far and its phase
-pub record Stand : Type 0 where
-  pub process : PlainProcess
-  pub spans : List Span
-  pub phase : Phase
 
 -- what a process of a run stands for, where the areas have these words
 abbrev pub stand_of : Words → ProcessRun → Stand
@@ -42,15 +31,6 @@ stand_of words p = record { process = process_of words p.process; spans = p.span
 -- what a process of a run stands for beside a server in this state
 abbrev pub stand_in : ServerState → ProcessRun → Stand
 stand_in s p = stand_of (server_words s) p
-
--- a command was made on the server, and its entry joined the journal with what the command table gives
-pub record HasJoined (texts : List Module) (who : Who) (cmd : Cmd) (s t : ServerState) (before after : List Entry) : Type 0 where
-  pub entry : Entry
-  pub who_is : entry.who ≡ who
-  pub cmd_is : entry.cmd ≡ cmd
-  pub applied : apply_of texts s cmd ≡ Some (record { state = t; answer = record { reply = entry.reply; published = entry.published } })
-  pub sound : IsSound t
-  pub journal : after ≡ before ++ entry ∷ []
 
 -- a loader after one of its commands
 abbrev pub loader_after : ScriptCmd → LoaderRun → LoaderRun
@@ -99,25 +79,6 @@ pub record HasMade (s : Script) (loader : ℕ) (cmd : ScriptCmd) (before after :
 pub record HasWaited (loader : ℕ) (cmd : ScriptCmd) (before after : Run) : Type 0 where
   pub next : next_cmd before.server before.processes.items before.purging loader cmd ≡ None
   pub same : after ≡ before
-
--- the span that a turn under a generation joins was taken out of the spans: the last one where it is of that generation, else a new one
-pub data IsTaken (generation : ℕ) (before after : List Span) (span : Span) : Type 0 where
-  last_one : span.generation ≡ generation → before ≡ after ++ span ∷ [] → IsTaken generation before after span
-  new_one : span ≡ record { generation = generation; turns = 0; lines = [] } → after ≡ before → IfSome (last_generation before) (λ g. g ≢ generation) → IsTaken generation before after span
-
--- the phase of a process after a turn
-abbrev pub phase_after : TurnEnd → Phase
-phase_after turns.Again = Going
-phase_after (turns.Ended end) = Ended end
-
--- a process had a turn under a state, and its span has one turn more, with the lines of the turn
-pub record HadTurn (s : ServerState) (before after : Stand) : Type 0 where
-  pub others : List Span
-  pub span : Span
-  pub taken : IsTaken s.generation before.spans others span
-  pub process : (turn_of s before.process).process ≡ after.process
-  pub spans : after.spans ≡ others ++ record { generation = s.generation; turns = span.turns + 1; lines = span.lines ++ (turn_of s before.process).made } ∷ []
-  pub phase : after.phase ≡ phase_after (turn_of s before.process).end
 
 -- a process of a run had a turn beside a server in this state; where it goes on it may have another
 pub record HadItsTurn (s : ServerState) (before after : ProcessRun) : Type 0 where

@@ -7,10 +7,11 @@ ghost use Rattle.lap_runner.specs.Runs.{IsRun, done_of};
 ghost use Rattle.lap_runner.specs.Steps.{CanSpawn, HasMade, HasWaited, SpawnsNext, loader_after, purging_after};
 
 use crate::entries::make;
-use crate::process_run::{Phase, ProcessRun};
+use crate::process_run::ProcessRun;
 use crate::purges::{closing, lingering, purge_opening};
 use crate::run::{LoaderRun, Purging, Run};
 use run_log::Who;
+use run_steps::Phase;
 use script_core::{Script, ScriptCmd};
 use server_core::{Cmd, RefList};
 use std::alloc::Global;

@@ -1,6 +1,6 @@
 ghost use Rattle.std.specs.Prelude.{IfOk, IsSome};
 ghost use Rattle.server_core.specs.CommandTable.{AreTexts, IsOfText, apply_of};
-ghost use Rattle.lap_runner.specs.Steps.{HasJoined};
+ghost use Rattle.run_steps.specs.Steps.{HasJoined};
 
 use mod_core::ModuleList;
 use run_log::{Entry, EntryList, Who};

@@ -2,16 +2,17 @@ ghost use Rattle.std.specs.Prelude.{All, ◌≡◌, ◌+◌, ◌≤◌, ℕ, map
 ghost use Rattle.script_core.specs.Sound.{IsScript};
 ghost use Rattle.run_log.specs.Legal.{Legal};
 ghost use Rattle.run_log.specs.WholeSpans.{AreWhole};
-ghost use Rattle.lap_runner.specs.Observers.{KeepsGenerations};
-ghost use Rattle.lap_runner.specs.Runs.{AreIdle, HasNoWork, IsEnd, IsReadyIn, IsRun, Rests, log_of, one_if, turns_left, work_left};
+ghost use Rattle.run_steps.specs.Observers.{KeepsGenerations};
+ghost use Rattle.run_steps.specs.Stands.{IsEnd, Rests};
+ghost use Rattle.lap_runner.specs.Runs.{AreIdle, HasNoWork, IsReadyIn, IsRun, log_of, one_if, turns_left, work_left};
 ghost use Rattle.lap_runner.specs.Steps.{LapOf};
 
 use crate::commands::make_next;
-use crate::observers::{observe, observe_rest, observer_logs, waiting_observers};
-use crate::process_run::{Phase, ProcessRun, log_of, take_turn};
+use crate::process_run::{ProcessRun, log_of, take_turn};
 use crate::releases::release_areas;
 use crate::run::{Run, begin};
 use run_log::{ProcessLogList, RunLog, exported_functions};
+use run_steps::{Phase, observe, observe_rest, observer_logs, waiting_observers};
 use script_core::Script;
 use server_core::Server;
 use std::alloc::Global;

@@ -4,7 +4,6 @@
 mod commands;
 mod entries;
 mod laps;
-mod observers;
 mod process_run;
 mod purges;
 mod releases;

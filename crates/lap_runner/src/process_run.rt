@@ -1,24 +1,17 @@
 ghost use Rattle.std.specs.Prelude.{◌≡◌, ◌==◌, IfOk};
 ghost use Rattle.std.specs.List.{list_any};
-ghost use Rattle.lap_runner.specs.Looks.{has_literal_of, is_literal_of, names_area, stands_in, unread};
-ghost use Rattle.lap_runner.specs.Runs.{IsEnd, IsReady, log_of};
-ghost use Rattle.lap_runner.specs.Steps.{HadItsTurn, IsTaken, phase_after};
+ghost use Rattle.run_steps.specs.Names.{has_literal_of, is_literal_of, names_area, stands_in, unread};
+ghost use Rattle.run_steps.specs.Stands.{IsEnd, phase_after};
+ghost use Rattle.run_steps.specs.Turns.{IsTaken};
+ghost use Rattle.lap_runner.specs.Runs.{IsReady, log_of};
+ghost use Rattle.lap_runner.specs.Steps.{HadItsTurn};
 
-use machine_core::{End, Frame, LineList, PlainView, Process, TurnEnd, Value, turn};
+use machine_core::{Frame, LineList, PlainView, Process, TurnEnd, Value, turn};
 use run_log::{ProcessLog, Span, SpanList};
+use run_steps::Phase;
 use server_core::Server;
 use std::alloc::Global;
 use term_core::NoMemory;
-
-/// Whether a process was spawned, and whether it goes on.
-#[derive(Clone, Copy, Debug, PartialEq, Eq)]
-pub enum Phase {
-    /// Its spawn is still to come.
-    Waiting,
-    /// It was spawned and has a turn in each lap.
-    Going,
-    Ended(End),
-}
 
 /// A process of the script, with what it did so far.
 #[derive(Drop)]

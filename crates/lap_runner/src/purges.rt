@@ -2,8 +2,9 @@ ghost use Rattle.std.specs.Prelude.{◌≡◌};
 ghost use Rattle.server_core.specs.ServerState.{old_of};
 ghost use Rattle.lap_runner.specs.Looks.{closing, lingering, purge_opening, some_killed, some_stands, was_killed_by};
 
-use crate::process_run::{Phase, ProcessRun, stands_in};
+use crate::process_run::{ProcessRun, stands_in};
 use machine_core::End;
+use run_steps::Phase;
 use server_core::{Cmd, Linger, Server};
 use term_core::AtomId;
 

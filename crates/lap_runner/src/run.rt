@@ -2,13 +2,15 @@ ghost use Rattle.std.specs.Prelude.{◌≡◌, ◌+◌, ◌++◌, ◌≤◌, len
 ghost use Rattle.std.specs.List.{AllByRecursion};
 ghost use Rattle.machine_core.specs.Process.{Words};
 ghost use Rattle.script_core.specs.Sound.{IsScript};
-ghost use Rattle.lap_runner.specs.Runs.{HasArity, IsRun, loaders_from, waiting_from, waiting_of, waiting_stand};
+ghost use Rattle.lap_runner.specs.Runs.{HasArity, IsRun, loaders_from, waiting_from, waiting_of};
+ghost use Rattle.run_steps.specs.Stands.{waiting_stand};
 ghost use Rattle.script_core.specs.Processes.{spawn_count};
 ghost use Rattle.lap_runner.specs.Steps.{stand_of};
 
-use crate::process_run::{Phase, ProcessRun};
+use crate::process_run::ProcessRun;
 use machine_core::Process;
 use run_log::{EntryList, SpanList};
+use run_steps::Phase;
 use script_core::{CommandList, MOST_PROCESSES, Script, ScriptCmd};
 use server_core::Server;
 use std::alloc::Global;

@@ -1,4 +1,4 @@
-use Rattle.lap_runner.specs.Observers.{HaveObserved}
+use Rattle.run_steps.specs.Observers.{HaveObserved}
 use Rattle.lap_runner.specs.Runs.{IsRun, work_left}
 use Rattle.lap_runner.proofs.laps.run_laps.Given as goal
 

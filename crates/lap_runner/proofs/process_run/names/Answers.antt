@@ -1,7 +1,7 @@
 use Rattle.std.proofs.Common.{◌∙◌, ap, sym}
 use Rattle.std.specs.List.{list_any}
-use Rattle.lap_runner.specs.Looks.{has_literal_of}
-use Rattle.lap_runner.proofs.Frames.{names_by}
+use Rattle.run_steps.specs.Names.{has_literal_of}
+use Rattle.run_steps.proofs.Frames.{names_by}
 use Rattle.lap_runner.proofs.process_run.names.Goals as goal
 
 -- by a literal in a register

@@ -1,7 +1,7 @@
 use Rattle.std.proofs.Common.{◌∙◌, ap}
 use Rattle.std.specs.List.{list_any}
 use Rattle.std.proofs.Common.{◌==◌}
-use Rattle.lap_runner.proofs.Frames.{stands_by}
+use Rattle.run_steps.proofs.Frames.{stands_by}
 use Rattle.lap_runner.proofs.process_run.stands_in.Goals as goal
 
 -- by its frames

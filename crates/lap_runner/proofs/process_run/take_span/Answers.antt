@@ -1,5 +1,5 @@
 use Rattle.std.proofs.Common.{◌∙◌}
-use Rattle.lap_runner.proofs.Taking.{none_there, put_back}
+use Rattle.run_steps.proofs.Taking.{none_there, put_back}
 use Rattle.lap_runner.proofs.process_run.take_span.Goals.{in-Some+else-span-generation+in_ok-push, in_default}
 use Rattle.lap_runner.proofs.process_run.take_span.Goals as goal
 

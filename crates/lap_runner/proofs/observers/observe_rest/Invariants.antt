@@ -1,7 +1,0 @@
-use Rattle.lap_runner.specs.Observers.{TakesAll}
-use Rattle.lap_runner.proofs.Observing.{BecameSoFar}
-use Rattle.lap_runner.proofs.observers.observe_rest.Given as goal
-
--- the first observers have taken what they lacked
-abbrev pub invariant-loop-observer : goal.invariant-loop-observer
-invariant-loop-observer l = BecameSoFar (TakesAll l.server l.functions) l.fn.observers l.observers l.observer-index
