@@ -1,2 +1,4 @@
+pub mod ListFaults
+pub mod Stops
 pub mod TopCalls
 pub mod Counts

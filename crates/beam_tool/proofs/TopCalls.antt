@@ -6,7 +6,6 @@ use Rattle.std.specs.Io.KnownBytes.{Appends}
 use Rattle.prgr_core.specs.declared.event.Events.{Events}
 use Rattle.prgr_core.specs.declared.event.PrgrEvent.{PrgrEvent}
 use Rattle.prgr_core.specs.EventText.{EventText}
-use Rattle.prgr_core.specs.Reading.{reading}
 use Rattle.prgr_core.specs.declared.progress.Progress.{Progress}
 use Rattle.prgr_core.specs.Step.{after, after_all, opening, StopsAt}
 use Rattle.prgr_core.proofs.Grammars.{reading_complete}
@@ -20,13 +19,14 @@ use Rattle.script_text.specs.declared.fault.ScriptFault.TheVariants as faults
 use Rattle.script_text.specs.ScriptText.{ScriptText, FaultOf}
 use Rattle.run_log.specs.declared.logs.RunLog.{RunLog}
 use Rattle.run_log.specs.Legal.{Legal}
+use Rattle.run_log.specs.Report.{rendering_of}
 use Rattle.report_text.specs.declared.fault.ReportFault.{ReportFault}
 use Rattle.report_text.specs.ReportText.{FaultOf as ReportFaultOf}
 use Rattle.outside.specs.Outside.{Rose}
 use Rattle.outside.specs.Parting.{script_part, report_part}
 use Rattle.outside.specs.Answers.{IsLine, refusal_text}
 use Rattle.outside.specs.Inputs.{WasRead, IsTooLong, IsNoScript, HasNoFault, IsScriptRead, IsReportOf, IsReportRead, HasScriptAndReport, HasFaultyReport}
-use Rattle.beam_tool.specs.TopCall.{IsUnlawful, ReportOf, made, ScriptVerdict, report, refusal, ReplayOf, all_made, stopped, ListVerdict, replay, fault, ReportVerdict, report_refused, lawful, not_lawful, CheckVerdict, script_refused, judged, ReadVerdict, whole_text, long_text, lawful_text, not_lawful_text, done_text, not_enabled_text, Verdict, misread, run, check, progress, Answered, Reported, Checked, SourceFailed, SinkFailed, Delivered, whole, cut, Ends, written, cut_off, source_failed, no_memory}
+use Rattle.beam_tool.specs.TopCall.{IsAccepted, IsNoList, IsUnlawful, ReportOf, made, ScriptVerdict, report, refusal, ReplayOf, all_made, stopped, ListVerdict, replay, fault, ReportVerdict, report_refused, lawful, not_lawful, CheckVerdict, script_refused, judged, ReadVerdict, whole_text, long_text, lawful_text, not_lawful_text, done_text, not_enabled_text, Verdict, misread, run, check, progress, Answered, Reported, Checked, SourceFailed, SinkFailed, Delivered, whole, cut, Ends, written, cut_off, source_failed, no_memory}
 use Rattle.outside.proofs.ScriptParts.{parts_are_whole, part_of_script, part_behind_script}
 
 -- ---- what the bytes come to
@@ -68,10 +68,6 @@ long_is : (limit : ℕ) (left : Option (List ℕ)) (bytes : List ℕ) → left �
 long_is limit None bytes e l = absurd cc
 long_is limit (Some told) bytes e l = let same : told ≡ bytes = cc in subst (λ (x : List ℕ). limit < length x) same l
 
--- two answers to one text differ
-apart : {A B : Type 0} {a : A} {b : B} (r : Result A B) → r ≡ Ok a → r ≡ Err b → ⊥
-apart r e f = cc
-
 -- ---- how a call ended
 
 replay_status : {events : Events} {status : ℕ} {log : Option RunLog} {text : List ℕ} → ReplayOf events status log text → status ≤ 1
@@ -94,7 +90,7 @@ report_log (not_lawful _ r l) = refl
 
 known_verdict : {left left' : Option (List ℕ)} {form : Option Form} {status : ℕ} {log : Option RunLog} {text : List ℕ} → Verdict left left' form status log text → status ≤ 3
 known_verdict misread = omega arith
-known_verdict (run _ _ _ _ (whole_text _ _ _ _ r (report _ _ _ _ t h (made _ _ l e)))) = omega arith
+known_verdict (run _ _ _ _ (whole_text _ _ _ _ r (report _ _ _ _ t h (made _ _ l k e)))) = omega arith
 known_verdict (run _ _ _ _ (whole_text _ _ _ _ r (refusal _ q bare))) = omega arith
 known_verdict (run _ _ _ _ (long_text l)) = omega arith
 known_verdict (check _ _ _ (whole_text _ _ _ _ r (script_refused _ q bare))) = omega arith
@@ -118,8 +114,8 @@ answered_of (no_memory f) e = absurd (omega arith)
 
 pub headline_of : (n : ℕ) → {form : Option Form} {left left' : Option (List ℕ)} {sf sf' : ℕ} {got got' : Option (List ℕ)} {kf kf' : ℕ} {status : ℕ} {log : Option RunLog} → Ends form left left' sf sf' got got' kf kf' status log → form ≡ Some (forms.Run n) → status ≡ 0 → Reported left left' got got' log
 headline_of n (written _ _ _ misread a) f e = absurd cc
-headline_of n {got = got} {got' = got'} (written _ _ _ (run _ _ _ _ (whole_text bytes _ _ _ r (report s _ _ _ t h (made log text l q)))) a) f e =
-    record { bytes = bytes; script = s; log = log; read = r; text = t; answered_is = refl; legal = l; written = subst (λ (x : List ℕ). Appends got got' x) q a }
+headline_of n {got = got} {got' = got'} (written _ _ _ (run _ _ _ _ (whole_text bytes _ _ _ r (report s _ _ _ t h (made log text l k q)))) a) f e =
+    record { bytes = bytes; script = s; log = log; read = r; text = t; answered_is = refl; legal = l; formed = k; written = subst (λ (x : List ℕ). Appends got got' x) q a }
 headline_of n (written _ _ _ (run _ _ _ _ (whole_text _ _ _ _ r (refusal _ q bare))) a) f e = absurd (omega arith)
 headline_of n (written _ _ _ (run _ _ _ _ (long_text l)) a) f e = absurd (omega arith)
 headline_of n (written _ _ _ (check _ _ _ v) a) f e = absurd cc
@@ -127,6 +123,22 @@ headline_of n (written _ _ _ (progress _ _ _ v) a) f e = absurd cc
 headline_of n (cut_off _ _ _ v r p) f e = absurd (omega arith)
 headline_of n (source_failed g r) f e = absurd (omega arith)
 headline_of n (no_memory g) f e = absurd (omega arith)
+
+-- what a run wrote stands behind its script as a report
+accepted_by : {left left' got got' : Option (List ℕ)} {log : Option RunLog} → Reported left left' got got' log → IsAccepted left left' got got'
+accepted_by r = record {
+  bytes = r.bytes;
+  report = rendering_of r.script.names r.log;
+  script = r.script;
+  log = r.log;
+  read = r.read;
+  written = r.written;
+  parts = record { front = r.bytes; behind = rendering_of r.script.names r.log; whole = refl; text = r.text; report = record { formed = r.formed; text_is = refl } };
+  holds = r.legal;
+}
+
+pub accepted_of : (n : ℕ) → {form : Option Form} {left left' : Option (List ℕ)} {sf sf' : ℕ} {got got' : Option (List ℕ)} {kf kf' : ℕ} {status : ℕ} {log : Option RunLog} → Ends form left left' sf sf' got got' kf kf' status log → form ≡ Some (forms.Run n) → status ≡ 0 → IsAccepted left left' got got'
+accepted_of n ends f e = accepted_by (headline_of n ends f e)
 
 -- what was read of a script and a report, as the whole of the bytes
 parts_read : (bytes : List ℕ) (s : Script) (log : RunLog) → ScriptText (script_part bytes) s → IsReportOf s.names (report_part bytes) log → HasScriptAndReport bytes s log
@@ -188,7 +200,7 @@ check_log (whole_text _ _ _ _ r (judged _ _ _ _ rs v)) = report_log v
 check_log (long_text l) = refl
 
 no_log_verdict : {left left' : Option (List ℕ)} {form : Option Form} {status : ℕ} {log : Option RunLog} {text : List ℕ} → Verdict left left' form status log text → status ≢ 0 → log ≡ None
-no_log_verdict (run _ _ _ _ (whole_text _ _ _ _ r (report _ _ _ _ t h (made _ _ l e)))) d = absurd (d refl)
+no_log_verdict (run _ _ _ _ (whole_text _ _ _ _ r (report _ _ _ _ t h (made _ _ l k e)))) d = absurd (d refl)
 no_log_verdict (check _ _ _ v) d = check_log v
 no_log_verdict (progress _ _ _ (whole_text _ _ _ _ r (replay _ _ _ _ t v))) d = replay_log v
 no_log_verdict v d = refl
@@ -213,6 +225,12 @@ no_log_checked_of (no_memory g) f = refl
 
 -- ---- where no count rose
 
+pub misread_of : {form : Option Form} {left left' : Option (List ℕ)} {sf sf' : ℕ} {got got' : Option (List ℕ)} {kf kf' : ℕ} {status : ℕ} {log : Option RunLog} → Ends form left left' sf sf' got got' kf kf' status log → form ≡ None → status ≢ 6
+misread_of (written _ _ _ v a) e = λ six. omega (arith, known_verdict v, six)
+misread_of (cut_off _ _ _ v r p) e = λ six. omega (arith, six)
+misread_of (source_failed f r) e = absurd (f e)
+misread_of (no_memory f) e = absurd (f e)
+
 pub complete_words_of : {form : Option Form} {left left' : Option (List ℕ)} {sf sf' : ℕ} {got got' : Option (List ℕ)} {kf kf' : ℕ} {status : ℕ} {log : Option RunLog} → Ends form left left' sf sf' got got' kf kf' status log → form ≡ None → Rose kf kf' ⊎ (status ≡ 2)
 complete_words_of (written _ _ _ misread a) e = inr refl
 complete_words_of (written _ _ _ (run _ _ _ _ v) a) e = absurd cc
@@ -224,7 +242,7 @@ complete_words_of (no_memory f) e = absurd (f e)
 
 pub complete_run_of : {form : Option Form} {left left' : Option (List ℕ)} {sf sf' : ℕ} {got got' : Option (List ℕ)} {kf kf' : ℕ} {status : ℕ} {log : Option RunLog} (n : ℕ) (bytes : List ℕ) (s : Script) → Ends form left left' sf sf' got got' kf kf' status log → form ≡ Some (forms.Run n) → left ≡ Some bytes → ScriptText bytes s → (Rose sf sf' → ⊥) → (Rose kf kf' → ⊥) → (status ≡ 0) ⊎ (status ≡ 6)
 complete_run_of n bytes s (written _ _ _ misread a) e l t ns nk = absurd cc
-complete_run_of n bytes s (written _ _ _ (run _ _ _ _ (whole_text _ _ _ _ r (report _ _ _ _ _ _ (made _ _ _ _)))) a) e l t ns nk = inl refl
+complete_run_of n bytes s (written _ _ _ (run _ _ _ _ (whole_text _ _ _ _ r (report _ _ _ _ _ _ (made _ _ _ _ _)))) a) e l t ns nk = inl refl
 complete_run_of n bytes s (written _ _ _ (run _ _ _ _ (whole_text _ _ _ _ r (refusal _ q bare))) a) e l t ns nk = absurd (bare s (subst (λ (x : List ℕ). ScriptText x s) (told_is l r) t))
 complete_run_of {left = left} n bytes s (written _ _ _ (run _ _ _ _ (long_text long)) a) e l t ns nk = absurd (omega (arith, long_is LONGEST_SCRIPT left bytes l long, t.whole.short))
 complete_run_of n bytes s (written _ _ _ (check _ _ _ v) a) e l t ns nk = absurd cc
@@ -235,7 +253,7 @@ complete_run_of n bytes s (no_memory f) e l t ns nk = inr refl
 
 pub complete_refusal_of : {form : Option Form} {left left' : Option (List ℕ)} {sf sf' : ℕ} {got got' : Option (List ℕ)} {kf kf' : ℕ} {status : ℕ} {log : Option RunLog} (n : ℕ) (bytes : List ℕ) (q : ScriptFault) → Ends form left left' sf sf' got got' kf kf' status log → form ≡ Some (forms.Run n) → left ≡ Some bytes → FaultOf bytes q → (Rose sf sf' → ⊥) → (Rose kf kf' → ⊥) → (status ≡ 3) ⊎ (status ≡ 6)
 complete_refusal_of n bytes q (written _ _ _ misread a) e l t ns nk = absurd cc
-complete_refusal_of n bytes q (written _ _ _ (run _ _ _ _ (whole_text _ _ _ _ r (report _ _ _ _ _ sane (made _ _ _ _)))) a) e l t ns nk = absurd (sane q (subst (λ (b : List ℕ). FaultOf b q) (told_is l r) t))
+complete_refusal_of n bytes q (written _ _ _ (run _ _ _ _ (whole_text _ _ _ _ r (report _ _ _ _ _ sane (made _ _ _ _ _)))) a) e l t ns nk = absurd (sane q (subst (λ (b : List ℕ). FaultOf b q) (told_is l r) t))
 complete_refusal_of n bytes q (written _ _ _ (run _ _ _ _ (whole_text _ _ _ _ r (refusal _ _ _))) a) e l t ns nk = inl refl
 complete_refusal_of n bytes q (written _ _ _ (run _ _ _ _ (long_text long)) a) e l t ns nk = inl refl
 complete_refusal_of n bytes q (written _ _ _ (check _ _ _ v) a) e l t ns nk = absurd cc
@@ -364,7 +382,7 @@ complete_replay_of bytes events state (written _ _ _ (run _ _ _ _ v) a) e l s t 
 complete_replay_of bytes events state (written _ _ _ (check _ _ _ v) a) e l s t m ns nk = absurd cc
 complete_replay_of bytes events state (written _ _ _ (progress _ _ _ (whole_text _ _ _ _ r (replay _ _ _ _ u v))) a) e l s t m ns nk = inl (made_status state m (told_list l r t u v))
 complete_replay_of bytes events state (written _ _ _ (progress _ _ _ (whole_text read _ _ _ r (fault line f))) a) e l s t m ns nk =
-    absurd (apart (reading read) (reading_complete read events (subst (λ (x : List ℕ). EventText x events) (told_is l r) t)) f)
+    absurd (f.none events (subst (λ (x : List ℕ). EventText x events) (told_is l r) t))
 complete_replay_of {left = left} bytes events state (written _ _ _ (progress _ _ _ (long_text long)) a) e l s t m ns nk = absurd (omega (arith, long_is LONGEST_SCRIPT left bytes l long, s))
 complete_replay_of bytes events state (cut_off _ _ _ v r p) e l s t m ns nk = absurd (nk r)
 complete_replay_of bytes events state (source_failed f r) e l s t m ns nk = absurd (ns r)
@@ -376,27 +394,27 @@ complete_stop_of bytes events index state (written _ _ _ (run _ _ _ _ v) a) e l 
 complete_stop_of bytes events index state (written _ _ _ (check _ _ _ v) a) e l s t m ns nk = absurd cc
 complete_stop_of bytes events index state (written _ _ _ (progress _ _ _ (whole_text _ _ _ _ r (replay _ _ _ _ u v))) a) e l s t m ns nk = inl (stopped_status index state m (told_list l r t u v))
 complete_stop_of bytes events index state (written _ _ _ (progress _ _ _ (whole_text read _ _ _ r (fault line f))) a) e l s t m ns nk =
-    absurd (apart (reading read) (reading_complete read events (subst (λ (x : List ℕ). EventText x events) (told_is l r) t)) f)
+    absurd (f.none events (subst (λ (x : List ℕ). EventText x events) (told_is l r) t))
 complete_stop_of {left = left} bytes events index state (written _ _ _ (progress _ _ _ (long_text long)) a) e l s t m ns nk = absurd (omega (arith, long_is LONGEST_SCRIPT left bytes l long, s))
 complete_stop_of bytes events index state (cut_off _ _ _ v r p) e l s t m ns nk = absurd (nk r)
 complete_stop_of bytes events index state (source_failed f r) e l s t m ns nk = absurd (ns r)
 complete_stop_of bytes events index state (no_memory f) e l s t m ns nk = inr refl
 
--- a text that is over the limit or faulty is no event list that was read
-no_list : (bytes read : List ℕ) (line : ℕ) (events : Events) → bytes ≡ read → length read ≤ LONGEST_SCRIPT → EventText read events → (LONGEST_SCRIPT < length bytes) ⊎ (reading bytes ≡ Err line) → ⊥
-no_list bytes read line events same short t (inl long) = omega (arith, long, short, ap length same)
-no_list bytes read line events same short t (inr f) = apart (reading bytes) (reading_complete bytes events (subst (λ (x : List ℕ). EventText x events) (sym same) t)) f
+-- a text that is over the limit or no list is no event list that was read
+no_list : (bytes read : List ℕ) (events : Events) → bytes ≡ read → length read ≤ LONGEST_SCRIPT → EventText read events → (LONGEST_SCRIPT < length bytes) ⊎ IsNoList bytes → ⊥
+no_list bytes read events same short t (inl long) = omega (arith, long, short, ap length same)
+no_list bytes read events same short t (inr none) = none events (subst (λ (x : List ℕ). EventText x events) (sym same) t)
 
-pub complete_fault_of : {form : Option Form} {left left' : Option (List ℕ)} {sf sf' : ℕ} {got got' : Option (List ℕ)} {kf kf' : ℕ} {status : ℕ} {log : Option RunLog} (bytes : List ℕ) (line : ℕ) → Ends form left left' sf sf' got got' kf kf' status log → form ≡ Some forms.Progress → left ≡ Some bytes → (LONGEST_SCRIPT < length bytes) ⊎ (reading bytes ≡ Err line) → (Rose sf sf' → ⊥) → (Rose kf kf' → ⊥) → (status ≡ 3) ⊎ (status ≡ 6)
-complete_fault_of bytes line (written _ _ _ misread a) e l f ns nk = absurd cc
-complete_fault_of bytes line (written _ _ _ (run _ _ _ _ v) a) e l f ns nk = absurd cc
-complete_fault_of bytes line (written _ _ _ (check _ _ _ v) a) e l f ns nk = absurd cc
-complete_fault_of bytes line (written _ _ _ (progress _ _ _ (whole_text read _ _ _ r (replay events _ _ _ t _))) a) e l f ns nk = absurd (no_list bytes read line events (told_is l r) r.short t f)
-complete_fault_of bytes line (written _ _ _ (progress _ _ _ (whole_text _ _ _ _ r (fault _ _))) a) e l f ns nk = inl refl
-complete_fault_of bytes line (written _ _ _ (progress _ _ _ (long_text long)) a) e l f ns nk = inl refl
-complete_fault_of bytes line (cut_off _ _ _ v r p) e l f ns nk = absurd (nk r)
-complete_fault_of bytes line (source_failed g r) e l f ns nk = absurd (ns r)
-complete_fault_of bytes line (no_memory g) e l f ns nk = inr refl
+pub complete_fault_of : {form : Option Form} {left left' : Option (List ℕ)} {sf sf' : ℕ} {got got' : Option (List ℕ)} {kf kf' : ℕ} {status : ℕ} {log : Option RunLog} (bytes : List ℕ) → Ends form left left' sf sf' got got' kf kf' status log → form ≡ Some forms.Progress → left ≡ Some bytes → (LONGEST_SCRIPT < length bytes) ⊎ IsNoList bytes → (Rose sf sf' → ⊥) → (Rose kf kf' → ⊥) → (status ≡ 3) ⊎ (status ≡ 6)
+complete_fault_of bytes (written _ _ _ misread a) e l f ns nk = absurd cc
+complete_fault_of bytes (written _ _ _ (run _ _ _ _ v) a) e l f ns nk = absurd cc
+complete_fault_of bytes (written _ _ _ (check _ _ _ v) a) e l f ns nk = absurd cc
+complete_fault_of bytes (written _ _ _ (progress _ _ _ (whole_text read _ _ _ r (replay events _ _ _ t _))) a) e l f ns nk = absurd (no_list bytes read events (told_is l r) r.short t f)
+complete_fault_of bytes (written _ _ _ (progress _ _ _ (whole_text _ _ _ _ r (fault _ _))) a) e l f ns nk = inl refl
+complete_fault_of bytes (written _ _ _ (progress _ _ _ (long_text long)) a) e l f ns nk = inl refl
+complete_fault_of bytes (cut_off _ _ _ v r p) e l f ns nk = absurd (nk r)
+complete_fault_of bytes (source_failed g r) e l f ns nk = absurd (ns r)
+complete_fault_of bytes (no_memory g) e l f ns nk = inr refl
 
 -- ---- how a call comes to its end
 

@@ -1,15 +1,14 @@
 -- What the top call comes to: the form of its words, and for each status what it was answered for and what was written.
 -- What is said of the source's or the sink's bytes holds where these are told.
 -- Source: this project's command line.
-use Rattle.std.specs.Prelude.{◌≡◌, ◌≢◌, ℕ, ◌≤◌, ◌&&◌, List, [], ◌∷◌, ◌++◌, length, Some, None, option_map, bytes_eq, codes, decimal, if◌then◌else◌}
+use Rattle.std.specs.Prelude.{◌≡◌, ◌≢◌, ℕ, ◌+◌, ◌≤◌, ◌&&◌, List, [], ◌∷◌, ◌++◌, length, Some, None, option_map, bytes_eq, codes, decimal, if◌then◌else◌}
 use Rattle.std.specs.List.{find, range_with_len}
 use Rattle.std.specs.declared.option.Option.{Option}
-use Rattle.std.specs.declared.result.Result.TheVariants.{Err}
 use Rattle.std.specs.Io.KnownBytes.{Appends}
 use Rattle.prgr_core.specs.declared.event.Events.{Events}
 use Rattle.prgr_core.specs.declared.progress.Progress.{Progress}
 use Rattle.prgr_core.specs.EventText.{EventText}
-use Rattle.prgr_core.specs.Reading.{reading}
+use Rattle.prgr_core.specs.Faults.{IsFirstFault}
 use Rattle.prgr_core.specs.Step.{after_all, opening, StopsAt}
 use Rattle.outside.specs.declared.check_input.TheConstants.{LONGEST_CHECK}
 use Rattle.beam_tool.specs.declared.form.TheConstants.{MOST_SCHEDULERS}
@@ -23,6 +22,7 @@ use Rattle.script_text.specs.ScriptText.{ScriptText, FaultOf}
 use Rattle.run_log.specs.declared.logs.RunLog.{RunLog}
 use Rattle.run_log.specs.Report.{rendering_of, line_of}
 use Rattle.run_log.specs.Legal.{Legal}
+use Rattle.run_log.specs.WellFormed.{IsWellFormed}
 use Rattle.report_text.specs.declared.fault.ReportFault.TheVariants as report_faults
 use Rattle.report_text.specs.ReportText.{FaultOf as ReportFaultOf}
 use Rattle.outside.specs.Answers.{refusal_text, report_syntax_text}
@@ -47,6 +47,13 @@ form_of (command ∷ []) =
 form_of [] = None
 form_of (command ∷ option ∷ []) = None
 form_of (command ∷ option ∷ count ∷ more ∷ rest) = None
+
+-- how many bytes words of this form take from the source at most: one more than what they read may have, and none where they are of no form
+abbrev pub most_taken : Option Form → ℕ
+most_taken None = 0
+most_taken (Some (forms.Run schedulers)) = LONGEST_SCRIPT + 1
+most_taken (Some forms.Check) = LONGEST_CHECK + 1
+most_taken (Some forms.Progress) = LONGEST_SCRIPT + 1
 
 -- the line for words of no form
 abbrev pub not_understood_text : List ℕ
@@ -86,14 +93,24 @@ pub record IsReplayable (events : Events) : Type 0 where
   pub few_members : events.members ≤ 16
   pub few_watchers : events.watchers ≤ 4
 
--- the answer to a script: a history of one code server for it, and its report
+-- the answer to a script: a history of one code server for it, which a report can show, and its report
 pub data ReportOf (s : Script) : ℕ → Option RunLog → List ℕ → Type 0 where
-  made : (log : RunLog) (text : List ℕ) → Legal s log → text ≡ rendering_of s.names log → ReportOf s 0 (Some log) text
+  made : (log : RunLog) (text : List ℕ) → Legal s log → IsWellFormed s.names log → text ≡ rendering_of s.names log → ReportOf s 0 (Some log) text
 
 -- the answer of a run to the bytes that it read: the report of the script that they are, or their one fault
 pub data ScriptVerdict (bytes : List ℕ) : ℕ → Option RunLog → List ℕ → Type 0 where
   report : (s : Script) (status : ℕ) (log : Option RunLog) (text : List ℕ) → ScriptText bytes s → HasNoFault bytes → ReportOf s status log text → ScriptVerdict bytes status log text
   refusal : (f : ScriptFault) → FaultOf bytes f → IsNoScript bytes → ScriptVerdict bytes 3 None (refusal_text f)
+
+-- the bytes are the text of no list of events
+abbrev pub IsNoList : List ℕ → Type 0
+IsNoList bytes = (events : Events) → EventText bytes events → ⊥
+
+-- the bytes are the text of no list of events, and this is their first line of another form, and the only one
+pub record IsListFault (bytes : List ℕ) (line : ℕ) : Type 0 where
+  pub none : IsNoList bytes
+  pub first : IsFirstFault bytes line
+  pub only : (other : ℕ) → IsFirstFault bytes other → other ≡ line
 
 -- the answer to an event list: all events were made, or the first that is not enabled
 pub data ReplayOf (events : Events) : ℕ → Option RunLog → List ℕ → Type 0 where
@@ -103,7 +120,7 @@ pub data ReplayOf (events : Events) : ℕ → Option RunLog → List ℕ → Typ
 -- the answer of a replay to the bytes that it read: that to the event list that they are, or the first faulty line
 pub data ListVerdict (bytes : List ℕ) : ℕ → Option RunLog → List ℕ → Type 0 where
   replay : (events : Events) (status : ℕ) (log : Option RunLog) (text : List ℕ) → EventText bytes events → ReplayOf events status log text → ListVerdict bytes status log text
-  fault : (line : ℕ) → reading bytes ≡ Err line → ListVerdict bytes 3 None (syntax_text line)
+  fault : (line : ℕ) → IsListFault bytes line → ListVerdict bytes 3 None (syntax_text line)
 
 -- the answer to a report, for the script that stands before it: it is refused, or its log is lawful, or it is not
 pub data ReportVerdict (s : Script) (report : List ℕ) : ℕ → Option RunLog → List ℕ → Type 0 where
@@ -134,7 +151,7 @@ pub record Answered (form : Option Form) (left left_after got got_after : Option
   pub verdict : Verdict left left_after form status log text
   pub written : Appends got got_after text
 
--- status 0 of a run, the headline: the whole source is a script's text, the log is lawful for it, and its report was written
+-- status 0 of a run, the headline: the whole source is a script's text, the log is lawful for it and one that a report can show, and its report was written
 pub record Reported (left left_after got got_after : Option (List ℕ)) (answered : Option RunLog) : Type 0 where
   pub bytes : List ℕ
   pub script : Script
@@ -143,7 +160,19 @@ pub record Reported (left left_after got got_after : Option (List ℕ)) (answere
   pub text : ScriptText bytes script
   pub answered_is : answered ≡ Some log
   pub legal : Legal script log
+  pub formed : IsWellFormed script.names log
   pub written : Appends got got_after (rendering_of script.names log)
+
+-- what a run wrote is a report that a check accepts: behind the script's text that was read stands the report of a log that is lawful for it
+pub record IsAccepted (left left_after got got_after : Option (List ℕ)) : Type 0 where
+  pub bytes : List ℕ
+  pub report : List ℕ
+  pub script : Script
+  pub log : RunLog
+  pub read : WasRead LONGEST_SCRIPT left left_after bytes
+  pub written : Appends got got_after report
+  pub parts : HasScriptAndReport (bytes ++ report) script log
+  pub holds : Legal script log
 
 -- statuses 0 and 1 of a check: the whole source is a script's text and behind it the report of a log, of the two this is true, and this line was written
 pub record Checked (judgement : Script → RunLog → Type 0) (line : List ℕ) (left left_after got got_after : Option (List ℕ)) : Type 0 where

@@ -1,6 +1,6 @@
-ghost use Rattle.std.specs.Prelude.{◌≤◌, ℕ, List, length, IfOk, IsErrOf};
+ghost use Rattle.std.specs.Prelude.{◌+◌, ◌≤◌, ℕ, List, length, IfOk, IsErrOf};
 ghost use Rattle.script_core.specs.Sound.{IsScript};
-ghost use Rattle.outside.specs.Outside.{Rose};
+ghost use Rattle.outside.specs.Outside.{Rose, TakesUpTo};
 ghost use Rattle.outside.specs.Inputs.{IsReportRead};
 ghost use Rattle.beam_tool.specs.TopCall.{ReadVerdict, CheckVerdict, ReportVerdict};
 
@@ -21,6 +21,7 @@ pub fn check_answer<S: Source>(alloc: Global, source: &mut S) -> Result<Answer, 
         (λ a. ReadVerdict LONGEST_CHECK (S.left source.old) (S.left source.new) CheckVerdict a.status a.log a.text) }
     ensures failed { IsErrOf result Stop.SourceFault
         → Rose (S.faults source.old) (S.faults source.new) }
+    ensures stops { TakesUpTo (LONGEST_CHECK + 1) (S.left source.old) (S.left source.new) }
 {
     match read_whole(alloc, source, LONGEST_CHECK)? {
         Input::Whole(bytes) => Ok(judged(alloc, bytes.as_slice())?),

@@ -1,5 +1,6 @@
 use crate::tests::{CALM, CHECK, outcome_of};
 use std::alloc::AllocError;
+use std::process::Abort;
 use std::sync::Wait;
 use std::test::Fail;
 use std::thread::Threads;
@@ -34,7 +35,7 @@ const FIRST_TOLD: &str =
 
 /// Whether the report with these lines, which tells so many generations, is judged so behind the script with these
 /// lines.
-fn is_judged<R: Threads + Wait + Sync + AllocGlobal>(
+fn is_judged<R: Threads + Wait + Sync + AllocGlobal + Abort>(
     rt: &R,
     lines: &str,
     generations: u64,

@@ -1,5 +1,5 @@
-ghost use Rattle.std.specs.Prelude.{IfOk, IsErrOf};
-ghost use Rattle.outside.specs.Outside.{Rose};
+ghost use Rattle.std.specs.Prelude.{◌+◌, IfOk, IsErrOf};
+ghost use Rattle.outside.specs.Outside.{Rose, TakesUpTo};
 ghost use Rattle.outside.specs.Answers.{IsLine};
 ghost use Rattle.beam_tool.specs.TopCall.{ReadVerdict, ListVerdict, ReplayOf, IsReplayable, not_enabled_text, done_text};
 
@@ -16,6 +16,7 @@ pub fn progress_answer<S: Source>(alloc: Global, source: &mut S) -> Result<Answe
         (λ a. ReadVerdict LONGEST_SCRIPT (S.left source.old) (S.left source.new) ListVerdict a.status a.log a.text) }
     ensures failed { IsErrOf result Stop.SourceFault
         → Rose (S.faults source.old) (S.faults source.new) }
+    ensures stops { TakesUpTo (LONGEST_SCRIPT + 1) (S.left source.old) (S.left source.new) }
 {
     match read_whole(alloc, source, LONGEST_SCRIPT)? {
         Input::Whole(bytes) => Ok(judged(alloc, bytes.as_slice())?),

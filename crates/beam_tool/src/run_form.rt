@@ -1,9 +1,10 @@
-ghost use Rattle.std.specs.Prelude.{IfOk, IsErrOf};
+ghost use Rattle.std.specs.Prelude.{◌+◌, IfOk, IsErrOf};
 ghost use Rattle.script_core.specs.Sound.{IsScript};
-ghost use Rattle.outside.specs.Outside.{Rose};
+ghost use Rattle.outside.specs.Outside.{Rose, TakesUpTo};
 ghost use Rattle.beam_tool.specs.TopCall.{ReadVerdict, ScriptVerdict, ReportOf};
 
 use lap_runner::run_laps;
+use log_forms::entry_count;
 use outside::{Answer, DONE, Input, Source, Stop, read_whole, refusal};
 use run_log::render;
 use script_core::{LONGEST_SCRIPT, Script};
@@ -17,6 +18,7 @@ pub fn run_answer<S: Source>(alloc: Global, source: &mut S) -> Result<Answer, St
         (λ a. ReadVerdict LONGEST_SCRIPT (S.left source.old) (S.left source.new) ScriptVerdict a.status a.log a.text) }
     ensures failed { IsErrOf result Stop.SourceFault
         → Rose (S.faults source.old) (S.faults source.new) }
+    ensures stops { TakesUpTo (LONGEST_SCRIPT + 1) (S.left source.old) (S.left source.new) }
 {
     match read_whole(alloc, source, LONGEST_SCRIPT)? {
         Input::Whole(bytes) => Ok(judged(alloc, bytes.as_slice())?),
@@ -42,6 +44,8 @@ fn reported(alloc: Global, script: &Script) -> Result<Answer, NoMemory>
     let log = run_laps(alloc, script)?;
     let mut text = ByteList::new(alloc);
     render(&script.names, &log, &mut text)?;
+    // The proof reads it: what stands in memory is short, so its numbers fit into a report's.
+    let _entries = entry_count(&log.journal);
     Ok(Answer {
         status: DONE,
         log: Some(log),

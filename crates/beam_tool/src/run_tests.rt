@@ -1,12 +1,13 @@
-use crate::tests::{CALM, CHECK, outcome_of};
+use crate::tests::{CALM, outcome_of};
 use std::alloc::{AllocError, Global};
+use std::process::Abort;
 use std::sync::Wait;
 use std::test::Fail;
 use std::thread::Threads;
 
 /// Runs a script with these lines between its first and its last, and compares the report: how many generations it
-/// tells, and the lines behind that. The report is then checked behind its script.
-pub fn runs_as<R: Threads + Wait + Sync + AllocGlobal>(
+/// tells, and the lines behind that.
+pub fn runs_as<R: Threads + Wait + Sync + AllocGlobal + Abort>(
     rt: &R,
     lines: &str,
     generations: u64,
@@ -18,11 +19,7 @@ pub fn runs_as<R: Threads + Wait + Sync + AllocGlobal>(
     let Ok(run) = outcome_of(rt, &["run"], script.as_bytes(), CALM) else {
         return Err(AllocError);
     };
-    let both = format!(in alloc; "{script}{report}")?;
-    let Ok(check) = outcome_of(rt, CHECK, both.as_bytes(), CALM) else {
-        return Err(AllocError);
-    };
-    Ok(run.status == 0 && run.got.as_slice() == report.as_bytes() && check.status == 0)
+    Ok(run.status == 0 && run.got.as_slice() == report.as_bytes())
 }
 
 /// Three versions of a module, and one of another.

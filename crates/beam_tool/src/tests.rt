@@ -2,6 +2,7 @@ use crate::gate::NoGate;
 use crate::top::beam_top;
 use outside::{MemSink, MemSource, SureSink, SureSource};
 use std::alloc::{AllocError, Global};
+use std::process::Abort;
 use std::sync::Wait;
 use std::test::Fail;
 use std::thread::Threads;
@@ -58,7 +59,27 @@ fn failing(alloc: Global, call: u64) -> Result<CountList, NoMemory> {
     CountList::from_slice(alloc, &[call])
 }
 
-pub fn outcome_of<R: Threads + Wait + Sync + AllocGlobal>(
+/// What a call came to. The report of each run is checked behind its script: it must be lawful.
+pub fn outcome_of<R: Threads + Wait + Sync + AllocGlobal + Abort>(
+    rt: &R,
+    words: &[&str],
+    input: &[u8],
+    outside: Outside,
+) -> Result<Outcome, NoMemory> {
+    let outcome = called(rt, words, input, outside)?;
+    if !words.is_empty() && words[0] == "run" && outcome.status == 0 {
+        let mut both = ByteList::from_slice(rt.alloc(), input)?;
+        both.extend_from_slice(outcome.got.as_slice())?;
+        let check = called(rt, CHECK, both.as_slice(), CALM)?;
+        assert!(rt;
+            check.got.as_slice() == b"lawful\n".as_slice(),
+            "the check of a run"
+        );
+    }
+    Ok(outcome)
+}
+
+fn called<R: Threads + Wait + Sync + AllocGlobal>(
     rt: &R,
     words: &[&str],
     input: &[u8],
@@ -205,7 +226,7 @@ fn a_sure_source_and_sink_are_served(rt: HostRuntime) -> Result<(), Fail> {
 }
 
 /// A text, its status under these words and the line that is written.
-fn answers<R: Threads + Wait + Sync + AllocGlobal>(
+fn answers<R: Threads + Wait + Sync + AllocGlobal + Abort>(
     rt: &R,
     words: &[&str],
     case: (&str, u8, &str),

@@ -1,6 +1,5 @@
-ghost use Rattle.std.specs.Prelude.{◌≡◌, ◌≢◌, ◌≤◌, ◌<◌, ◌⊎◌, ℕ, List, Some, None, Err, IfOk, IsErrOf, length, map, string_bytes};
+ghost use Rattle.std.specs.Prelude.{◌≡◌, ◌≢◌, ◌≤◌, ◌<◌, ◌⊎◌, ℕ, List, Some, None, IfOk, IsErrOf, length, map, string_bytes};
 ghost use Rattle.prgr_core.specs.EventText.{EventText};
-ghost use Rattle.prgr_core.specs.Reading.{reading};
 ghost use Rattle.prgr_core.specs.declared.event.Events.{Events};
 ghost use Rattle.prgr_core.specs.declared.progress.Progress.{Progress};
 ghost use Rattle.prgr_core.specs.Step.{after_all, opening, StopsAt};
@@ -10,10 +9,10 @@ ghost use Rattle.script_text.specs.ScriptText.{ScriptText, FaultOf};
 ghost use Rattle.run_log.specs.declared.logs.RunLog.{RunLog as RunLogValue};
 ghost use Rattle.run_log.specs.Legal.{Legal};
 ghost use Rattle.report_text.specs.declared.fault.ReportFault.{ReportFault};
-ghost use Rattle.outside.specs.Outside.{Rose};
+ghost use Rattle.outside.specs.Outside.{Rose, TakesUpTo};
 ghost use Rattle.outside.specs.Parting.{script_part};
 ghost use Rattle.outside.specs.Inputs.{HasScriptAndReport, HasFaultyReport};
-ghost use Rattle.beam_tool.specs.TopCall.{form_of as the_form_of, IsUnlawful, lawful_text, not_lawful_text, Verdict, Answered, Reported, Checked, SourceFailed, SinkFailed, Delivered, Ends};
+ghost use Rattle.beam_tool.specs.TopCall.{form_of as the_form_of, most_taken, IsAccepted, IsNoList, IsUnlawful, lawful_text, not_lawful_text, Verdict, Answered, Reported, Checked, SourceFailed, SinkFailed, Delivered, Ends};
 
 use crate::check_form::check_answer;
 use crate::form::{Form, form_of};
@@ -53,6 +52,11 @@ pub fn beam_top<R: Threads + Wait + Sync, S: Source, K: Sink, G: Gate>(
     ensures headline { (schedulers : ℕ) → the_form_of (map string_bytes words.now) ≡ Some (Form.Run schedulers) → result.status ≡ DONE
         → Reported (S.left source.old) (S.left source.new) (K.got sink.old) (K.got sink.new) result.log }
 
+    // What a run writes a check accepts: for the text that was read with what was written behind it, within the limit, the
+    // clause on lawful reports says that a check answers 0, or that memory was refused.
+    ensures accepted { (schedulers : ℕ) → the_form_of (map string_bytes words.now) ≡ Some (Form.Run schedulers) → result.status ≡ DONE
+        → IsAccepted (S.left source.old) (S.left source.new) (K.got sink.old) (K.got sink.new) }
+
     // A report that is checked shows a history of one code server for the script before it, or it does not.
     ensures checked { the_form_of (map string_bytes words.now) ≡ Some Form.Check → result.status ≡ DONE
         → Checked Legal lawful_text (S.left source.old) (S.left source.new) (K.got sink.old) (K.got sink.new) }
@@ -70,12 +74,18 @@ pub fn beam_top<R: Threads + Wait + Sync, S: Source, K: Sink, G: Gate>(
         (S.left source.old) (S.left source.new) (K.got sink.old) (K.got sink.new)
         (K.faults sink.old) (K.faults sink.new) result.log }
 
+    // Reading stops with the first byte past the limit, whatever is left of the source.
+    ensures stops { TakesUpTo (most_taken (the_form_of (map string_bytes words.now))) (S.left source.old) (S.left source.new) }
+
     // What is not read, not written and not logged.
     ensures unread { the_form_of (map string_bytes words.now) ≡ None → source.new ≡ source.old }
     ensures unwritten_at_source_fault { result.status ≡ SOURCE_FAULT → sink.new ≡ sink.old }
     ensures unwritten_at_no_memory { result.status ≡ NO_MEMORY → sink.new ≡ sink.old }
     ensures no_log { result.status ≢ DONE → result.status ≢ SINK_FAULT → result.log ≡ None }
     ensures no_log_checked { the_form_of (map string_bytes words.now) ≡ Some Form.Check → result.log ≡ None }
+
+    // Words of no form take no memory: they never answer that it was refused.
+    ensures misread { the_form_of (map string_bytes words.now) ≡ None → result.status ≢ NO_MEMORY }
 
     // Where no count rose, the status is the one whose condition holds, or memory was refused.
     ensures complete_words { the_form_of (map string_bytes words.now) ≡ None
@@ -114,8 +124,8 @@ pub fn beam_top<R: Threads + Wait + Sync, S: Source, K: Sink, G: Gate>(
         → StopsAt (opening events.members events.watchers) events.list index state
         → (Rose (S.faults source.old) (S.faults source.new) → ⊥) → (Rose (K.faults sink.old) (K.faults sink.new) → ⊥)
         → (result.status ≡ NOT_ALLOWED) ⊎ (result.status ≡ NO_MEMORY) }
-    ensures complete_fault { (bytes : List ℕ) (line : ℕ) → the_form_of (map string_bytes words.now) ≡ Some Form.Progress
-        → S.left source.old ≡ Some bytes → (LONGEST_SCRIPT < length bytes) ⊎ (reading bytes ≡ Err line)
+    ensures complete_fault { (bytes : List ℕ) → the_form_of (map string_bytes words.now) ≡ Some Form.Progress
+        → S.left source.old ≡ Some bytes → (LONGEST_SCRIPT < length bytes) ⊎ IsNoList bytes
         → (Rose (S.faults source.old) (S.faults source.new) → ⊥) → (Rose (K.faults sink.old) (K.faults sink.new) → ⊥)
         → (result.status ≡ REFUSED) ⊎ (result.status ≡ NO_MEMORY) }
 {
@@ -134,6 +144,7 @@ fn ended<S: Source, K: Sink>(
     ensures ends { Ends (the_form_of (map string_bytes words.now)) (S.left source.old) (S.left source.new)
         (S.faults source.old) (S.faults source.new) (K.got sink.old) (K.got sink.new)
         (K.faults sink.old) (K.faults sink.new) result.status result.log }
+    ensures stops { TakesUpTo (most_taken (the_form_of (map string_bytes words.now))) (S.left source.old) (S.left source.new) }
     ensures unread { the_form_of (map string_bytes words.now) ≡ None → source.new ≡ source.old }
     ensures unwritten_at_source_fault { result.status ≡ SOURCE_FAULT → sink.new ≡ sink.old }
     ensures unwritten_at_no_memory { result.status ≡ NO_MEMORY → sink.new ≡ sink.old }
@@ -161,6 +172,7 @@ fn form_answer<S: Source>(alloc: Global, form: Form, source: &mut S) -> Result<A
         (λ a. Verdict (S.left source.old) (S.left source.new) (Some form) a.status a.log a.text) }
     ensures failed { IsErrOf result Stop.SourceFault
         → Rose (S.faults source.old) (S.faults source.new) }
+    ensures stops { TakesUpTo (most_taken (Some form)) (S.left source.old) (S.left source.new) }
 {
     match form {
         Form::Run { schedulers: _ } => run_answer(alloc, source),

@@ -1,5 +1,5 @@
 -- Each clause of the top call follows from how the call ended.
-use Rattle.beam_tool.proofs.TopCalls.{known_of, headline_of, checked_of, checked_unlawful_of, answered_of, source_failed_of, sink_failed_of, no_log_of, no_log_checked_of, complete_words_of, complete_run_of, complete_refusal_of, complete_lawful_of, complete_unlawful_of, complete_script_fault_of, complete_report_fault_of, complete_replay_of, complete_stop_of, complete_fault_of}
+use Rattle.beam_tool.proofs.TopCalls.{known_of, headline_of, accepted_of, checked_of, checked_unlawful_of, answered_of, source_failed_of, sink_failed_of, no_log_of, no_log_checked_of, misread_of, complete_words_of, complete_run_of, complete_refusal_of, complete_lawful_of, complete_unlawful_of, complete_script_fault_of, complete_report_fault_of, complete_replay_of, complete_stop_of, complete_fault_of}
 use Rattle.beam_tool.proofs.top.beam_top.Goals as goal
 
 pub returns-clause-known : goal.returns-clause-known
@@ -7,6 +7,9 @@ returns-clause-known g c = known_of c.ended.ensures.ends
 
 pub returns-clause-headline : goal.returns-clause-headline
 returns-clause-headline g c n f e = headline_of n c.ended.ensures.ends f e
+
+pub returns-clause-accepted : goal.returns-clause-accepted
+returns-clause-accepted g c n f e = accepted_of n c.ended.ensures.ends f e
 
 pub returns-clause-checked : goal.returns-clause-checked
 returns-clause-checked g c f e = checked_of c.ended.ensures.ends f e
@@ -28,6 +31,9 @@ returns-clause-no_log g c d s = no_log_of c.ended.ensures.ends d s
 
 pub returns-clause-no_log_checked : goal.returns-clause-no_log_checked
 returns-clause-no_log_checked g c f = no_log_checked_of c.ended.ensures.ends f
+
+pub returns-clause-misread : goal.returns-clause-misread
+returns-clause-misread g c e = misread_of c.ended.ensures.ends e
 
 pub returns-clause-complete_words : goal.returns-clause-complete_words
 returns-clause-complete_words g c e = complete_words_of c.ended.ensures.ends e
@@ -57,4 +63,4 @@ pub returns-clause-complete_stop : goal.returns-clause-complete_stop
 returns-clause-complete_stop g c bytes events index state e l s t m ns nk = complete_stop_of bytes events index state c.ended.ensures.ends e l s t m ns nk
 
 pub returns-clause-complete_fault : goal.returns-clause-complete_fault
-returns-clause-complete_fault g c bytes line e l f ns nk = complete_fault_of bytes line c.ended.ensures.ends e l f ns nk
+returns-clause-complete_fault g c bytes e l f ns nk = complete_fault_of bytes c.ended.ensures.ends e l f ns nk

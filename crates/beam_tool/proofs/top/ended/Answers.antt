@@ -2,6 +2,7 @@
 use Rattle.std.proofs.Common.{sym, ◌∙◌, refl, ap, Err}
 use Rattle.beam_tool.specs.TopCall.{misread}
 use Rattle.beam_tool.proofs.TopCalls.{ends_of, not_stopped, is_form, ends_source, ends_memory}
+use Rattle.beam_tool.proofs.Stops.{stops_by, stops_unread}
 use Rattle.beam_tool.proofs.top.ended.Goals as goal
 
 pub returns-in-None-clause-ends : goal.returns-in-None-clause-ends
@@ -21,3 +22,15 @@ returns-in-Err-SourceFault-clause-ends g c = ends_source _ _ _ _ _ _ _ _ _ _ _ (
 
 pub returns-in-Err-NoMemory-clause-ends : goal.returns-in-Err-NoMemory-clause-ends
 returns-in-Err-NoMemory-clause-ends g c = ends_memory _ _ _ _ _ _ _ _ _ _ _ (is_form _ _ (sym c.form_of.ensures ∙ c.in-Some.is)) c.stopped-in-Err-NoMemory.ensures
+
+pub returns-in-None-clause-stops : goal.returns-in-None-clause-stops
+returns-in-None-clause-stops g c = stops_unread _ _ _ (sym c.form_of.ensures ∙ c.in-None.is) refl
+
+pub returns-in-Ok-clause-stops : goal.returns-in-Ok-clause-stops
+returns-in-Ok-clause-stops g c = stops_by _ c.in-Some.form _ _ (sym c.form_of.ensures ∙ c.in-Some.is) c.form_answer.ensures.stops
+
+pub returns-in-Err-SourceFault-clause-stops : goal.returns-in-Err-SourceFault-clause-stops
+returns-in-Err-SourceFault-clause-stops g c = stops_by _ c.in-Some.form _ _ (sym c.form_of.ensures ∙ c.in-Some.is) c.form_answer.ensures.stops
+
+pub returns-in-Err-NoMemory-clause-stops : goal.returns-in-Err-NoMemory-clause-stops
+returns-in-Err-NoMemory-clause-stops g c = stops_by _ c.in-Some.form _ _ (sym c.form_of.ensures ∙ c.in-Some.is) c.form_answer.ensures.stops

@@ -1,5 +1,7 @@
 -- The verdict of a form is that of its work.
 use Rattle.beam_tool.proofs.TopCalls.{on_ok, run_by, check_by, progress_by}
+use Rattle.beam_tool.specs.declared.form.Form.TheVariants as forms
+use Rattle.beam_tool.proofs.Stops.{stops_so}
 use Rattle.beam_tool.proofs.top.form_answer.Goals as goal
 
 pub returns-in-Run-clause-verdict : goal.returns-in-Run-clause-verdict
@@ -10,3 +12,12 @@ returns-in-Check-clause-verdict g c = on_ok _ _ c.check_answer.result (λ a h. c
 
 pub returns-in-Progress-clause-verdict : goal.returns-in-Progress-clause-verdict
 returns-in-Progress-clause-verdict g c = on_ok _ _ c.progress_answer.result (λ a h. progress_by _ _ c.args.form a.status a.log a.text c.in-Progress.is h) c.progress_answer.ensures.verdict
+
+pub returns-in-Run-clause-stops : goal.returns-in-Run-clause-stops
+returns-in-Run-clause-stops g c = stops_so c.args.form (forms.Run c.in-Run.schedulers) _ _ c.in-Run.is c.run_answer.ensures.stops
+
+pub returns-in-Check-clause-stops : goal.returns-in-Check-clause-stops
+returns-in-Check-clause-stops g c = stops_so c.args.form forms.Check _ _ c.in-Check.is c.check_answer.ensures.stops
+
+pub returns-in-Progress-clause-stops : goal.returns-in-Progress-clause-stops
+returns-in-Progress-clause-stops g c = stops_so c.args.form forms.Progress _ _ c.in-Progress.is c.progress_answer.ensures.stops

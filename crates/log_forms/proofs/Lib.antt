@@ -1,0 +1,9 @@
+pub mod SaidValues
+pub mod SaidSteps
+pub mod SaidStates
+pub mod SaidCode
+pub mod SaidSpans
+pub mod SaidReplies
+pub mod SaidJournal
+pub mod SaidLogs
+pub mod ShortJournals
