@@ -1,5 +1,7 @@
 """Cases whose texts are long, or differ in one line: each is worked out from a rule, and none from what the program wrote."""
 
+from made import made
+
 RUN = ["run", "--schedulers", "1"]
 LINES_OF_16_BYTES = "0123456789abcde\n" * 65_536
 EMPTY = "beam report 1\ngenerations 0\nend report\n"
@@ -286,6 +288,22 @@ def counted_turns():
         yield is_judged(f"{turns}_turns", text, told, yes)
 
 
+def made_scripts():
+    """A seed and a size make a script, whatever the input is."""
+    for seed, size in ((1, 1), (1, 2), (1, 6), (0, 16), (7, 515), (4_294_967_295, 4_000)):
+        yield f"seed_{seed}_size_{size}", ["make", "--seed", str(seed), "--size", str(size)], "", made(seed, size), 0
+
+
+def trials():
+    """Each process of a made script prints eight lines and ends as normal. Loader J spawns one at every eighth place below 256."""
+    for seed, size, schedulers in ((1, 6, 2), (1, 16, 1), (1, 16, 16), (9, 500, 4), (1, 2_000, 16), (3, 4_000, 1)):
+        loaders = ((size + 1) // 2, size // 2)
+        processes = sum(min(count, 256) // 8 for count in loaders)
+        words = ["trial", "--seed", str(seed), "--size", str(size), "--schedulers", str(schedulers)]
+        told = f"commands {size} processes {processes} prints {8 * processes} normal {processes}\n"
+        yield f"seed_{seed}_size_{size}_schedulers_{schedulers}", words, "", told, 0
+
+
 GROUPS = (
     texts_over_the_limit,
     lines_at_the_limit,
@@ -302,6 +320,8 @@ GROUPS = (
     changes_of_a_lawful_report,
     between_the_halves_of_a_purge,
     counted_turns,
+    made_scripts,
+    trials,
 )
 
 

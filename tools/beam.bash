@@ -5,14 +5,27 @@ _beam() {
     [ "${COMP_WORDS[1]}" = --unproved ] && first=2
     COMPREPLY=()
     if [ "$COMP_CWORD" -le "$first" ]; then
-        local words="run check why progress"
+        local words="run check why progress make trial"
         [ "$first" -eq 1 ] && words="$words --unproved"
         mapfile -t COMPREPLY < <(compgen -W "$words" -- "$word")
     elif [ "${COMP_WORDS[COMP_CWORD - 1]}" = --schedulers ]; then
         mapfile -t COMPREPLY < <(compgen -W "1 2 3 4 5 6 7 8 9 10 11 12 13 14 15 16" -- "$word")
+    elif [[ ${COMP_WORDS[first]} == make || ${COMP_WORDS[first]} == trial ]]; then
+        _beam_option "${COMP_WORDS[first]}" $((COMP_CWORD - first)) "$word"
     else
         _beam_files "${COMP_WORDS[first]}" $((COMP_CWORD - first)) "$word"
     fi
+}
+
+# The option of a form that makes a script, at a place behind its first word.
+_beam_option() {
+    local option=
+    case $1.$2 in
+        *.1) option=--seed ;;
+        *.3) option=--size ;;
+        trial.5) option=--schedulers ;;
+    esac
+    mapfile -t COMPREPLY < <(compgen -W "$option" -- "$3")
 }
 
 # The files that a form may take at a place behind its first word, and the option of run.

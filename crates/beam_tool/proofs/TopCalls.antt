@@ -1,6 +1,6 @@
 -- What each status of the top call says, from how the call ended.
 use Rattle.std.proofs.Common.{◌≡◌, ◌≢◌, ℕ, ◌≤◌, ◌<◌, ◌++◌, Bool, true, false, List, length, Option, Some, None, Result, Ok, Err, refl, sym, ap, subst, arith, inl, inr, ◌⊎◌, ◌∙◌, zero, suc, ◌-◌, [], ◌∷◌, take, slice_get}
-use Rattle.std.specs.Prelude.{IfOk, IsSomeAnd}
+use Rattle.std.specs.Prelude.{IfOk, IsSomeAnd, IsTrue}
 use Rattle.std.specs.Option.{option_and_then}
 use Rattle.std.specs.Io.KnownBytes.{Appends}
 use Rattle.prgr_core.specs.declared.event.Events.{Events}
@@ -26,7 +26,10 @@ use Rattle.outside.specs.Outside.{Rose}
 use Rattle.outside.specs.Parting.{script_part, report_part}
 use Rattle.outside.specs.Answers.{IsLine, refusal_text}
 use Rattle.outside.specs.Inputs.{WasRead, IsTooLong, IsNoScript, HasNoFault, IsScriptRead, IsReportOf, IsReportRead, HasScriptAndReport, HasFaultyReport}
-use Rattle.beam_tool.specs.TopCall.{IsAccepted, IsNoList, IsUnlawful, ReportOf, made, ScriptVerdict, report, refusal, ReplayOf, all_made, stopped, ListVerdict, replay, fault, ReportVerdict, report_refused, lawful, not_lawful, CheckVerdict, script_refused, judged, ReadVerdict, whole_text, long_text, lawful_text, not_lawful_text, done_text, not_enabled_text, Verdict, misread, run, check, progress, Answered, Reported, Checked, SourceFailed, SinkFailed, Delivered, whole, cut, Ends, written, cut_off, source_failed, no_memory}
+use Rattle.beam_tool.specs.TopCall.{IsAccepted, IsNoList, IsUnlawful, ReportOf, made, ScriptVerdict, report, refusal, ReplayOf, all_made, stopped, ListVerdict, replay, fault, ReportVerdict, report_refused, lawful, not_lawful, CheckVerdict, script_refused, judged, ReadVerdict, whole_text, long_text, lawful_text, not_lawful_text, done_text, not_enabled_text, Verdict, misread, run, check, progress, Answered, Reported, Checked, SourceFailed, SinkFailed, Delivered, whole, cut, Ends, written, cut_off, source_failed, no_memory, reads, runs, TrialOf, tried, make, trial, Summarized, Made, seeded_script}
+use Rattle.script_text.specs.Canonical.{canonical_text}
+use Rattle.run_log.specs.Summary.{summary_of}
+use Rattle.beam_tool.proofs.SeededScripts.{seeded_text-reads}
 use Rattle.outside.proofs.ScriptParts.{parts_are_whole, part_of_script, part_behind_script}
 
 -- ---- what the bytes come to
@@ -99,6 +102,8 @@ known_verdict (check _ _ _ (long_text l)) = omega arith
 known_verdict (progress _ _ _ (whole_text _ _ _ _ r (replay _ _ _ _ t v))) = omega (arith, replay_status v)
 known_verdict (progress _ _ _ (whole_text _ _ _ _ r (fault _ e))) = omega arith
 known_verdict (progress _ _ _ (long_text l)) = omega arith
+known_verdict (make _ _) = omega arith
+known_verdict (trial _ _ _ _ _ _ (tried _ l)) = omega arith
 
 pub known_of : {form : Option Form} {left left' : Option (List ℕ)} {sf sf' : ℕ} {got got' : Option (List ℕ)} {kf kf' : ℕ} {status : ℕ} {log : Option RunLog} → Ends form left left' sf sf' got got' kf kf' status log → status ≤ 6
 known_of (written status _ _ v a) = omega (arith, known_verdict v)
@@ -120,6 +125,8 @@ headline_of n (written _ _ _ (run _ _ _ _ (whole_text _ _ _ _ r (refusal _ q bar
 headline_of n (written _ _ _ (run _ _ _ _ (long_text l)) a) f e = absurd (omega arith)
 headline_of n (written _ _ _ (check _ _ _ v) a) f e = absurd cc
 headline_of n (written _ _ _ (progress _ _ _ v) a) f e = absurd cc
+headline_of n (written _ _ _ (make _ _) a) f e = absurd cc
+headline_of n (written _ _ _ (trial _ _ _ _ _ _ v) a) f e = absurd cc
 headline_of n (cut_off _ _ _ v r p) f e = absurd (omega arith)
 headline_of n (source_failed g r) f e = absurd (omega arith)
 headline_of n (no_memory g) f e = absurd (omega arith)
@@ -139,6 +146,49 @@ accepted_by r = record {
 
 pub accepted_of : (n : ℕ) → {form : Option Form} {left left' : Option (List ℕ)} {sf sf' : ℕ} {got got' : Option (List ℕ)} {kf kf' : ℕ} {status : ℕ} {log : Option RunLog} → Ends form left left' sf sf' got got' kf kf' status log → form ≡ Some (forms.Run n) → status ≡ 0 → IsAccepted left left' got got'
 accepted_of n ends f e = accepted_by (headline_of n ends f e)
+
+-- words of a made script do not read
+unread_made : {form : Option Form} {seed size : ℕ} → form ≡ Some (forms.Make seed size) → IsTrue (reads form) → ⊥
+unread_made e f = let none = ap reads e in cc
+
+unread_tried : {form : Option Form} {seed size schedulers : ℕ} → form ≡ Some (forms.Trial seed size schedulers) → IsTrue (reads form) → ⊥
+unread_tried e f = let none = ap reads e in cc
+
+pub summarized_of : (seed size schedulers : ℕ) → {form : Option Form} {left left' : Option (List ℕ)} {sf sf' : ℕ} {got got' : Option (List ℕ)} {kf kf' : ℕ} {status : ℕ} {log : Option RunLog} → Ends form left left' sf sf' got got' kf kf' status log → form ≡ Some (forms.Trial seed size schedulers) → status ≡ 0 → Summarized seed size got got' log
+summarized_of seed size schedulers (written _ _ _ misread a) f e = absurd cc
+summarized_of seed size schedulers (written _ _ _ (run _ _ _ _ v) a) f e = absurd cc
+summarized_of seed size schedulers (written _ _ _ (check _ _ _ v) a) f e = absurd cc
+summarized_of seed size schedulers (written _ _ _ (progress _ _ _ v) a) f e = absurd cc
+summarized_of seed size schedulers (written _ _ _ (make _ _) a) f e = absurd cc
+summarized_of seed size schedulers {got = got} {got' = got'} (written _ _ _ (trial s k _ _ _ _ (tried log l)) a) f e =
+    let seeds : s ≡ seed = cc in
+    let sizes : k ≡ size = cc in
+    record {
+      log = log;
+      answered_is = refl;
+      legal = subst (λ (n : ℕ). Legal (seeded_script seed n) log) sizes (subst (λ (n : ℕ). Legal (seeded_script n k) log) seeds l);
+      written = subst (λ (n : ℕ). Appends got got' (summary_of (seeded_script seed n) log)) sizes (subst (λ (n : ℕ). Appends got got' (summary_of (seeded_script n k) log)) seeds a);
+    }
+summarized_of seed size schedulers (cut_off _ _ _ v r p) f e = absurd (omega arith)
+summarized_of seed size schedulers (source_failed g r) f e = absurd (omega arith)
+summarized_of seed size schedulers (no_memory g) f e = absurd (omega arith)
+
+pub made_of : (seed size : ℕ) → size ≤ 4000 → {form : Option Form} {left left' : Option (List ℕ)} {sf sf' : ℕ} {got got' : Option (List ℕ)} {kf kf' : ℕ} {status : ℕ} {log : Option RunLog} → Ends form left left' sf sf' got got' kf kf' status log → form ≡ Some (forms.Make seed size) → status ≡ 0 → Made seed size got got'
+made_of seed size fits (written _ _ _ misread a) f e = absurd cc
+made_of seed size fits (written _ _ _ (run _ _ _ _ v) a) f e = absurd cc
+made_of seed size fits (written _ _ _ (check _ _ _ v) a) f e = absurd cc
+made_of seed size fits (written _ _ _ (progress _ _ _ v) a) f e = absurd cc
+made_of seed size fits {got = got} {got' = got'} (written _ _ _ (make s k) a) f e =
+    let seeds : s ≡ seed = cc in
+    let sizes : k ≡ size = cc in
+    record {
+      reads = seeded_text-reads seed size fits;
+      written = subst (λ (n : ℕ). Appends got got' (canonical_text (seeded_script seed n))) sizes (subst (λ (n : ℕ). Appends got got' (canonical_text (seeded_script n k))) seeds a);
+    }
+made_of seed size fits (written _ _ _ (trial _ _ _ _ _ _ v) a) f e = absurd cc
+made_of seed size fits (cut_off _ _ _ v r p) f e = absurd (omega arith)
+made_of seed size fits (source_failed g r) f e = absurd (omega arith)
+made_of seed size fits (no_memory g) f e = absurd (omega arith)
 
 -- what was read of a script and a report, as the whole of the bytes
 parts_read : (bytes : List ℕ) (s : Script) (log : RunLog) → ScriptText (script_part bytes) s → IsReportOf s.names (report_part bytes) log → HasScriptAndReport bytes s log
@@ -172,6 +222,8 @@ checked_by judgement line wanted few answer {got = got} {got' = got'} (written _
     record { bytes = bytes; script = s; log = is.log; read = r; parts = parts_read bytes s is.log rs.text is.read.report; holds = is.holds; written = subst (λ (x : List ℕ). Appends got got' x) is.text_is a }
 checked_by judgement line wanted few answer (written _ _ _ (check _ _ _ (long_text l)) a) f e = absurd (omega arith)
 checked_by judgement line wanted few answer (written _ _ _ (progress _ _ _ v) a) f e = absurd cc
+checked_by judgement line wanted few answer (written _ _ _ (make _ _) a) f e = absurd cc
+checked_by judgement line wanted few answer (written _ _ _ (trial _ _ _ _ _ _ v) a) f e = absurd cc
 checked_by judgement line wanted few answer (cut_off _ _ _ v r p) f e = absurd (omega arith)
 checked_by judgement line wanted few answer (source_failed g r) f e = absurd (omega arith)
 checked_by judgement line wanted few answer (no_memory g) f e = absurd (omega arith)
@@ -185,7 +237,7 @@ checked_unlawful_of ends f e = checked_by IsUnlawful not_lawful_text 1 (omega ar
 pub source_failed_of : {form : Option Form} {left left' : Option (List ℕ)} {sf sf' : ℕ} {got got' : Option (List ℕ)} {kf kf' : ℕ} {status : ℕ} {log : Option RunLog} → Ends form left left' sf sf' got got' kf kf' status log → status ≡ 4 → SourceFailed form sf sf'
 source_failed_of (written status _ _ v a) e = absurd (omega (arith, known_verdict v, e))
 source_failed_of (cut_off _ _ _ v r p) e = absurd (omega arith)
-source_failed_of (source_failed f r) e = record { reads = f; rose = r }
+source_failed_of (source_failed f r) e = record { reading = f; rose = r }
 source_failed_of (no_memory f) e = absurd (omega arith)
 
 pub sink_failed_of : {form : Option Form} {left left' : Option (List ℕ)} {sf sf' : ℕ} {got got' : Option (List ℕ)} {kf kf' : ℕ} {status : ℕ} {log : Option RunLog} → Ends form left left' sf sf' got got' kf kf' status log → status ≡ 5 → SinkFailed form left left' got got' kf kf' log
@@ -199,10 +251,16 @@ check_log (whole_text _ _ _ _ r (script_refused _ q bare)) = refl
 check_log (whole_text _ _ _ _ r (judged _ _ _ _ rs v)) = report_log v
 check_log (long_text l) = refl
 
+list_log : {left left' : Option (List ℕ)} {status : ℕ} {log : Option RunLog} {text : List ℕ} → ReadVerdict LONGEST_SCRIPT left left' ListVerdict status log text → log ≡ None
+list_log (whole_text _ _ _ _ r (replay _ _ _ _ t v)) = replay_log v
+list_log (whole_text _ _ _ _ r (fault _ e)) = refl
+list_log (long_text l) = refl
+
 no_log_verdict : {left left' : Option (List ℕ)} {form : Option Form} {status : ℕ} {log : Option RunLog} {text : List ℕ} → Verdict left left' form status log text → status ≢ 0 → log ≡ None
 no_log_verdict (run _ _ _ _ (whole_text _ _ _ _ r (report _ _ _ _ t h (made _ _ l k e)))) d = absurd (d refl)
 no_log_verdict (check _ _ _ v) d = check_log v
-no_log_verdict (progress _ _ _ (whole_text _ _ _ _ r (replay _ _ _ _ t v))) d = replay_log v
+no_log_verdict (progress _ _ _ v) d = list_log v
+no_log_verdict (trial _ _ _ _ _ _ (tried _ l)) d = absurd (d refl)
 no_log_verdict v d = refl
 
 pub no_log_of : {form : Option Form} {left left' : Option (List ℕ)} {sf sf' : ℕ} {got got' : Option (List ℕ)} {kf kf' : ℕ} {status : ℕ} {log : Option RunLog} → Ends form left left' sf sf' got got' kf kf' status log → status ≢ 0 → status ≢ 5 → log ≡ None
@@ -211,24 +269,26 @@ no_log_of (cut_off _ _ _ v r p) d c = absurd (c refl)
 no_log_of (source_failed f r) d c = refl
 no_log_of (no_memory f) d c = refl
 
-no_log_by_form : {left left' : Option (List ℕ)} {form : Option Form} {status : ℕ} {log : Option RunLog} {text : List ℕ} → Verdict left left' form status log text → form ≡ Some forms.Check → log ≡ None
+no_log_by_form : {left left' : Option (List ℕ)} {form : Option Form} {status : ℕ} {log : Option RunLog} {text : List ℕ} → Verdict left left' form status log text → runs form ≡ false → log ≡ None
 no_log_by_form misread f = refl
 no_log_by_form (run _ _ _ _ v) f = absurd cc
 no_log_by_form (check _ _ _ v) f = check_log v
-no_log_by_form (progress _ _ _ v) f = absurd cc
+no_log_by_form (progress _ _ _ v) f = list_log v
+no_log_by_form (make _ _) f = refl
+no_log_by_form (trial _ _ _ _ _ _ v) f = absurd cc
 
-pub no_log_checked_of : {form : Option Form} {left left' : Option (List ℕ)} {sf sf' : ℕ} {got got' : Option (List ℕ)} {kf kf' : ℕ} {status : ℕ} {log : Option RunLog} → Ends form left left' sf sf' got got' kf kf' status log → form ≡ Some forms.Check → log ≡ None
-no_log_checked_of (written _ _ _ v a) f = no_log_by_form v f
-no_log_checked_of (cut_off _ _ _ v r p) f = no_log_by_form v f
-no_log_checked_of (source_failed g r) f = refl
-no_log_checked_of (no_memory g) f = refl
+pub no_log_unrun_of : {form : Option Form} {left left' : Option (List ℕ)} {sf sf' : ℕ} {got got' : Option (List ℕ)} {kf kf' : ℕ} {status : ℕ} {log : Option RunLog} → Ends form left left' sf sf' got got' kf kf' status log → runs form ≡ false → log ≡ None
+no_log_unrun_of (written _ _ _ v a) f = no_log_by_form v f
+no_log_unrun_of (cut_off _ _ _ v r p) f = no_log_by_form v f
+no_log_unrun_of (source_failed g r) f = refl
+no_log_unrun_of (no_memory g) f = refl
 
 -- ---- where no count rose
 
 pub misread_of : {form : Option Form} {left left' : Option (List ℕ)} {sf sf' : ℕ} {got got' : Option (List ℕ)} {kf kf' : ℕ} {status : ℕ} {log : Option RunLog} → Ends form left left' sf sf' got got' kf kf' status log → form ≡ None → status ≢ 6
 misread_of (written _ _ _ v a) e = λ six. omega (arith, known_verdict v, six)
 misread_of (cut_off _ _ _ v r p) e = λ six. omega (arith, six)
-misread_of (source_failed f r) e = absurd (f e)
+misread_of (source_failed f r) e = λ six. omega (arith, six)
 misread_of (no_memory f) e = absurd (f e)
 
 pub complete_words_of : {form : Option Form} {left left' : Option (List ℕ)} {sf sf' : ℕ} {got got' : Option (List ℕ)} {kf kf' : ℕ} {status : ℕ} {log : Option RunLog} → Ends form left left' sf sf' got got' kf kf' status log → form ≡ None → Rose kf kf' ⊎ (status ≡ 2)
@@ -236,8 +296,10 @@ complete_words_of (written _ _ _ misread a) e = inr refl
 complete_words_of (written _ _ _ (run _ _ _ _ v) a) e = absurd cc
 complete_words_of (written _ _ _ (check _ _ _ v) a) e = absurd cc
 complete_words_of (written _ _ _ (progress _ _ _ v) a) e = absurd cc
+complete_words_of (written _ _ _ (make _ _) a) e = absurd cc
+complete_words_of (written _ _ _ (trial _ _ _ _ _ _ v) a) e = absurd cc
 complete_words_of (cut_off _ _ _ v r p) e = inl r
-complete_words_of (source_failed f r) e = absurd (f e)
+complete_words_of (source_failed f r) e = let none = ap reads e in absurd cc
 complete_words_of (no_memory f) e = absurd (f e)
 
 pub complete_run_of : {form : Option Form} {left left' : Option (List ℕ)} {sf sf' : ℕ} {got got' : Option (List ℕ)} {kf kf' : ℕ} {status : ℕ} {log : Option RunLog} (n : ℕ) (bytes : List ℕ) (s : Script) → Ends form left left' sf sf' got got' kf kf' status log → form ≡ Some (forms.Run n) → left ≡ Some bytes → ScriptText bytes s → (Rose sf sf' → ⊥) → (Rose kf kf' → ⊥) → (status ≡ 0) ⊎ (status ≡ 6)
@@ -247,6 +309,8 @@ complete_run_of n bytes s (written _ _ _ (run _ _ _ _ (whole_text _ _ _ _ r (ref
 complete_run_of {left = left} n bytes s (written _ _ _ (run _ _ _ _ (long_text long)) a) e l t ns nk = absurd (omega (arith, long_is LONGEST_SCRIPT left bytes l long, t.whole.short))
 complete_run_of n bytes s (written _ _ _ (check _ _ _ v) a) e l t ns nk = absurd cc
 complete_run_of n bytes s (written _ _ _ (progress _ _ _ v) a) e l t ns nk = absurd cc
+complete_run_of n bytes s (written _ _ _ (make _ _) a) e l t ns nk = absurd cc
+complete_run_of n bytes s (written _ _ _ (trial _ _ _ _ _ _ v) a) e l t ns nk = absurd cc
 complete_run_of n bytes s (cut_off _ _ _ v r p) e l t ns nk = absurd (nk r)
 complete_run_of n bytes s (source_failed f r) e l t ns nk = absurd (ns r)
 complete_run_of n bytes s (no_memory f) e l t ns nk = inr refl
@@ -258,6 +322,8 @@ complete_refusal_of n bytes q (written _ _ _ (run _ _ _ _ (whole_text _ _ _ _ r 
 complete_refusal_of n bytes q (written _ _ _ (run _ _ _ _ (long_text long)) a) e l t ns nk = inl refl
 complete_refusal_of n bytes q (written _ _ _ (check _ _ _ v) a) e l t ns nk = absurd cc
 complete_refusal_of n bytes q (written _ _ _ (progress _ _ _ v) a) e l t ns nk = absurd cc
+complete_refusal_of n bytes q (written _ _ _ (make _ _) a) e l t ns nk = absurd cc
+complete_refusal_of n bytes q (written _ _ _ (trial _ _ _ _ _ _ v) a) e l t ns nk = absurd cc
 complete_refusal_of n bytes q (cut_off _ _ _ v r p) e l t ns nk = absurd (nk r)
 complete_refusal_of n bytes q (source_failed f r) e l t ns nk = absurd (ns r)
 complete_refusal_of n bytes q (no_memory f) e l t ns nk = inr refl
@@ -309,6 +375,8 @@ told_status P wanted bytes front behind s w t p answer (written _ _ _ (check _ _
     inl (answer found (report_part read) status log text (rs.only s parts.text) parts.behind v)
 told_status P wanted bytes front behind s w t p answer {left = left} (written _ _ _ (check _ _ _ (long_text over)) a) f l long ns nk = inl (long (long_is LONGEST_CHECK left bytes l over))
 told_status P wanted bytes front behind s w t p answer (written _ _ _ (progress _ _ _ v) a) f l long ns nk = absurd cc
+told_status P wanted bytes front behind s w t p answer (written _ _ _ (make _ _) a) f l long ns nk = absurd cc
+told_status P wanted bytes front behind s w t p answer (written _ _ _ (trial _ _ _ _ _ _ v) a) f l long ns nk = absurd cc
 told_status P wanted bytes front behind s w t p answer (cut_off _ _ _ v r c) f l long ns nk = absurd (nk r)
 told_status P wanted bytes front behind s w t p answer (source_failed g r) f l long ns nk = absurd (ns r)
 told_status P wanted bytes front behind s w t p answer (no_memory g) f l long ns nk = inr refl
@@ -337,6 +405,8 @@ complete_script_fault_of bytes q (written _ _ _ (check _ _ _ (whole_text _ _ _ _
 complete_script_fault_of bytes q (written _ _ _ (check _ _ _ (whole_text read _ _ _ r (judged s _ _ _ rs v))) a) e l f ns nk = absurd (no_part bytes read q s (told_is l r) r.short rs f)
 complete_script_fault_of bytes q (written _ _ _ (check _ _ _ (long_text long)) a) e l f ns nk = inl refl
 complete_script_fault_of bytes q (written _ _ _ (progress _ _ _ v) a) e l f ns nk = absurd cc
+complete_script_fault_of bytes q (written _ _ _ (make _ _) a) e l f ns nk = absurd cc
+complete_script_fault_of bytes q (written _ _ _ (trial _ _ _ _ _ _ v) a) e l f ns nk = absurd cc
 complete_script_fault_of bytes q (cut_off _ _ _ v r p) e l f ns nk = absurd (nk r)
 complete_script_fault_of bytes q (source_failed g r) e l f ns nk = absurd (ns r)
 complete_script_fault_of bytes q (no_memory g) e l f ns nk = inr refl
@@ -380,6 +450,8 @@ pub complete_replay_of : {form : Option Form} {left left' : Option (List ℕ)} {
 complete_replay_of bytes events state (written _ _ _ misread a) e l s t m ns nk = absurd cc
 complete_replay_of bytes events state (written _ _ _ (run _ _ _ _ v) a) e l s t m ns nk = absurd cc
 complete_replay_of bytes events state (written _ _ _ (check _ _ _ v) a) e l s t m ns nk = absurd cc
+complete_replay_of bytes events state (written _ _ _ (make _ _) a) e l s t m ns nk = absurd cc
+complete_replay_of bytes events state (written _ _ _ (trial _ _ _ _ _ _ v) a) e l s t m ns nk = absurd cc
 complete_replay_of bytes events state (written _ _ _ (progress _ _ _ (whole_text _ _ _ _ r (replay _ _ _ _ u v))) a) e l s t m ns nk = inl (made_status state m (told_list l r t u v))
 complete_replay_of bytes events state (written _ _ _ (progress _ _ _ (whole_text read _ _ _ r (fault line f))) a) e l s t m ns nk =
     absurd (f.none events (subst (λ (x : List ℕ). EventText x events) (told_is l r) t))
@@ -392,6 +464,8 @@ pub complete_stop_of : {form : Option Form} {left left' : Option (List ℕ)} {sf
 complete_stop_of bytes events index state (written _ _ _ misread a) e l s t m ns nk = absurd cc
 complete_stop_of bytes events index state (written _ _ _ (run _ _ _ _ v) a) e l s t m ns nk = absurd cc
 complete_stop_of bytes events index state (written _ _ _ (check _ _ _ v) a) e l s t m ns nk = absurd cc
+complete_stop_of bytes events index state (written _ _ _ (make _ _) a) e l s t m ns nk = absurd cc
+complete_stop_of bytes events index state (written _ _ _ (trial _ _ _ _ _ _ v) a) e l s t m ns nk = absurd cc
 complete_stop_of bytes events index state (written _ _ _ (progress _ _ _ (whole_text _ _ _ _ r (replay _ _ _ _ u v))) a) e l s t m ns nk = inl (stopped_status index state m (told_list l r t u v))
 complete_stop_of bytes events index state (written _ _ _ (progress _ _ _ (whole_text read _ _ _ r (fault line f))) a) e l s t m ns nk =
     absurd (f.none events (subst (λ (x : List ℕ). EventText x events) (told_is l r) t))
@@ -409,12 +483,36 @@ pub complete_fault_of : {form : Option Form} {left left' : Option (List ℕ)} {s
 complete_fault_of bytes (written _ _ _ misread a) e l f ns nk = absurd cc
 complete_fault_of bytes (written _ _ _ (run _ _ _ _ v) a) e l f ns nk = absurd cc
 complete_fault_of bytes (written _ _ _ (check _ _ _ v) a) e l f ns nk = absurd cc
+complete_fault_of bytes (written _ _ _ (make _ _) a) e l f ns nk = absurd cc
+complete_fault_of bytes (written _ _ _ (trial _ _ _ _ _ _ v) a) e l f ns nk = absurd cc
 complete_fault_of bytes (written _ _ _ (progress _ _ _ (whole_text read _ _ _ r (replay events _ _ _ t _))) a) e l f ns nk = absurd (no_list bytes read events (told_is l r) r.short t f)
 complete_fault_of bytes (written _ _ _ (progress _ _ _ (whole_text _ _ _ _ r (fault _ _))) a) e l f ns nk = inl refl
 complete_fault_of bytes (written _ _ _ (progress _ _ _ (long_text long)) a) e l f ns nk = inl refl
 complete_fault_of bytes (cut_off _ _ _ v r p) e l f ns nk = absurd (nk r)
 complete_fault_of bytes (source_failed g r) e l f ns nk = absurd (ns r)
 complete_fault_of bytes (no_memory g) e l f ns nk = inr refl
+
+pub complete_make_of : {form : Option Form} {left left' : Option (List ℕ)} {sf sf' : ℕ} {got got' : Option (List ℕ)} {kf kf' : ℕ} {status : ℕ} {log : Option RunLog} (seed size : ℕ) → Ends form left left' sf sf' got got' kf kf' status log → form ≡ Some (forms.Make seed size) → (Rose kf kf' → ⊥) → (status ≡ 0) ⊎ (status ≡ 6)
+complete_make_of seed size (written _ _ _ misread a) e nk = absurd cc
+complete_make_of seed size (written _ _ _ (run _ _ _ _ v) a) e nk = absurd cc
+complete_make_of seed size (written _ _ _ (check _ _ _ v) a) e nk = absurd cc
+complete_make_of seed size (written _ _ _ (progress _ _ _ v) a) e nk = absurd cc
+complete_make_of seed size (written _ _ _ (make _ _) a) e nk = inl refl
+complete_make_of seed size (written _ _ _ (trial _ _ _ _ _ _ v) a) e nk = absurd cc
+complete_make_of seed size (cut_off _ _ _ v r p) e nk = absurd (nk r)
+complete_make_of seed size (source_failed f r) e nk = absurd (unread_made e f)
+complete_make_of seed size (no_memory f) e nk = inr refl
+
+pub complete_trial_of : {form : Option Form} {left left' : Option (List ℕ)} {sf sf' : ℕ} {got got' : Option (List ℕ)} {kf kf' : ℕ} {status : ℕ} {log : Option RunLog} (seed size schedulers : ℕ) → Ends form left left' sf sf' got got' kf kf' status log → form ≡ Some (forms.Trial seed size schedulers) → (Rose kf kf' → ⊥) → (status ≡ 0) ⊎ (status ≡ 6)
+complete_trial_of seed size schedulers (written _ _ _ misread a) e nk = absurd cc
+complete_trial_of seed size schedulers (written _ _ _ (run _ _ _ _ v) a) e nk = absurd cc
+complete_trial_of seed size schedulers (written _ _ _ (check _ _ _ v) a) e nk = absurd cc
+complete_trial_of seed size schedulers (written _ _ _ (progress _ _ _ v) a) e nk = absurd cc
+complete_trial_of seed size schedulers (written _ _ _ (make _ _) a) e nk = absurd cc
+complete_trial_of seed size schedulers (written _ _ _ (trial _ _ _ _ _ _ (tried _ l)) a) e nk = inl refl
+complete_trial_of seed size schedulers (cut_off _ _ _ v r p) e nk = absurd (nk r)
+complete_trial_of seed size schedulers (source_failed f r) e nk = absurd (unread_tried e f)
+complete_trial_of seed size schedulers (no_memory f) e nk = inr refl
 
 -- ---- how a call comes to its end
 
@@ -440,7 +538,7 @@ pub is_form : (f : Option Form) (form : Form) → f ≡ Some form → f ≢ None
 is_form f form e n = absurd cc
 
 -- how a call ended that wrote nothing, since the source failed
-pub ends_source : (f : Option Form) (left left' : Option (List ℕ)) (sf sf' : ℕ) (got got' : Option (List ℕ)) (kf kf' : ℕ) (status : ℕ) (log : Option RunLog) → f ≢ None → Rose sf sf' → (status ≡ 4) × (log ≡ None) → Ends f left left' sf sf' got got' kf kf' status log
+pub ends_source : (f : Option Form) (left left' : Option (List ℕ)) (sf sf' : ℕ) (got got' : Option (List ℕ)) (kf kf' : ℕ) (status : ℕ) (log : Option RunLog) → IsTrue (reads f) → Rose sf sf' → (status ≡ 4) × (log ≡ None) → Ends f left left' sf sf' got got' kf kf' status log
 ends_source f left left' sf sf' got got' kf kf' status log fe r s =
     subst (λ (n : ℕ). Ends f left left' sf sf' got got' kf kf' n log) (sym s.0)
     (subst (λ (l : Option RunLog). Ends f left left' sf sf' got got' kf kf' 4 l) (sym s.1) (source_failed fe r))
@@ -489,6 +587,15 @@ run_by left left' form schedulers status log text e v = subst (λ (f : Form). Ve
 -- what a check comes to, by its form
 pub check_by : (left left' : Option (List ℕ)) (form : Form) (status : ℕ) (log : Option RunLog) (text : List ℕ) → form ≡ forms.Check → ReadVerdict LONGEST_CHECK left left' CheckVerdict status log text → Verdict left left' (Some form) status log text
 check_by left left' form status log text e v = subst (λ (f : Form). Verdict left left' (Some f) status log text) (sym e) (check status log text v)
+
+-- the summary of a trial, by its form
+pub trial_by : (left left' : Option (List ℕ)) (form : Form) (seed size schedulers status : ℕ) (log : Option RunLog) (text : List ℕ) → form ≡ forms.Trial seed size schedulers → TrialOf seed size status log text → Verdict left left' (Some form) status log text
+trial_by left left' form seed size schedulers status log text e v = subst (λ (f : Form). Verdict left left' (Some f) status log text) (sym e) (trial seed size schedulers status log text v)
+
+-- the text of a made script, by its form
+pub make_by : (left left' : Option (List ℕ)) (form : Form) (seed size status : ℕ) (log : Option RunLog) (text : List ℕ) → form ≡ forms.Make seed size → IsLine 0 (canonical_text (seeded_script seed size)) status log text → Verdict left left' (Some form) status log text
+make_by left left' form seed size status log text e line =
+    subst (λ (f : Form). Verdict left left' (Some f) status log text) (sym e) (by_line (Verdict left left' (Some (forms.Make seed size))) 0 (canonical_text (seeded_script seed size)) status log text (make seed size) line)
 
 -- what a replay comes to, by its form
 pub progress_by : (left left' : Option (List ℕ)) (form : Form) (status : ℕ) (log : Option RunLog) (text : List ℕ) → form ≡ forms.Progress → ReadVerdict LONGEST_SCRIPT left left' ListVerdict status log text → Verdict left left' (Some form) status log text

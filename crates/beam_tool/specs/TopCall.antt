@@ -1,7 +1,7 @@
 -- What the top call comes to: the form of its words, and for each status what it was answered for and what was written.
 -- What is said of the source's or the sink's bytes holds where these are told.
 -- Source: this project's command line.
-use Rattle.std.specs.Prelude.{◌≡◌, ◌≢◌, ℕ, ◌+◌, ◌≤◌, ◌&&◌, List, [], ◌∷◌, ◌++◌, length, Some, None, option_map, bytes_eq, codes, decimal, if◌then◌else◌}
+use Rattle.std.specs.Prelude.{◌≡◌, ◌≢◌, ℕ, ◌+◌, ◌≤◌, ◌&&◌, nat_le, Bool, true, false, IsTrue, List, [], ◌∷◌, ◌++◌, length, Some, None, option_map, bytes_eq, codes, decimal, if◌then◌else◌}
 use Rattle.std.specs.List.{find, range_with_len}
 use Rattle.std.specs.declared.option.Option.{Option}
 use Rattle.std.specs.Io.KnownBytes.{Appends}
@@ -19,8 +19,13 @@ use Rattle.script_core.specs.declared.script.Script.{Script}
 use Rattle.script_text.specs.declared.fault.ScriptFault.{ScriptFault}
 use Rattle.script_text.specs.declared.fault.ScriptFault.TheVariants as faults
 use Rattle.script_text.specs.ScriptText.{ScriptText, FaultOf}
+use Rattle.script_text.specs.Canonical.{canonical_text}
+use Rattle.script_maker.specs.declared.making.TheConstants.{MOST_COMMANDS}
+use Rattle.script_maker.specs.MadeScript.{made_script}
+use Rattle.term_core.specs.Text.Words.{narrow_reading}
 use Rattle.run_log.specs.declared.logs.RunLog.{RunLog}
 use Rattle.run_log.specs.Report.{rendering_of, line_of}
+use Rattle.run_log.specs.Summary.{summary_of}
 use Rattle.run_log.specs.Legal.{Legal}
 use Rattle.run_log.specs.WellFormed.{IsWellFormed}
 use Rattle.report_text.specs.declared.fault.ReportFault.TheVariants as report_faults
@@ -38,22 +43,82 @@ scheduler_counts = range_with_len 1 MOST_SCHEDULERS
 abbrev pub schedulers_of : List ℕ → Option ℕ
 schedulers_of text = find (λ n. bytes_eq (decimal n) text) scheduler_counts
 
--- the form that these words have, if any: `run`, `run --schedulers N`, `check` or `progress`
-abbrev pub form_of : List (List ℕ) → Option Form
-form_of (command ∷ option ∷ count ∷ []) =
-    if bytes_eq command (codes "run") && bytes_eq option (codes "--schedulers") then option_map forms.Run (schedulers_of count) else None
-form_of (command ∷ []) =
-    if bytes_eq command (codes "run") then Some (forms.Run 2) else (if bytes_eq command (codes "check") then Some forms.Check else (if bytes_eq command (codes "progress") then Some forms.Progress else None))
-form_of [] = None
-form_of (command ∷ option ∷ []) = None
-form_of (command ∷ option ∷ count ∷ more ∷ rest) = None
+-- a number of commands that a made script may have, 1 to 4,000
+abbrev pub size_within : Option ℕ → Option ℕ
+size_within (Some size) = if nat_le 1 size && nat_le size MOST_COMMANDS then Some size else None
+size_within None = None
 
--- how many bytes words of this form take from the source at most: one more than what they read may have, and none where they are of no form
+-- the number of commands with this text, if it is one
+abbrev pub size_of : List ℕ → Option ℕ
+size_of text = size_within (narrow_reading text)
+
+-- the form of one word
+abbrev pub word_form : List ℕ → Option Form
+word_form command =
+    if bytes_eq command (codes "run") then Some (forms.Run 2) else (if bytes_eq command (codes "check") then Some forms.Check else (if bytes_eq command (codes "progress") then Some forms.Progress else None))
+
+-- the script of a seed and a size
+abbrev pub make_form : Option ℕ → Option ℕ → Option Form
+make_form (Some seed) (Some size) = Some (forms.Make seed size)
+make_form seed size = None
+
+-- a run of the script of a seed and a size
+abbrev pub trial_form : Option ℕ → Option ℕ → Option ℕ → Option Form
+trial_form (Some seed) (Some size) (Some schedulers) = Some (forms.Trial seed size schedulers)
+trial_form seed size schedulers = None
+
+-- the form of `run --schedulers N`
+abbrev pub run_words : List ℕ → List ℕ → List ℕ → Option Form
+run_words command option count = if bytes_eq command (codes "run") && bytes_eq option (codes "--schedulers") then option_map forms.Run (schedulers_of count) else None
+
+-- whether these words stand before a seed and a size
+abbrev pub name_seed_and_size : List ℕ → List ℕ → Bool
+name_seed_and_size seed size = bytes_eq seed (codes "--seed") && bytes_eq size (codes "--size")
+
+-- whether these words of a trial stand before its numbers
+abbrev pub name_trial : List ℕ → List ℕ → List ℕ → List ℕ → Bool
+name_trial command seed size schedulers = (bytes_eq command (codes "trial") && name_seed_and_size seed size) && bytes_eq schedulers (codes "--schedulers")
+
+-- the form that these words have, if any: `run`, `run --schedulers N`, `check`, `make --seed S --size K`, `progress` or
+-- `trial --seed S --size K --schedulers N`; S is a number of 32 bits
+abbrev pub form_of : List (List ℕ) → Option Form
+form_of (command ∷ []) = word_form command
+form_of (command ∷ option ∷ count ∷ []) = run_words command option count
+form_of (command ∷ option ∷ seed ∷ next ∷ size ∷ []) =
+    if bytes_eq command (codes "make") && name_seed_and_size option next then make_form (narrow_reading seed) (size_of size) else None
+form_of (command ∷ option ∷ seed ∷ next ∷ size ∷ last ∷ count ∷ []) =
+    if name_trial command option next last then trial_form (narrow_reading seed) (size_of size) (schedulers_of count) else None
+form_of words = None
+
+-- the script that a seed and a size make; it stands folded, since its text is long
+unfoldable pub seeded_script : ℕ → ℕ → Script
+seeded_script seed size = made_script seed size
+
+-- a form whose script, if it makes one, has 1 to 4,000 commands
+abbrev pub HasSize : Form → Type 0
+HasSize (forms.Make seed size) = (1 ≤ size) × (size ≤ MOST_COMMANDS)
+HasSize (forms.Trial seed size schedulers) = (1 ≤ size) × (size ≤ MOST_COMMANDS)
+HasSize form = Unit {0}
+
+-- whether words of this form read the source
+abbrev pub reads : Option Form → Bool
+reads (Some (forms.Run schedulers)) = true
+reads (Some forms.Check) = true
+reads (Some forms.Progress) = true
+reads form = false
+
+-- whether words of this form run a script
+abbrev pub runs : Option Form → Bool
+runs (Some (forms.Run schedulers)) = true
+runs (Some (forms.Trial seed size schedulers)) = true
+runs form = false
+
+-- how many bytes words of this form take from the source at most: one more than what they read may have, and none where they read nothing
 abbrev pub most_taken : Option Form → ℕ
-most_taken None = 0
 most_taken (Some (forms.Run schedulers)) = LONGEST_SCRIPT + 1
 most_taken (Some forms.Check) = LONGEST_CHECK + 1
 most_taken (Some forms.Progress) = LONGEST_SCRIPT + 1
+most_taken form = 0
 
 -- the line for words of no form
 abbrev pub not_understood_text : List ℕ
@@ -138,12 +203,18 @@ pub data ReadVerdict (limit : ℕ) (left left_after : Option (List ℕ)) (P : Li
   whole_text : (bytes : List ℕ) (status : ℕ) (log : Option RunLog) (text : List ℕ) → WasRead limit left left_after bytes → P bytes status log text → ReadVerdict limit left left_after P status log text
   long_text : IsTooLong limit left → ReadVerdict limit left left_after P 3 None too_long_text
 
+-- the answer of a trial: a history of one code server for the made script, and its summary
+pub data TrialOf (seed size : ℕ) : ℕ → Option RunLog → List ℕ → Type 0 where
+  tried : (log : RunLog) → Legal (seeded_script seed size) log → TrialOf seed size 0 (Some log) (summary_of (seeded_script seed size) log)
+
 -- what a call comes to apart from writing, by the form of its words: status, log and text
 pub data Verdict (left left_after : Option (List ℕ)) : Option Form → ℕ → Option RunLog → List ℕ → Type 0 where
   misread : Verdict left left_after None 2 None not_understood_text
   run : (schedulers status : ℕ) (log : Option RunLog) (text : List ℕ) → ReadVerdict LONGEST_SCRIPT left left_after ScriptVerdict status log text → Verdict left left_after (Some (forms.Run schedulers)) status log text
   check : (status : ℕ) (log : Option RunLog) (text : List ℕ) → ReadVerdict LONGEST_CHECK left left_after CheckVerdict status log text → Verdict left left_after (Some forms.Check) status log text
   progress : (status : ℕ) (log : Option RunLog) (text : List ℕ) → ReadVerdict LONGEST_SCRIPT left left_after ListVerdict status log text → Verdict left left_after (Some forms.Progress) status log text
+  make : (seed size : ℕ) → Verdict left left_after (Some (forms.Make seed size)) 0 None (canonical_text (seeded_script seed size))
+  trial : (seed size schedulers status : ℕ) (log : Option RunLog) (text : List ℕ) → TrialOf seed size status log text → Verdict left left_after (Some (forms.Trial seed size schedulers)) status log text
 
 -- statuses 0 to 3: the text of what the call came to was written whole
 pub record Answered (form : Option Form) (left left_after got got_after : Option (List ℕ)) (status : ℕ) (log : Option RunLog) : Type 0 where
@@ -174,6 +245,18 @@ pub record IsAccepted (left left_after got got_after : Option (List ℕ)) : Type
   pub parts : HasScriptAndReport (bytes ++ report) script log
   pub holds : Legal script log
 
+-- status 0 of a trial, the headline of a made script: the log is lawful for it, and its summary was written
+pub record Summarized (seed size : ℕ) (got got_after : Option (List ℕ)) (answered : Option RunLog) : Type 0 where
+  pub log : RunLog
+  pub answered_is : answered ≡ Some log
+  pub legal : Legal (seeded_script seed size) log
+  pub written : Appends got got_after (summary_of (seeded_script seed size) log)
+
+-- status 0 of a script that was made: its canonical text was written, which reads as this script
+pub record Made (seed size : ℕ) (got got_after : Option (List ℕ)) : Type 0 where
+  pub reads : ScriptText (canonical_text (seeded_script seed size)) (seeded_script seed size)
+  pub written : Appends got got_after (canonical_text (seeded_script seed size))
+
 -- statuses 0 and 1 of a check: the whole source is a script's text and behind it the report of a log, of the two this is true, and this line was written
 pub record Checked (judgement : Script → RunLog → Type 0) (line : List ℕ) (left left_after got got_after : Option (List ℕ)) : Type 0 where
   pub bytes : List ℕ
@@ -186,7 +269,7 @@ pub record Checked (judgement : Script → RunLog → Type 0) (line : List ℕ) 
 
 -- status 4: a form that reads, and a source that failed
 pub record SourceFailed (form : Option Form) (faults faults_after : ℕ) : Type 0 where
-  pub reads : form ≢ None
+  pub reading : IsTrue (reads form)
   pub rose : Rose faults faults_after
 
 -- status 5: a sink that failed within the text of what the call came to
@@ -206,5 +289,5 @@ pub data Delivered (got got_after : Option (List ℕ)) (faults faults_after : �
 pub data Ends (form : Option Form) (left left_after : Option (List ℕ)) (source_faults source_faults_after : ℕ) (got got_after : Option (List ℕ)) (sink_faults sink_faults_after : ℕ) : ℕ → Option RunLog → Type 0 where
   written : (status : ℕ) (log : Option RunLog) (text : List ℕ) → Verdict left left_after form status log text → Appends got got_after text → Ends form left left_after source_faults source_faults_after got got_after sink_faults sink_faults_after status log
   cut_off : (status : ℕ) (log : Option RunLog) (text : List ℕ) → Verdict left left_after form status log text → Rose sink_faults sink_faults_after → GetsPrefix got got_after text → Ends form left left_after source_faults source_faults_after got got_after sink_faults sink_faults_after 5 log
-  source_failed : form ≢ None → Rose source_faults source_faults_after → Ends form left left_after source_faults source_faults_after got got_after sink_faults sink_faults_after 4 None
+  source_failed : IsTrue (reads form) → Rose source_faults source_faults_after → Ends form left left_after source_faults source_faults_after got got_after sink_faults sink_faults_after 4 None
   no_memory : form ≢ None → Ends form left left_after source_faults source_faults_after got got_after sink_faults sink_faults_after 6 None

@@ -6,6 +6,7 @@ mod check_form;
 mod check_tests;
 mod form;
 mod gate;
+mod make_form;
 #[cfg(test)]
 mod outside_tests;
 mod progress_form;
@@ -15,6 +16,7 @@ mod run_tests;
 #[cfg(test)]
 mod tests;
 mod top;
+mod trial_form;
 
 use gate::NoGate;
 use outside::{NO_MEMORY, StdSink, StdSource};

@@ -1,4 +1,4 @@
-ghost use Rattle.std.specs.Prelude.{◌≡◌, ◌≢◌, ◌≤◌, ◌<◌, ◌⊎◌, ℕ, List, Some, None, IfOk, IsErrOf, length, map, string_bytes};
+ghost use Rattle.std.specs.Prelude.{◌≡◌, ◌≢◌, ◌≤◌, ◌<◌, ◌⊎◌, ℕ, false, List, Some, None, IfOk, IsErrOf, IsTrue, length, map, string_bytes};
 ghost use Rattle.prgr_core.specs.EventText.{EventText};
 ghost use Rattle.prgr_core.specs.declared.event.Events.{Events};
 ghost use Rattle.prgr_core.specs.declared.progress.Progress.{Progress};
@@ -12,13 +12,15 @@ ghost use Rattle.report_text.specs.declared.fault.ReportFault.{ReportFault};
 ghost use Rattle.outside.specs.Outside.{Rose, TakesUpTo};
 ghost use Rattle.outside.specs.Parting.{script_part};
 ghost use Rattle.outside.specs.Inputs.{HasScriptAndReport, HasFaultyReport};
-ghost use Rattle.beam_tool.specs.TopCall.{form_of as the_form_of, most_taken, IsAccepted, IsNoList, IsUnlawful, lawful_text, not_lawful_text, Verdict, Answered, Reported, Checked, SourceFailed, SinkFailed, Delivered, Ends};
+ghost use Rattle.beam_tool.specs.TopCall.{form_of as the_form_of, most_taken, IsAccepted, IsNoList, IsUnlawful, lawful_text, not_lawful_text, Verdict, Answered, Reported, Checked, SourceFailed, SinkFailed, Delivered, Ends, HasSize, reads, runs, Summarized, Made};
 
 use crate::check_form::check_answer;
 use crate::form::{Form, form_of};
 use crate::gate::Gate;
+use crate::make_form::make_answer;
 use crate::progress_form::progress_answer;
 use crate::run_form::run_answer;
+use crate::trial_form::trial_answer;
 use outside::{
     Answer, DONE, LONGEST_CHECK, NO_MEMORY, NOT_ALLOWED, NOT_UNDERSTOOD, REFUSED, SINK_FAULT,
     SOURCE_FAULT, Sink, Source, Stop, write_whole,
@@ -51,6 +53,12 @@ pub fn beam_top<R: Threads + Wait + Sync, S: Source, K: Sink, G: Gate>(
     // The headline: a run that is reported is a history of one code server.
     ensures headline { (schedulers : ℕ) → the_form_of (map string_bytes words.now) ≡ Some (Form.Run schedulers) → result.status ≡ DONE
         → Reported (S.left source.old) (S.left source.new) (K.got sink.old) (K.got sink.new) result.log }
+    ensures headline_of_made { (seed size schedulers : ℕ) → the_form_of (map string_bytes words.now) ≡ Some (Form.Trial seed size schedulers) → result.status ≡ DONE
+        → Summarized seed size (K.got sink.old) (K.got sink.new) result.log }
+
+    // A script that is made is written by its canonical text, which reads as this script.
+    ensures made { (seed size : ℕ) → the_form_of (map string_bytes words.now) ≡ Some (Form.Make seed size) → result.status ≡ DONE
+        → Made seed size (K.got sink.old) (K.got sink.new) }
 
     // What a run writes a check accepts: for the text that was read with what was written behind it, within the limit, the
     // clause on lawful reports says that a check answers 0, or that memory was refused.
@@ -78,11 +86,11 @@ pub fn beam_top<R: Threads + Wait + Sync, S: Source, K: Sink, G: Gate>(
     ensures stops { TakesUpTo (most_taken (the_form_of (map string_bytes words.now))) (S.left source.old) (S.left source.new) }
 
     // What is not read, not written and not logged.
-    ensures unread { the_form_of (map string_bytes words.now) ≡ None → source.new ≡ source.old }
+    ensures unread { reads (the_form_of (map string_bytes words.now)) ≡ false → source.new ≡ source.old }
     ensures unwritten_at_source_fault { result.status ≡ SOURCE_FAULT → sink.new ≡ sink.old }
     ensures unwritten_at_no_memory { result.status ≡ NO_MEMORY → sink.new ≡ sink.old }
     ensures no_log { result.status ≢ DONE → result.status ≢ SINK_FAULT → result.log ≡ None }
-    ensures no_log_checked { the_form_of (map string_bytes words.now) ≡ Some Form.Check → result.log ≡ None }
+    ensures no_log_unrun { runs (the_form_of (map string_bytes words.now)) ≡ false → result.log ≡ None }
 
     // Words of no form take no memory: they never answer that it was refused.
     ensures misread { the_form_of (map string_bytes words.now) ≡ None → result.status ≢ NO_MEMORY }
@@ -98,6 +106,12 @@ pub fn beam_top<R: Threads + Wait + Sync, S: Source, K: Sink, G: Gate>(
         → S.left source.old ≡ Some bytes → FaultOf bytes fault
         → (Rose (S.faults source.old) (S.faults source.new) → ⊥) → (Rose (K.faults sink.old) (K.faults sink.new) → ⊥)
         → (result.status ≡ REFUSED) ⊎ (result.status ≡ NO_MEMORY) }
+    ensures complete_make { (seed size : ℕ) → the_form_of (map string_bytes words.now) ≡ Some (Form.Make seed size)
+        → (Rose (K.faults sink.old) (K.faults sink.new) → ⊥)
+        → (result.status ≡ DONE) ⊎ (result.status ≡ NO_MEMORY) }
+    ensures complete_trial { (seed size schedulers : ℕ) → the_form_of (map string_bytes words.now) ≡ Some (Form.Trial seed size schedulers)
+        → (Rose (K.faults sink.old) (K.faults sink.new) → ⊥)
+        → (result.status ≡ DONE) ⊎ (result.status ≡ NO_MEMORY) }
     ensures complete_lawful { (bytes : List ℕ) (s : Script) (log : RunLogValue) → the_form_of (map string_bytes words.now) ≡ Some Form.Check
         → S.left source.old ≡ Some bytes → length bytes ≤ LONGEST_CHECK → HasScriptAndReport bytes s log → Legal s log
         → (Rose (S.faults source.old) (S.faults source.new) → ⊥) → (Rose (K.faults sink.old) (K.faults sink.new) → ⊥)
@@ -145,7 +159,7 @@ fn ended<S: Source, K: Sink>(
         (S.faults source.old) (S.faults source.new) (K.got sink.old) (K.got sink.new)
         (K.faults sink.old) (K.faults sink.new) result.status result.log }
     ensures stops { TakesUpTo (most_taken (the_form_of (map string_bytes words.now))) (S.left source.old) (S.left source.new) }
-    ensures unread { the_form_of (map string_bytes words.now) ≡ None → source.new ≡ source.old }
+    ensures unread { reads (the_form_of (map string_bytes words.now)) ≡ false → source.new ≡ source.old }
     ensures unwritten_at_source_fault { result.status ≡ SOURCE_FAULT → sink.new ≡ sink.old }
     ensures unwritten_at_no_memory { result.status ≡ NO_MEMORY → sink.new ≡ sink.old }
 {
@@ -168,16 +182,25 @@ fn stopped(status: u8) -> Finish
 
 /// What a form comes to apart from writing.
 fn form_answer<S: Source>(alloc: Global, form: Form, source: &mut S) -> Result<Answer, Stop>
+    requires { HasSize form }
     ensures verdict { IfOk result
         (λ a. Verdict (S.left source.old) (S.left source.new) (Some form) a.status a.log a.text) }
     ensures failed { IsErrOf result Stop.SourceFault
         → Rose (S.faults source.old) (S.faults source.new) }
+    ensures reading { IsErrOf result Stop.SourceFault → IsTrue (reads (Some form)) }
+    ensures unread { reads (Some form) ≡ false → source.new ≡ source.old }
     ensures stops { TakesUpTo (most_taken (Some form)) (S.left source.old) (S.left source.new) }
 {
     match form {
         Form::Run { schedulers: _ } => run_answer(alloc, source),
         Form::Check => check_answer(alloc, source),
         Form::Progress => progress_answer(alloc, source),
+        Form::Make { seed, size } => Ok(make_answer(alloc, seed, size)?),
+        Form::Trial {
+            seed,
+            size,
+            schedulers: _,
+        } => Ok(trial_answer(alloc, seed, size)?),
     }
 }
 

@@ -1,5 +1,8 @@
 -- Each clause of the top call follows from how the call ended.
-use Rattle.beam_tool.proofs.TopCalls.{known_of, headline_of, accepted_of, checked_of, checked_unlawful_of, answered_of, source_failed_of, sink_failed_of, no_log_of, no_log_checked_of, misread_of, complete_words_of, complete_run_of, complete_refusal_of, complete_lawful_of, complete_unlawful_of, complete_script_fault_of, complete_report_fault_of, complete_replay_of, complete_stop_of, complete_fault_of}
+use Rattle.beam_tool.proofs.TopCalls.{known_of, headline_of, accepted_of, checked_of, checked_unlawful_of, answered_of, source_failed_of, sink_failed_of, no_log_of, misread_of, complete_words_of, complete_run_of, complete_refusal_of, complete_lawful_of, complete_unlawful_of, complete_script_fault_of, complete_report_fault_of, complete_replay_of, complete_stop_of, complete_fault_of, summarized_of, made_of, complete_make_of, complete_trial_of, no_log_unrun_of}
+use Rattle.std.specs.Prelude.{map, string_bytes}
+use Rattle.beam_tool.specs.declared.form.Form.TheVariants as forms
+use Rattle.beam_tool.proofs.Forms.{form_sized}
 use Rattle.beam_tool.proofs.top.beam_top.Goals as goal
 
 pub returns-clause-known : goal.returns-clause-known
@@ -10,6 +13,18 @@ returns-clause-headline g c n f e = headline_of n c.ended.ensures.ends f e
 
 pub returns-clause-accepted : goal.returns-clause-accepted
 returns-clause-accepted g c n f e = accepted_of n c.ended.ensures.ends f e
+
+pub returns-clause-headline_of_made : goal.returns-clause-headline_of_made
+returns-clause-headline_of_made g c seed size n f e = summarized_of seed size n c.ended.ensures.ends f e
+
+pub returns-clause-made : goal.returns-clause-made
+returns-clause-made g c seed size f e = made_of seed size (form_sized (map string_bytes c.args.words.now) (forms.Make seed size) f).1 c.ended.ensures.ends f e
+
+pub returns-clause-complete_make : goal.returns-clause-complete_make
+returns-clause-complete_make g c seed size f nk = complete_make_of seed size c.ended.ensures.ends f nk
+
+pub returns-clause-complete_trial : goal.returns-clause-complete_trial
+returns-clause-complete_trial g c seed size n f nk = complete_trial_of seed size n c.ended.ensures.ends f nk
 
 pub returns-clause-checked : goal.returns-clause-checked
 returns-clause-checked g c f e = checked_of c.ended.ensures.ends f e
@@ -29,8 +44,8 @@ returns-clause-sink_fault g c e = sink_failed_of c.ended.ensures.ends e
 pub returns-clause-no_log : goal.returns-clause-no_log
 returns-clause-no_log g c d s = no_log_of c.ended.ensures.ends d s
 
-pub returns-clause-no_log_checked : goal.returns-clause-no_log_checked
-returns-clause-no_log_checked g c f = no_log_checked_of c.ended.ensures.ends f
+pub returns-clause-no_log_unrun : goal.returns-clause-no_log_unrun
+returns-clause-no_log_unrun g c f = no_log_unrun_of c.ended.ensures.ends f
 
 pub returns-clause-misread : goal.returns-clause-misread
 returns-clause-misread g c e = misread_of c.ended.ensures.ends e

@@ -1,6 +1,8 @@
 -- How the call ended, from how its text was delivered.
 use Rattle.std.proofs.Common.{sym, ◌∙◌, refl, ap, Err}
 use Rattle.beam_tool.specs.TopCall.{misread}
+use Rattle.std.specs.Prelude.{map, string_bytes}
+use Rattle.beam_tool.proofs.Forms.{form_sized, reading_words, unread_words}
 use Rattle.beam_tool.proofs.TopCalls.{ends_of, not_stopped, is_form, ends_source, ends_memory}
 use Rattle.beam_tool.proofs.Stops.{stops_by, stops_unread}
 use Rattle.beam_tool.proofs.top.ended.Goals as goal
@@ -18,7 +20,7 @@ pub returns-in-Ok-clause-unwritten_at_no_memory : goal.returns-in-Ok-clause-unwr
 returns-in-Ok-clause-unwritten_at_no_memory g c e = absurd ((not_stopped c.in-Ok.ensures.verdict c.deliver-in-Ok.ensures.delivered).1 e)
 
 pub returns-in-Err-SourceFault-clause-ends : goal.returns-in-Err-SourceFault-clause-ends
-returns-in-Err-SourceFault-clause-ends g c = ends_source _ _ _ _ _ _ _ _ _ _ _ (is_form _ _ (sym c.form_of.ensures ∙ c.in-Some.is)) (c.in-Err-SourceFault.ensures.failed (ap Err c.in-Err-SourceFault.field-0-is)) c.stopped.ensures
+returns-in-Err-SourceFault-clause-ends g c = ends_source _ _ _ _ _ _ _ _ _ _ _ (reading_words _ _ (sym c.form_of.ensures ∙ c.in-Some.is) (c.in-Err-SourceFault.ensures.reading (ap Err c.in-Err-SourceFault.field-0-is))) (c.in-Err-SourceFault.ensures.failed (ap Err c.in-Err-SourceFault.field-0-is)) c.stopped.ensures
 
 pub returns-in-Err-NoMemory-clause-ends : goal.returns-in-Err-NoMemory-clause-ends
 returns-in-Err-NoMemory-clause-ends g c = ends_memory _ _ _ _ _ _ _ _ _ _ _ (is_form _ _ (sym c.form_of.ensures ∙ c.in-Some.is)) c.stopped-in-Err-NoMemory.ensures
@@ -34,3 +36,9 @@ returns-in-Err-SourceFault-clause-stops g c = stops_by _ c.in-Some.form _ _ (sym
 
 pub returns-in-Err-NoMemory-clause-stops : goal.returns-in-Err-NoMemory-clause-stops
 returns-in-Err-NoMemory-clause-stops g c = stops_by _ c.in-Some.form _ _ (sym c.form_of.ensures ∙ c.in-Some.is) c.form_answer.ensures.stops
+
+pub form_answer-requires : goal.form_answer-requires
+form_answer-requires g c = form_sized (map string_bytes c.args.words.now) c.in-Some.form (sym c.form_of.ensures ∙ c.in-Some.is)
+
+pub returns-in-Ok-clause-unread : goal.returns-in-Ok-clause-unread
+returns-in-Ok-clause-unread g c none = c.form_answer.ensures.unread (unread_words _ _ (sym c.form_of.ensures ∙ c.in-Some.is) none)

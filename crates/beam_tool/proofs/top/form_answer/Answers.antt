@@ -1,5 +1,5 @@
 -- The verdict of a form is that of its work.
-use Rattle.beam_tool.proofs.TopCalls.{on_ok, run_by, check_by, progress_by}
+use Rattle.beam_tool.proofs.TopCalls.{on_ok, run_by, check_by, progress_by, make_by, trial_by}
 use Rattle.beam_tool.specs.declared.form.Form.TheVariants as forms
 use Rattle.beam_tool.proofs.Stops.{stops_so}
 use Rattle.beam_tool.proofs.top.form_answer.Goals as goal
@@ -21,3 +21,9 @@ returns-in-Check-clause-stops g c = stops_so c.args.form forms.Check _ _ c.in-Ch
 
 pub returns-in-Progress-clause-stops : goal.returns-in-Progress-clause-stops
 returns-in-Progress-clause-stops g c = stops_so c.args.form forms.Progress _ _ c.in-Progress.is c.progress_answer.ensures.stops
+
+pub returns-in_ok-make_answer-in-Make-clause-verdict : goal.returns-in_ok-make_answer-in-Make-clause-verdict
+returns-in_ok-make_answer-in-Make-clause-verdict g c = make_by _ _ c.args.form c.in-Make.seed c.in-Make.size _ _ _ c.in-Make.is c.in_ok-make_answer-in-Make.ensures
+
+pub returns-in_ok-trial_answer-in-Trial-clause-verdict : goal.returns-in_ok-trial_answer-in-Trial-clause-verdict
+returns-in_ok-trial_answer-in-Trial-clause-verdict g c = trial_by _ _ c.args.form c.in-Trial.seed c.in-Trial.size c.in-Trial.schedulers _ _ _ c.in-Trial.is c.in_ok-trial_answer-in-Trial.ensures
