@@ -1,0 +1,25 @@
+-- What keeps the pools those of their writer besides the calls on them: the stores and loads of that writer.
+use Rattle.std.specs.Prelude.{ℕ, ◌≤◌}
+use Rattle.area_core.specs.declared.table.Published.{Published}
+use Rattle.shared_words.specs.declared.view.WriterView.{WriterView}
+use Rattle.shared_words.specs.Kinds.{counter_kept}
+use Rattle.shared_words.specs.Notes.{with_note}
+use Rattle.shared_words.specs.Publishing.{with_next, with_word}
+use Rattle.literal_areas.specs.declared.areas.Areas.{Areas}
+use Rattle.literal_areas.specs.Owned.{AreOf, IsListed}
+
+-- a store of a word of any block
+abbrev pub KeptByStores : Type 0
+KeptByStores = (s : Areas) (w : WriterView) (word value : ℕ) → AreOf s w → AreOf s (with_word word value w)
+
+-- the store of the root of a generation that may be published over the pools
+abbrev pub KeptByRoots : Type 0
+KeptByRoots = (s : Areas) (w : WriterView) (p : Published) → AreOf s w → IsListed s p → AreOf s (with_next p w)
+
+-- a load of the counter, which never falls
+abbrev pub KeptByCounters : Type 0
+KeptByCounters = (s : Areas) (w : WriterView) (counter : ℕ) → w.counter ≤ counter → AreOf s w → AreOf s (counter_kept counter w)
+
+-- the split of a note
+abbrev pub KeptByNotes : Type 0
+KeptByNotes = (s : Areas) (w : WriterView) (process : ℕ) → AreOf s w → AreOf s (with_note process w)

@@ -1,0 +1,4 @@
+pub mod Blocks
+pub mod Owned
+pub mod Written
+pub mod Laws
