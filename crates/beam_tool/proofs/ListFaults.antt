@@ -1,10 +1,9 @@
 -- The first line of another form of a text that is no list of events: there is one such line.
-use Rattle.std.proofs.Common.{◌≡◌, ℕ, ◌+◌, ◌-◌, ◌<◌, ◌≤◌, Bool, true, false, List, [], ◌∷◌, ◌++◌, length, take, drop, Result, Ok, Err, refl, sym, ◌∙◌, ap, subst, arith, ◌⊎◌, inl, inr, ◌==◌, if◌then◌else◌}
+use Rattle.std.proofs.Common.{◌≡◌, ℕ, ◌-◌, ◌≤◌, Bool, true, false, List, [], ◌∷◌, ◌++◌, take, drop, Result, Ok, Err, refl, sym, ◌∙◌, ap, subst, arith, ◌⊎◌, inl, inr, ◌==◌, if◌then◌else◌}
 use Rattle.std.proofs.lemmas.Bool.{cases_lt, eqb-true}
 use Rattle.std.proofs.lemmas.List.{take-append-drop, take-take}
-use Rattle.prgr_core.specs.declared.event.Events.{Events}
 use Rattle.prgr_core.specs.EventText.{EventText, line_feed, line_then}
-use Rattle.prgr_core.specs.Reading.{Lines, lines, before_lines, lines_of, reading}
+use Rattle.prgr_core.specs.Reading.{lines, before_lines, lines_of, reading}
 use Rattle.prgr_core.specs.Faults.{IsFirstFault, IsLast, IsOfNoForm, IsUnended, Opens, joined}
 use Rattle.prgr_core.proofs.FirstFaults.{first_fault}
 use Rattle.prgr_core.proofs.Grammars.{reading_complete}

@@ -1,9 +1,8 @@
 -- How many bytes are taken from the source, by the form of the words.
-use Rattle.std.proofs.Common.{◌≡◌, ℕ, ◌+◌, List, [], Option, Some, None, refl, sym, subst, arith}
+use Rattle.std.proofs.Common.{◌≡◌, ℕ, List, [], Option, Some, None, refl, sym, subst, arith}
 use Rattle.std.specs.Io.KnownBytes.{Consumes}
 use Rattle.outside.specs.Outside.{TakesUpTo}
 use Rattle.beam_tool.specs.declared.form.Form.{Form}
-use Rattle.beam_tool.specs.declared.form.Form.TheVariants as forms
 use Rattle.beam_tool.specs.TopCall.{most_taken}
 
 takes_nothing : (left : Option (List ℕ)) → Consumes left left []

@@ -1,5 +1,4 @@
 -- Two, four and six words have no form, nor have more than seven.
-use Rattle.std.proofs.Common.{map}
 use Rattle.beam_tool.proofs.Forms.{none_of_four, none_of_more, none_of_six, none_of_two}
 use Rattle.beam_tool.proofs.form.form_of.Goals as goal
 

@@ -1,5 +1,5 @@
 -- A run of a made script, and its summary.
-use Rattle.std.proofs.Common.{ℕ, List, ◌++◌, refl, sym, ◌∙◌, subst, ap}
+use Rattle.std.proofs.Common.{ℕ, List, ◌++◌, sym, ◌∙◌, subst, ap}
 use Rattle.script_core.specs.declared.script.Script.{Script}
 use Rattle.run_log.specs.Legal.{Legal}
 use Rattle.run_log.specs.Summary.{summary_of}
