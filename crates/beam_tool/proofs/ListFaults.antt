@@ -1,9 +1,9 @@
 -- The first line of another form of a text that is no list of events: there is one such line.
-use Rattle.std.proofs.Common.{◌≡◌, ℕ, ◌-◌, ◌≤◌, Bool, true, false, List, [], ◌∷◌, ◌++◌, take, drop, Result, Ok, Err, refl, sym, ◌∙◌, ap, subst, arith, ◌⊎◌, inl, inr, ◌==◌, if◌then◌else◌}
-use Rattle.std.proofs.lemmas.Bool.{cases_lt, eqb-true}
+use Rattle.std.proofs.Common.{◌≡◌, ℕ, ◌-◌, ◌≤◌, List, [], ◌∷◌, ◌++◌, take, drop, Result, Ok, Err, refl, sym, ◌∙◌, ap, subst, arith, ◌⊎◌, inl, inr}
+use Rattle.std.proofs.lemmas.Bool.{cases_lt}
 use Rattle.std.proofs.lemmas.List.{take-append-drop, take-take}
-use Rattle.prgr_core.specs.EventText.{EventText, line_feed, line_then}
-use Rattle.prgr_core.specs.Reading.{lines, before_lines, lines_of, reading}
+use Rattle.prgr_core.specs.EventText.{EventText, line_then}
+use Rattle.prgr_core.specs.Reading.{lines_of, reading}
 use Rattle.prgr_core.specs.Faults.{IsFirstFault, IsLast, IsOfNoForm, IsUnended, Opens, joined}
 use Rattle.prgr_core.proofs.FirstFaults.{first_fault}
 use Rattle.prgr_core.proofs.Grammars.{reading_complete}
@@ -16,19 +16,6 @@ apart r e f = cc
 joined_more : (ls more : List (List ℕ)) (rest : List ℕ) → joined (ls ++ more) rest ≡ joined ls (joined more rest)
 joined_more [] more rest = refl
 joined_more (line ∷ ls) more rest = ap (line_then line) (joined_more ls more rest)
-
-before_joined : (b : ℕ) (ended : List (List ℕ)) (tail : List ℕ) → joined (before_lines b ended tail).ended (before_lines b ended tail).tail ≡ b ∷ joined ended tail
-before_joined b [] tail = refl
-before_joined b (line ∷ others) tail = refl
-
--- a text is its lines, and what stands behind the last of them
-joined_lines : (text : List ℕ) → joined (lines_of text).ended (lines_of text).tail ≡ text
-joined_lines [] = refl
-joined_lines (b ∷ bs) =
-    elim (b == line_feed) as (λ (t : Bool). (b == line_feed) ≡ t → joined (if t then lines ([] ∷ (lines_of bs).ended) (lines_of bs).tail else before_lines b (lines_of bs).ended (lines_of bs).tail).ended (if t then lines ([] ∷ (lines_of bs).ended) (lines_of bs).tail else before_lines b (lines_of bs).ended (lines_of bs).tail).tail ≡ b ∷ bs) [
-      | true ↦ λ is. ap (λ (l : List ℕ). line_feed ∷ l) (joined_lines bs) ∙ ap (λ (c : ℕ). c ∷ bs) (sym (eqb-true b line_feed is))
-      | false ↦ λ is. before_joined b (lines_of bs).ended (lines_of bs).tail ∙ ap (λ (l : List ℕ). b ∷ l) (joined_lines bs)
-    ] refl
 
 opens_front : (ls more : List (List ℕ)) → Opens (ls ++ more) → Opens ls
 opens_front ls more opens = (opens.0, joined more opens.1, subst (λ (x : List ℕ). EventText x opens.0) (joined_more ls more opens.1) opens.2)

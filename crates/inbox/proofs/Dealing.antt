@@ -135,10 +135,6 @@ module _ {T : Type 0} where
             }) (at_snoc now r u j e);
       }
 
-  -- the end that posts learns that what it was told was posted by it
-  pub reads_receipt : (place : ℕ) (d : Dealing T) → d.posts ≡ true → Learns IsFair place d (λ _. IsPrefix d.told d.put)
-  reads_receipt place d may items ends h at = let mine = h.fit place d at in (mine.told.0, mine.told.1 ∙ sym (mine.posts may).1)
-
   -- what was told reaches the end that takes
   pub hears : (place : ℕ) (d : Dealing T) (other : ℕ) (e : Dealing T) → Merges IsFair place d other e (dealing d.posts d.takes d.put d.taken e.told) spent
   hears place d other e items ends h at apart at' = let both : Dealing T = dealing d.posts d.takes d.put d.taken e.told in let mine = h.fit place d at in

@@ -6,7 +6,7 @@ use Rattle.run_log.specs.Legal.{Legal}
 use Rattle.run_log.specs.WholeSpans.{AreWhole}
 use Rattle.run_steps.specs.declared.observers.ObserverRun.{ObserverRun}
 use Rattle.run_steps.specs.Observers.{HaveObserved, shots_of}
-use Rattle.run_steps.specs.Stands.{IsEnd, Stand}
+use Rattle.run_steps.specs.Stands.{IsEnd}
 use Rattle.run_steps.specs.Stands as stands
 use Rattle.run_steps.proofs.Finished as steps
 use Rattle.lap_runner.specs.declared.process_run.ProcessRun.{ProcessRun}

@@ -13,7 +13,7 @@ use Rattle.shared_words.specs.declared.view.WriterView.{WriterView}
 use Rattle.literal_areas.specs.declared.blocks.BlockUse.{BlockUse}
 use Rattle.literal_areas.specs.declared.blocks.BlockUse.TheVariants.{Free, Live, Retired}
 use Rattle.literal_areas.specs.declared.areas.Areas.{Areas}
-use Rattle.literal_areas.specs.Blocks.{use_of, serial_of, serial_at, IsSound, opening_areas}
+use Rattle.literal_areas.specs.Blocks.{use_of, serial_of, serial_at, IsSound}
 use Rattle.literal_areas.specs.Owned.{AreOf, IsAtFirst}
 use Rattle.literal_areas.proofs.Uses.{use_big, use_small, use_none}
 
@@ -67,9 +67,6 @@ free_sound big small is_big is_small = record {
   apart = λ a b n at_a at_b. absurd (none_there big small a n at_a);
 }
 
-free_live : (n : ℕ) → Live n ≡ Free → ⊥
-free_live n e = (cc)
-
 free_retired : (n g : ℕ) → Retired n g ≡ Free → ⊥
 free_retired n g e = (cc)
 
@@ -92,13 +89,6 @@ module _ (big small : ℕ) (is_big : big ≡ 55) (is_small : small ≡ 256) (w :
     past = λ p n published retired. absurd (unretired p n published retired);
     since = λ b n first g p at le here. absurd (free_retired n first (each_free big small b (Retired n first) at));
   }
-
--- the pools as they are made
-pub first_owned : (s : Areas) → s ≡ opening_areas → (w : WriterView) → IsAtFirst w → AreOf s w
-first_owned s is w begun = subst (λ (x : Areas). AreOf x w) (sym is) (owned_first 55 256 refl refl w begun)
-
-pub first_sound : (s : Areas) → s ≡ opening_areas → IsSound s
-first_sound s is = subst IsSound (sym is) (free_sound 55 256 refl refl)
 
 -- the same of pools that are put together from their lists
 pub made_sound : (big small : List BlockUse) → big ≡ replicate 55 Free → small ≡ replicate 256 Free → IsSound (record { next = 1; big = big; small = small })

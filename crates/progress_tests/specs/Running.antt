@@ -1,6 +1,6 @@
 -- What the tests on threads begin with and end with: a writer that published the empty generation alone, and members that
 -- report and may take the lead.
-use Rattle.std.specs.Prelude.{◌≡◌, ℕ, List, [], slice_get, Some}
+use Rattle.std.specs.Prelude.{◌≡◌, ℕ, []}
 use Rattle.atomic_table.specs.Seated.{TableId}
 use Rattle.area_core.specs.declared.table.Published.{Published}
 use Rattle.area_core.specs.Map.{word_at}
@@ -21,11 +21,6 @@ pub record IsEmpty (w : WriterView) : Type 0 where
 pub record IsReady (table : TableId) (token : tokens.Member) : Type 0 where
   pub of : IsMemberOf table token
   pub may : MayLead (view_of token)
-
--- the member of each place has its number, and is ready
-pub record AreReady (table : TableId) (members : List tokens.Member) : Type 0 where
-  pub each : (k : ℕ) (token : tokens.Member) → slice_get members k ≡ Some token → IsReady table token
-  pub numbered : (k : ℕ) (token : tokens.Member) → slice_get members k ≡ Some token → token.number ≡ k
 
 -- the same member, which is ready again
 pub record HasReported (table : TableId) (old new : tokens.Member) : Type 0 where

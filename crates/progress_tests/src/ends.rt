@@ -1,8 +1,6 @@
 //! The end of a table, all from one thread. The expected values are those of the rules: a table has
 //! 83,413 words, and its counter is 1 at first.
 
-ghost use Rattle.std.specs.Prelude.{◌≡◌};
-
 use crate::published::publishing::Any;
 use crate::waits::both_members;
 use progress_words::{learn, note};

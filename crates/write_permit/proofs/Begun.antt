@@ -1,13 +1,11 @@
 -- Before its first command a permit shows a lawful state.
-use Rattle.std.proofs.Common.{◌≡◌, ℕ, zero, suc, ◌++◌, Option, List, [], ◌∷◌, length, take, slice_get, Some, None, unwrap_or, option_map, refl, sym, ap, subst, ◌∙◌, arith}
+use Rattle.std.proofs.Common.{◌≡◌, ℕ, Option, List, [], take, slice_get, Some, None, unwrap_or, option_map, refl, sym, ap, subst, ◌∙◌, arith}
 use Rattle.std.proofs.lemmas.Bool.{false≢true}
-use Rattle.std.proofs.lemmas.Option.{none-some, same_Some}
+use Rattle.std.proofs.lemmas.Option.{none-some}
 use Rattle.server_core.specs.ServerState.{IsSound, empty_state}
 use Rattle.script_core.specs.declared.script.Script.{Script}
-use Rattle.script_core.specs.declared.script.ScriptCmd.{ScriptCmd}
 use Rattle.script_core.specs.Processes.{first_number, spawn_number}
 use Rattle.script_core.specs.Sound.{IsScript}
-use Rattle.script_core.proofs.JoinedPlaces.{JoinedAt, behind, in_front, joined_at}
 use Rattle.run_log.specs.Legal.{commands_of}
 use Rattle.write_permit.specs.declared.holder.Holder.TheVariants.{Free}
 use Rattle.write_permit.specs.declared.loader_run.LoaderRun.{LoaderRun}
@@ -59,22 +57,6 @@ begun_log s loaders begun =
 
 pub begun_permit : (s : Script) (loaders : List LoaderRun) → IsScript s → HaveBegun s.loaders loaders → IsPermit (record { script = s; server = empty_state; journal = []; loaders = loaders; holder = Free })
 begun_permit s loaders sound begun = record { script = sound; log = begun_log s loaders begun; sound = empty_sound; purges = refl; holds = refl }
-
--- one loader more has begun
-pub begun_more : (all : List (List ScriptCmd)) (loaders after : List LoaderRun) (next : ℕ) → ((k : ℕ) (l : LoaderRun) → slice_get loaders k ≡ Some l → (l.done ≡ 0) × (l.next_process ≡ first_number all k)) → next ≡ first_number all (length loaders)
-    → after ≡ loaders ++ record { done = 0; next_process = next } ∷ [] → (k : ℕ) (l : LoaderRun) → slice_get after k ≡ Some l → (l.done ≡ 0) × (l.next_process ≡ first_number all k)
-begun_more all loaders after next before is more k l h = by (joined_at loaders (record { done = 0; next_process = next } ∷ []) k l (ap (λ ls. slice_get ls k) (sym more) ∙ h))
-  where
-    last : (n : ℕ) → slice_get (record { done = 0; next_process = next } ∷ []) n ≡ Some l → (n ≡ 0) × (record { done = 0; next_process = next } ≡ l)
-    last zero e = (refl, same_Some _ l e)
-    last (suc n) e = absurd (none-some l e)
-
-    by : JoinedAt loaders (record { done = 0; next_process = next } ∷ []) k l → (l.done ≡ 0) × (l.next_process ≡ first_number all k)
-    by (in_front f) = before k l f
-    by (behind n e f) =
-        let z = last n f in
-        let place : k ≡ length loaders = omega (arith, e, z.0) in
-        (sym (ap (λ (x : LoaderRun). x.done) z.1), sym (ap (λ (x : LoaderRun). x.next_process) z.1) ∙ is ∙ ap (first_number all) (sym place))
 
 -- and keeps a lawful book
 pub begun_book : (b : Book) → IsScript b.script → HaveBegun b.script.loaders b.loaders.items → b.server ≡ empty_state → b.journal ≡ [] → b.holder ≡ Free → b.modules.instances ≡ [] → IsBook b

@@ -1,13 +1,13 @@
 -- What each step of a permit leaves of its book.
-use Rattle.std.proofs.Common.{◌≡◌, ℕ, zero, suc, length, get_or, slice_set, take, sum_by, slice_get, unwrap_or, ◌==◌, ◌||◌, Bool, true, false, if◌then◌else◌, ◌+◌, ◌≤◌, Option, Some, None, IsSome, IsSomeAnd, is_some, List, [], ◌∷◌, option_map, option_and_then, refl, sym, ap, subst, ◌∙◌, arith}
-use Rattle.std.proofs.lemmas.Bool.{eq-eqb, false≢true}
+use Rattle.std.proofs.Common.{◌≡◌, ℕ, zero, suc, length, get_or, slice_set, take, sum_by, slice_get, unwrap_or, ◌==◌, ◌||◌, Bool, true, false, if◌then◌else◌, ◌+◌, ◌≤◌, Option, Some, None, IsSome, is_some, List, [], ◌∷◌, option_map, option_and_then, refl, sym, ap, subst, ◌∙◌, arith}
+use Rattle.std.proofs.lemmas.Bool.{eq-eqb}
 use Rattle.std.proofs.lemmas.List.Sums.{sum_by-cons}
 use Rattle.std.proofs.lemmas.Option.{none-some, same_Some, slice_get_read, slice_get_within}
 use Rattle.server_core.specs.declared.command.Applied.{Applied}
 use Rattle.server_core.specs.declared.command.Cmd.{Cmd}
 use Rattle.server_core.specs.declared.command.Cmd.TheVariants as cmds
-use Rattle.server_core.specs.ServerState.{ServerState, IsSound, empty_state, is_serial_in}
-use Rattle.server_core.specs.CommandTable.{IsOfText, Outcome, apply_of, unchanged, with_released}
+use Rattle.server_core.specs.ServerState.{IsSound, is_serial_in}
+use Rattle.server_core.specs.CommandTable.{Outcome, apply_of, unchanged, with_released}
 use Rattle.server_core.specs.declared.command.Reply.TheVariants as replies
 use Rattle.script_core.specs.declared.script.ScriptCmd.{ScriptCmd}
 use Rattle.script_core.specs.declared.script.ScriptCmd.TheVariants.{Load, Delete, SoftPurge, Purge, CheckOld, Put, Erase, Trace, Spawn}
@@ -20,11 +20,9 @@ use Rattle.write_permit.specs.declared.spawned.Spawned.{Spawned}
 use Rattle.write_permit.specs.declared.loader_run.LoaderRun.{LoaderRun}
 use Rattle.write_permit.specs.declared.mark.Mark.{Mark}
 use Rattle.write_permit.specs.Agreement.{Agrees}
-use Rattle.run_log.specs.Legal.{PurgesGo}
-use Rattle.write_permit.specs.declared.holder.Holder.TheVariants.{Free, Held}
-use Rattle.write_permit.specs.Book.{HoldsJust, IsBook, IsPermit, shown}
+use Rattle.write_permit.specs.Book.{IsBook, IsPermit, shown}
 use Rattle.write_permit.specs.Looks.{first_free, is_named}
-use Rattle.write_permit.specs.Permit.{PermitState, Step, at_once_of, counted_in, done_by, done_of, half_of, is_spawn, joined, made_of, needs_permission, next_of, loader_after, opening, spawned_by}
+use Rattle.write_permit.specs.Permit.{PermitState, Step, at_once_of, counted_in, done_by, done_of, is_spawn, joined, made_of, needs_permission, next_of, loader_after, opening, spawned_by}
 use Rattle.write_permit.proofs.Kept.{at_once_keeps, release_keeps, there}
 
 -- the outcome of a command that was made
@@ -97,30 +95,6 @@ book_at_once b c m who command answer known next free made counted sound agrees 
     book_by c (record (joined (shown b) (Loader who) cmd w.outcome) { loaders = counted_in (shown b).loaders who command }) same
     (at_once_keeps (shown b) known.permit who command next w.outcome free w.applied (subst IsSound (ap (λ (x : PermitState). x.server) same) sound)) agrees
 
--- a command that needs no permission has a case
-pub quick_enabled : (p : PermitState) (command : ScriptCmd) → needs_permission command ≡ false → IsSome (apply_of p.script.modules p.server (opening p.server [] command))
-quick_enabled p (CheckOld name) free = refl
-quick_enabled p (Spawn target args) free = refl
-quick_enabled p (Load refs) free = absurd (false≢true (sym free))
-quick_enabled p (Delete name) free = absurd (false≢true (sym free))
-quick_enabled p (SoftPurge name) free = absurd (false≢true (sym free))
-quick_enabled p (Purge name) free = absurd (false≢true (sym free))
-quick_enabled p (Put key term) free = absurd (false≢true (sym free))
-quick_enabled p (Erase key) free = absurd (false≢true (sym free))
-quick_enabled p (Trace target on) free = absurd (false≢true (sym free))
-
--- and puts no term
-pub quick_text : (s : ServerState) (command : ScriptCmd) → needs_permission command ≡ false → IsOfText (opening s [] command)
-quick_text s (CheckOld name) free = tt
-quick_text s (Spawn target args) free = tt
-quick_text s (Load refs) free = tt
-quick_text s (Delete name) free = tt
-quick_text s (SoftPurge name) free = tt
-quick_text s (Purge name) free = tt
-quick_text s (Put key term) free = absurd (false≢true (sym free))
-quick_text s (Erase key) free = tt
-quick_text s (Trace target on) free = tt
-
 -- ---- the number of the process of a spawn
 
 taken_fewer : (place : ℕ) (commands : List ScriptCmd) → spawn_count (take place commands) ≤ spawn_count commands
@@ -190,13 +164,3 @@ counted_by b m who command cmd answer l after spawns made found is told =
     (λ i. slice_set (same i) who (new i)) ∙ sym (ap (λ o. unwrap_or (option_map (λ x. slice_set b.loaders.items who (loader_after command x)) o) b.loaders.items) found)
 
 -- ---- the permission
-
--- a loader that gets the permission while nobody has it
-pub seized_permit : (p : PermitState) (who : ℕ) → IsPermit p → p.holder ≡ Free → IsSomeAnd (next_of p who) (λ command. needs_permission command ≡ true) → IsPermit (record p { holder = Held who })
-seized_permit p who known free next = record {
-  script = known.script;
-  log = known.log;
-  sound = known.sound;
-  purges = subst (λ h. PurgesGo p.script.modules empty_state None p.journal (half_of h)) free known.purges;
-  holds = record { rest = subst (HoldsJust p) free known.holds; next = next };
-}

@@ -1,6 +1,6 @@
 -- What each step of the loader that has the permission leaves of a permit's book.
-use Rattle.std.proofs.Common.{◌≡◌, ℕ, ◌+◌, ◌<◌, Bool, List, [], ◌∷◌, ◌++◌, length, get_or, slice_get, slice_set, if◌then◌else◌, Option, Some, None, IsSome, IsSomeAnd, is_some, option_map, option_and_then, refl, sym, ap, subst, ◌∙◌}
-use Rattle.std.proofs.lemmas.Option.{none-some, same_Some, slice_get_read, slice_get_within}
+use Rattle.std.proofs.Common.{◌≡◌, ℕ, ◌+◌, Bool, List, [], ◌∷◌, ◌++◌, length, get_or, slice_get, slice_set, if◌then◌else◌, Option, Some, None, IsSome, IsSomeAnd, is_some, option_map, option_and_then, refl, sym, ap, subst, ◌∙◌}
+use Rattle.std.proofs.lemmas.Option.{same_Some, slice_get_read, slice_get_within}
 use Rattle.term_core.specs.declared.atom.AtomId.{AtomId}
 use Rattle.server_core.specs.declared.command.Applied.{Applied}
 use Rattle.server_core.specs.declared.command.Cmd.{Cmd}
@@ -84,16 +84,6 @@ module _ (b : Book) (known : IsBook b) (who : ℕ) (cmd : Cmd) (ends : IsSomeAnd
             (end_keeps (shown b) known.permit who d.0 d.1.0 cmd w.outcome w.applied (ends_own (shown b) b.holder who d.0 cmd w.outcome known.permit.holds own d.1.0 d.1.1 w.applied) (subst IsSound (sym server ∙ ap (λ (x : PermitState). x.server) left) sound))
             (subst (λ s. Agrees c.modules.instances s) (sym server) (subst (λ ms. Agrees ms m.server) (sym table) agrees));
       }
-
--- a loader that is counted is there
-pub counted_within : (b : Book) (who : ℕ) (after : LoaderRun) → IsSome (next_of (shown b) who) → IsSomeAnd (next_of (shown b) who) (λ command. option_map (loader_after command) (slice_get b.loaders.items who) ≡ Some after) → who < length b.loaders.items
-counted_within b who after has counts =
-    let d = some_and (next_of (shown b) who) (λ command. option_map (loader_after command) (slice_get b.loaders.items who) ≡ Some after) counts in
-    by d.0 (slice_get b.loaders.items who) refl d.1.1
-  where
-    by : (command : ScriptCmd) (o : Option LoaderRun) → slice_get b.loaders.items who ≡ o → option_map (loader_after command) o ≡ Some after → who < length b.loaders.items
-    by command None e h = absurd (none-some after h)
-    by command (Some l) e h = slice_get_within b.loaders.items who l e
 
 -- ---- a purge of old code
 

@@ -1,5 +1,4 @@
-ghost use Rattle.std.specs.Prelude.{◌≡◌, ◌==◌};
-ghost use Rattle.std.specs.Option.{option_copied};
+ghost use Rattle.std.specs.Prelude.{◌≡◌};
 ghost use Rattle.write_permit.specs.Looks.{first_free, is_frame, is_frame_of, is_killer, is_named, lingering_in, names_area, some_killed, stands_in};
 
 use crate::mark::{Mark, MarkList};

@@ -2,8 +2,6 @@
 //! the number of its generation where all blocks are the first ones, and process 0 is the first
 //! member's.
 
-ghost use Rattle.std.specs.Prelude.{◌≡◌};
-
 use super::publishing::{Any, publish};
 use crate::waits::both_members;
 use progress_words::*;
