@@ -1,5 +1,5 @@
 -- Members that report and take the lead again and again: each is ready as it was, whatever it found.
-use Rattle.std.proofs.Common.{◌≡◌, ℕ, List, refl, sym, subst, ◌∙◌}
+use Rattle.std.proofs.Common.{◌≡◌, ℕ, List, [], refl, sym, ap, subst, ◌∙◌}
 use Rattle.std.specs.Prelude.{IsTrue}
 use Rattle.atomic_table.specs.Seated.{TableId}
 use Rattle.term_core.specs.declared.generation.Generation.{Generation}
@@ -10,11 +10,13 @@ use Rattle.prgr_core.specs.Step.{follows}
 use Rattle.shared_words.specs.declared.seats.Member as tokens
 use Rattle.shared_words.specs.declared.view.MemberView.{MemberView}
 use Rattle.shared_words.specs.Kinds.{MayLead, lead_given}
+use Rattle.shared_words.specs.Processes.{AreAtRest}
 use Rattle.shared_words.specs.Making.{AreMembersBegun}
 use Rattle.progress_words.specs.Tokens.{view_of, IsMemberOf, IsSameMember}
 use Rattle.progress_words.specs.Reports.{IsAwake, Reported}
 use Rattle.progress_words.specs.Leads.{IsLeader}
 use Rattle.progress_tests.specs.Running.{IsReady, HasReported}
+use Rattle.progress_tests.proofs.Begun.{empty_rests}
 
 -- ---- one member
 
@@ -22,9 +24,9 @@ use Rattle.progress_tests.specs.Running.{IsReady, HasReported}
 may_again : (old new : MemberView) → IsLeader old → new ≡ lead_given old → MayLead new
 may_again old new leads is = subst MayLead (sym is) (record { awake = leads.awake; follows = refl })
 
-pub given_ready : (table : TableId) (old between new : tokens.Member) → IsSameMember old between → IsLeader (view_of between) → IsMemberOf table new → IsSameMember between new → view_of new ≡ lead_given (view_of between) → HasReported table old new
-given_ready table old between new first leads of second is = record {
-  ready = record { of = of; may = may_again (view_of between) (view_of new) leads is };
+pub given_ready : (table : TableId) (old between new : tokens.Member) → IsSameMember old between → IsLeader (view_of between) → (view_of between).slots ≡ (view_of old).slots → (view_of old).slots ≡ [] → IsMemberOf table new → IsSameMember between new → view_of new ≡ lead_given (view_of between) → HasReported table old new
+given_ready table old between new first leads kept none of second is = record {
+  ready = record { of = of; may = may_again (view_of between) (view_of new) leads is; slots = ap (λ (m : MemberView). m.slots) is ∙ kept ∙ none };
   number = second.number ∙ first.number;
 }
 
@@ -34,7 +36,15 @@ led_ready table old between new same told = record { ready = told.ready; number 
 
 -- who found that another leads is as it was
 pub held_ready : (table : TableId) (old new : tokens.Member) → IsReady table old → IsMemberOf table new → IsSameMember old new → view_of new ≡ view_of old → HasReported table old new
-held_ready table old new ready of same is = record { ready = record { of = of; may = subst MayLead (sym is) ready.may }; number = same.number }
+held_ready table old new ready of same is = record { ready = record { of = of; may = subst MayLead (sym is) ready.may; slots = ap (λ (m : MemberView). m.slots) is ∙ ready.slots }; number = same.number }
+
+-- what a call leaves of the slots of a member that is ready
+pub still_none : (table : TableId) (old : tokens.Member) (new : MemberView) → IsReady table old → new.slots ≡ (view_of old).slots → new.slots ≡ []
+still_none table old new ready kept = kept ∙ ready.slots
+
+-- no turn of a member that is ready is under way
+pub ready_rests : (table : TableId) (token : tokens.Member) → IsReady table token → AreAtRest (view_of token)
+ready_rests table token ready = empty_rests (view_of token) ready.slots
 
 -- who follows does so when it knows the counter
 follows_on : (counter : ℕ) (role : Role) → IsTrue (follows role) → IsTrue (follows (role_knowing counter role))
@@ -49,6 +59,7 @@ reported_ready Served table old new generation ready of awake told = record {
     awake = awake;
     follows = subst (λ (m : MemberView). IsTrue (follows m.member.role)) (sym told.view) (follows_on told.counter (view_of old).member.role ready.may.follows);
   };
+  slots = ap (λ (m : MemberView). m.slots) told.view ∙ ready.slots;
 }
 
 -- before the first report, and after one more

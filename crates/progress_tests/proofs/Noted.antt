@@ -19,12 +19,14 @@ use Rattle.shared_words.specs.declared.view.WriterView.{WriterView}
 use Rattle.shared_words.specs.Views.{published_at, root_word}
 use Rattle.shared_words.specs.Seats.{IsRooted, root_held, writer_of}
 use Rattle.shared_words.specs.Opening.{member_begun}
+use Rattle.shared_words.specs.Processes.{AreAtRest}
 use Rattle.shared_words.specs.Making.{IsHanding}
 use Rattle.shared_words.specs.Notes.{MaySplitNote, note_begun, note_joined}
 use Rattle.shared_words.specs.Publishing.{with_next}
 use Rattle.progress_words.specs.Tokens.{view_of, written_by, IsMemberOf, IsNoteOf}
 use Rattle.progress_words.specs.Reports.{IsAwake}
 use Rattle.progress_tests.specs.Running.{IsEmpty}
+use Rattle.progress_tests.proofs.Begun.{empty_rests}
 
 -- ---- the split
 
@@ -99,3 +101,7 @@ learnt_rooted root old_root k process w n old new empty noted begun joined same 
 -- and is awake where it was
 pub learnt_awake : (k : ℕ) (n : NoteView) (old new : MemberView) → old ≡ member_begun k → new ≡ note_joined n old → IsAwake new
 learnt_awake k n old new begun joined = subst IsAwake (sym (joined ∙ ap (note_joined n) begun)) refl
+
+-- and no turn of its is under way
+pub learnt_rests : (k : ℕ) (n : NoteView) (old new : MemberView) → old ≡ member_begun k → new ≡ note_joined n old → AreAtRest new
+learnt_rests k n old new begun joined = empty_rests new (ap (λ (m : MemberView). m.slots) (joined ∙ ap (note_joined n) begun))

@@ -17,10 +17,11 @@ pub record IsEmpty (w : WriterView) : Type 0 where
   pub words : (place : ℕ) → word_at w.words place ≡ 0
   pub kept : w.kept ≡ []
 
--- the member is one of this table, is awake and follows
+-- the member is one of this table, is awake and follows, and no process of its has a slot
 pub record IsReady (table : TableId) (token : tokens.Member) : Type 0 where
   pub of : IsMemberOf table token
   pub may : MayLead (view_of token)
+  pub slots : (view_of token).slots ≡ []
 
 -- the same member, which is ready again
 pub record HasReported (table : TableId) (old new : tokens.Member) : Type 0 where

@@ -4,7 +4,7 @@
 //! its generation where all blocks are the first ones, and no generation that a report answers is
 //! before the one of the report before it.
 
-ghost use Rattle.std.specs.Prelude.{◌≡◌, ℕ, ◌<◌, All, length, slice_index_or};
+ghost use Rattle.std.specs.Prelude.{◌≡◌, ℕ, ◌<◌, [], All, length, slice_index_or};
 ghost use Rattle.shared_words.specs.declared.seats.Member as tokens;
 ghost use Rattle.shared_words.specs.Making.{AreMembersBegun, IsHanding};
 ghost use Rattle.shared_words.specs.Closing.{AreAllMembers};
@@ -43,6 +43,7 @@ struct Tally {
 fn raise_once(shared: &Shared<Any>, member: &mut Member) -> bool
     requires token { IsMemberOf shared.now.table.shared.table_id member.old }
     requires leads { IsLeader (view_of member.old) }
+    requires slots { (view_of member.old).slots ≡ [] }
     ensures { HasReported shared.now.table.shared.table_id member.old member.new }
 {
     let answer = advance(shared, member);
@@ -51,7 +52,7 @@ fn raise_once(shared: &Shared<Any>, member: &mut Member) -> bool
 }
 
 /// Tries to raise the counter where nobody else leads.
-#[tactic(auto, using(crate::proofs::Leading::led_ready, crate::proofs::Leading::held_ready))]
+#[tactic(auto, using(crate::proofs::Leading::led_ready, crate::proofs::Leading::held_ready, crate::proofs::Leading::still_none))]
 fn raise(shared: &Shared<Any>, member: &mut Member) -> bool
     requires ready { IsReady shared.now.table.shared.table_id member.old }
     ensures { HasReported shared.now.table.shared.table_id member.old member.new }
@@ -63,7 +64,7 @@ fn raise(shared: &Shared<Any>, member: &mut Member) -> bool
 }
 
 /// Reports, and then tries to raise the counter.
-#[tactic(auto, using(crate::proofs::Leading::reported_ready, crate::proofs::Leading::led_ready))]
+#[tactic(auto, using(crate::proofs::Leading::reported_ready, crate::proofs::Leading::led_ready, crate::proofs::Leading::ready_rests))]
 fn report_once(shared: &Shared<Any>, member: &mut Member, tally: &Tally) -> u64
     requires ready { IsReady shared.now.table.shared.table_id member.old }
     ensures { HasReported shared.now.table.shared.table_id member.old member.new }
