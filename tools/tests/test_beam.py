@@ -104,7 +104,10 @@ class Words(BeamTest):
     def test_no_form_is_told_before_anything_is_built(self):
         cases = ["", "walk", "--help", "--unproved", "run a b", "run -x", "run --schedulers", "run --schedulers 0",
                  "run --schedulers 01", "run --schedulers 17", "run --schedulers=2", "run a --schedulers 2",
-                 "run --schedulers 2 a b", "check a", "check a b c", "progress a b", "-- run", "--unproved walk", "why a", "why a b c"]
+                 "run --schedulers 2 a b", "check a", "check a b c", "progress a b", "-- run", "--unproved walk", "why a", "why a b c",
+                 "make", "make --seed 1", "make --seed 1 --size 0", "make --seed 1 --size 4001", "make --seed 01 --size 6",
+                 "make --seed 4294967296 --size 6", "make --seed 1 --size 6 a", "make --size 6 --seed 1", "make --seed 1 --size 6 --schedulers 2",
+                 "trial --seed 1 --size 6", "trial --seed 1 --size 6 --schedulers 17", "trial --seed 1 --size 6 --schedulers 2 a"]
         for words in cases:
             with self.subTest(words):
                 ran = self.beam(*words.split(), given=b"text")
@@ -117,7 +120,9 @@ class Words(BeamTest):
                  ("run --schedulers 16", b"run --schedulers 16\ngiven"), ("run a.script", b"run\nscript\n"),
                  ("run --schedulers 1 a.script", b"run --schedulers 1\nscript\n"),
                  ("check a.script a.report", b"check\nscript\nreport\n"), ("progress a.script", b"progress\nscript\n"),
-                 ("why", b"the second: why\ngiven"), ("why a.script a.report", b"the second: why\nscript\nreport\n")]
+                 ("why", b"the second: why\ngiven"), ("why a.script a.report", b"the second: why\nscript\nreport\n"),
+                 ("make --seed 0 --size 4000", b"make --seed 0 --size 4000\n"),
+                 ("trial --seed 4294967295 --size 1 --schedulers 16", b"trial --seed 4294967295 --size 1 --schedulers 16\n")]
         for words, out in cases:
             for why in ("0", "1"):
                 with self.subTest(words, why=why):
