@@ -10,7 +10,8 @@ use Rattle.prgr_core.specs.Step.{follows}
 use Rattle.shared_words.specs.declared.seats.Member as tokens
 use Rattle.shared_words.specs.declared.view.MemberView.{MemberView}
 use Rattle.shared_words.specs.Kinds.{MayLead, lead_given}
-use Rattle.shared_words.specs.Processes.{AreAtRest}
+use Rattle.marks.specs.Names.{IsAtRest}
+use Rattle.shared_words.specs.Processes.{process_of}
 use Rattle.shared_words.specs.Making.{AreMembersBegun}
 use Rattle.progress_words.specs.Tokens.{view_of, IsMemberOf, IsSameMember}
 use Rattle.progress_words.specs.Reports.{IsAwake, Reported}
@@ -43,7 +44,7 @@ pub still_none : (table : TableId) (old : tokens.Member) (new : MemberView) → 
 still_none table old new ready kept = kept ∙ ready.slots
 
 -- no turn of a member that is ready is under way
-pub ready_rests : (table : TableId) (token : tokens.Member) → IsReady table token → AreAtRest (view_of token)
+pub ready_rests : (table : TableId) (token : tokens.Member) → IsReady table token → (process : ℕ) → IsAtRest (process_of (view_of token) process)
 ready_rests table token ready = empty_rests (view_of token) ready.slots
 
 -- who follows does so when it knows the counter

@@ -19,7 +19,8 @@ use Rattle.shared_words.specs.declared.view.WriterView.{WriterView}
 use Rattle.shared_words.specs.Views.{published_at, root_word}
 use Rattle.shared_words.specs.Seats.{IsRooted, root_held, writer_of}
 use Rattle.shared_words.specs.Opening.{member_begun}
-use Rattle.shared_words.specs.Processes.{AreAtRest}
+use Rattle.marks.specs.Names.{IsAtRest}
+use Rattle.shared_words.specs.Processes.{process_of}
 use Rattle.shared_words.specs.Making.{IsHanding}
 use Rattle.shared_words.specs.Notes.{MaySplitNote, note_begun, note_joined}
 use Rattle.shared_words.specs.Publishing.{with_next}
@@ -103,5 +104,5 @@ pub learnt_awake : (k : ℕ) (n : NoteView) (old new : MemberView) → old ≡ m
 learnt_awake k n old new begun joined = subst IsAwake (sym (joined ∙ ap (note_joined n) begun)) refl
 
 -- and no turn of its is under way
-pub learnt_rests : (k : ℕ) (n : NoteView) (old new : MemberView) → old ≡ member_begun k → new ≡ note_joined n old → AreAtRest new
+pub learnt_rests : (k : ℕ) (n : NoteView) (old new : MemberView) → old ≡ member_begun k → new ≡ note_joined n old → (process : ℕ) → IsAtRest (process_of new process)
 learnt_rests k n old new begun joined = empty_rests new (ap (λ (m : MemberView). m.slots) (joined ∙ ap (note_joined n) begun))

@@ -64,7 +64,7 @@ fn raise(shared: &Shared<Any>, member: &mut Member) -> bool
 }
 
 /// Reports, and then tries to raise the counter.
-#[tactic(auto, using(crate::proofs::Leading::reported_ready, crate::proofs::Leading::led_ready, crate::proofs::Leading::ready_rests))]
+#[tactic(auto, using(crate::proofs::Leading::reported_ready, crate::proofs::Leading::led_ready))]
 fn report_once(shared: &Shared<Any>, member: &mut Member, tally: &Tally) -> u64
     requires ready { IsReady shared.now.table.shared.table_id member.old }
     ensures { HasReported shared.now.table.shared.table_id member.old member.new }

@@ -11,7 +11,7 @@ use std::test::Fail;
 /// A member that learns by a note of a generation still holds the one that it held, and holds the
 /// newest one from its next report on.
 #[test]
-#[tactic(auto, using(crate::proofs::Emptied::handing_empty, crate::proofs::Emptied::handing_first, crate::proofs::Noted::first_note, crate::proofs::Noted::note_own, crate::proofs::Noted::own_process, crate::proofs::Noted::learnt_rooted, crate::proofs::Noted::learnt_awake, crate::proofs::Noted::learnt_rests))]
+#[tactic(auto, using(crate::proofs::Emptied::handing_empty, crate::proofs::Emptied::handing_first, crate::proofs::Noted::first_note, crate::proofs::Noted::note_own, crate::proofs::Noted::own_process, crate::proofs::Noted::learnt_rooted, crate::proofs::Noted::learnt_awake))]
 fn a_note_changes_nothing_that_is_held(rt: HostRuntime) -> Result<(), Fail> {
     let (shared, parts) = Shared::<Any>::new(rt.alloc(), 2, 0)?;
     let Parts {
