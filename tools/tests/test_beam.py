@@ -275,9 +275,17 @@ class Installed(BeamTest):
             self.assertTrue(os.stat(to / "libexec/cambotrila" / name).st_mode & stat.S_IXUSR)
 
     def test_wants_one_folder(self):
-        for words in ([], ["a", "b"]):
+        for words in ([], [""], ["a", "b"], ["-x"]):
             ran = subprocess.run([self.top / "tools/install", *words], capture_output=True)
             self.assertEqual((ran.returncode, ran.stdout), (2, b""))
+
+    def test_says_its_usage_and_builds_nothing(self):
+        where = {**os.environ, "PATH": f"{self.room}/bin:{os.environ['PATH']}", "FAKE": str(self.room)}
+        for word in ("-h", "--help"):
+            ran = subprocess.run([self.top / "tools/install", word], env=where, capture_output=True)
+            self.assertEqual(ran.returncode, 0)
+            self.assertIn(b"tools/install PREFIX", ran.stdout)
+        self.assertEqual(self.calls(), [])
 
 
 if __name__ == "__main__":

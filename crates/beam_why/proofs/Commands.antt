@@ -1,5 +1,5 @@
 -- The commands of a log that a report shows have terms that a text can say.
-use Rattle.std.proofs.Common.{◌≡◌, ℕ, ◌<◌, ◌≤◌, List, [], ◌∷◌, length, All, arith}
+use Rattle.std.proofs.Common.{◌≡◌, ℕ, ◌<◌, ◌≤◌, List, [], ◌∷◌, length, slice_get, Some, All, arith}
 use Rattle.std.proofs.lemmas.List.Elements.{All-from_recursion}
 use Rattle.std.specs.List.{AllByRecursion}
 use Rattle.term_core.specs.declared.names.TheConstants.{MOST_NAMES}
@@ -7,6 +7,7 @@ use Rattle.term_core.specs.Plain.{plain}
 use Rattle.term_core.specs.PlainTerm.{PlainTerm}
 use Rattle.term_core.specs.Written.{IsTermInteger}
 use Rattle.term_core.proofs.LeafFacts.{EachLeaf-weaker}
+use Rattle.term_core.proofs.Places.{all_at}
 use Rattle.server_core.specs.declared.command.Cmd.{Cmd}
 use Rattle.server_core.specs.declared.command.Cmd.TheVariants as cmds
 use Rattle.server_core.specs.ServerState.{IsShortTerm}
@@ -41,3 +42,7 @@ each_of_text names room (e ∷ journal) h = (command_of_text names room e.cmd h.
 -- each entry of a report puts a term that a text can say
 pub journal_of_text : (names : List (List ℕ)) → length names ≤ MOST_NAMES → (journal : List Entry) → AllByRecursion (IsEntryOf names) journal → All (λ (e : Entry). IsOfText e.cmd) journal
 journal_of_text names room journal h = All-from_recursion (λ (e : Entry). IsOfText e.cmd) journal (each_of_text names room journal h)
+
+-- also the one at a place
+pub command_at : (journal : List Entry) (place : ℕ) (e : Entry) → All (λ (x : Entry). IsOfText x.cmd) journal → slice_get journal place ≡ Some e → IsOfText e.cmd
+command_at journal place e h at = all_at (λ (x : Entry). IsOfText x.cmd) journal place e h at

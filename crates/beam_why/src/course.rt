@@ -7,6 +7,7 @@ ghost use Rattle.span_check.specs.Standings.{MayGoOn};
 use crate::finding::Finding;
 use crate::lines::{end_line, span_line};
 use crate::replay::Replay;
+use crate::shown::{end_text, line_text};
 use crate::turns::{Stop, take_span};
 use legality::Place;
 use machine_core::{End, Process};
@@ -14,6 +15,19 @@ use run_log::{ProcessLog, RunLog};
 use script_core::Script;
 use std::alloc::Global;
 use term_core::NoMemory;
+
+/// How far a process goes along its log: to its last turn under a generation, this one with its turns, and so many turns at most.
+#[derive(Clone, Copy, Debug)]
+pub struct Until {
+    pub generation: u64,
+    pub turns: u64,
+}
+
+/// As far as the log goes.
+const TO_THE_END: Until = Until {
+    generation: u64::MAX,
+    turns: u64::MAX,
+};
 
 /// The first place where a process does not go on as its log tells, if it was found.
 pub fn expected_turn(
@@ -31,19 +45,19 @@ pub fn expected_turn(
     let Some(mut process) = start(alloc, number, process_log)? else {
         return Ok(None);
     };
-    match walk(alloc, script, log, process_log, u64::MAX, &mut process)? {
-        Some((span, stop)) => found(alloc, log, number, span, stop),
+    match walk(alloc, script, log, process_log, TO_THE_END, &mut process)? {
+        Some((span, stop)) => found(alloc, script, log, number, span, stop),
         None => Ok(Some(going_on(alloc, log, number, process_log)?)),
     }
 }
 
-/// A process after its turns up to a generation, this one with them, where it then goes on. Nothing where that is not known.
+/// A process so far along its log. Nothing where that is not known.
 pub fn process_at(
     alloc: Global,
     script: &Script,
     log: &RunLog,
     number: usize,
-    generation: u64,
+    until: Until,
 ) -> Result<Option<Process>, NoMemory>
     requires texts { AreTexts script.now.modules }
     requires put { All (λ e. IsOfText e.cmd) log.now.journal }
@@ -54,9 +68,9 @@ pub fn process_at(
     let Some(mut process) = start(alloc, number, process_log)? else {
         return Ok(None);
     };
-    match walk(alloc, script, log, process_log, generation, &mut process)? {
-        Some(_stop) => Ok(None),
-        None => Ok(Some(process)),
+    match walk(alloc, script, log, process_log, until, &mut process)? {
+        None | Some((_, Stop::Told)) => Ok(Some(process)),
+        Some(_) => Ok(None),
     }
 }
 
@@ -82,13 +96,13 @@ fn begun(alloc: Global, number: u32, log: &ProcessLog) -> Result<Process, NoMemo
     Process::new(alloc, number, log.target, args)
 }
 
-/// Goes along the log of a process that has had no turn, up to a generation. Answers in which span the way stops, and why, if it does.
+/// Goes so far along the log of a process that has had no turn. Answers in which span the way stops, and why, if it does.
 fn walk(
     alloc: Global,
     script: &Script,
     log: &RunLog,
     process_log: &ProcessLog,
-    generation: u64,
+    until: Until,
     process: &mut Process,
 ) -> Result<Option<(usize, Stop)>, NoMemory>
     requires texts { AreTexts script.now.modules }
@@ -96,15 +110,17 @@ fn walk(
     requires goes { (s : ServerState) → MayGoOn s process.old }
 {
     let mut replay = Replay::new(alloc)?;
+    let mut left = until.turns;
     for (place, span) in process_log.spans.as_slice().iter().enumerate() {
-        if span.generation > generation {
+        if left == 0 || span.generation > until.generation {
             return Ok(None);
         }
         replay.make_generation(span.generation, &log.journal, &script.modules)?;
         let fin = fin_at(process_log, place);
-        if let Some(stop) = take_span(alloc, &script.names, &replay.server, span, fin, process)? {
+        if let Some(stop) = take_span(alloc, &replay.server, span, left, fin, process)? {
             return Ok(Some((place, stop)));
         }
+        left = left.saturating_sub(span.turns);
     }
     Ok(None)
 }
@@ -140,31 +156,36 @@ fn fin_at(process: &ProcessLog, place: usize) -> Option<End> {
 /// What was expected where the way along a log stopped.
 fn found(
     alloc: Global,
+    script: &Script,
     log: &RunLog,
     process: usize,
     span: usize,
     stop: Stop,
 ) -> Result<Option<Finding>, NoMemory> {
     let finding = Finding::new(alloc, Place::Span { process, span });
+    let names = &script.names;
     let (below, said) = match stop {
-        Stop::Line(place, text) => {
+        Stop::Other(at, made, number) => {
+            let text = line_text(alloc, names, made, number)?;
             let said = finding.say(b"the line ")?.quote(text.as_slice())?;
-            (place.saturating_add(1), said)
+            (at.saturating_add(1), said)
         }
-        Stop::End(place, text) => {
+        Stop::Ending(at, end) => {
+            let text = end_text(alloc, names, end)?;
             let said = finding.say(b"the end of the process, ")?;
-            (place.saturating_add(1), said.quote(text.as_slice())?)
+            (at.saturating_add(1), said.quote(text.as_slice())?)
         }
-        Stop::Early(turns, text) => {
+        Stop::Early(turns, end) => {
+            let text = end_text(alloc, names, end)?;
             let said = finding.say_number(turns)?;
             let said = said.say(b" as the count of turns, since the process then ends as ")?;
             (0, said.quote(text.as_slice())?)
         }
-        Stop::Nothing(place) => {
+        Stop::Nothing(at) => {
             let said = finding.say(b"no further line of these turns")?;
-            (place.saturating_add(1), said)
+            (at.saturating_add(1), said)
         }
-        Stop::Unknown => return Ok(None),
+        Stop::Told | Stop::Unknown => return Ok(None),
     };
     let line = span_line(log, process, span).saturating_add(below);
     Ok(Some(said.on_line(line)))

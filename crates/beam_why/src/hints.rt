@@ -99,7 +99,9 @@ fn at_place(
         (Clause::TurnsFollow, Place::Span { process, .. } | Place::Process(process)) => {
             expected_turn(alloc, script, log, process)
         }
-        (Clause::LingersTold, Place::Span { process, .. }) => expected_linger(alloc, log, process),
+        (Clause::LingersTold, Place::Span { process, .. }) => {
+            expected_linger(alloc, script, log, process)
+        }
         (Clause::SnapshotsTrue, Place::Snapshot { observer, snapshot }) => {
             expected_export(alloc, script, log, observer, snapshot)
         }

@@ -39,13 +39,11 @@ impl Replay {
         ensures sound { IfOk result (λ _. IsSound self.new.server) }
         ensures areas { IfOk result (λ _. HasAreas self.old.server self.new.server) }
     {
-        let entries = journal.as_slice();
-        if self.made >= entries.len() {
+        let Some(entry) = journal.get(self.made) else {
             return Ok(());
-        }
-        let place = self.made;
-        self.made = place + 1;
-        make(&mut self.server, &entries[place].cmd, texts)
+        };
+        self.made = self.made.saturating_add(1);
+        make(&mut self.server, &entry.cmd, texts)
     }
 
     /// Makes the entries before a place.

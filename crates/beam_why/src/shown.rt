@@ -104,8 +104,23 @@ pub fn call_text(
     between(alloc, line.as_slice(), PROCESS_FRONT, b"")
 }
 
-/// The line of a process at this place of these, counted from 0. Behind the last one it is the line of the end.
+/// The line of a process at this place of these, counted from 0.
 pub fn line_text(
+    alloc: Global,
+    names: &Names,
+    lines: LineList,
+    place: usize,
+) -> Result<ByteList, NoMemory> {
+    behind_head(alloc, names, lines, place, End::Normal)
+}
+
+/// The line of the end of a process.
+pub fn end_text(alloc: Global, names: &Names, end: End) -> Result<ByteList, NoMemory> {
+    behind_head(alloc, names, LineList::new(alloc), 0, end)
+}
+
+/// The line at a place behind the head of a span with these lines, which is the last one of a process.
+fn behind_head(
     alloc: Global,
     names: &Names,
     lines: LineList,

@@ -3,7 +3,7 @@ ghost use Rattle.std.specs.Prelude.{All};
 ghost use Rattle.server_core.specs.CommandTable.{AreTexts, IsOfText};
 ghost use Rattle.server_core.specs.ServerState.{IsSound};
 
-use crate::course::process_at;
+use crate::course::{Until, process_at};
 use crate::finding::Finding;
 use crate::replay::Replay;
 use crate::shown::answer_text;
@@ -78,8 +78,12 @@ fn first_naming(
     requires texts { AreTexts script.now.modules }
     requires put { All (λ e. IsOfText e.cmd) log.now.journal }
 {
+    let until = Until {
+        generation,
+        turns: u64::MAX,
+    };
     for number in 0..log.processes.len() {
-        if let Some(process) = process_at(alloc, script, log, number, generation)? {
+        if let Some(process) = process_at(alloc, script, log, number, until)? {
             if has_still(&process, cmd, serial) {
                 return Ok(Some(number));
             }
@@ -90,9 +94,26 @@ fn first_naming(
 
 /// Whether a process stands in the code, or for a release names the area in any way.
 fn has_still(process: &Process, cmd: &Cmd, serial: u64) -> bool {
-    let is_release = matches!(cmd, Cmd::Release(_));
+    match cmd {
+        Cmd::Release(_) => names(process, serial),
+        _ => stands_in(process, serial),
+    }
+}
+
+/// Whether a frame of the process runs the instance.
+pub fn stands_in(process: &Process, serial: u64) -> bool {
     for frame in process.frames.as_slice() {
-        if frame.code.area.serial == serial || is_release && quotes(frame, serial) {
+        if frame.code.area.serial == serial {
+            return true;
+        }
+    }
+    false
+}
+
+/// Whether a frame of the process runs the instance, or has a literal of the area.
+fn names(process: &Process, serial: u64) -> bool {
+    for frame in process.frames.as_slice() {
+        if frame.code.area.serial == serial || quotes(frame, serial) {
             return true;
         }
     }

@@ -2,12 +2,11 @@
 ghost use Rattle.std.specs.Prelude.{◌≡◌, None, IfOk};
 ghost use Rattle.span_check.specs.Standings.{MayGoOn};
 
-use crate::shown::line_text;
 use machine_core::{End, LineList, PlainView, Process, TurnEnd, turn};
 use run_log::Span;
 use server_core::Server;
 use std::alloc::Global;
-use term_core::{ByteList, Names, NoMemory};
+use term_core::NoMemory;
 
 /// How many turns of a span are made again at most: a process that waits in a loop may have any number.
 const MOST_TURNS_AGAIN: u64 = 10_000;
@@ -15,49 +14,71 @@ const MOST_TURNS_AGAIN: u64 = 10_000;
 /// Why the way along a log stops within a span. Places count the span's lines from 0.
 #[derive(Drop)]
 pub enum Stop {
-    /// At this place the process shows another line.
-    Line(usize, ByteList),
+    /// At this place the process shows another line: of the lines of its turn the one with this number, counted from 0.
+    Other(usize, LineList, usize),
     /// The last of the turns ends the process so, and at this place something else is told.
-    End(usize, ByteList),
+    Ending(usize, End),
     /// The process ends so after so many of the turns already.
-    Early(u64, ByteList),
+    Early(u64, End),
     /// The turns of the span make no line at this place.
     Nothing(usize),
-    /// The log tells the end as it is, or the span has too many turns to make them again.
+    /// The process ends, as the log tells.
+    Told,
+    /// The span has too many turns to make them again.
     Unknown,
 }
 
-/// Makes the turns of a span again. Answers why the way stops there, if it does; else the process may go on.
+/// Makes the turns of a span again, so many at most, at whose end the log tells this end, or that the process goes on. Answers
+/// why the way stops there, if it does; else the process may go on.
 pub fn take_span(
     alloc: Global,
-    names: &Names,
     server: &Server,
     span: &Span,
+    most: u64,
     fin: Option<End>,
     process: &mut Process,
 ) -> Result<Option<Stop>, NoMemory>
     requires { MayGoOn server.now process.old }
     ensures { IfOk result (λ stop. stop ≡ None → MayGoOn server.now process.new) }
 {
+    let turns = span.turns.min(most);
     let mut shown = 0usize;
-    for turn in 0..span.turns.min(MOST_TURNS_AGAIN) {
-        let mut made = LineList::new(alloc);
-        let end = take_turn(alloc, server, process, &mut made)?;
-        let before = shown;
-        shown = shown.saturating_add(made.len());
-        if let Some(place) = first_other(span, before, &made) {
-            let text = line_text(alloc, names, made, place, End::Normal)?;
-            return Ok(Some(Stop::Line(before.saturating_add(place), text)));
-        }
-        match end {
-            TurnEnd::Again => {}
-            TurnEnd::Ended(ended) => {
-                let stop = ended_at(alloc, names, span, turn, shown, ended, fin)?;
-                return Ok(Some(stop));
-            }
+    for past in 0..turns.min(MOST_TURNS_AGAIN) {
+        if let Some(stop) = take_next(alloc, server, span, fin, past, &mut shown, process)? {
+            return Ok(Some(stop));
         }
     }
-    Ok(left_over(span, shown))
+    Ok(left_over(span, turns, shown))
+}
+
+/// Makes the next turn of a span again, behind so many turns and lines of it.
+fn take_next(
+    alloc: Global,
+    server: &Server,
+    span: &Span,
+    fin: Option<End>,
+    past: u64,
+    shown: &mut usize,
+    process: &mut Process,
+) -> Result<Option<Stop>, NoMemory>
+    requires { MayGoOn server.now process.old }
+    ensures { IfOk result (λ stop. stop ≡ None → MayGoOn server.now process.new) }
+{
+    let mut made = LineList::new(alloc);
+    let end = take_turn(alloc, server, process, &mut made)?;
+    let before = *shown;
+    *shown = before.saturating_add(made.len());
+    if let Some(number) = first_other(span, before, &made) {
+        let at = before.saturating_add(number);
+        return Ok(Some(Stop::Other(at, made, number)));
+    }
+    match end {
+        TurnEnd::Again => Ok(None),
+        TurnEnd::Ended(ended) => {
+            let had = past.saturating_add(1);
+            Ok(Some(ended_at(span, had, *shown, ended, fin)))
+        }
+    }
 }
 
 /// One turn of a process, with its lines.
@@ -86,33 +107,23 @@ fn first_other(span: &Span, shown: usize, made: &LineList) -> Option<usize> {
     None
 }
 
-/// Why the way stops where a process ended in a turn of a span, counted from 0: it is told so, or what was expected.
-fn ended_at(
-    alloc: Global,
-    names: &Names,
-    span: &Span,
-    turn: u64,
-    shown: usize,
-    ended: End,
-    fin: Option<End>,
-) -> Result<Stop, NoMemory> {
-    let text = line_text(alloc, names, LineList::new(alloc), 0, ended)?;
-    let taken = turn.saturating_add(1);
-    if taken < span.turns {
-        return Ok(Stop::Early(taken, text));
+/// Why the way stops where a process ended with so many turns and lines of a span: it is told so, or what was expected.
+fn ended_at(span: &Span, had: u64, shown: usize, ended: End, fin: Option<End>) -> Stop {
+    if had < span.turns {
+        return Stop::Early(had, ended);
     }
     if shown == span.lines.len() && fin == Some(ended) {
-        return Ok(Stop::Unknown);
+        return Stop::Told;
     }
-    Ok(Stop::End(shown, text))
+    Stop::Ending(shown, ended)
 }
 
-/// Why the way stops behind the turns of a span after which the process goes on, if it does.
-fn left_over(span: &Span, shown: usize) -> Option<Stop> {
-    if span.turns > MOST_TURNS_AGAIN {
+/// Why the way stops behind so many turns and lines of a span after which the process goes on, if it does.
+fn left_over(span: &Span, turns: u64, shown: usize) -> Option<Stop> {
+    if turns > MOST_TURNS_AGAIN {
         return Some(Stop::Unknown);
     }
-    if shown < span.lines.len() {
+    if turns == span.turns && shown < span.lines.len() {
         return Some(Stop::Nothing(shown));
     }
     None
