@@ -1,10 +1,10 @@
 -- What a server keeps of its areas while commands are made again.
-use Rattle.std.proofs.Common.{◌≡◌, List, Option, Some, ap, sym, subst}
+use Rattle.std.proofs.Common.{◌≡◌, List, Some, ap, sym, subst}
 use Rattle.mod_core.specs.declared.code.Module.{Module}
 use Rattle.server_core.specs.declared.command.Applied.{Applied}
 use Rattle.server_core.specs.declared.command.Cmd.{Cmd}
 use Rattle.server_core.specs.ServerState.{IsSound, ServerState}
-use Rattle.server_core.specs.CommandTable.{Outcome, apply_of}
+use Rattle.server_core.specs.CommandTable.{apply_of}
 use Rattle.machine_core.proofs.LaterWords.{HasAreas}
 use Rattle.run_log.specs.Journal.{state_after}
 use Rattle.run_log.proofs.AreaWords.{areas_stay, sound_below}

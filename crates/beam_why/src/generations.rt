@@ -38,7 +38,10 @@ pub fn expected_first_turn(
 
 /// The number of the process that an entry spawns. The next spawn of its loader has the next number.
 fn spawned(entry: &Entry, numbers: &mut [usize]) -> Option<usize> {
-    let (Who::Loader(loader), Cmd::Spawn { .. }) = (entry.who, &entry.cmd) else {
+    let Who::Loader(loader) = entry.who else {
+        return None;
+    };
+    let Cmd::Spawn { .. } = &entry.cmd else {
         return None;
     };
     let next = numbers.get_mut(loader as usize)?;

@@ -24,12 +24,10 @@ pub fn expected_linger(
     requires put { All (λ e. IsOfText e.cmd) log.now.journal }
 {
     for (place, entry) in log.journal.as_slice().iter().enumerate() {
-        if let Some((module, linger)) = told_by(entry) {
-            if linger.process as usize == process {
-                let found = expected_answer(alloc, script, log, place, module, linger)?;
-                if found.is_some() {
-                    return Ok(found);
-                }
+        if let Some((module, linger)) = told_of(entry, process) {
+            let found = expected_answer(alloc, script, log, place, module, linger)?;
+            if found.is_some() {
+                return Ok(found);
             }
         }
     }
@@ -64,6 +62,14 @@ fn told_by(entry: &Entry) -> Option<(AtomId, Linger)> {
     }
 }
 
+/// The same, where it is this process.
+fn told_of(entry: &Entry, process: usize) -> Option<(AtomId, Linger)> {
+    match told_by(entry) {
+        Some((module, linger)) if linger.process as usize == process => Some((module, linger)),
+        _ => None,
+    }
+}
+
 /// What the soft purge at a place should not have told of a process, if it should not.
 fn expected_answer(
     alloc: Global,
@@ -79,19 +85,34 @@ fn expected_answer(
     let Some(process_log) = log.processes.get(linger.process as usize) else {
         return Ok(None);
     };
-    let mut replay = Replay::new(alloc)?;
-    replay.make_before(place, &log.journal, &script.modules)?;
-    let generation = replay.server.generation();
+    let (generation, old) = old_code(alloc, script, log, place, module)?;
     let before = turns_before(process_log, generation);
     let up_to = turns_before(process_log, generation.saturating_add(1));
     let turn = u64::from(linger.turn);
     if turn < before || turn > up_to {
         return Ok(Some(other_turn(alloc, place, linger, before, up_to)?));
     }
-    match replay.server.old(module) {
+    match old {
         Some(serial) => expected_place(alloc, script, log, place, serial, linger),
         None => Ok(None),
     }
+}
+
+/// The newest generation in the place of an entry, and the serial of a module's old code there, if it has some.
+fn old_code(
+    alloc: Global,
+    script: &Script,
+    log: &RunLog,
+    place: usize,
+    module: AtomId,
+) -> Result<(u64, Option<u64>), NoMemory>
+    requires texts { AreTexts script.now.modules }
+    requires put { All (λ e. IsOfText e.cmd) log.now.journal }
+{
+    let mut replay = Replay::new(alloc)?;
+    replay.make_before(place, &log.journal, &script.modules)?;
+    let generation = replay.server.generation();
+    Ok((generation, replay.server.old(module)))
 }
 
 /// That the process does not stand in the old code with this serial, if it does not.

@@ -10,7 +10,7 @@ use legality::Place;
 use mod_core::ModuleList;
 use run_log::{Entry, EntryList, RunLog, Who};
 use script_core::Script;
-use server_core::{ApplyFault, Cmd, Server};
+use server_core::{Applied, ApplyFault, Cmd, Server};
 use std::alloc::Global;
 use term_core::NoMemory;
 
@@ -85,6 +85,19 @@ impl Replay {
         }
         Ok(())
     }
+
+    /// What a command answers here, if it can be made.
+    fn answer(&mut self, cmd: &Cmd, texts: &ModuleList) -> Result<Option<Applied>, NoMemory>
+        requires texts { AreTexts texts.now }
+        requires put { IsOfText cmd.now }
+        requires sound { IsSound self.old.server }
+    {
+        match self.server.apply(cmd, texts) {
+            Ok(answer) => Ok(Some(answer)),
+            Err(ApplyFault::NotEnabled) => Ok(None),
+            Err(ApplyFault::NoMemory) => Err(NoMemory),
+        }
+    }
 }
 
 /// Makes a command, where it can be made.
@@ -119,16 +132,38 @@ pub fn expected_entry(
     if let Some(words) = misplaced_words(entry) {
         return Finding::of(alloc, at, words);
     }
+    match answer_at(alloc, script, log, place, &entry.cmd)? {
+        Some(answer) => expected_reply(alloc, script, place, answer),
+        None => Finding::of(alloc, at, impossible_words(&entry.cmd)),
+    }
+}
+
+/// What a command answers in the place of an entry, if it can be made there.
+pub fn answer_at(
+    alloc: Global,
+    script: &Script,
+    log: &RunLog,
+    place: usize,
+    cmd: &Cmd,
+) -> Result<Option<Applied>, NoMemory>
+    requires texts { AreTexts script.now.modules }
+    requires put { All (λ e. IsOfText e.cmd) log.now.journal }
+    requires said { IsOfText cmd.now }
+{
     let mut replay = Replay::new(alloc)?;
     replay.make_before(place, &log.journal, &script.modules)?;
-    match replay.server.apply(&entry.cmd, &script.modules) {
-        Ok(answer) => {
-            let text = answer_text(alloc, &script.names, answer)?;
-            Finding::of(alloc, at, b"the answer ")?.quote(text.as_slice())
-        }
-        Err(ApplyFault::NotEnabled) => Finding::of(alloc, at, impossible_words(&entry.cmd)),
-        Err(ApplyFault::NoMemory) => Err(NoMemory),
-    }
+    replay.answer(cmd, &script.modules)
+}
+
+/// That this answer was expected of an entry.
+pub fn expected_reply(
+    alloc: Global,
+    script: &Script,
+    place: usize,
+    answer: Applied,
+) -> Result<Finding, NoMemory> {
+    let text = answer_text(alloc, &script.names, answer)?;
+    Finding::of(alloc, Place::Entry(place), b"the answer ")?.quote(text.as_slice())
 }
 
 /// Who should have made an entry, where it is not he who did.

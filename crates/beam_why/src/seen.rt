@@ -27,10 +27,7 @@ pub fn expected_export(
     let Some(shot) = snapshot_at(log, observer, snapshot) else {
         return Ok(None);
     };
-    let functions = exported_functions(alloc, script)?;
-    let mut replay = Replay::new(alloc)?;
-    replay.make_generation(shot.generation, &log.journal, &script.modules)?;
-    let seen = snapshot_of(alloc, &replay.server, &functions)?;
+    let seen = seen_at(alloc, script, log, shot.generation)?;
     if seen.generation != shot.generation {
         return Ok(None);
     }
@@ -44,6 +41,22 @@ pub fn expected_export(
         finding.say(b"no further export of this generation")?
     };
     Ok(Some(said.on_line(first.saturating_add(place))))
+}
+
+/// What an observer sees where a generation is published.
+fn seen_at(
+    alloc: Global,
+    script: &Script,
+    log: &RunLog,
+    generation: u64,
+) -> Result<Snapshot, NoMemory>
+    requires script { IsScript script.now }
+    requires put { All (λ e. IsOfText e.cmd) log.now.journal }
+{
+    let functions = exported_functions(alloc, script)?;
+    let mut replay = Replay::new(alloc)?;
+    replay.make_generation(generation, &log.journal, &script.modules)?;
+    snapshot_of(alloc, &replay.server, &functions)
 }
 
 fn snapshot_at(log: &RunLog, observer: usize, snapshot: usize) -> Option<&Snapshot> {

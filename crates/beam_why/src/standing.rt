@@ -1,17 +1,15 @@
 // The process that stands in code that is dropped, or that names an area that is released.
 ghost use Rattle.std.specs.Prelude.{All};
 ghost use Rattle.server_core.specs.CommandTable.{AreTexts, IsOfText};
-ghost use Rattle.server_core.specs.ServerState.{IsSound};
 
 use crate::course::{Until, process_at};
 use crate::finding::Finding;
-use crate::replay::Replay;
-use crate::shown::answer_text;
+use crate::replay::{Replay, answer_at, expected_reply};
 use legality::Place;
 use machine_core::{End, Frame, Process, Value};
 use run_log::RunLog;
 use script_core::Script;
-use server_core::{ApplyFault, Cmd, Server};
+use server_core::{Cmd, Server};
 use std::alloc::Global;
 use term_core::{AtomId, NoMemory};
 
@@ -28,28 +26,35 @@ pub fn expected_unnamed(
     let Some(entry) = log.journal.get(place) else {
         return Ok(None);
     };
-    let mut replay = Replay::new(alloc)?;
-    replay.make_before(place, &log.journal, &script.modules)?;
-    let Some(serial) = area_of(&replay.server, &entry.cmd) else {
+    let Some((serial, generation)) = given_up(alloc, script, log, place, &entry.cmd)? else {
         return Ok(None);
     };
-    let generation = replay.server.generation();
     if let Some(number) = first_naming(alloc, script, log, generation, &entry.cmd, serial)? {
         return Ok(Some(still_there(alloc, place, number, &entry.cmd)?));
     }
     match &entry.cmd {
-        Cmd::Purge { module, .. } => {
-            expected_kill(
-                alloc,
-                script,
-                log,
-                place,
-                *module,
-                serial,
-                &mut replay.server,
-            )
-        }
+        Cmd::Purge { module, .. } => expected_kill(alloc, script, log, place, *module, serial),
         _ => Ok(None),
+    }
+}
+
+/// The area that a command gives up in the place of an entry, and the newest generation then.
+fn given_up(
+    alloc: Global,
+    script: &Script,
+    log: &RunLog,
+    place: usize,
+    cmd: &Cmd,
+) -> Result<Option<(u64, u64)>, NoMemory>
+    requires texts { AreTexts script.now.modules }
+    requires put { All (λ e. IsOfText e.cmd) log.now.journal }
+{
+    let mut replay = Replay::new(alloc)?;
+    replay.make_before(place, &log.journal, &script.modules)?;
+    let generation = replay.server.generation();
+    match area_of(&replay.server, cmd) {
+        Some(serial) => Ok(Some((serial, generation))),
+        None => Ok(None),
     }
 }
 
@@ -153,25 +158,21 @@ fn expected_kill(
     place: usize,
     module: AtomId,
     serial: u64,
-    server: &mut Server,
 ) -> Result<Option<Finding>, NoMemory>
     requires texts { AreTexts script.now.modules }
-    requires sound { IsSound server.old }
+    requires put { All (λ e. IsOfText e.cmd) log.now.journal }
 {
     let killed = first_killed(log, serial);
     let cmd = Cmd::Purge {
         module,
         killed: killed.is_some(),
     };
-    match server.apply(&cmd, &script.modules) {
-        Ok(answer) => {
-            let text = answer_text(alloc, &script.names, answer)?;
-            let said = Finding::of(alloc, Place::Entry(place), b"the answer ")?;
-            let said = said.quote(text.as_slice())?;
+    match answer_at(alloc, script, log, place, &cmd)? {
+        Some(answer) => {
+            let said = expected_reply(alloc, script, place, answer)?;
             Ok(Some(say_killed(killed, serial, said)?))
         }
-        Err(ApplyFault::NotEnabled) => Ok(None),
-        Err(ApplyFault::NoMemory) => Err(NoMemory),
+        None => Ok(None),
     }
 }
 
