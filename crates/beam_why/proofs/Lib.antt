@@ -1,1 +1,4 @@
+mod Commands
+mod GoingOn
+mod Replays
 pub mod Verdicts

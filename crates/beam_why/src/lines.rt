@@ -69,3 +69,8 @@ fn observer_lines(shots: &SnapshotList, count: usize) -> usize {
 fn snapshot_lines(shot: &Snapshot) -> usize {
     shot.exports.len().saturating_add(1)
 }
+
+/// The line of the end of a process.
+pub fn end_line(log: &RunLog, number: usize) -> usize {
+    process_line(log, number.saturating_add(1)).saturating_sub(1)
+}

@@ -1,8 +1,21 @@
 //! The program that says why a report is not lawful: it names a clause of a lawful log that does not hold.
 #![tactic(auto)]
 
+mod complete;
+mod course;
+mod finding;
+mod generations;
+mod halves;
+mod hints;
 mod lines;
+mod lingering;
+mod order;
 mod places;
+mod replay;
+mod seen;
+mod shown;
+mod standing;
+mod turns;
 mod why;
 mod words;
 

@@ -1,10 +1,12 @@
-ghost use Rattle.std.specs.Prelude.{◌≤◌, IfOk, IsErrOf, length};
+ghost use Rattle.std.specs.Prelude.{◌≤◌, All, IfOk, IsErrOf, length};
+ghost use Rattle.server_core.specs.CommandTable.{IsOfText};
 ghost use Rattle.script_core.specs.Sound.{IsScript};
 ghost use Rattle.outside.specs.Outside.{Rose};
 ghost use Rattle.beam_why.specs.Why.{Delivered, IsBrokenAnswer, LogVerdict, ReadVerdict, WhyEnds, WhyVerdict};
 
+use crate::hints::find;
 use crate::places::write_place;
-use crate::words::{name_of, wanted};
+use crate::words::name_of;
 use legality::{Breach, first_breach};
 use outside::{
     Answer, CheckInput, DONE, Input, LONGEST_CHECK, NO_MEMORY, NOT_ALLOWED, SINK_FAULT,
@@ -66,20 +68,28 @@ fn judged(alloc: Global, bytes: &[u8]) -> Result<Answer, NoMemory>
 
 /// The answer to the log that a report shows.
 fn log_judged(alloc: Global, script: &Script, log: &RunLog) -> Result<Answer, NoMemory>
-    requires { IsScript script.now }
+    requires script { IsScript script.now }
+    requires put { All (λ e. IsOfText e.cmd) log.now.journal }
     ensures { IfOk result (λ a. LogVerdict script.now log.now a.status a.text) }
 {
     match first_breach(alloc, script, log)? {
         None => line_answer(alloc, DONE, b"lawful"),
-        Some(breach) => broken_answer(alloc, log, breach),
+        Some(breach) => broken_answer(alloc, script, log, breach),
     }
 }
 
-/// The answer to a log that breaks a clause: its name, where that was found, and what it asks for.
-fn broken_answer(alloc: Global, log: &RunLog, breach: Breach) -> Result<Answer, NoMemory>
+/// The answer to a log that breaks a clause: its name, where that was found, and what was expected.
+fn broken_answer(
+    alloc: Global,
+    script: &Script,
+    log: &RunLog,
+    breach: Breach,
+) -> Result<Answer, NoMemory>
+    requires script { IsScript script.now }
+    requires put { All (λ e. IsOfText e.cmd) log.now.journal }
     ensures { IfOk result (IsBrokenAnswer breach.clause) }
 {
-    let rest = rest_of(alloc, log, breach)?;
+    let rest = rest_of(alloc, script, log, breach)?;
     let mut text = ByteList::from_slice(alloc, b"not lawful: ")?;
     text.extend_from_slice(name_of(breach.clause))?;
     text.extend_from_slice(rest.as_slice())?;
@@ -90,12 +100,21 @@ fn broken_answer(alloc: Global, log: &RunLog, breach: Breach) -> Result<Answer, 
     })
 }
 
-/// What stands behind the name of a clause: where it was found broken, and what it asks for.
-fn rest_of(alloc: Global, log: &RunLog, breach: Breach) -> Result<ByteList, NoMemory> {
+/// What stands behind the name of a clause: where it was found broken, and what was expected there.
+fn rest_of(
+    alloc: Global,
+    script: &Script,
+    log: &RunLog,
+    breach: Breach,
+) -> Result<ByteList, NoMemory>
+    requires script { IsScript script.now }
+    requires put { All (λ e. IsOfText e.cmd) log.now.journal }
+{
+    let finding = find(alloc, script, log, breach)?;
     let mut rest = ByteList::new(alloc);
-    write_place(log, breach.at, &mut rest)?;
-    rest.push(b'\n')?;
-    rest.extend_from_slice(wanted(breach.clause))?;
+    write_place(log, finding.at, finding.line, &mut rest)?;
+    rest.extend_from_slice(b"\nexpected ")?;
+    rest.extend_from_slice(finding.expected.as_slice())?;
     rest.push(b'\n')?;
     Ok(rest)
 }

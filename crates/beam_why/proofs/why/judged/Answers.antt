@@ -4,11 +4,17 @@ use Rattle.outside.specs.Answers.{report_syntax_text}
 use Rattle.outside.specs.Inputs.{IsReadAs}
 use Rattle.outside.proofs.ReadParts.{on_ok}
 use Rattle.beam_why.specs.Why.{WhyVerdict, judged, report_refused}
+use Rattle.beam_why.proofs.Commands.{journal_of_text}
 use Rattle.beam_why.proofs.Verdicts.{both_ok, by_line, script_refused_is}
 use Rattle.beam_why.proofs.why.judged.Goals as goal
 
-pub log_judged-requires : goal.log_judged-requires
-log_judged-requires c = (subst (IsReadAs c.args.bytes.now) c.in-Read.is c.in_ok-input.ensures).sound
+pub log_judged-requires-clause-script : goal.log_judged-requires-clause-script
+log_judged-requires-clause-script c = (subst (IsReadAs c.args.bytes.now) c.in-Read.is c.in_ok-input.ensures).sound
+
+pub log_judged-requires-clause-put : goal.log_judged-requires-clause-put
+log_judged-requires-clause-put c =
+    let read = subst (IsReadAs c.args.bytes.now) c.in-Read.is c.in_ok-input.ensures in
+    journal_of_text c.in-Read.script.names read.sound.names.room c.in-Read.log.journal read.report.report.formed.journal
 
 pub returns-in-Read : goal.returns-in-Read
 returns-in-Read c =
