@@ -96,8 +96,10 @@ class OtherAnswers(unittest.TestCase):
     """Lines of the program that name no line of the input."""
 
     def test_what_is_told(self):
-        for line, phrase in [("words not understood", "run --schedulers N"), ("lawful", "nothing was refused")]:
-            self.assertIn(phrase, "\n".join(why.answer(FIRST, line, "auto").lines))
+        forms = ("run;", "run --schedulers N", "check;", "progress;", "make --seed S --size K", "trial --seed S --size K --schedulers N")
+        for line, phrases in [("words not understood", forms), ("lawful", ("nothing was refused",))]:
+            for phrase in phrases:
+                self.assertIn(phrase, "\n".join(why.answer(FIRST, line, "auto").lines))
 
     def test_a_broken_clause(self):
         said = "not lawful: TurnsFollow (process 0, span 1, line 7)\nexpected the line `print 3`\n"
