@@ -8,6 +8,7 @@ use crate::finding::Finding;
 use crate::lines::{end_line, span_line};
 use crate::replay::Replay;
 use crate::shown::{end_text, line_text};
+use crate::sightings::{Sightings, Telling};
 use crate::turns::{Stop, take_span};
 use legality::Place;
 use machine_core::{End, Process};
@@ -15,19 +16,6 @@ use run_log::{ProcessLog, RunLog};
 use script_core::Script;
 use std::alloc::Global;
 use term_core::NoMemory;
-
-/// How far a process goes along its log: to its last turn under a generation, this one with its turns, and so many turns at most.
-#[derive(Clone, Copy, Debug)]
-pub struct Until {
-    pub generation: u64,
-    pub turns: u64,
-}
-
-/// As far as the log goes.
-const TO_THE_END: Until = Until {
-    generation: u64::MAX,
-    turns: u64::MAX,
-};
 
 /// The first place where a process does not go on as its log tells, if it was found.
 pub fn expected_turn(
@@ -45,19 +33,28 @@ pub fn expected_turn(
     let Some(mut process) = start(alloc, number, process_log)? else {
         return Ok(None);
     };
-    match walk(alloc, script, log, process_log, TO_THE_END, &mut process)? {
+    let mut none = Sightings::none(alloc);
+    match walk(
+        alloc,
+        script,
+        log,
+        process_log,
+        u64::MAX,
+        &mut none,
+        &mut process,
+    )? {
         Some((span, stop)) => found(alloc, script, log, number, span, stop),
         None => Ok(Some(going_on(alloc, log, number, process_log)?)),
     }
 }
 
-/// A process so far along its log. Nothing where that is not known.
+/// A process behind its last turn up to a generation. Nothing where that is not known.
 pub fn process_at(
     alloc: Global,
     script: &Script,
     log: &RunLog,
     number: usize,
-    until: Until,
+    generation: u64,
 ) -> Result<Option<Process>, NoMemory>
     requires texts { AreTexts script.now.modules }
     requires put { All (λ e. IsOfText e.cmd) log.now.journal }
@@ -68,10 +65,52 @@ pub fn process_at(
     let Some(mut process) = start(alloc, number, process_log)? else {
         return Ok(None);
     };
-    match walk(alloc, script, log, process_log, until, &mut process)? {
+    let mut none = Sightings::none(alloc);
+    match walk(
+        alloc,
+        script,
+        log,
+        process_log,
+        generation,
+        &mut none,
+        &mut process,
+    )? {
         None | Some((_, Stop::Told)) => Ok(Some(process)),
         Some(_) => Ok(None),
     }
+}
+
+/// The first place of the journal where it is told of a process what is not so, if that is seen as far as its way is known.
+pub fn see_along(
+    alloc: Global,
+    script: &Script,
+    log: &RunLog,
+    number: usize,
+    tellings: Vec<Telling>,
+) -> Result<Option<usize>, NoMemory>
+    requires texts { AreTexts script.now.modules }
+    requires put { All (λ e. IsOfText e.cmd) log.now.journal }
+{
+    let Some(process_log) = log.processes.get(number) else {
+        return Ok(None);
+    };
+    let Some(mut process) = start(alloc, number, process_log)? else {
+        return Ok(None);
+    };
+    let mut seen = Sightings::new(tellings);
+    match walk(
+        alloc,
+        script,
+        log,
+        process_log,
+        u64::MAX,
+        &mut seen,
+        &mut process,
+    )? {
+        None | Some((_, Stop::Told)) => seen.look(&process),
+        Some(_) => {}
+    }
+    Ok(seen.absent)
 }
 
 /// A process before its first turn. Nothing where its log has not as many arguments as its function.
@@ -96,13 +135,15 @@ fn begun(alloc: Global, number: u32, log: &ProcessLog) -> Result<Process, NoMemo
     Process::new(alloc, number, log.target, args)
 }
 
-/// Goes so far along the log of a process that has had no turn. Answers in which span the way stops, and why, if it does.
+/// Goes along the log of a process that has had no turn, to its last turn up to a generation, and looks at it before each turn. Answers
+/// in which span the way stops, and why, if it does.
 fn walk(
     alloc: Global,
     script: &Script,
     log: &RunLog,
     process_log: &ProcessLog,
-    until: Until,
+    generation: u64,
+    seen: &mut Sightings,
     process: &mut Process,
 ) -> Result<Option<(usize, Stop)>, NoMemory>
     requires texts { AreTexts script.now.modules }
@@ -110,17 +151,15 @@ fn walk(
     requires goes { (s : ServerState) → MayGoOn s process.old }
 {
     let mut replay = Replay::new(alloc)?;
-    let mut left = until.turns;
     for (place, span) in process_log.spans.as_slice().iter().enumerate() {
-        if left == 0 || span.generation > until.generation {
+        if span.generation > generation {
             return Ok(None);
         }
         replay.make_generation(span.generation, &log.journal, &script.modules)?;
         let fin = fin_at(process_log, place);
-        if let Some(stop) = take_span(alloc, &replay.server, span, left, fin, process)? {
+        if let Some(stop) = take_span(alloc, &replay.server, span, fin, seen, process)? {
             return Ok(Some((place, stop)));
         }
-        left = left.saturating_sub(span.turns);
     }
     Ok(None)
 }

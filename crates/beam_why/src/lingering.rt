@@ -2,16 +2,32 @@
 ghost use Rattle.std.specs.Prelude.{All};
 ghost use Rattle.server_core.specs.CommandTable.{AreTexts, IsOfText};
 
-use crate::course::{Until, process_at};
+use crate::course::see_along;
 use crate::finding::Finding;
 use crate::replay::Replay;
-use crate::standing::stands_in;
+use crate::sightings::Telling;
 use legality::Place;
 use run_log::{Entry, ProcessLog, RunLog};
 use script_core::Script;
 use server_core::{Cmd, Linger};
 use std::alloc::Global;
 use term_core::{AtomId, NoMemory};
+
+/// A soft purge that tells of a process another turn than one of those that it was after by then.
+#[derive(Drop)]
+struct OtherTurn {
+    place: usize,
+    linger: Linger,
+    least: u64,
+    most: u64,
+}
+
+/// What soft purges tell of a process, up to the first that is wrong by its turn alone.
+#[derive(Drop)]
+struct Told {
+    tellings: Vec<Telling>,
+    other: Option<OtherTurn>,
+}
 
 /// The first soft purge that tells of this process what is not so, if it was found.
 pub fn expected_linger(
@@ -23,15 +39,17 @@ pub fn expected_linger(
     requires texts { AreTexts script.now.modules }
     requires put { All (λ e. IsOfText e.cmd) log.now.journal }
 {
-    for (place, entry) in log.journal.as_slice().iter().enumerate() {
-        if let Some((module, linger)) = told_of(entry, process) {
-            let found = expected_answer(alloc, script, log, place, module, linger)?;
-            if found.is_some() {
-                return Ok(found);
-            }
-        }
+    let Some(process_log) = log.processes.get(process) else {
+        return Ok(None);
+    };
+    let told = told_of(alloc, script, log, process, process_log)?;
+    if let Some(place) = see_along(alloc, script, log, process, told.tellings)? {
+        return stands_not(alloc, log, place);
     }
-    Ok(None)
+    match told.other {
+        Some(other) => Ok(Some(other_turn(alloc, other)?)),
+        None => Ok(None),
+    }
 }
 
 /// That an entry tells of a process which the script does not spawn.
@@ -62,102 +80,109 @@ fn told_by(entry: &Entry) -> Option<(AtomId, Linger)> {
     }
 }
 
-/// The same, where it is this process.
-fn told_of(entry: &Entry, process: usize) -> Option<(AtomId, Linger)> {
-    match told_by(entry) {
-        Some((module, linger)) if linger.process as usize == process => Some((module, linger)),
-        _ => None,
-    }
-}
-
-/// What the soft purge at a place should not have told of a process, if it should not.
-fn expected_answer(
+/// What the journal tells of a process.
+fn told_of(
     alloc: Global,
     script: &Script,
     log: &RunLog,
-    place: usize,
-    module: AtomId,
-    linger: Linger,
-) -> Result<Option<Finding>, NoMemory>
+    process: usize,
+    process_log: &ProcessLog,
+) -> Result<Told, NoMemory>
     requires texts { AreTexts script.now.modules }
     requires put { All (λ e. IsOfText e.cmd) log.now.journal }
 {
-    let Some(process_log) = log.processes.get(linger.process as usize) else {
-        return Ok(None);
+    let turns = TurnCount::new(alloc, process_log)?;
+    let mut told = Told {
+        tellings: Vec::new(alloc),
+        other: None,
     };
-    let (generation, old) = old_code(alloc, script, log, place, module)?;
-    let before = turns_before(process_log, generation);
-    let up_to = turns_before(process_log, generation.saturating_add(1));
-    let turn = u64::from(linger.turn);
-    if turn < before || turn > up_to {
-        return Ok(Some(other_turn(alloc, place, linger, before, up_to)?));
-    }
-    match old {
-        Some(serial) => expected_place(alloc, script, log, place, serial, linger),
-        None => Ok(None),
-    }
-}
-
-/// The newest generation in the place of an entry, and the serial of a module's old code there, if it has some.
-fn old_code(
-    alloc: Global,
-    script: &Script,
-    log: &RunLog,
-    place: usize,
-    module: AtomId,
-) -> Result<(u64, Option<u64>), NoMemory>
-    requires texts { AreTexts script.now.modules }
-    requires put { All (λ e. IsOfText e.cmd) log.now.journal }
-{
     let mut replay = Replay::new(alloc)?;
-    replay.make_before(place, &log.journal, &script.modules)?;
-    let generation = replay.server.generation();
-    Ok((generation, replay.server.old(module)))
+    for (place, entry) in log.journal.as_slice().iter().enumerate() {
+        if let Some((module, linger)) = told_by(entry) {
+            if linger.process as usize == process {
+                told.add(&replay, &turns, place, module, linger)?;
+            }
+        }
+        if told.other.is_some() {
+            return Ok(told);
+        }
+        replay.step(&log.journal, &script.modules)?;
+    }
+    Ok(told)
 }
 
-/// That the process does not stand in the old code with this serial, if it does not.
-fn expected_place(
-    alloc: Global,
-    script: &Script,
-    log: &RunLog,
-    place: usize,
-    serial: u64,
-    linger: Linger,
-) -> Result<Option<Finding>, NoMemory>
-    requires texts { AreTexts script.now.modules }
-    requires put { All (λ e. IsOfText e.cmd) log.now.journal }
-{
-    let until = Until {
-        generation: u64::MAX,
-        turns: u64::from(linger.turn),
-    };
-    match process_at(alloc, script, log, linger.process as usize, until)? {
-        Some(process) if !stands_in(&process, serial) => {
-            Ok(Some(stands_not(alloc, place, linger)?))
+impl Told {
+    /// Adds what the soft purge at a place tells, before which the journal was made again.
+    fn add(
+        &mut self,
+        replay: &Replay,
+        turns: &TurnCount,
+        place: usize,
+        module: AtomId,
+        linger: Linger,
+    ) -> Result<(), NoMemory> {
+        let generation = replay.server.generation();
+        let least = turns.before(generation);
+        let most = turns.before(generation.saturating_add(1));
+        let turn = u64::from(linger.turn);
+        if turn < least || turn > most {
+            self.other = Some(OtherTurn {
+                place,
+                linger,
+                least,
+                most,
+            });
+            return Ok(());
         }
-        _ => Ok(None),
+        if let Some(serial) = replay.server.old(module) {
+            self.tellings.push(Telling {
+                turn: linger.turn,
+                place,
+                serial,
+            })?;
+        }
+        Ok(())
     }
 }
 
-/// How many turns a process has under the generations before one.
-fn turns_before(process: &ProcessLog, generation: u64) -> u64 {
-    let mut turns = 0u64;
-    for span in process.spans.as_slice() {
-        if span.generation < generation {
+/// How many turns a process has had behind each of its spans, with the generation of the span.
+#[derive(Drop)]
+struct TurnCount {
+    behind: Vec<(u64, u64)>,
+}
+
+impl TurnCount {
+    fn new(alloc: Global, process: &ProcessLog) -> Result<TurnCount, NoMemory> {
+        let mut behind = Vec::new(alloc);
+        let mut turns = 0u64;
+        for span in process.spans.as_slice() {
             turns = turns.saturating_add(span.turns);
+            behind.push((span.generation, turns))?;
+        }
+        Ok(TurnCount { behind })
+    }
+
+    /// How many turns the process has under the generations before one.
+    fn before(&self, generation: u64) -> u64 {
+        let earlier = self.behind.partition_point(|span| span.0 < generation);
+        match earlier
+            .checked_sub(1)
+            .and_then(|last| self.behind.get(last))
+        {
+            Some((_, turns)) => *turns,
+            None => 0,
         }
     }
-    turns
 }
 
 /// That the process was after another turn.
-fn other_turn(
-    alloc: Global,
-    place: usize,
-    linger: Linger,
-    least: u64,
-    most: u64,
-) -> Result<Finding, NoMemory> {
+fn other_turn(alloc: Global, other: OtherTurn) -> Result<Finding, NoMemory> {
+    let OtherTurn {
+        place,
+        linger,
+        least,
+        most,
+    } = other;
     let at = Place::Entry(place);
     let said = Finding::of(alloc, at, b"another answer: by then process ")?.say_number(u64::from(
         linger.process,
@@ -171,11 +196,15 @@ fn other_turn(
         .say_number(most)
 }
 
-/// That the process does not stand there.
-fn stands_not(alloc: Global, place: usize, linger: Linger) -> Result<Finding, NoMemory> {
+/// That the process does not stand where the soft purge at a place tells it.
+fn stands_not(alloc: Global, log: &RunLog, place: usize) -> Result<Option<Finding>, NoMemory> {
+    let Some((_, linger)) = log.journal.get(place).and_then(told_by) else {
+        return Ok(None);
+    };
     let at = Place::Entry(place);
-    Finding::of(alloc, at, b"another answer: process ")?
+    let said = Finding::of(alloc, at, b"another answer: process ")?
         .say_number(u64::from(linger.process))?
         .say(b" does not stand in that old code after turn ")?
-        .say_number(u64::from(linger.turn))
+        .say_number(u64::from(linger.turn))?;
+    Ok(Some(said))
 }

@@ -14,6 +14,7 @@ mod places;
 mod replay;
 mod seen;
 mod shown;
+mod sightings;
 mod standing;
 mod turns;
 mod why;

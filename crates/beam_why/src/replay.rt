@@ -23,6 +23,7 @@ pub struct Replay {
 }
 
 impl Replay {
+    /// A server that has made nothing yet.
     pub fn new(alloc: Global) -> Result<Replay, NoMemory>
         ensures { IfOk result (λ replay. IsSound replay.server) }
     {
@@ -32,7 +33,7 @@ impl Replay {
     }
 
     /// Makes the next entry, if there is one. Where its command can not be made there, the server stays.
-    fn step(&mut self, journal: &EntryList, texts: &ModuleList) -> Result<(), NoMemory>
+    pub fn step(&mut self, journal: &EntryList, texts: &ModuleList) -> Result<(), NoMemory>
         requires texts { AreTexts texts.now }
         requires put { All (λ e. IsOfText e.cmd) journal.now }
         requires sound { IsSound self.old.server }

@@ -2,7 +2,7 @@
 ghost use Rattle.std.specs.Prelude.{All};
 ghost use Rattle.server_core.specs.CommandTable.{AreTexts, IsOfText};
 
-use crate::course::{Until, process_at};
+use crate::course::process_at;
 use crate::finding::Finding;
 use crate::replay::{Replay, answer_at, expected_reply};
 use legality::Place;
@@ -83,12 +83,8 @@ fn first_naming(
     requires texts { AreTexts script.now.modules }
     requires put { All (λ e. IsOfText e.cmd) log.now.journal }
 {
-    let until = Until {
-        generation,
-        turns: u64::MAX,
-    };
     for number in 0..log.processes.len() {
-        if let Some(process) = process_at(alloc, script, log, number, until)? {
+        if let Some(process) = process_at(alloc, script, log, number, generation)? {
             if has_still(&process, cmd, serial) {
                 return Ok(Some(number));
             }

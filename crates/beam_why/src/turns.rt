@@ -2,6 +2,7 @@
 ghost use Rattle.std.specs.Prelude.{◌≡◌, None, IfOk};
 ghost use Rattle.span_check.specs.Standings.{MayGoOn};
 
+use crate::sightings::Sightings;
 use machine_core::{End, LineList, PlainView, Process, TurnEnd, turn};
 use run_log::Span;
 use server_core::Server;
@@ -28,27 +29,27 @@ pub enum Stop {
     Unknown,
 }
 
-/// Makes the turns of a span again, so many at most, at whose end the log tells this end, or that the process goes on. Answers
-/// why the way stops there, if it does; else the process may go on.
+/// Makes the turns of a span again, at whose end the log tells this end, or that the process goes on, and looks at the process before
+/// each. Answers why the way stops there, if it does; else the process may go on.
 pub fn take_span(
     alloc: Global,
     server: &Server,
     span: &Span,
-    most: u64,
     fin: Option<End>,
+    seen: &mut Sightings,
     process: &mut Process,
 ) -> Result<Option<Stop>, NoMemory>
     requires { MayGoOn server.now process.old }
     ensures { IfOk result (λ stop. stop ≡ None → MayGoOn server.now process.new) }
 {
-    let turns = span.turns.min(most);
     let mut shown = 0usize;
-    for past in 0..turns.min(MOST_TURNS_AGAIN) {
+    for past in 0..span.turns.min(MOST_TURNS_AGAIN) {
+        seen.look(process);
         if let Some(stop) = take_next(alloc, server, span, fin, past, &mut shown, process)? {
             return Ok(Some(stop));
         }
     }
-    Ok(left_over(span, turns, shown))
+    Ok(left_over(span, shown))
 }
 
 /// Makes the next turn of a span again, behind so many turns and lines of it.
@@ -118,12 +119,12 @@ fn ended_at(span: &Span, had: u64, shown: usize, ended: End, fin: Option<End>) -
     Stop::Ending(shown, ended)
 }
 
-/// Why the way stops behind so many turns and lines of a span after which the process goes on, if it does.
-fn left_over(span: &Span, turns: u64, shown: usize) -> Option<Stop> {
-    if turns > MOST_TURNS_AGAIN {
+/// Why the way stops behind so many lines of a span after which the process goes on, if it does.
+fn left_over(span: &Span, shown: usize) -> Option<Stop> {
+    if span.turns > MOST_TURNS_AGAIN {
         return Some(Stop::Unknown);
     }
-    if turns == span.turns && shown < span.lines.len() {
+    if shown < span.lines.len() {
         return Some(Stop::Nothing(shown));
     }
     None
