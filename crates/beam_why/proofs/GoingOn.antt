@@ -16,7 +16,8 @@ use Rattle.machine_core.specs.ServerReads.{reads_of}
 use Rattle.machine_core.specs.Turn.{MayTurn, TurnGives}
 use Rattle.machine_core.specs.View.{Viewed, server_words, shown_of}
 use Rattle.machine_core.proofs.FewAreas.{turn_few}
-use Rattle.machine_core.proofs.LaterWords.{HasAreas, process_later}
+use Rattle.machine_core.specs.LaterStates.{HasAreas}
+use Rattle.machine_core.proofs.LaterWords.{process_later}
 use Rattle.machine_core.proofs.TurnLaws.{may_turn_later, may_turn_new}
 use Rattle.span_check.specs.Standings.{MayGoOn}
 

@@ -5,7 +5,7 @@ use Rattle.server_core.specs.declared.command.Applied.{Applied}
 use Rattle.server_core.specs.declared.command.Cmd.{Cmd}
 use Rattle.server_core.specs.ServerState.{IsSound, ServerState}
 use Rattle.server_core.specs.CommandTable.{apply_of}
-use Rattle.machine_core.proofs.LaterWords.{HasAreas}
+use Rattle.machine_core.specs.LaterStates.{HasAreas}
 use Rattle.run_log.specs.Journal.{state_after}
 use Rattle.run_log.proofs.AreaWords.{areas_stay, sound_below}
 

@@ -2,7 +2,7 @@
 ghost use Rattle.std.specs.Prelude.{All, IfOk};
 ghost use Rattle.server_core.specs.CommandTable.{AreTexts, IsOfText};
 ghost use Rattle.server_core.specs.ServerState.{IsSound};
-ghost use Rattle.machine_core.proofs.LaterWords.{HasAreas};
+ghost use Rattle.machine_core.specs.LaterStates.{HasAreas};
 
 use crate::finding::Finding;
 use crate::shown::answer_text;

@@ -6,7 +6,8 @@ use Rattle.server_core.specs.ServerState.{ServerState}
 use Rattle.machine_core.specs.Holds.{area_count}
 use Rattle.machine_core.specs.Process.{PlainProcess, names_of, process_of}
 use Rattle.machine_core.specs.View.{server_words}
-use Rattle.machine_core.proofs.LaterWords.{HasAreas, process_later, frameless_same}
+use Rattle.machine_core.specs.LaterStates.{HasAreas}
+use Rattle.machine_core.proofs.LaterWords.{process_later, frameless_same}
 use Rattle.machine_core.proofs.TurnLaws.{may_turn_later}
 use Rattle.script_core.specs.declared.script.Script.{Script}
 use Rattle.script_core.specs.Processes.{SpawnLine, spawns_of}

@@ -45,7 +45,8 @@ use Rattle.run_log.proofs.ListPlaces.{SetAt, here, set_at, set_here, set_there, 
 use Rattle.lap_runner.proofs.Joining.{ready_same, stand_same, stand_there, stands_same}
 use Rattle.lap_runner.proofs.Looking.{tells_now}
 use Rattle.lap_runner.proofs.Nexts.{HasPurgeLook, IsNext, IsQuiet, Looked, at_once, between, first_half, half_is, next_is, quiet_keeps, quiet_starts, second_half, still_waits}
-use Rattle.machine_core.proofs.LaterWords.{HasAreas, frameless_same}
+use Rattle.machine_core.specs.LaterStates.{HasAreas}
+use Rattle.machine_core.proofs.LaterWords.{frameless_same}
 use Rattle.machine_core.proofs.TurnLaws.{may_turn_new}
 use Rattle.script_core.proofs.SpawnLines.{number_next}
 

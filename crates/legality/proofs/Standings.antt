@@ -1,6 +1,6 @@
 -- Where a process stands it stands under later states of the server.
 use Rattle.server_core.specs.ServerState.{ServerState, empty_state}
-use Rattle.machine_core.proofs.LaterWords.{HasAreas}
+use Rattle.machine_core.specs.LaterStates.{HasAreas}
 use Rattle.std.proofs.Common.{ℕ, List}
 use Rattle.script_core.specs.declared.script.Script.{Script}
 use Rattle.run_log.specs.declared.logs.ProcessLog.{ProcessLog}

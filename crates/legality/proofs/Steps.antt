@@ -10,7 +10,7 @@ use Rattle.run_log.specs.declared.logs.Entry.{Entry}
 use Rattle.run_log.specs.declared.logs.RunLog.{RunLog}
 use Rattle.run_log.specs.Journal.{next_state, publishes}
 use Rattle.run_log.specs.Legal.{Lingers, half_after, state_before, turns_in_log}
-use Rattle.machine_core.proofs.LaterWords.{HasAreas}
+use Rattle.machine_core.specs.LaterStates.{HasAreas}
 use Rattle.run_log.proofs.AreaWords.{areas_stay, sound_below}
 use Rattle.run_log.proofs.Journals.{count-cons, counted}
 use Rattle.run_log.proofs.Steps.{IsNext, left_alone, next_generation, next_is, without_area}

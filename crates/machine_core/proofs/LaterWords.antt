@@ -14,25 +14,8 @@ use Rattle.machine_core.specs.declared.process.Value.{Value}
 use Rattle.machine_core.specs.declared.process.Value.TheVariants.{Literal, Owned}
 use Rattle.machine_core.specs.Process.{frame_of, frames_of, literal, process_of, value_shown, values_shown, Words}
 use Rattle.machine_core.specs.View.{AreValues, HasValues, IsLiteral, IsNoEntry, IsReadable, IsValue, server_words, shown_of}
+use Rattle.machine_core.specs.LaterStates.{HasAreas, HasWords}
 use Rattle.machine_core.specs.ServerReads.{reads_of}
-
--- the instances that one state has, another has too
-abbrev pub HasInstances : ServerState → ServerState → Type 0
-HasInstances before after = (serial : ℕ) (m : Module) → code_of before serial ≡ Some m → code_of after serial ≡ Some m
-
--- so it has the areas of complex terms
-abbrev pub HasTerms : ServerState → ServerState → Type 0
-HasTerms before after = (serial : ℕ) (t : PlainTerm) → term_of_area before serial ≡ Some t → term_of_area after serial ≡ Some t
-
--- and the words of each area
-abbrev pub HasWords : ServerState → ServerState → Type 0
-HasWords before after = (serial : ℕ) (words : List ℕ) → words_of_area before serial ≡ Some words → words_of_area after serial ≡ Some words
-
--- each area that one state knows, another knows as what it was
-pub record HasAreas (before after : ServerState) : Type 0 where
-  pub instances : HasInstances before after
-  pub terms : HasTerms before after
-  pub words : HasWords before after
 
 -- no frame stands for none
 no_frames : (words : Words) (fs : List Frame) → frames_of words fs ≡ [] → fs ≡ []

@@ -17,12 +17,13 @@ use Rattle.machine_core.specs.Holds.{Holds}
 use Rattle.machine_core.specs.Process.{HasNotEnded, PlainFrame, PlainProcess, Words, frame_names, frame_of, frames_of, names_of, new_process, process_of}
 use Rattle.machine_core.specs.View.{AreValues, HasValues, Shown, server_words, shown_of}
 use Rattle.machine_core.specs.Turn.{ArePlaced, IsPlaceIn, IsPlaced, MayTurn, Ran, Step, goes_on, yields, ends, begun, copied, ended_with, ran_of, step_of, turn_by, turn_of}
-use Rattle.machine_core.proofs.LaterWords.{HasAreas, frames_later, process_later, values_later}
+use Rattle.machine_core.specs.LaterStates.{HasAreas}
+use Rattle.machine_core.proofs.LaterWords.{frames_later, process_later, values_later}
 use Rattle.machine_core.proofs.RunLaws.{IsKept, KeepsSo, ran_kept}
 use Rattle.machine_core.proofs.Turns.{counted_below, is_below}
 use Rattle.machine_core.specs.Reads.{Reads}
 use Rattle.machine_core.specs.ServerReads.{functions_of, module_instr, reads_of}
-pub use Rattle.machine_core.proofs.LaterWords.{HasInstances}
+pub use Rattle.machine_core.specs.LaterStates.{HasInstances}
 
 -- one process is the other after some turns: its number, its target and its arguments are the same
 pub record IsSameProcess (before after : PlainProcess) : Type 0 where

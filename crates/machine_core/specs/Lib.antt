@@ -11,3 +11,4 @@ pub mod Turn
 pub mod Stand
 pub mod GenerationReads
 pub mod GenerationLaws
+pub mod LaterStates

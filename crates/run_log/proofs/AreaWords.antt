@@ -8,7 +8,7 @@ use Rattle.mod_core.specs.declared.code.Module.{Module}
 use Rattle.mod_core.specs.Module.{IsModule}
 use Rattle.server_core.specs.declared.command.Cmd.{Cmd}
 use Rattle.server_core.specs.ServerState.{ServerState, IsSound, IsTermArea, code_of, first_words, instance_image, term_of_area, words_of_area}
-use Rattle.machine_core.proofs.LaterWords.{HasAreas, HasTerms, HasWords}
+use Rattle.machine_core.specs.LaterStates.{HasAreas, HasTerms, HasWords}
 use Rattle.run_log.specs.Journal.{next_state}
 use Rattle.run_log.proofs.Steps.{Grows, next_grows, next_is, next_stays}
 

@@ -1,8 +1,8 @@
 -- Before its first step a run has made no command, and each process waits for its spawn.
 use Rattle.std.proofs.Common.{◌≡◌, ℕ, take, slice_get, Some, None, refl, sym, ap, subst, ◌∙◌, arith}
-use Rattle.std.proofs.lemmas.Bool.{false≢true}
-use Rattle.std.proofs.lemmas.Option.{none-some, slice_get_within}
+use Rattle.std.proofs.lemmas.Option.{slice_get_within}
 use Rattle.server_core.specs.ServerState.{IsSound, empty_state}
+use Rattle.server_core.proofs.EmptyState.{empty_sound}
 use Rattle.script_core.specs.declared.script.Script.{Script}
 use Rattle.script_core.specs.Processes.{SpawnLine, spawns_of}
 use Rattle.run_log.specs.History.{AreKnown, Each, IsHistory}
@@ -16,25 +16,6 @@ use Rattle.run_steps.specs.Stands.{Stand, history_of, waiting_stand}
 use Rattle.run_steps.specs.Standing.{StandsIn}
 use Rattle.run_steps.specs.Runs.{IsRun, RunState, histories_in, states_in}
 use Rattle.run_steps.specs.Steps.{HasBegun}
-
--- generation 0 is a sound state
-pub empty_sound : IsSound empty_state
-empty_sound = record {
-  modules = λ serial. tt;
-  current = λ name. tt;
-  old = λ name. tt;
-  apart = λ name serial h. absurd (none-some serial h);
-  one_doomed = omega arith;
-  doomed = λ serial h. absurd (false≢true h);
-  retired = λ serial h. absurd (false≢true h);
-  released = λ serial h. absurd (false≢true h);
-  live = omega arith;
-  terms = λ serial. tt;
-  keys = λ key. tt;
-  keys_apart = λ key other serial h. absurd (none-some serial h);
-  few_keys = omega arith;
-  few_areas = omega arith;
-}
 
 module _ (s : Script) (r : RunState) (begun : HasBegun s r) where
   stands_waiting : (number : ℕ) (line : SpawnLine) (x : Stand) → slice_get (spawns_of 0 s.loaders) number ≡ Some line → slice_get r.stands number ≡ Some x

@@ -6,7 +6,7 @@ use Rattle.server_core.specs.declared.command.Cmd.{Cmd}
 use Rattle.server_core.specs.ServerState.{ServerState, empty_state}
 use Rattle.server_core.specs.CommandTable.{apply_of}
 use Rattle.machine_core.specs.Process.{new_process}
-use Rattle.machine_core.proofs.LaterWords.{HasAreas}
+use Rattle.machine_core.specs.LaterStates.{HasAreas}
 use Rattle.script_core.specs.declared.script.Script.{Script}
 use Rattle.script_core.specs.Processes.{SpawnLine, spawns_of}
 use Rattle.run_log.specs.declared.logs.Who.{Who}

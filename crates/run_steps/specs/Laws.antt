@@ -41,5 +41,6 @@ pub record IsWholeHistory (s : Script) (r : RunState) (observers : List Observer
   pub legal : Legal s (log_of_run r observers)
   pub whole : All (λ process. AreWhole process.spans) (log_of_run r observers).processes
 
+-- whatever the program, its log is that of a code server where its run kept the laws, has no work left and its observers have had all their looks
 abbrev pub LogsAreLawful : Type 0
 LogsAreLawful = (s : Script) (r : RunState) (observers : List ObserverRun) → IsRun s r → HasNoWork s r → HaveObserved s r.journal observers → ((k : ℕ) (o : ObserverRun) → slice_get observers k ≡ Some o → o.left ≡ 0) → IsWholeHistory s r observers

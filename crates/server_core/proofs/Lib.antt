@@ -2,6 +2,7 @@ pub mod AreaPlaces
 pub mod Changes
 pub mod CommandLaws
 pub mod CurrentCode
+pub mod EmptyState
 pub mod GivenTexts
 pub mod Growing
 pub mod KeyChanges

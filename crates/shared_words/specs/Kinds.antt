@@ -114,6 +114,7 @@ MayConfirm value m = IsTrue (confirms value m.member.loaded)
 abbrev pub value_confirmed : ℕ → MemberView → MemberView
 value_confirmed value m = record m { member = record m.member { word = value; loaded = Nothing } }
 
+-- by the store it has confirmed the value, and nothing else of it changes
 abbrev pub confirmed : Step (Unit {0}) → Sat → ℕ → Sat → Type 0
 confirmed st me value me' = me' ≡ (Member (value_confirmed value (member_of me.0)), me.1)
 
@@ -129,6 +130,7 @@ pub record MayWait (m : MemberView) : Type 0 where
 abbrev pub now_waiting : MemberView → MemberView
 now_waiting m = record m { member = members.waiting m.member }
 
+-- by the store it waits, and nothing else of it changes
 abbrev pub waiting_stored : Step (Unit {0}) → Sat → ℕ → Sat → Type 0
 waiting_stored st me stored me' = me' ≡ (Member (now_waiting (member_of me.0)), me.1)
 

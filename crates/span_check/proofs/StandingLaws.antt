@@ -10,7 +10,8 @@ use Rattle.machine_core.specs.declared.process.TurnEnd.TheVariants.{Again, Ended
 use Rattle.machine_core.specs.Holds.{area_count}
 use Rattle.machine_core.specs.Process.{PlainProcess, Words, names_of, process_of}
 use Rattle.machine_core.specs.View.{server_words}
-use Rattle.machine_core.proofs.LaterWords.{HasAreas, process_later, frameless_same}
+use Rattle.machine_core.specs.LaterStates.{HasAreas}
+use Rattle.machine_core.proofs.LaterWords.{process_later, frameless_same}
 use Rattle.machine_core.proofs.TurnLaws.{may_turn_later}
 use Rattle.run_log.specs.declared.logs.ProcessLog.{ProcessLog}
 use Rattle.run_log.specs.declared.logs.Span.{Span}

@@ -2,7 +2,7 @@ ghost use Rattle.std.specs.Prelude.{◌≡◌, ◌↔◌, ◌+◌, ℕ, false, l
 ghost use Rattle.server_core.specs.ServerState.{ServerState};
 ghost use Rattle.machine_core.specs.Process.{Words, process_of};
 ghost use Rattle.machine_core.specs.View.{server_words};
-ghost use Rattle.machine_core.proofs.LaterWords.{HasAreas};
+ghost use Rattle.machine_core.specs.LaterStates.{HasAreas};
 ghost use Rattle.run_log.specs.declared.logs.ProcessLog.{ProcessLog as Log};
 ghost use Rattle.run_log.specs.Legal.{NamesNot, SpansFollow, StandsNotIn, last_up_to};
 ghost use Rattle.span_check.specs.declared.standing.Standing.{Standing};

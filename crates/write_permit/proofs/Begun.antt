@@ -1,8 +1,7 @@
 -- Before its first command a permit shows a lawful state.
 use Rattle.std.proofs.Common.{◌≡◌, ℕ, Option, List, [], take, slice_get, Some, None, unwrap_or, option_map, refl, sym, ap, subst, ◌∙◌, arith}
-use Rattle.std.proofs.lemmas.Bool.{false≢true}
-use Rattle.std.proofs.lemmas.Option.{none-some}
-use Rattle.server_core.specs.ServerState.{IsSound, empty_state}
+use Rattle.server_core.specs.ServerState.{empty_state}
+use Rattle.server_core.proofs.EmptyState.{empty_sound}
 use Rattle.script_core.specs.declared.script.Script.{Script}
 use Rattle.script_core.specs.Processes.{first_number, spawn_number}
 use Rattle.script_core.specs.Sound.{IsScript}
@@ -13,25 +12,6 @@ use Rattle.write_permit.specs.declared.book.Book.{Book}
 use Rattle.write_permit.specs.Agreement.{Agrees}
 use Rattle.write_permit.specs.Book.{HaveBegun, IsBook, IsLog, IsPermit}
 use Rattle.write_permit.specs.Permit.{done_of}
-
--- generation 0 is a sound state
-pub empty_sound : IsSound empty_state
-empty_sound = record {
-  modules = λ serial. tt;
-  current = λ name. tt;
-  old = λ name. tt;
-  apart = λ name serial h. absurd (none-some serial h);
-  one_doomed = omega arith;
-  doomed = λ serial h. absurd (false≢true h);
-  retired = λ serial h. absurd (false≢true h);
-  released = λ serial h. absurd (false≢true h);
-  live = omega arith;
-  terms = λ serial. tt;
-  keys = λ key. tt;
-  keys_apart = λ key other serial h. absurd (none-some serial h);
-  few_keys = omega arith;
-  few_areas = omega arith;
-}
 
 none_done : (loaders : List LoaderRun) → ((k : ℕ) (l : LoaderRun) → slice_get loaders k ≡ Some l → l.done ≡ 0) → (k : ℕ) → done_of loaders k ≡ 0
 none_done loaders none k = by (slice_get loaders k) refl
