@@ -1,4 +1,4 @@
-pub mod Pairs
+pub mod Readers
 pub mod WordLaws
 pub mod TermLaws
 pub mod CommandLaws

@@ -1,4 +1,4 @@
--- Terms, functions and calls of a report's line: what is read has this text, and what has this text is read.
+-- Terms, functions and calls of a report's line.
 use Rattle.std.proofs.Common.{◌≡◌, ℕ, ◌<◌, ◌≤◌, true, false, ◌==◌, not, nat_le, List, [], ◌∷◌, ◌++◌, length, decimal, Option, Some, None, unwrap_or, slice_get, bytes_eq, refl, sym, ap, ◌∙◌, subst, arith, append_assoc, append-nil, length-take, IsSome}
 use Rattle.std.specs.Prelude.{map}
 use Rattle.std.specs.List.{AllByRecursion, join_with_byte, list_all}
@@ -25,18 +25,16 @@ use Rattle.term_core.proofs.TermForms.{printed_is, tree_is, nonempty-is_term_tex
 use Rattle.term_core.proofs.TokenLaws.{terms_of-row_of}
 use Rattle.term_core.proofs.Truths.{is_some_at, none_by}
 use Rattle.term_core.proofs.WrittenTokens.{RowHasLeafTexts}
-use Rattle.term_core.specs.Text.Cuts.{cut_at}
-use Rattle.term_core.proofs.Text.Options.{some, some_is, bind_some, bind_at, guard_some, guarded, passed, same_bytes, bytes_are}
-use Rattle.term_core.proofs.Text.Cuts.{lacks, lacks-all, lacks-append, lacks-cons, cut_here, cut_is}
+use Rattle.term_core.proofs.Text.Options.{some, some_is, guard_some, guarded, passed, same_bytes, bytes_are}
+use Rattle.term_core.proofs.Text.Cuts.{lacks, lacks-all, lacks-append, lacks-cons}
 use Rattle.term_core.specs.Text.Parts.{each_reading}
 use Rattle.script_core.specs.Sound.{IsTermOf}
 use Rattle.run_log.specs.Report.{mfa_text, plain_text, call_text}
 use Rattle.run_log.specs.WellFormed.{IsFunctionOf, IsCallOf}
 use Rattle.report_text.specs.declared.terms.Call.{Call}
-use Rattle.report_text.specs.WordReading.{atom_reading, arity_reading}
-use Rattle.report_text.specs.TermReading.{is_short_text, named_term, plain_reading, some_terms, terms_reading, ended_reading, closed_reading, arity_part, function_reading, arguments_part, call_reading}
-use Rattle.report_text.proofs.Pairs.{two_at, two_is, ended_is}
-use Rattle.report_text.proofs.WordLaws.{atom_again, atom_is, named_lacks, arity_again, arity_is, decimal_lacks, digit_apart}
+use Rattle.report_text.specs.TermReading.{is_short_text, named_term, plain_reading, some_terms, terms_reading}
+use Rattle.report_text.proofs.Readers.{Reader, pair, made, closed}
+use Rattle.report_text.proofs.WordLaws.{atom, arity, named_lacks, decimal_lacks, digit_apart}
 use Rattle.term_core.proofs.Text.Items.{IsItem, each_again, each_is, each_count, joined_lacks}
 
 -- ---- terms
@@ -56,7 +54,7 @@ pub record IsTextBack (names : List (List ℕ)) (p : PlainTerm) : Type 0 where
   pub value : term_in names (plain_text names p) ≡ p
   pub bytes : list_all is_term_byte (plain_text names p) ≡ true
 
-text_of_it : (names : List (List ℕ)) (p : PlainTerm) → term_text names (term_of p) ≡ plain_text names p
+pub text_of_it : (names : List (List ℕ)) (p : PlainTerm) → term_text names (term_of p) ≡ plain_text names p
 text_of_it names p = ap (plain_text names) (plain-term_of p)
 
 at_most : (n : ℕ) → n ≤ 64 → nat_le n 64 ≡ true
@@ -179,21 +177,20 @@ join_nonempty (c ∷ part) (next ∷ parts) h = omega arith
 few_at : (n : ℕ) → n ≤ 15 → nat_le n 15 ≡ true
 few_at n h = grind (arith, nat_tests)
 
--- the text of arguments is read as them
-pub terms_again : (names : List (List ℕ)) → IsNames names → (ps : List PlainTerm) → length ps ≤ 15 → AllByRecursion (IsTermOf names) ps → terms_reading names (terms_text names ps) ≡ Some ps
-terms_again names sound [] few h = refl
-terms_again names sound (p ∷ ps) few h =
-    let text = terms_text names (p ∷ ps) in
-    let parts = terms_parted names sound p ps h in
-    let count : length (parts_of_terms text) ≡ length (p ∷ ps) = ap length parts ∙ length-map (p ∷ ps) (plain_text names) in
-    let read : some_terms names text ≡ Some (p ∷ ps) = passed (nat_le (length (parts_of_terms text)) 15) _ None (few_at (length (parts_of_terms text)) (omega (arith, count, few)))
-    ∙ ap (each_reading (plain_reading names)) parts ∙ each_again (plain_text names) (plain_reading names) (IsTermOf names) (λ q k. plain_again names q sound k) (p ∷ ps) h in
-    nonempty_by text (join_nonempty (plain_text names p) (map (plain_text names) ps) (nonempty-is_term_text (plain_text names p) (text_back names p sound h.0).is_text)) (λ c rest e. some_terms_at names text c rest (some (p ∷ ps)) e read)
+-- at most 15 terms
+abbrev pub AreFewTerms : List (List ℕ) → List PlainTerm → Type 0
+AreFewTerms names ps = (length ps ≤ 15) × AllByRecursion (IsTermOf names) ps
 
-pub record AreTermsOf (names : List (List ℕ)) (text : List ℕ) (ps : List PlainTerm) : Type 0 where
-  pub text_is : text ≡ terms_text names ps
-  pub few : length ps ≤ 15
-  pub each : AllByRecursion (IsTermOf names) ps
+-- the text of arguments is read as them
+pub terms_again : (names : List (List ℕ)) → IsNames names → (ps : List PlainTerm) → AreFewTerms names ps → terms_reading names (terms_text names ps) ≡ Some ps
+terms_again names sound [] h = refl
+terms_again names sound (p ∷ ps) h =
+    let text = terms_text names (p ∷ ps) in
+    let parts = terms_parted names sound p ps h.1 in
+    let count : length (parts_of_terms text) ≡ length (p ∷ ps) = ap length parts ∙ length-map (p ∷ ps) (plain_text names) in
+    let read : some_terms names text ≡ Some (p ∷ ps) = passed (nat_le (length (parts_of_terms text)) 15) _ None (few_at (length (parts_of_terms text)) (omega (arith, count, h.0)))
+    ∙ ap (each_reading (plain_reading names)) parts ∙ each_again (plain_text names) (plain_reading names) (IsTermOf names) (λ q k. plain_again names q sound k) (p ∷ ps) h.1 in
+    nonempty_by text (join_nonempty (plain_text names p) (map (plain_text names) ps) (nonempty-is_term_text (plain_text names p) (text_back names p sound h.1.0).is_text)) (λ c rest e. some_terms_at names text c rest (some (p ∷ ps)) e read)
 
 joined_texts : (names : List (List ℕ)) (text : List ℕ) (ps : List PlainTerm) → parts_of_terms text ≡ map (plain_text names) ps → text ≡ terms_text names ps
 joined_texts names text [] e = sym (joined_parts_of_terms text) ∙ ap joined e
@@ -202,46 +199,42 @@ joined_texts names text (p ∷ ps) e = sym (joined_parts_of_terms text) ∙ ap j
 pub few_is : (n : ℕ) → nat_le n 15 ≡ true → n ≤ 15
 few_is n h = grind (arith, nat_tests)
 
-some_terms_are : (names : List (List ℕ)) → IsNames names → (text : List ℕ) (ps : List PlainTerm) → some_terms names text ≡ Some ps → AreTermsOf names text ps
+some_terms_are : (names : List (List ℕ)) → IsNames names → (text : List ℕ) (ps : List PlainTerm) → some_terms names text ≡ Some ps → IsItem (terms_text names) (AreFewTerms names) text ps
 some_terms_are names sound text ps e =
     let g = guarded (nat_le (length (parts_of_terms text)) 15) (each_reading (plain_reading names) (parts_of_terms text)) ps e in
     let is = each_is (plain_text names) (plain_reading names) (IsTermOf names) (plain_is names sound) (parts_of_terms text) ps g.1 in
     let count = each_count (plain_reading names) (parts_of_terms text) ps g.1 in
     let few = few_is (length (parts_of_terms text)) g.0 in
-    record { text_is = joined_texts names text ps is.texts; few = omega (arith, count, few); each = is.fit }
+    record { text_is = joined_texts names text ps is.texts; fits = (omega (arith, count, few), is.fit) }
 
 -- what is read are terms with this text
-pub terms_are : (names : List (List ℕ)) → IsNames names → (text : List ℕ) (ps : List PlainTerm) → terms_reading names text ≡ Some ps → AreTermsOf names text ps
-terms_are names sound [] ps e = subst (AreTermsOf names []) (some_is [] ps e) (record { text_is = refl; few = omega arith; each = tt })
+pub terms_are : (names : List (List ℕ)) → IsNames names → (text : List ℕ) (ps : List PlainTerm) → terms_reading names text ≡ Some ps → IsItem (terms_text names) (AreFewTerms names) text ps
+terms_are names sound [] ps e = subst (IsItem (terms_text names) (AreFewTerms names) []) (some_is [] ps e) (record { text_is = refl; fits = (omega arith, tt) })
 terms_are names sound (c ∷ text) ps e = some_terms_are names sound (c ∷ text) ps e
 
 pub terms_lack : (byte : ℕ) (names : List (List ℕ)) (ps : List PlainTerm) → IsNames names → is_term_byte byte ≡ false → (44 == byte) ≡ false → AllByRecursion (IsTermOf names) ps → lacks byte (terms_text names ps) ≡ true
 terms_lack byte names ps sound apart comma h = joined_lacks (plain_text names) (IsTermOf names) 44 byte comma (λ p k. plain_lacks byte names p sound apart k) ps h
 
--- ---- functions
+-- ---- readers
 
-grouped : (a : List ℕ) (c : ℕ) (b : List ℕ) (d : ℕ) (e : List ℕ) → (a ++ c ∷ b) ++ d ∷ e ≡ a ++ c ∷ (b ++ d ∷ e)
+abbrev pub term : (names : List (List ℕ)) → IsNames names → Reader PlainTerm
+term names sound = record { write = plain_text names; Fits = IsTermOf names; read = plain_reading names; is = plain_is names sound; again = λ p h. plain_again names p sound h }
+
+-- arguments in front of a bracket
+abbrev pub arguments : (names : List (List ℕ)) → IsNames names → Reader (List PlainTerm)
+arguments names sound = closed 41 (record { write = terms_text names; Fits = AreFewTerms names; read = terms_reading names; is = terms_are names sound; again = terms_again names sound }) (λ ps h. terms_lack 41 names ps sound refl refl h.1)
+
+pub grouped : (a : List ℕ) (c : ℕ) (b : List ℕ) (d : ℕ) (e : List ℕ) → (a ++ c ∷ b) ++ d ∷ e ≡ a ++ c ∷ (b ++ d ∷ e)
 grouped a c b d e = append_assoc a (c ∷ b) (d ∷ e)
 
-abbrev made_function : AtomId → AtomId × ℕ → Mfa
-made_function m part = record { «module» = m; name = part.0; arity = part.1 }
+-- two names with a byte between them, and what stands behind another byte
+abbrev pub named : {A : Type 0} (names : List (List ℕ)) → IsNames names → (byte : ℕ) → is_name_byte byte ≡ false → Reader A → Reader (AtomId × (AtomId × A))
+named names sound byte apart r = pair 58 (atom names sound) (pair byte (atom names sound) r (λ a h. named_lacks byte names a sound apart h)) (λ a h. named_lacks 58 names a sound refl h)
 
-abbrev pair_of : {A B : Type 0} → A → B → A × B
-pair_of a b = (a, b)
-
--- the text of a function is read as it
-pub function_again : (names : List (List ℕ)) (to : Mfa) → IsNames names → IsFunctionOf names to → function_reading names (mfa_text names to) ≡ Some to
-function_again names to sound h =
-    let module_text = atom_text names to.«module».0 in
-    let name_text = atom_text names to.name.0 in
-    ap (function_reading names) (grouped module_text 58 name_text 47 (decimal to.arity))
-    ∙ two_at (cut_at 58 (module_text ++ 58 ∷ (name_text ++ 47 ∷ decimal to.arity))) (atom_reading names) (arity_part names) made_function (module_text, name_text ++ 47 ∷ decimal to.arity) to.«module» (to.name, to.arity)
-    (cut_here 58 module_text _ (named_lacks 58 names to.«module» sound refl h.module_named))
-    (atom_again names to.«module» sound h.module_named)
-    (two_at (cut_at 47 (name_text ++ 47 ∷ decimal to.arity)) (atom_reading names) arity_reading pair_of (name_text, decimal to.arity) to.name to.arity
-    (cut_here 47 name_text (decimal to.arity) (named_lacks 47 names to.name sound refl h.name_named))
-    (atom_again names to.name sound h.name_named)
-    (arity_again to.arity h.few))
+abbrev pub function : (names : List (List ℕ)) → IsNames names → Reader Mfa
+function names sound = made (named names sound 47 refl arity) (λ p. record { «module» = p.0; name = p.1.0; arity = p.1.1 }) (λ to. (to.«module», (to.name, to.arity))) (mfa_text names) (IsFunctionOf names)
+    (λ to. grouped (atom_text names to.«module».0) 58 (atom_text names to.name.0) 47 (decimal to.arity)) (λ p h. refl) (λ to h. refl)
+    (λ p h. record { module_named = h.0; name_named = h.1.0; few = h.1.1 }) (λ to h. (h.module_named, (h.name_named, h.few)))
 
 pub function_lacks : (byte : ℕ) (names : List (List ℕ)) (to : Mfa) → IsNames names → is_name_byte byte ≡ false → (58 == byte) ≡ false → (47 == byte) ≡ false → IsFunctionOf names to → lacks byte (mfa_text names to) ≡ true
 function_lacks byte names to sound apart colon slash h =
@@ -249,86 +242,27 @@ function_lacks byte names to sound apart colon slash h =
     (lacks-append byte (atom_text names to.«module».0) (58 ∷ atom_text names to.name.0) (named_lacks byte names to.«module» sound apart h.module_named) (lacks-cons byte 58 (atom_text names to.name.0) colon (named_lacks byte names to.name sound apart h.name_named)))
     (lacks-cons byte 47 (decimal to.arity) slash (decimal_lacks byte to.arity (digit_apart byte apart) (omega (arith, h.few))))
 
--- what is read is a function with this text
-pub function_is : (names : List (List ℕ)) → IsNames names → (text : List ℕ) (to : Mfa) → function_reading names text ≡ Some to → IsItem (mfa_text names) (IsFunctionOf names) text to
-function_is names sound text to e =
-    let t = two_is (cut_at 58 text) (atom_reading names) (arity_part names) made_function to e in
-    let u = two_is (cut_at 47 t.cut.1) (atom_reading names) arity_reading pair_of t.b t.behind_is in
-    let m = atom_is names t.cut.0 t.a t.front_is in
-    let n = atom_is names u.cut.0 u.a u.front_is in
-    let k = arity_is u.cut.1 u.b u.behind_is in
-    let behind : t.cut.1 ≡ atom_text names u.a.0 ++ 47 ∷ decimal u.b = (cut_is 47 t.cut.1 u.cut u.sides_are).whole ∙ ap (λ (x : List ℕ). x ++ 47 ∷ u.cut.1) n.text_is ∙ ap (λ (x : List ℕ). atom_text names u.a.0 ++ 47 ∷ x) k.text_is in
-    let made : made_function t.a (u.a, u.b) ≡ to = ap (made_function t.a) u.made_is ∙ t.made_is in
-    subst (IsItem (mfa_text names) (IsFunctionOf names) text) made (record {
-      text_is = (cut_is 58 text t.cut t.sides_are).whole ∙ ap (λ (x : List ℕ). x ++ 58 ∷ t.cut.1) m.text_is ∙ ap (λ (x : List ℕ). atom_text names t.a.0 ++ 58 ∷ x) behind
-          ∙ sym (grouped (atom_text names t.a.0) 58 (atom_text names u.a.0) 47 (decimal u.b));
-      fits = record { module_named = m.named; name_named = n.named; few = k.few };
-    })
-
--- ---- calls
-
-abbrev made_call : AtomId → AtomId × List PlainTerm → Call
-made_call m part = record { target = record { «module» = m; name = part.0; arity = length part.1 }; args = part.1 }
-
-abbrev call_bytes : List (List ℕ) → Mfa → List PlainTerm → List ℕ
-call_bytes names to args = atom_text names to.«module».0 ++ 58 ∷ (atom_text names to.name.0 ++ 40 ∷ (terms_text names args ++ 41 ∷ []))
-
-call_grouped : (names : List (List ℕ)) (to : Mfa) (args : List PlainTerm) → call_text names to args ≡ call_bytes names to args
-call_grouped names to args = simp append_assoc
-
-closed_again : (names : List (List ℕ)) → IsNames names → (ps : List PlainTerm) → length ps ≤ 15 → AllByRecursion (IsTermOf names) ps → closed_reading names (terms_text names ps ++ 41 ∷ []) ≡ Some ps
-closed_again names sound ps few h =
-    bind_at (cut_at 41 (terms_text names ps ++ 41 ∷ [])) (ended_reading (terms_reading names)) (terms_text names ps, []) (some ps)
-    (cut_here 41 (terms_text names ps) [] (terms_lack 41 names ps sound refl refl h)) (terms_again names sound ps few h)
-
 -- the call of a function with arguments
 abbrev pub call_of : Mfa → List PlainTerm → Call
 call_of to args = record { target = to; args = args }
 
-made_is_call : (to : Mfa) (args : List PlainTerm) → length args ≡ to.arity → made_call to.«module» (to.name, args) ≡ call_of to args
-made_is_call to args e = ap (λ (n : ℕ). call_of (record { «module» = to.«module»; name = to.name; arity = n }) args) e
+abbrev pub made_call : AtomId × (AtomId × List PlainTerm) → Call
+made_call p = call_of (record { «module» = p.0; name = p.1.0; arity = length p.1.1 }) p.1.1
 
--- the text of a call is read as it
-pub call_again : (names : List (List ℕ)) (to : Mfa) (args : List PlainTerm) → IsNames names → IsCallOf names to args → call_reading names (call_text names to args) ≡ Some (call_of to args)
-call_again names to args sound h =
-    let module_text = atom_text names to.«module».0 in
-    let name_text = atom_text names to.name.0 in
-    let inside = terms_text names args ++ 41 ∷ [] in
-    let few : length args ≤ 15 = omega (arith, h.arity_is, h.function.few) in
-    ap (call_reading names) (call_grouped names to args)
-    ∙ two_at (cut_at 58 (module_text ++ 58 ∷ (name_text ++ 40 ∷ inside))) (atom_reading names) (arguments_part names) made_call (module_text, name_text ++ 40 ∷ inside) to.«module» (to.name, args)
-    (cut_here 58 module_text _ (named_lacks 58 names to.«module» sound refl h.function.module_named))
-    (atom_again names to.«module» sound h.function.module_named)
-    (two_at (cut_at 40 (name_text ++ 40 ∷ inside)) (atom_reading names) (closed_reading names) pair_of (name_text, inside) to.name args
-    (cut_here 40 name_text inside (named_lacks 40 names to.name sound refl h.function.name_named))
-    (atom_again names to.name sound h.function.name_named)
-    (closed_again names sound args few h.each))
-    ∙ ap some (made_is_call to args h.arity_is)
+pub call_grouped : (names : List (List ℕ)) (c : Call) → call_text names c.target c.args ≡ atom_text names c.target.«module».0 ++ 58 ∷ (atom_text names c.target.name.0 ++ 40 ∷ (terms_text names c.args ++ 41 ∷ []))
+call_grouped names c = simp append_assoc
 
--- the text is that of this call
-pub record IsCallText (names : List (List ℕ)) (text : List ℕ) (c : Call) : Type 0 where
-  pub text_is : text ≡ call_text names c.target c.args
-  pub fits : IsCallOf names c.target c.args
+pub made_is_call : (c : Call) → length c.args ≡ c.target.arity → made_call (c.target.«module», (c.target.name, c.args)) ≡ c
+made_is_call c e = ap (λ (n : ℕ). call_of (record { «module» = c.target.«module»; name = c.target.name; arity = n }) c.args) e
 
-closed_is : (names : List (List ℕ)) → IsNames names → (text : List ℕ) (ps : List PlainTerm) → closed_reading names text ≡ Some ps → (text ≡ terms_text names ps ++ 41 ∷ []) × (length ps ≤ 15) × AllByRecursion (IsTermOf names) ps
-closed_is names sound text ps e =
-    let a = bind_some (cut_at 41 text) (ended_reading (terms_reading names)) ps e in
-    let ended = ended_is (terms_reading names) a.0 ps a.2 in
-    let is = terms_are names sound a.0.0 ps ended.front_is in
-    ((cut_is 41 text a.0 a.1).whole ∙ ap (λ (x : List ℕ). x ++ 41 ∷ a.0.1) is.text_is ∙ ap (λ (x : List ℕ). terms_text names ps ++ 41 ∷ x) ended.none, is.few, is.each)
+abbrev pub IsCall : List (List ℕ) → Call → Type 0
+IsCall names c = IsCallOf names c.target c.args
 
--- what is read is a call with this text
-pub call_is : (names : List (List ℕ)) → IsNames names → (text : List ℕ) (c : Call) → call_reading names text ≡ Some c → IsCallText names text c
-call_is names sound text c e =
-    let t = two_is (cut_at 58 text) (atom_reading names) (arguments_part names) made_call c e in
-    let u = two_is (cut_at 40 t.cut.1) (atom_reading names) (closed_reading names) pair_of t.b t.behind_is in
-    let m = atom_is names t.cut.0 t.a t.front_is in
-    let n = atom_is names u.cut.0 u.a u.front_is in
-    let k = closed_is names sound u.cut.1 u.b u.behind_is in
-    let behind : t.cut.1 ≡ atom_text names u.a.0 ++ 40 ∷ (terms_text names u.b ++ 41 ∷ []) = (cut_is 40 t.cut.1 u.cut u.sides_are).whole ∙ ap (λ (x : List ℕ). x ++ 40 ∷ u.cut.1) n.text_is ∙ ap (λ (x : List ℕ). atom_text names u.a.0 ++ 40 ∷ x) k.0 in
-    let made : made_call t.a (u.a, u.b) ≡ c = ap (made_call t.a) u.made_is ∙ t.made_is in
-    let to : Mfa = record { «module» = t.a; name = u.a; arity = length u.b } in
-    subst (IsCallText names text) made (record {
-      text_is = (cut_is 58 text t.cut t.sides_are).whole ∙ ap (λ (x : List ℕ). x ++ 58 ∷ t.cut.1) m.text_is ∙ ap (λ (x : List ℕ). atom_text names t.a.0 ++ 58 ∷ x) behind ∙ sym (call_grouped names to u.b);
-      fits = record { function = record { module_named = m.named; name_named = n.named; few = k.1 }; arity_is = refl; each = k.2 };
-    })
+pub few_arguments : (names : List (List ℕ)) (c : Call) → IsCall names c → length c.args ≤ 15
+few_arguments names c h = omega (arith, h.arity_is, h.function.few)
+
+abbrev pub call : (names : List (List ℕ)) → IsNames names → Reader Call
+call names sound = made (named names sound 40 refl (arguments names sound)) made_call (λ c. (c.target.«module», (c.target.name, c.args))) (λ c. call_text names c.target c.args) (IsCall names)
+    (call_grouped names) (λ p h. refl) (λ c h. made_is_call c h.arity_is)
+    (λ p h. record { function = record { module_named = h.0; name_named = h.1.0; few = h.1.1.0 }; arity_is = refl; each = h.1.1.1 })
+    (λ c h. (h.function.module_named, (h.function.name_named, (few_arguments names c h, h.each))))

@@ -12,15 +12,11 @@ use Rattle.term_core.specs.Text.Parts.{parts_of, each_reading}
 use Rattle.term_core.specs.Text.Words.{switch_reading}
 use Rattle.term_core.specs.Text.Words.{number_reading}
 use Rattle.report_text.specs.WordReading.{atom_reading, version_reading}
-use Rattle.report_text.specs.TermReading.{plain_reading, function_reading, call_reading}
+use Rattle.report_text.specs.TermReading.{paired, plain_reading, function_reading, call_reading}
 
 -- a version of a module
 abbrev pub reference_reading : List (List ℕ) → List ℕ → Option ModRef
-reference_reading names text = do
-  sides ← cut_at 46 text
-  name ← atom_reading names sides.0
-  version ← version_reading sides.1
-  Some (record { name = name; version = version })
+reference_reading names text = paired 46 (atom_reading names) version_reading text >>= λ p. Some (record { name = p.0; version = p.1 })
 
 -- a load, of modules with spaces between them
 abbrev pub load_reading : List (List ℕ) → List ℕ → Option Cmd
@@ -28,19 +24,11 @@ load_reading names text = each_reading (reference_reading names) (parts_of 32 te
 
 -- a put
 abbrev pub put_reading : List (List ℕ) → List ℕ → Option Cmd
-put_reading names text = do
-  sides ← cut_at 32 text
-  key ← atom_reading names sides.0
-  term ← plain_reading names sides.1
-  Some (Put key (term_of term))
+put_reading names text = paired 32 (atom_reading names) (plain_reading names) text >>= λ p. Some (Put p.0 (term_of p.1))
 
 -- a breakpoint
 abbrev pub trace_reading : List (List ℕ) → List ℕ → Option Cmd
-trace_reading names text = do
-  sides ← cut_at 32 text
-  target ← function_reading names sides.0
-  on ← switch_reading sides.1
-  Some (Trace target on)
+trace_reading names text = paired 32 (function_reading names) switch_reading text >>= λ p. Some (Trace p.0 p.1)
 
 -- a spawn
 abbrev pub spawn_reading : List (List ℕ) → List ℕ → Option Cmd

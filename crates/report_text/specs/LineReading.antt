@@ -10,7 +10,7 @@ use Rattle.term_core.specs.Text.Cuts.{cut_at}
 use Rattle.report_text.specs.declared.line.ReportLine.{ReportLine}
 use Rattle.report_text.specs.declared.line.ReportLine.TheVariants as lines
 use Rattle.term_core.specs.Text.Words.{number_reading}
-use Rattle.report_text.specs.TermReading.{plain_reading, function_reading, call_reading}
+use Rattle.report_text.specs.TermReading.{paired, plain_reading, function_reading, call_reading}
 use Rattle.report_text.specs.EntryReading.{entry_reading}
 
 -- the end with this word and more
@@ -33,27 +33,15 @@ end_reading names text =
 
 -- the beginning of a process
 abbrev pub process_reading : List (List ℕ) → List ℕ → Option ReportLine
-process_reading names text = do
-  sides ← cut_at 32 text
-  number ← number_reading sides.0
-  call ← call_reading names sides.1
-  Some (lines.Process number call.target call.args)
+process_reading names text = paired 32 number_reading (call_reading names) text >>= λ p. Some (lines.Process p.0 p.1.target p.1.args)
 
 -- a span
 abbrev pub span_reading : List ℕ → Option ReportLine
-span_reading text = do
-  sides ← cut_at 32 text
-  generation ← number_reading sides.0
-  turns ← number_reading sides.1
-  Some (lines.Span generation turns)
+span_reading text = paired 32 number_reading number_reading text >>= λ p. Some (lines.Span p.0 p.1)
 
 -- an exported function
 abbrev pub export_reading : List (List ℕ) → List ℕ → Option ReportLine
-export_reading names text = do
-  sides ← cut_at 32 text
-  function ← function_reading names sides.0
-  serial ← number_reading sides.1
-  Some (lines.Export function serial)
+export_reading names text = paired 32 (function_reading names) number_reading text >>= λ p. Some (lines.Export p.0 p.1)
 
 -- a term that was printed
 abbrev pub print_reading : List (List ℕ) → List ℕ → Option ReportLine

@@ -1,6 +1,6 @@
 -- How the replies of a report's entries are read, and what a command has of them.
 -- Source: this project's report text. The texts stand in run_log; laws say that both agree.
-use Rattle.std.specs.Prelude.{ℕ, ◌==◌, List, [], ◌∷◌, length, Option, Some, None, option_map, bytes_eq, codes, if◌then◌else◌}
+use Rattle.std.specs.Prelude.{ℕ, List, [], ◌∷◌, Option, Some, None, bytes_eq, codes, if◌then◌else◌}
 use Rattle.term_core.specs.declared.atom.AtomId.{AtomId}
 use Rattle.server_core.specs.declared.command.Cmd.{Cmd}
 use Rattle.server_core.specs.declared.command.Cmd.TheVariants.{Load, Delete, SoftPurge, Doom, Purge, CheckOld, Put, Erase, Trace, Spawn, Release}
@@ -15,15 +15,11 @@ use Rattle.term_core.specs.Text.Parts.{parts_of, each_reading}
 use Rattle.run_log.specs.WellFormed.{lingering_in, is_true_reply}
 use Rattle.term_core.specs.Text.Words.{narrow_reading, number_reading}
 use Rattle.report_text.specs.WordReading.{atom_reading}
-use Rattle.report_text.specs.TermReading.{ended_reading}
+use Rattle.report_text.specs.TermReading.{paired, ended_reading, behind}
 
 -- a process and a turn
 abbrev pub linger_reading : List ℕ → Option Linger
-linger_reading text = do
-  sides ← cut_at 32 text
-  process ← narrow_reading sides.0
-  turn ← narrow_reading sides.1
-  Some (record { process = process; turn = turn })
+linger_reading text = paired 32 narrow_reading narrow_reading text >>= λ p. Some (record { process = p.0; turn = p.1 })
 
 -- a limit, by its word
 abbrev pub limit_reading : List ℕ → Option Limit
@@ -42,8 +38,7 @@ closed_atoms names text = cut_at 93 text >>= λ sides. ended_reading (atoms_read
 
 -- modules in brackets
 abbrev pub not_purged_reading : List (List ℕ) → List ℕ → Option Reply
-not_purged_reading names [] = None
-not_purged_reading names (c ∷ text) = if c == 91 then (closed_atoms names text >>= λ modules. Some (replies.NotPurged modules)) else None
+not_purged_reading names text = behind 91 (closed_atoms names) text >>= λ modules. Some (replies.NotPurged modules)
 
 -- a process that lingers
 abbrev pub false_reading : List ℕ → Option Reply
@@ -78,8 +73,7 @@ reply_reading names text =
 
 -- the generation that was published, if one was
 abbrev pub published_reading : List ℕ → Option (Option ℕ)
-published_reading [] = None
-published_reading (c ∷ text) = if c == 64 then option_map (λ generation. Some generation) (number_reading text) else (if c == 45 then (if length text == 0 then Some None else None) else None)
+published_reading text = if bytes_eq text (codes "-") then Some None else (behind 64 number_reading text >>= λ generation. Some (Some generation))
 
 -- the command with what its reply says of processes
 abbrev pub agreed : Cmd → Reply → Cmd

@@ -15,13 +15,17 @@ use Rattle.run_log.specs.Report.{plain_text}
 use Rattle.report_text.specs.declared.terms.Call.{Call}
 use Rattle.report_text.specs.WordReading.{atom_reading, arity_reading}
 
--- the two sides of a byte, each read
-abbrev pub paired : {A B : Type 0} → ℕ → (List ℕ → Option A) → (List ℕ → Option B) → List ℕ → Option (A × B)
-paired byte front behind text = do
-  sides ← cut_at byte text
+-- the two sides of a cut, each read
+abbrev pub sided : {A B : Type 0} → Option (List ℕ × List ℕ) → (List ℕ → Option A) → (List ℕ → Option B) → Option (A × B)
+sided cut front behind = do
+  sides ← cut
   a ← front sides.0
   b ← behind sides.1
   Some (a, b)
+
+-- the two sides of a byte, each read
+abbrev pub paired : {A B : Type 0} → ℕ → (List ℕ → Option A) → (List ℕ → Option B) → List ℕ → Option (A × B)
+paired byte front behind text = sided (cut_at byte text) front behind
 
 -- whether a text is that of a term of at most 64 words, with integers of 60 bits
 abbrev pub is_short_text : List ℕ → Bool
@@ -48,6 +52,11 @@ terms_reading names (c ∷ text) = some_terms names (c ∷ text)
 abbrev pub ended_reading : {A : Type 0} → (List ℕ → Option A) → List ℕ × List ℕ → Option A
 ended_reading read sides = if length sides.1 == 0 then read sides.0 else None
 
+-- what stands behind this byte in front
+abbrev pub behind : {A : Type 0} → ℕ → (List ℕ → Option A) → List ℕ → Option A
+behind byte read [] = None
+behind byte read (c ∷ text) = if c == byte then read text else None
+
 -- the arguments in front of a bracket that ends the text
 abbrev pub closed_reading : List (List ℕ) → List ℕ → Option (List PlainTerm)
 closed_reading names text = cut_at 41 text >>= λ sides. ended_reading (terms_reading names) sides
@@ -58,11 +67,7 @@ arity_part names text = paired 47 (atom_reading names) arity_reading text
 
 -- a function
 abbrev pub function_reading : List (List ℕ) → List ℕ → Option Mfa
-function_reading names text = do
-  sides ← cut_at 58 text
-  «module» ← atom_reading names sides.0
-  part ← arity_part names sides.1
-  Some (record { «module» = «module»; name = part.0; arity = part.1 })
+function_reading names text = paired 58 (atom_reading names) (arity_part names) text >>= λ p. Some (record { «module» = p.0; name = p.1.0; arity = p.1.1 })
 
 -- a name and arguments
 abbrev pub arguments_part : List (List ℕ) → List ℕ → Option (AtomId × List PlainTerm)
@@ -70,8 +75,4 @@ arguments_part names text = paired 40 (atom_reading names) (closed_reading names
 
 -- a call, whose arity is the number of its arguments
 abbrev pub call_reading : List (List ℕ) → List ℕ → Option Call
-call_reading names text = do
-  sides ← cut_at 58 text
-  «module» ← atom_reading names sides.0
-  part ← arguments_part names sides.1
-  Some (record { target = record { «module» = «module»; name = part.0; arity = length part.1 }; args = part.1 })
+call_reading names text = paired 58 (atom_reading names) (arguments_part names) text >>= λ p. Some (record { target = record { «module» = p.0; name = p.1.0; arity = length p.1.1 }; args = p.1.1 })

@@ -55,8 +55,8 @@ fn read_answer_behind(alloc: Global, names: &Names, text: &[u8]) -> Result<Answe
     ensures { Reads (λ answer. answer) result (answer_behind names.now text.now) }
 {
     let (reply, published) = cut_last(text, b' ').ok_or(LineFault::Form)?;
-    let published = published_of(published).ok_or(LineFault::Form)?;
     let reply = read_reply(alloc, names, reply)?;
+    let published = published_of(published).ok_or(LineFault::Form)?;
     Ok(Answer { reply, published })
 }
 

@@ -149,9 +149,11 @@ pub fn read_reply(alloc: Global, names: &Names, text: &[u8]) -> Result<Reply, Li
 pub fn published_of(text: &[u8]) -> Option<Option<u64>>
     ensures { result ≡ published_reading text.now }
 {
+    if text == b"-".as_slice() {
+        return Some(None);
+    }
     match text.split_first() {
         Some((b'@', digits)) => Some(Some(number_of(digits)?)),
-        Some((b'-', rest)) if rest.is_empty() => Some(None),
         _ => None,
     }
 }
