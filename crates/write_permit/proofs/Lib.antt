@@ -8,3 +8,4 @@ pub mod Begun
 pub mod BookKeeps
 pub mod EndBooks
 pub mod BothHalves
+pub mod Over

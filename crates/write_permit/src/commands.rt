@@ -2,7 +2,7 @@ ghost use Rattle.std.specs.Prelude.{◌≡◌, IfOk};
 ghost use Rattle.server_core.specs.ServerState.{old_of};
 ghost use Rattle.script_core.specs.declared.script.ScriptCmd.TheVariants.{Purge};
 ghost use Rattle.write_permit.specs.Looks.{lingering};
-ghost use Rattle.write_permit.specs.Permit.{is_spawn, needs_permission, opening, purged_code};
+ghost use Rattle.write_permit.specs.Permit.{is_spawn, opening, purged_code};
 
 use crate::looks::lingering_in;
 use crate::mark::MarkList;
@@ -35,13 +35,6 @@ pub fn old_code(module: AtomId, server: &Server) -> Option<OldCode>
 {
     let serial = server.old(module)?;
     Some(OldCode { module, serial })
-}
-
-/// Whether the command needs the permission.
-pub fn needs_permission(command: &ScriptCmd) -> bool
-    ensures { result ≡ needs_permission command.now }
-{
-    !matches!(command, ScriptCmd::CheckOld(_) | ScriptCmd::Spawn { .. })
 }
 
 /// Whether the command makes a process.

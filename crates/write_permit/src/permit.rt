@@ -1,4 +1,4 @@
-ghost use Rattle.std.specs.Prelude.{◌≡◌, false, true, [], IfOk, IsSomeAnd, OnErr, Some};
+ghost use Rattle.std.specs.Prelude.{◌≡◌, ◌↔◌, ℕ, false, true, [], IfOk, IsSomeAnd, IsTrue, OnErr, None, Some};
 ghost use Rattle.std.specs.Option.{option_copied};
 ghost use Rattle.server_core.specs.ServerState.{empty_state};
 ghost use Rattle.script_core.specs.Sound.{IsScript};
@@ -11,7 +11,7 @@ use crate::gate::{Gate, pass};
 use crate::holder::Holder;
 use crate::mark::MarkList;
 use crate::operations::advance;
-use crate::steps::{make_at_once, next_command, release_one};
+use crate::steps::{all_done, make_at_once, next_command, release_one};
 use run_log::EntryList;
 use script_core::{Script, ScriptCmd};
 use server_core::Server;
@@ -52,6 +52,7 @@ impl Permit {
         ensures script { IfOk result (λ p. p.script ≡ script) }
         ensures begun { IfOk result (λ p. p.journal ≡ []) }
         ensures server { IfOk result (λ p. p.server ≡ empty_state) }
+        ensures kept { IfOk result (λ p. IsPermit p) }
     {
         Ok(Permit {
             book: begin(alloc, script)?,
@@ -65,11 +66,21 @@ impl Permit {
         next_command(&self.book, who)
     }
 
+    /// Whether the commands of all loaders are done.
+    pub fn all_done(&self) -> bool
+        ensures { IsTrue result ↔ ((loader : ℕ) → next_of self.now loader ≡ None) }
+    {
+        all_done(&self.book)
+    }
+
     /// Gives the permission to a loader whose next command needs it, unless another one has it.
     pub fn seize(&mut self, who: u32) -> Seize
         requires { IsSomeAnd (next_of self.old who) (λ command. needs_permission command ≡ true) }
         ensures answer { result ≡ seize_answer self.old.holder }
         ensures state { self.new ≡ record (self.old) { holder = seized_by who self.old.holder } }
+        ensures seized { result ≡ Seize.Seized → holder_of self.new.holder ≡ Some who }
+        ensures held { result ≡ Seize.Held who → holder_of self.new.holder ≡ Some who }
+        ensures kept { IsPermit self.new }
     {
         match self.book.holder {
             Holder::Free => {
@@ -97,6 +108,7 @@ impl Permit {
         requires { holder_of self.old.holder ≡ Some who }
         ensures ok { IfOk result (λ step. advanced self.old marks.now who self.old.holder ≡ Some (record { state = self.new; answer = step })) }
         ensures err { OnErr result (self.new ≡ record (self.old) { holder = given_up self.old.holder }) }
+        ensures kept { IsPermit self.new }
     {
         let before = self.book.server.generation();
         let step = advance(&mut self.book, marks, who)?;
@@ -110,6 +122,7 @@ impl Permit {
         ensures ok { IfOk result (λ a. at_once_of self.old who ≡ Some (record { state = self.new; answer = a.applied })) }
         ensures spawned { IfOk result (λ a. a.spawned ≡ spawned_by self.old who (next_of self.old who)) }
         ensures err { OnErr result (self.new ≡ self.old) }
+        ensures kept { IsPermit self.new }
     {
         make_at_once(&mut self.book, who)
     }
@@ -118,6 +131,7 @@ impl Permit {
     pub fn pump(&mut self, marks: &MarkList) -> Result<Pumped, NoMemory>
         ensures ok { IfOk result (λ pumped. pump_of self.old marks.now ≡ Some (record { state = self.new; answer = pumped })) }
         ensures err { OnErr result (self.new ≡ self.old) }
+        ensures kept { IsPermit self.new }
     {
         release_one(&mut self.book, marks)
     }

@@ -1,4 +1,4 @@
-ghost use Rattle.std.specs.Prelude.{◌≡◌, ◌+◌, ◌^◌, ◌<◌, false, length, IfOk, IsSome, IsSomeAnd, OnErr, None, Some, if◌then◌else◌};
+ghost use Rattle.std.specs.Prelude.{◌≡◌, ◌+◌, ◌^◌, ◌<◌, ◌↔◌, ℕ, false, is_some, length, IfOk, IsSome, IsSomeAnd, IsTrue, OnErr, None, Some, if◌then◌else◌};
 ghost use Rattle.std.specs.Option.{option_copied};
 ghost use Rattle.write_permit.specs.Book.{IsBook, shown};
 ghost use Rattle.write_permit.specs.Permit.{at_once_of, done_of, needs_permission, next_of, pump_of, spawned_by, waiting_count};
@@ -28,6 +28,28 @@ pub fn next_command(book: &Book, who: u32) -> Option<&ScriptCmd>
     } else {
         None
     }
+}
+
+/// Whether the commands of all loaders are done.
+pub fn all_done(book: &Book) -> bool
+    requires { IsBook book.now }
+    ensures { IsTrue result ↔ ((loader : ℕ) → next_of (shown book.now) loader ≡ None) }
+{
+    for who in 0..book.loaders.len() {
+        let loader = who as u32;
+        if has_next(book, loader) {
+            return false;
+        }
+    }
+    true
+}
+
+/// Whether a loader has a command that is not done.
+fn has_next(book: &Book, who: u32) -> bool
+    requires { length book.now.loaders.items ≡ length book.now.script.loaders }
+    ensures { result ≡ is_some (next_of (shown book.now) who) }
+{
+    next_command(book, who).is_some()
 }
 
 /// Makes the next command of a loader, which needs no permission.
