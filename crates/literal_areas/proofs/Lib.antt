@@ -1,4 +1,4 @@
-mod Uses
+pub mod Uses
 mod Serials
 mod FreeBlocks
 mod Owners
@@ -7,3 +7,4 @@ mod Stores
 mod WordByWord
 mod Retired
 mod Listed
+mod Freed

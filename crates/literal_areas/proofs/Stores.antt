@@ -60,7 +60,7 @@ unpublished_stored w word value area new = record {
 
 -- ---- a word of an area that was not published
 
-no_generation : (block at : ℕ) (p : Published) → 9 ≤ block → reads_in_block p block at ≡ reaches_block p block
+pub no_generation : (block at : ℕ) (p : Published) → 9 ≤ block → reads_in_block p block at ≡ reaches_block p block
 no_generation block at p high =
     let first : 3 ≤ block = omega (arith) in
     let second : 5 ≤ block = omega (arith) in

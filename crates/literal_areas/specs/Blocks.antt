@@ -155,3 +155,7 @@ without_last area s = with_use area.block Free (record s { next = area.serial })
 -- the blocks once it is retired, from the generation of this number on
 abbrev pub with_retired : AreaRef → ℕ → Areas → Areas
 with_retired area since s = with_use area.block (Retired area.serial since) s
+
+-- the blocks once it is released: its block is free
+abbrev pub without_area : AreaRef → Areas → Areas
+without_area area s = with_use area.block Free s

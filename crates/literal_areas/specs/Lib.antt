@@ -1,4 +1,5 @@
 pub mod Blocks
 pub mod Owned
 pub mod Written
+pub mod Released
 pub mod Laws

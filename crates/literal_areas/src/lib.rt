@@ -7,6 +7,7 @@ mod blocks;
 mod laws;
 mod places;
 mod pools;
+mod releasing;
 mod retiring;
 mod taking;
 mod writing;

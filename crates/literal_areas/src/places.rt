@@ -1,8 +1,8 @@
 //! Where the blocks for areas stand in the shared table.
 
 ghost use Rattle.std.specs.Prelude.{◌≡◌, ◌<◌};
-ghost use Rattle.area_core.specs.declared.map.TheConstants.{BLOCKS};
-ghost use Rattle.area_core.specs.Map.{block_place, retire_place};
+ghost use Rattle.area_core.specs.declared.map.TheConstants.{BLOCKS, BIG_BLOCKS};
+ghost use Rattle.area_core.specs.Map.{block_place, retire_place, doom_place};
 
 /// The first block for instances. Those before it have code indices, breakpoint indices and term
 /// tables.
@@ -26,6 +26,9 @@ const TERM_WORDS: u32 = 64;
 /// The first retire word; there is one for each block.
 const RETIRE_START: u32 = 1109;
 
+/// The first doom word; there is one for each block for an instance and for those before them.
+const DOOM_START: u32 = 1429;
+
 /// The word of the table that a block has at a place.
 pub fn block_word(block: u32, at: u32) -> u32
     requires block { block < BLOCKS }
@@ -45,4 +48,12 @@ pub fn retire_word(block: u32) -> u32
     ensures { result ≡ retire_place block }
 {
     RETIRE_START + block
+}
+
+/// The doom word of a block for an instance.
+pub fn doom_word(block: u32) -> u32
+    requires { block < BIG_BLOCKS }
+    ensures { result ≡ doom_place block }
+{
+    DOOM_START + block
 }
