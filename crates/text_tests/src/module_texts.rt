@@ -1,9 +1,8 @@
-use mod_core::{Instr, Operand};
 use mod_text::*;
 use std::alloc::AllocGlobal;
 use std::process::Abort;
 use std::test::Fail;
-use term_core::{AtomId, ByteList, Mfa, Names, Term, TermList};
+use term_core::{AtomId, ByteList, Mfa, Names};
 
 const HEAD: &str = "module m.1\nexport f/0\n";
 
@@ -72,6 +71,17 @@ const LINES: [&str; 12] = [
     "end\n",
 ];
 
+/// What the instructions among these lines are. The atoms are `m`, `f`, `a`, `k` and `b`, numbered from 3 on.
+const CODE: [&str; 7] = [
+    "Less { a: Reg(0), b: Const(Int(8)), target: 0 }",
+    "Move { from: Const(List(TermList { items: [Int(1), Tuple(TermList { items: [Atom(AtomId(5)), Int(-2)] })] })), to: 1 }",
+    "Pget { key: AtomId(6), to: 2 }",
+    "PgetOr { key: AtomId(6), other: Const(Tuple(TermList { items: [Int(1), List(TermList { items: [Atom(AtomId(5))] })] })), to: 1 }",
+    "Elem { index: Const(Int(2)), from: Const(Tuple(TermList { items: [Atom(AtomId(5)), Tuple(TermList { items: [Atom(AtomId(7))] })] })), to: 0 }",
+    "Call { function: 0, at: 3 }",
+    "Jump { target: 7 }",
+];
+
 #[test]
 fn a_module_is_what_its_text_says(rt: HostRuntime) -> Result<(), Fail> {
     let alloc = rt.alloc();
@@ -83,44 +93,12 @@ fn a_module_is_what_its_text_says(rt: HostRuntime) -> Result<(), Fail> {
     assert_eq!(rt; module.functions.len(), 1);
     let function = module.functions.get(0).ok_or("a function")?;
     assert!(rt; function.name == AtomId(4) && function.arity == 1 && !function.exported);
-    let a = Term::Atom(AtomId(5));
-    let pair = Term::Tuple(TermList::from_vec(vec![in alloc; a.clone()?, Term::Int(-2)]?));
-    let one = Term::List(TermList::from_vec(vec![in alloc; a.clone()?]?));
-    let b = Term::Tuple(TermList::from_vec(vec![in alloc; Term::Atom(AtomId(7))]?));
-    let code = [
-        Instr::Less {
-            a: Operand::Reg(0),
-            b: Operand::Const(Term::Int(8)),
-            target: 0,
-        },
-        Instr::Move {
-            from: Operand::Const(Term::List(TermList::from_vec(vec![in alloc;
-                Term::Int(1),
-                pair,
-            ]?))),
-            to: 1,
-        },
-        Instr::Pget {
-            key: AtomId(6),
-            to: 2,
-        },
-        Instr::PgetOr {
-            key: AtomId(6),
-            other: Operand::Const(Term::Tuple(TermList::from_vec(vec![in alloc;
-                Term::Int(1),
-                one,
-            ]?))),
-            to: 1,
-        },
-        Instr::Elem {
-            index: Operand::Const(Term::Int(2)),
-            from: Operand::Const(Term::Tuple(TermList::from_vec(vec![in alloc; a, b]?))),
-            to: 0,
-        },
-        Instr::Call { function: 0, at: 3 },
-        Instr::Jump { target: 7 },
-    ];
-    assert!(rt; function.code.as_slice() == code.as_slice());
+    assert_eq!(rt; function.code.len(), 7);
+    for (place, wanted) in CODE.iter().enumerate() {
+        let instr = function.code.get(place).ok_or("an instruction")?;
+        let shown = format!(in alloc; "{instr:?}")?;
+        assert_eq!(rt; shown.as_str(), *wanted);
+    }
     Ok(())
 }
 
