@@ -32,13 +32,13 @@ free_in zero k u at = absurd (cc)
 free_in (suc count) zero u at = (cc)
 free_in (suc count) (suc k) u at = free_in count k u at
 
-abbrev free_areas : ℕ → ℕ → Areas
+abbrev pub free_areas : ℕ → ℕ → Areas
 free_areas big small = record { next = 1; big = replicate big Free; small = replicate small Free }
 
 none_some : (u : BlockUse) → None ≡ Some u → ⊥
 none_some u e = (cc)
 
-each_free : (big small block : ℕ) (u : BlockUse) → use_of (free_areas big small) block ≡ Some u → u ≡ Free
+pub each_free : (big small block : ℕ) (u : BlockUse) → use_of (free_areas big small) block ≡ Some u → u ≡ Free
 each_free big small block u at =
     elim (cases_lt block 9) as (λ _. u ≡ Free) [
       | inl low ↦ absurd (none_some u (sym (use_none (free_areas big small) block low) ∙ at))

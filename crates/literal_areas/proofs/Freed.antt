@@ -1,5 +1,5 @@
 -- An area that may be released: its words may be cleared, nobody reads its block then, and the pools stay those of the writer.
-use Rattle.std.proofs.Common.{◌≡◌, ℕ, ◌-◌, ◌<◌, ◌≤◌, inl, inr, zero, suc, [], ◌∷◌, Bool, true, false, not, ◌&&◌, ◌||◌, cond, List, length, refl, sym, ap, subst, ◌∙◌, arith}
+use Rattle.std.proofs.Common.{◌≡◌, ℕ, ◌<◌, ◌≤◌, inl, inr, zero, suc, [], ◌∷◌, Bool, true, false, not, ◌&&◌, ◌||◌, cond, List, length, refl, sym, ap, subst, ◌∙◌, arith}
 use Rattle.std.specs.Prelude.{◌==◌, Option, Some, None, slice_get, nat_lt, IsTrue, is_some}
 use Rattle.std.proofs.lemmas.Bool.{cases_Bool, lt-ltb, le-ltb, eqb-true, eq-eqb, and_parts, or_left, or_right, true≢false}
 use Rattle.prgr_core.proofs.Parts.{some_same}

@@ -1,8 +1,8 @@
 pub mod Uses
-mod Serials
+pub mod Serials
 mod FreeBlocks
 mod Owners
-mod AtFirst
+pub mod AtFirst
 mod Stores
 mod WordByWord
 mod Retired
