@@ -1,0 +1,3 @@
+mod Serials
+mod Begun
+mod Publishing

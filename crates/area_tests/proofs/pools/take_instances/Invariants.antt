@@ -1,0 +1,6 @@
+-- So many were taken at most, and no more of them came in their order.
+use Rattle.std.proofs.Common.{◌+◌, ◌≤◌}
+use Rattle.area_tests.proofs.pools.take_instances.Given as goal
+
+abbrev pub invariant-loop-at : goal.invariant-loop-at
+invariant-loop-at l = (l.pools.next ≤ l.fn.pools.next + l.at) × (l.right ≤ l.at)
