@@ -1,5 +1,5 @@
 -- The generation of one instance may be published once its words stand in its block, and the pools stay those of the writer.
-use Rattle.std.proofs.Common.{◌≡◌, ℕ, zero, suc, ◌+◌, ◌-◌, ◌*◌, ◌%◌, ◌<◌, ◌≤◌, inl, inr, ⊎_elim, Bool, true, false, ◌||◌, List, [], ◌∷◌, ◌++◌, length, refl, sym, ap, subst, ◌∙◌, arith}
+use Rattle.std.proofs.Common.{◌≡◌, ℕ, zero, suc, ◌+◌, ◌-◌, ◌*◌, ◌%◌, ◌<◌, inl, inr, ⊎_elim, Bool, true, false, ◌||◌, List, [], ◌∷◌, ◌++◌, length, refl, sym, ap, subst, ◌∙◌, arith}
 use Rattle.std.specs.Prelude.{◌==◌, Option, Some, None, slice_get, IsTrue}
 use Rattle.std.specs.Option.{option_map, option_and_then}
 use Rattle.std.specs.List.{list_any}
@@ -11,7 +11,7 @@ use Rattle.term_core.specs.declared.generation.Generation.{Generation}
 use Rattle.area_core.specs.declared.map.TheConstants.{BUCKETS}
 use Rattle.area_core.specs.declared.table.Published.{Published}
 use Rattle.area_core.specs.declared.table.KeptArea.{KeptArea}
-use Rattle.area_core.specs.Generations.{has_serial, is_instance, is_key_area, is_used, is_kept_as, tells}
+use Rattle.area_core.specs.Generations.{has_serial, is_used, is_kept_as, tells}
 use Rattle.area_core.specs.Map.{word_at, block_place, retire_place, doom_place}
 use Rattle.area_core.specs.Blocks.{Among, AreaStands, FitsBlock, ImageStands, IsForInstances, KeptApart, InstancesPlaced, CodeStands, BreakpointsStand, UsedAreKept, term_words}
 use Rattle.area_core.specs.Terms.{looked, look_at, outcome, key_in, found_in, value_in, TermsStand}

@@ -1,6 +1,5 @@
 -- The words stand once they are written, then the generation may be published, and its area retired.
 use Rattle.std.proofs.Common.{refl, sym, subst, arith}
-use Rattle.term_core.specs.declared.area.AreaRef.{AreaRef}
 use Rattle.progress_words.specs.Tokens.{written_by}
 use Rattle.literal_areas.specs.declared.areas.Areas.{Areas}
 use Rattle.literal_areas.specs.Blocks.{IsLive}
