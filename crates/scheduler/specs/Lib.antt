@@ -1,5 +1,10 @@
 pub mod Arrivals
+pub mod Beginning
+pub mod Finished
 pub mod Held
+pub mod Marking
 pub mod Parts
 pub mod Rounds
+pub mod Runs
+pub mod Stepping
 pub mod Turns

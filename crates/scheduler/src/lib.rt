@@ -2,14 +2,22 @@
 #![tactic(auto)]
 
 mod arrivals;
+mod beginning;
 mod lap;
+mod marking;
 mod newcomer;
+mod next_step;
+mod process_logs;
 mod process_run;
 mod round;
+mod rounds;
+mod run;
 mod slice;
+mod steps;
 
+pub use beginning::MOST_SCHEDULERS;
 pub use newcomer::Newcomer;
 pub use process_run::ProcessRun;
-pub use round::{Seat, take_round};
+pub use rounds::run_script;
 pub use slice::{SLICE_LAPS, Scheduler, Slice};
 pub use write_permit::{Gate, NoGate, Place};
