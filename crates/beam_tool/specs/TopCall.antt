@@ -1,7 +1,7 @@
 -- What the top call comes to: the form of its words, and for each status what it was answered for and what was written.
 -- What is said of the source's or the sink's bytes holds where these are told.
 -- Source: this project's command line.
-use Rattle.std.specs.Prelude.{◌≡◌, ◌≢◌, ℕ, ◌+◌, ◌≤◌, ◌&&◌, nat_le, Bool, true, false, IsTrue, List, [], ◌∷◌, ◌++◌, length, Some, None, option_map, bytes_eq, codes, decimal, if◌then◌else◌}
+use Rattle.std.specs.Prelude.{◌≡◌, ◌≢◌, ℕ, ◌+◌, ◌<◌, ◌≤◌, ◌&&◌, nat_le, Bool, true, false, IsTrue, List, [], ◌∷◌, ◌++◌, length, Some, None, option_map, bytes_eq, codes, decimal, if◌then◌else◌}
 use Rattle.std.specs.List.{find, range_with_len}
 use Rattle.std.specs.declared.option.Option.{Option}
 use Rattle.std.specs.Io.KnownBytes.{Appends}
@@ -11,7 +11,7 @@ use Rattle.prgr_core.specs.EventText.{EventText}
 use Rattle.prgr_core.specs.Faults.{IsFirstFault}
 use Rattle.prgr_core.specs.Step.{after_all, opening, StopsAt}
 use Rattle.outside.specs.declared.check_input.TheConstants.{LONGEST_CHECK}
-use Rattle.beam_tool.specs.declared.form.TheConstants.{MOST_SCHEDULERS}
+use Rattle.scheduler.specs.declared.beginning.TheConstants.{MOST_SCHEDULERS}
 use Rattle.beam_tool.specs.declared.form.Form.{Form}
 use Rattle.beam_tool.specs.declared.form.Form.TheVariants as forms
 use Rattle.script_core.specs.declared.script.TheConstants.{LONGEST_SCRIPT}
@@ -94,11 +94,20 @@ form_of words = None
 unfoldable pub seeded_script : ℕ → ℕ → Script
 seeded_script seed size = made_script seed size
 
--- a form whose script, if it makes one, has 1 to 4,000 commands
-abbrev pub HasSize : Form → Type 0
-HasSize (forms.Make seed size) = (1 ≤ size) × (size ≤ MOST_COMMANDS)
-HasSize (forms.Trial seed size schedulers) = (1 ≤ size) × (size ≤ MOST_COMMANDS)
-HasSize form = Unit {0}
+-- a number of commands that a made script may have, 1 to 4,000
+abbrev pub IsSize : ℕ → Type 0
+IsSize size = (1 ≤ size) × (size ≤ MOST_COMMANDS)
+
+-- a number of schedulers that may run a script, 1 to 16
+abbrev pub IsCount : ℕ → Type 0
+IsCount schedulers = (0 < schedulers) × (schedulers ≤ MOST_SCHEDULERS)
+
+-- a form whose numbers of commands and of schedulers may be
+abbrev pub IsWithinLimits : Form → Type 0
+IsWithinLimits (forms.Run schedulers) = IsCount schedulers
+IsWithinLimits (forms.Make seed size) = IsSize size
+IsWithinLimits (forms.Trial seed size schedulers) = IsSize size × IsCount schedulers
+IsWithinLimits form = Unit {0}
 
 -- whether words of this form read the source
 abbrev pub reads : Option Form → Bool

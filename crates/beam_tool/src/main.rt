@@ -5,7 +5,6 @@ mod check_form;
 #[cfg(test)]
 mod check_tests;
 mod form;
-mod gate;
 mod make_form;
 #[cfg(test)]
 mod outside_tests;
@@ -18,8 +17,8 @@ mod tests;
 mod top;
 mod trial_form;
 
-use gate::NoGate;
 use outside::{NO_MEMORY, StdSink, StdSource};
+use scheduler::NoGate;
 use std::alloc::Global;
 use std::env;
 use std::io::ErrorKind;

@@ -1,6 +1,6 @@
-use crate::gate::NoGate;
 use crate::top::beam_top;
 use outside::{MemSink, MemSource, SureSink, SureSource};
+use scheduler::NoGate;
 use std::alloc::{AllocError, Global};
 use std::process::Abort;
 use std::sync::Wait;

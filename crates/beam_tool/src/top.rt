@@ -12,11 +12,10 @@ ghost use Rattle.report_text.specs.declared.fault.ReportFault.{ReportFault};
 ghost use Rattle.outside.specs.Outside.{Rose, TakesUpTo};
 ghost use Rattle.outside.specs.Parting.{script_part};
 ghost use Rattle.outside.specs.Inputs.{HasScriptAndReport, HasFaultyReport};
-ghost use Rattle.beam_tool.specs.TopCall.{form_of as the_form_of, most_taken, IsAccepted, IsNoList, IsUnlawful, lawful_text, not_lawful_text, Verdict, Answered, Reported, Checked, SourceFailed, SinkFailed, Delivered, Ends, HasSize, reads, runs, Summarized, Made};
+ghost use Rattle.beam_tool.specs.TopCall.{form_of as the_form_of, most_taken, IsAccepted, IsNoList, IsUnlawful, lawful_text, not_lawful_text, Verdict, Answered, Reported, Checked, SourceFailed, SinkFailed, Delivered, Ends, IsWithinLimits, reads, runs, Summarized, Made};
 
 use crate::check_form::check_answer;
 use crate::form::{Form, form_of};
-use crate::gate::Gate;
 use crate::make_form::make_answer;
 use crate::progress_form::progress_answer;
 use crate::run_form::run_answer;
@@ -26,6 +25,7 @@ use outside::{
     SOURCE_FAULT, Sink, Source, Stop, write_whole,
 };
 use run_log::RunLog;
+use scheduler::Gate;
 use script_core::LONGEST_SCRIPT;
 use std::alloc::Global;
 use std::sync::Wait;
@@ -143,17 +143,17 @@ pub fn beam_top<R: Threads + Wait + Sync, S: Source, K: Sink, G: Gate>(
         → (Rose (S.faults source.old) (S.faults source.new) → ⊥) → (Rose (K.faults sink.old) (K.faults sink.new) → ⊥)
         → (result.status ≡ REFUSED) ⊎ (result.status ≡ NO_MEMORY) }
 {
-    let _ = rt;
-    let _ = gate;
-    ended(alloc, words, source, sink)
+    ended(rt, alloc, words, source, sink, gate)
 }
 
-/// The whole call, without the threads and the gate that later forms use.
-fn ended<S: Source, K: Sink>(
+/// The whole call.
+fn ended<R: Threads + Wait + Sync, S: Source, K: Sink, G: Gate>(
+    rt: &R,
     alloc: Global,
     words: &[String],
     source: &mut S,
     sink: &mut K,
+    gate: &G,
 ) -> Finish
     ensures ends { Ends (the_form_of (map string_bytes words.now)) (S.left source.old) (S.left source.new)
         (S.faults source.old) (S.faults source.new) (K.got sink.old) (K.got sink.new)
@@ -165,7 +165,7 @@ fn ended<S: Source, K: Sink>(
 {
     match form_of(words) {
         None => deliver(sink, NOT_UNDERSTOOD, b"words not understood\n", None),
-        Some(form) => match form_answer(alloc, form, source) {
+        Some(form) => match form_answer(rt, alloc, form, source, gate) {
             Ok(Answer { status, log, text }) => deliver(sink, status, text.as_slice(), log),
             Err(Stop::SourceFault) => stopped(SOURCE_FAULT),
             Err(Stop::NoMemory) => stopped(NO_MEMORY),
@@ -181,8 +181,14 @@ fn stopped(status: u8) -> Finish
 }
 
 /// What a form comes to apart from writing.
-fn form_answer<S: Source>(alloc: Global, form: Form, source: &mut S) -> Result<Answer, Stop>
-    requires { HasSize form }
+fn form_answer<R: Threads + Wait + Sync, S: Source, G: Gate>(
+    rt: &R,
+    alloc: Global,
+    form: Form,
+    source: &mut S,
+    gate: &G,
+) -> Result<Answer, Stop>
+    requires { IsWithinLimits form }
     ensures verdict { IfOk result
         (λ a. Verdict (S.left source.old) (S.left source.new) (Some form) a.status a.log a.text) }
     ensures failed { IsErrOf result Stop.SourceFault
@@ -192,15 +198,15 @@ fn form_answer<S: Source>(alloc: Global, form: Form, source: &mut S) -> Result<A
     ensures stops { TakesUpTo (most_taken (Some form)) (S.left source.old) (S.left source.new) }
 {
     match form {
-        Form::Run { schedulers: _ } => run_answer(alloc, source),
+        Form::Run { schedulers } => run_answer(rt, alloc, schedulers, source, gate),
         Form::Check => check_answer(alloc, source),
         Form::Progress => progress_answer(alloc, source),
         Form::Make { seed, size } => Ok(make_answer(alloc, seed, size)?),
         Form::Trial {
             seed,
             size,
-            schedulers: _,
-        } => Ok(trial_answer(alloc, seed, size)?),
+            schedulers,
+        } => Ok(trial_answer(rt, alloc, seed, size, schedulers, gate)?),
     }
 }
 

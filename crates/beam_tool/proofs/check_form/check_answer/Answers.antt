@@ -2,7 +2,7 @@
 use Rattle.std.proofs.Common.{ℕ, ◌≤◌, List, length, sym, subst}
 use Rattle.beam_tool.specs.TopCall.{ReadVerdict, CheckVerdict, too_long_text, long_text}
 use Rattle.outside.specs.declared.check_input.TheConstants.{LONGEST_CHECK}
-use Rattle.beam_tool.proofs.TopCalls.{by_slice, by_line}
+use Rattle.beam_tool.proofs.Verdicts.{by_slice, by_line}
 use Rattle.beam_tool.proofs.check_form.check_answer.Goals as goal
 
 pub judged-requires : goal.judged-requires

@@ -4,7 +4,7 @@ use Rattle.outside.specs.Answers.{report_syntax_text}
 use Rattle.outside.specs.Inputs.{IsReadAs}
 use Rattle.outside.specs.Parting.{report_part, script_part}
 use Rattle.beam_tool.specs.TopCall.{CheckVerdict, judged, report_refused}
-use Rattle.beam_tool.proofs.TopCalls.{both_ok, by_line, on_ok, script_refused_of}
+use Rattle.beam_tool.proofs.Verdicts.{both_ok, by_line, on_ok, script_refused_of}
 use Rattle.beam_tool.proofs.check_form.judged.Goals as goal
 
 pub log_judged-requires : goal.log_judged-requires

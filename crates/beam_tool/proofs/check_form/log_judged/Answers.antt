@@ -1,6 +1,6 @@
 -- The answer to a log is the line of its judgement.
 use Rattle.beam_tool.specs.TopCall.{ReportVerdict, lawful, not_lawful, lawful_text, not_lawful_text}
-use Rattle.beam_tool.proofs.TopCalls.{on_ok, by_line, true_not_false}
+use Rattle.beam_tool.proofs.Verdicts.{on_ok, by_line, true_not_false}
 use Rattle.beam_tool.proofs.check_form.log_judged.Goals as goal
 
 pub returns-then-branch : goal.returns-then-branch

@@ -1,6 +1,6 @@
 -- The answer to the bytes, from what their reading came to.
 use Rattle.beam_tool.specs.TopCall.{ListVerdict, fault}
-use Rattle.beam_tool.proofs.TopCalls.{on_ok, by_line, replay_of}
+use Rattle.beam_tool.proofs.Verdicts.{on_ok, by_line, replay_of}
 use Rattle.beam_tool.proofs.ListFaults.{list_fault}
 use Rattle.beam_tool.proofs.progress_form.judged.Goals as goal
 

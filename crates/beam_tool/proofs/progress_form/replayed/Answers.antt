@@ -1,5 +1,5 @@
 -- The answer to an event list, from what its replay came to.
-use Rattle.beam_tool.proofs.TopCalls.{on_ok, replay_made, replay_stopped}
+use Rattle.beam_tool.proofs.Verdicts.{on_ok, replay_made, replay_stopped}
 use Rattle.beam_tool.proofs.progress_form.replayed.Goals as goal
 
 pub returns-in-Ok-replay : goal.returns-in-Ok-replay

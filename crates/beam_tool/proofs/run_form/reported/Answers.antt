@@ -5,9 +5,9 @@ use Rattle.beam_tool.specs.TopCall.{made}
 use Rattle.beam_tool.proofs.run_form.reported.Goals as goal
 
 pub returns : goal.returns
-returns c =
+returns g c =
     let s = c.args.script.now in
     let log = c.in_ok-log.log in
     let legal = c.in_ok-log.ensures.legal in
     let fits = fits_of s log c.entry_count-entries.ensures.short in
-    made log _ legal (well_formed s c.requires log legal fits c.in_ok-log.ensures.whole) (rw c.new-text.ensures at c.in_ok-render.ensures.ok)
+    made log _ legal (well_formed s c.requires.script log legal fits c.in_ok-log.ensures.whole) (rw c.new-text.ensures at c.in_ok-render.ensures.ok)

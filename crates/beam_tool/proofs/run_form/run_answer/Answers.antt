@@ -1,7 +1,7 @@
 -- The answer to what was read, or to a text over the limit.
 use Rattle.beam_tool.specs.TopCall.{ReadVerdict, ScriptVerdict, too_long_text, long_text}
 use Rattle.script_core.specs.declared.script.TheConstants.{LONGEST_SCRIPT}
-use Rattle.beam_tool.proofs.TopCalls.{by_slice, by_line}
+use Rattle.beam_tool.proofs.Verdicts.{by_slice, by_line}
 use Rattle.beam_tool.proofs.run_form.run_answer.Goals as goal
 
 pub returns-in_ok-judged-in-Whole-clause-verdict : goal.returns-in_ok-judged-in-Whole-clause-verdict

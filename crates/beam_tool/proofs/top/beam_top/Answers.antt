@@ -1,5 +1,6 @@
 -- Each clause of the top call follows from how the call ended.
-use Rattle.beam_tool.proofs.TopCalls.{known_of, headline_of, accepted_of, checked_of, checked_unlawful_of, answered_of, source_failed_of, sink_failed_of, no_log_of, misread_of, complete_words_of, complete_run_of, complete_refusal_of, complete_lawful_of, complete_unlawful_of, complete_script_fault_of, complete_report_fault_of, complete_replay_of, complete_stop_of, complete_fault_of, summarized_of, made_of, complete_make_of, complete_trial_of, no_log_unrun_of}
+use Rattle.beam_tool.proofs.TopCalls.{accepted_of, answered_of, checked_of, checked_unlawful_of, headline_of, known_of, made_of, no_log_of, no_log_unrun_of, sink_failed_of, source_failed_of, summarized_of}
+use Rattle.beam_tool.proofs.Complete.{complete_fault_of, complete_lawful_of, complete_make_of, complete_refusal_of, complete_replay_of, complete_report_fault_of, complete_run_of, complete_script_fault_of, complete_stop_of, complete_trial_of, complete_unlawful_of, complete_words_of, misread_of}
 use Rattle.std.specs.Prelude.{map, string_bytes}
 use Rattle.beam_tool.specs.declared.form.Form.TheVariants as forms
 use Rattle.beam_tool.proofs.Forms.{form_sized}

@@ -1,5 +1,5 @@
 -- The verdict of a form is that of its work.
-use Rattle.beam_tool.proofs.TopCalls.{on_ok, run_by, check_by, progress_by, make_by, trial_by}
+use Rattle.beam_tool.proofs.Verdicts.{on_ok, run_by, check_by, progress_by, make_by, trial_by}
 use Rattle.beam_tool.specs.declared.form.Form.TheVariants as forms
 use Rattle.beam_tool.proofs.Stops.{stops_so}
 use Rattle.beam_tool.proofs.top.form_answer.Goals as goal

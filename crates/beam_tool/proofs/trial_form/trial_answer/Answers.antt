@@ -7,11 +7,11 @@ use Rattle.script_core.specs.Sound.{IsScript}
 use Rattle.beam_tool.proofs.SeededScripts.{seeded_is, seeded_sound, tried_so}
 use Rattle.beam_tool.proofs.trial_form.trial_answer.Goals as goal
 
-pub run_laps-requires : goal.run_laps-requires
-run_laps-requires c = subst IsScript (sym (c.in_ok-script.ensures.made ∙ seeded_is c.args.seed c.args.size)) (seeded_sound c.args.seed c.args.size c.requires.most)
+pub run_script-requires-script : goal.run_script-requires-script
+run_script-requires-script g c = subst IsScript (sym (c.in_ok-script.ensures.made ∙ seeded_is c.args.seed c.args.size)) (seeded_sound c.args.seed c.args.size c.requires.most)
 
 pub returns : goal.returns
-returns c =
+returns g c =
     let same = c.in_ok-script.ensures.made ∙ seeded_is c.args.seed c.args.size in
     let log = c.in_ok-log.log in
     let text = c.in_ok-summary.ensures.ok ∙ ap (λ (t : List ℕ). t ++ summary_of c.in_ok-script.script log) c.new-text.ensures ∙ ap (λ (s : Script). summary_of s log) same in
