@@ -96,7 +96,7 @@ fn purge_kills(rt: HostRuntime) -> Result<(), Fail> {
     let lines =
         "module m.1\nexport main/0\nlabel a\nyield\njump a\nend\nmodule m.2\nend\nloader\nload m.1\nspawn m:main()\nload m.2\npurge m\npurge m\n";
     let told =
-        "entry L0 load m.1 = ok @1\nentry L0 spawn m:main() = ok -\nentry L0 load m.2 = ok @2\nentry L0 doom m = ok @3\nentry L0 purge m = true @4\nentry rt release 1 = ok -\nentry L0 purge m = false -\nprocess 0 m:main()\nspan 1 1\nspan 2 1\nspan 3 1\nend killed 1\n";
+        "entry L0 load m.1 = ok @1\nentry L0 spawn m:main() = ok -\nentry L0 load m.2 = ok @2\nentry L0 doom m = ok @3\nentry L0 purge m = true @4\nentry rt release 1 = ok -\nentry L0 purge m = false -\nprocess 0 m:main()\nspan 1 16\nspan 2 16\nspan 3 1\nend killed 1\n";
     assert!(rt; runs_as(&rt, lines, 4, told)?);
     Ok(())
 }

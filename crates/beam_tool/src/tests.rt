@@ -11,6 +11,13 @@ use term_core::{ByteList, CountList, NoMemory};
 /// The words of a run.
 pub const RUN: &[&str] = &["run", "--schedulers", "1"];
 
+/// The words of runs by one, by two and by sixteen schedulers.
+const RUNS: [&[&str]; 3] = [
+    RUN,
+    &["run", "--schedulers", "2"],
+    &["run", "--schedulers", "16"],
+];
+
 /// The words of a check.
 pub const CHECK: &[&str] = &["check"];
 
@@ -21,6 +28,14 @@ const FIRST: &str =
 /// The report of the first script, 143 bytes.
 const FIRST_REPORT: &str =
     "beam report 1\ngenerations 1\nentry L0 load m.1 = ok @1\nentry L0 spawn m:main() = ok -\nprocess 0 m:main()\nspan 1 1\nprint 3\nend normal\nend report\n";
+
+/// A module whose third version is loaded while there is old code.
+const THREE_VERSIONS: &str =
+    "beam script 1\nmodule m.1\nend\nmodule m.2\nend\nmodule m.3\nend\nloader\nload m.1\nload m.2\nload m.3\ngo\n";
+
+/// Its report.
+const THREE_VERSIONS_REPORT: &str =
+    "beam report 1\ngenerations 2\nentry L0 load m.1 = ok @1\nentry L0 load m.2 = ok @2\nentry L0 load m.3 = not_purged [m] -\nend report\n";
 
 /// How a source and a sink are handed in: the bytes of a call of each, and the call that fails, if it is made.
 #[derive(Clone, Copy)]
@@ -112,11 +127,29 @@ fn called<R: Threads + Wait + Sync + AllocGlobal>(
 }
 
 #[test]
-fn the_first_script_runs(rt: HostRuntime) -> Result<(), Fail> {
-    let run = outcome_of(&rt, RUN, FIRST.as_bytes(), CALM)?;
-    assert_eq!(rt; run.got.as_slice(), FIRST_REPORT.as_bytes());
-    assert_eq!(rt; run.status, 0);
-    assert!(rt; run.logged);
+fn a_script_runs_by_any_number_of_schedulers(rt: HostRuntime) -> Result<(), Fail> {
+    let rows = [
+        (FIRST, FIRST_REPORT),
+        (THREE_VERSIONS, THREE_VERSIONS_REPORT),
+    ];
+    for words in RUNS {
+        for (script, report) in rows {
+            let run = outcome_of(&rt, words, script.as_bytes(), CALM)?;
+            assert_eq!(rt; run.got.as_slice(), report.as_bytes(), "at {words:?}");
+            assert_eq!(rt; run.status, 0);
+            assert!(rt; run.logged);
+        }
+    }
+    Ok(())
+}
+
+#[test]
+fn same_words(rt: HostRuntime) -> Result<(), Fail> {
+    let words = &["trial", "--seed", "9", "--size", "500", "--schedulers", "4"];
+    let first = outcome_of(&rt, words, b"", CALM)?;
+    let second = outcome_of(&rt, words, b"", CALM)?;
+    assert_eq!(rt; first.got.as_slice(), second.got.as_slice());
+    assert_eq!(rt; first.status, 0);
     Ok(())
 }
 
