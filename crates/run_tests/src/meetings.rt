@@ -31,6 +31,7 @@ end report
 const LOOKS: u32 = 100_000_000;
 
 /// Holds each of two turns until the other one has come too.
+#[derive(Drop)]
 struct Meeting {
     /// How many turns have come.
     came: AtomicU64,
