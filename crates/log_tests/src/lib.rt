@@ -1,4 +1,4 @@
-//! Tests of runs, of their logs and of the judge of logs.
+//! Tests of the logs of runs and of the judge of logs.
 #![tactic(auto)]
 
 #[cfg(test)]
@@ -7,8 +7,6 @@ mod exports;
 mod judgements;
 #[cfg(test)]
 mod logs;
-#[cfg(test)]
-mod runs;
 #[cfg(test)]
 mod shapes;
 #[cfg(test)]
