@@ -114,14 +114,14 @@ FAULTS = {
         "check_old",
     ),
     "a generation is told too early": (
-        "otp_laps.erl",
+        "otp_rounds.erl",
         "took_turn(Lines, #life{turns = Turns, spans = Spans} = Life, #run{history = History}) ->\n"
         "    Generation = otp_history:generation(History),",
         "took_turn(Lines, #life{turns = Turns, spans = Spans} = Life, #run{history = History}) ->\n"
         "    Generation = max(0, otp_history:generation(History) - 1),",
         "upgrade",
     ),
-    "a print is lost": ("otp_laps.erl", "told({print, Term}, _, _) ->\n    [{print, Term}];",
+    "a print is lost": ("otp_rounds.erl", "told({print, Term}, _, _) ->\n    [{print, Term}];",
                         "told({print, _}, _, _) ->\n    [];", "first"),
     "a trace is left on": (
         "otp_commands.erl",
@@ -130,7 +130,7 @@ FAULTS = {
         "trace",
     ),
     "a process skips a turn": (
-        "otp_laps.erl",
+        "otp_rounds.erl",
         "{Lines, End} = otp_process:step(Process),",
         "{Lines, End} = case Life#life.turns of 1 -> {[], again}; _ -> otp_process:step(Process) end,",
         "soft_purge",

@@ -15,7 +15,7 @@
     texts := #{{atom(), pos_integer()} => otp_script:module_text()},
     options := [last_calls],
     %% the processes that were spawned and go on, in order
-    processes := [otp_laps:going()]
+    processes := [otp_rounds:going()]
 }.
 -export_type([setting/0]).
 

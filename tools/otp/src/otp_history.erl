@@ -3,7 +3,7 @@
 %% docs/FORMATS.md.
 -module(otp_history).
 -export([new/0, generation/1, entries/1, next_serial/1, current/2, old/2, live_instances/1, keys/1, live_areas/1]).
--export([enter/4, release/1]).
+-export([enter/4, release/2, has_retired/1]).
 
 -record(history, {
     generation = 0 :: non_neg_integer(),
@@ -13,8 +13,9 @@
     old = #{} :: #{atom() => pos_integer()},
     %% the keys that hold a term, with the serial of a tuple or list
     keys = #{} :: #{atom() => pos_integer() | none},
-    %% what was dropped and is not released yet
+    %% what was dropped since the last round, the newest first, and what was dropped before it
     retired = [] :: [pos_integer()],
+    waiting = [] :: [pos_integer()],
     %% the journal, the newest entry first
     entries = [] :: [iolist()]
 }).
@@ -109,9 +110,19 @@ term_serial(_, History) ->
 retire(none, History) -> History;
 retire(Serial, #history{retired = Retired} = History) -> History#history{retired = [Serial | Retired]}.
 
-%% Releases what was dropped in a lap, at its end: each process that goes on has had a turn since, in which it has
-%% copied what it had of it, and nobody stands in code that was dropped.
--spec release(history()) -> history().
-release(#history{retired = Retired} = History) ->
+%% Releases what was dropped before the last round: each process that goes on has had a turn since, in which it has
+%% copied what it had of it, and nobody stands in code that was dropped. Where no process goes on, all is released.
+-spec release(IsIdle :: boolean(), history()) -> history().
+release(false, #history{retired = Retired, waiting = Waiting} = History) ->
+    released(Waiting, History#history{retired = [], waiting = lists:reverse(Retired)});
+release(true, #history{retired = Retired, waiting = Waiting} = History) ->
+    released(Waiting ++ lists:reverse(Retired), History#history{retired = [], waiting = []}).
+
+released(Serials, History) ->
     Release = fun(Serial, Made) -> line("rt", ["release ", integer_to_list(Serial), " = ok"], "-", Made) end,
-    lists:foldl(Release, History#history{retired = []}, lists:sort(Retired)).
+    lists:foldl(Release, History, Serials).
+
+%% Whether something that was dropped is not released yet.
+-spec has_retired(history()) -> boolean().
+has_retired(#history{retired = Retired, waiting = Waiting}) ->
+    Retired =/= [] orelse Waiting =/= [].

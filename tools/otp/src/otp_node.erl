@@ -48,7 +48,7 @@ tell(Script, Options) ->
 
 report(Script, Options) ->
     otp_differences:start(lists:member("aside", Options)),
-    write(otp_report:text(otp_laps:run(Script, [last_calls || lists:member("last_calls", Options)]))),
+    write(otp_report:text(otp_rounds:run(Script, [last_calls || lists:member("last_calls", Options)]))),
     [note(Number, Where) || {Number, Where} <- otp_differences:found()].
 
 note(Number, Where) ->

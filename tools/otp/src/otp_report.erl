@@ -2,7 +2,7 @@
 -module(otp_report).
 -export([text/1]).
 
--spec text(otp_laps:outcome()) -> iolist().
+-spec text(otp_rounds:outcome()) -> iolist().
 text(#{generation := Generation, entries := Entries, processes := Processes, observers := Observers}) ->
     Lines =
         ["beam report 1", ["generations ", number(Generation)]] ++

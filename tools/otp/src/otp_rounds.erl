@@ -1,8 +1,8 @@
-%% A run of a script on this node, in laps: each loader in order makes its next command, then each process that goes on
-%% has one turn, then what was dropped is released; observers look on after each lap but the last, and after it take
-%% what they lack. So each turn is under one generation. A purge of old code takes two laps, and while it is open the
-%% other loaders only spawn and look for old code.
--module(otp_laps).
+%% A run of a script on this node, in rounds: each loader in order makes its next command, then what was dropped is
+%% released, then each process that goes on has sixteen turns; observers look on after each round but the last, and
+%% after it take what they lack. So each turn is under one generation. A purge of old code in which a process stands
+%% takes two rounds, and while it is open the other loaders only spawn and look for old code.
+-module(otp_rounds).
 -export([run/2]).
 
 -type span() :: {Generation :: non_neg_integer(), Turns :: pos_integer(), [otp_process:line()]}.
@@ -14,6 +14,8 @@
     processes := [{{atom(), atom(), [term()]}, [span()], ending()}],
     observers := [[snapshot()]]
 }.
+-define(TURNS, 16).
+
 %% number, turns, the process, and the serials of the instances that it has left by last calls
 -type going() :: {non_neg_integer(), non_neg_integer(), otp_process:process(), [pos_integer()]}.
 -export_type([outcome/0, span/0, ending/0, snapshot/0, going/0]).
@@ -26,6 +28,8 @@
     call,
     phase = waiting :: waiting | going | {doomed, pos_integer()} | {ended, ending()},
     process :: otp_process:process() | undefined,
+    %% its place among those that go on
+    place = 0 :: non_neg_integer(),
     turns = 0 :: non_neg_integer(),
     %% the newest first
     spans = [] :: [span()],
@@ -43,6 +47,9 @@
     purging = none :: none | #purging{},
     loaders :: [#loader{}],
     lives :: #{non_neg_integer() => #life{}},
+    %% the places that ended processes left, that which was left last in front, and the first one that nobody had
+    left = [] :: [non_neg_integer()],
+    new_place = 0 :: non_neg_integer(),
     observers :: [{Left :: non_neg_integer(), [snapshot()]}]
 }).
 
@@ -50,7 +57,7 @@
 run(#{modules := Modules, observers := Observers, loaders := Loaders}, Options) ->
     Calls = [Call || Commands <- Loaders, {{spawn, Call}, _} <- Commands],
     Lives = [#life{call = Call} || Call <- Calls],
-    laps(#run{
+    rounds(#run{
         texts = maps:from_list([{{Name, Version}, Text} || #{name := Name, version := Version} = Text <- Modules]),
         options = Options,
         loaders = numbered(Loaders, 0, 0),
@@ -66,14 +73,30 @@ numbered([Commands | Loaders], Number, Process) ->
     Loader = #loader{number = Number, commands = Commands, next_process = Process},
     [Loader | numbered(Loaders, Number + 1, Process + Spawns)].
 
-laps(Run) ->
-    {Made, AfterLoaders} = loaders_lap(Run),
-    {Turned, AfterTurns} = processes_lap(AfterLoaders),
-    Lap = AfterTurns#run{history = otp_history:release(AfterTurns#run.history)},
-    case Made orelse Turned of
-        true -> laps(observe(fun(Left) -> min(Left, 1) end, Lap));
-        false -> outcome(observe(fun(Left) -> Left end, Lap))
+rounds(Run) ->
+    #run{history = History} = Commanded = loaders_round(Run),
+    Released = Commanded#run{history = otp_history:release(in_order(Commanded) =:= [], History)},
+    Round = lists:foldl(fun(_, Turned) -> processes_lap(Turned) end, Released, lists:seq(1, ?TURNS)),
+    case is_over(Round) of
+        false -> rounds(observe(fun(Left) -> min(Left, 1) end, Round));
+        true -> outcome(observe(fun(Left) -> Left end, Round))
     end.
+
+%% All commands are made, all processes have ended and all that was dropped is released.
+is_over(#run{loaders = Loaders, history = History} = Run) ->
+    in_order(Run) =:= [] andalso not otp_history:has_retired(History) andalso
+        lists:all(fun(#loader{commands = Commands}) -> Commands =:= [] end, Loaders).
+
+%% The processes that go on, doomed ones too, by place.
+in_order(#run{lives = Lives}) ->
+    Places = [
+        {Place, Number}
+     || {Number, #life{phase = Phase, place = Place}} <- maps:to_list(Lives), Phase =/= waiting, not has_ended(Phase)
+    ],
+    [Number || {_, Number} <- lists:sort(Places)].
+
+has_ended({ended, _}) -> true;
+has_ended(_) -> false.
 
 outcome(#run{history = History, lives = Lives, observers = Observers}) ->
     #{
@@ -89,18 +112,18 @@ log(#life{call = Call, spans = Spans, phase = {ended, Ending}}) ->
 
 %% ---- loaders
 
-loaders_lap(#run{loaders = Loaders} = Run) ->
-    lists:foldl(fun loader_turn/2, {false, Run}, [Number || #loader{number = Number} <- Loaders]).
+loaders_round(#run{loaders = Loaders} = Run) ->
+    lists:foldl(fun loader_step/2, Run, [Number || #loader{number = Number} <- Loaders]).
 
-loader_turn(Number, {Made, Run}) ->
+loader_step(Number, Run) ->
     #loader{commands = Commands} = loader(Number, Run),
     case Commands of
         [] ->
-            {Made, Run};
+            Run;
         [{Command, Line} | _] ->
             case goes_now(Command, Number, Run#run.purging) of
-                true -> {true, command(Command, Line, Number, Run)};
-                false -> {Made, Run}
+                true -> command(Command, Line, Number, Run);
+                false -> Run
             end
     end.
 
@@ -119,7 +142,7 @@ command({purge, Module}, Line, Number, #run{purging = #purging{doomed = Doomed}}
 command({purge, Module} = Command, Line, Number, #run{history = History} = Run) ->
     case otp_commands:has_old_code(Module) of
         false -> done(Number, make(Command, Line, Number, Run));
-        true -> doom(Module, otp_history:old(Module, History), Line, Number, Run)
+        true -> begin_purge(Module, otp_history:old(Module, History), Line, Number, Run)
     end;
 command({spawn, Call} = Command, Line, Number, Run) ->
     #loader{next_process = Process} = loader(Number, Run),
@@ -130,7 +153,7 @@ command(Command, Line, Number, Run) ->
 make(Command, Line, Number, #run{history = History} = Run) ->
     Run#run{history = otp_commands:make(Command, setting(Line, Number, Run), History)}.
 
-setting(Line, Number, #run{texts = Texts, options = Options, lives = Lives}) ->
+setting(Line, Number, #run{texts = Texts, options = Options, lives = Lives} = Run) ->
     #{
         who => who(Number),
         line => Line,
@@ -138,7 +161,7 @@ setting(Line, Number, #run{texts = Texts, options = Options, lives = Lives}) ->
         options => Options,
         processes => [
             {Process, Life#life.turns, Life#life.process, Life#life.left}
-         || {Process, #life{phase = going} = Life} <- lists:sort(maps:to_list(Lives))
+         || Process <- in_order(Run), #life{phase = going} = Life <- [map_get(Process, Lives)]
         ]
     }.
 
@@ -154,9 +177,21 @@ done(Number, #run{loaders = Loaders} = Run) ->
 spawned(Number, {Module, Name, Arguments}, #run{lives = Lives} = Run) ->
     Process = otp_process:start({otp_code:erlang_name(Module), Name, Arguments}),
     #{Number := Life} = Lives,
-    Run#run{lives = Lives#{Number := Life#life{phase = going, process = Process}}}.
+    {Place, Placed} = take_place(Run),
+    Placed#run{lives = Lives#{Number := Life#life{phase = going, process = Process, place = Place}}}.
+
+%% The place that was left last, or a new one behind the others.
+take_place(#run{left = [Place | Left]} = Run) -> {Place, Run#run{left = Left}};
+take_place(#run{left = [], new_place = Place} = Run) -> {Place, Run#run{new_place = Place + 1}}.
 
 %% ---- purges of old code
+
+%% Where nobody stands in the old code both halves are made at once.
+begin_purge(Module, Serial, Line, Number, Run) ->
+    case doom(Module, Serial, Line, Number, Run) of
+        #run{purging = #purging{doomed = []}} = Begun -> purge(Module, Line, Number, [], Begun);
+        Begun -> Begun
+    end.
 
 %% INFERRED: the first half, which publishes the doom. Who is doomed the node says.
 doom(Module, Serial, Line, Number, #run{history = History, lives = Lives} = Run) ->
@@ -177,18 +212,24 @@ purge(Module, Line, Number, Doomed, #run{history = History, lives = Lives} = Run
 
 %% ---- processes
 
-processes_lap(#run{lives = Lives} = Run) ->
-    lists:foldl(fun process_turn/2, {false, Run}, lists:sort(maps:keys(Lives))).
+processes_lap(Run) ->
+    lists:foldl(fun process_turn/2, Run, in_order(Run)).
 
-process_turn(Number, {Turned, #run{lives = Lives} = Run}) ->
+process_turn(Number, #run{lives = Lives} = Run) ->
     case map_get(Number, Lives) of
         #life{phase = going} = Life ->
-            {true, Run#run{lives = Lives#{Number := turn(Number, Life, Run)}}};
+            turned(Number, turn(Number, Life, Run), Run);
         #life{phase = {doomed, Serial}} = Life ->
             %% INFERRED: a process on the node is gone at once; by the rules it ends in the turn that sees the doom.
-            {true, Run#run{lives = Lives#{Number := ended({killed, Serial}, took_turn([], Life, Run))}}};
-        _ ->
-            {Turned, Run}
+            turned(Number, ended({killed, Serial}, took_turn([], Life, Run)), Run)
+    end.
+
+%% Who has ended leaves its place.
+turned(Number, #life{phase = Phase, place = Place} = Life, #run{lives = Lives, left = Left} = Run) ->
+    After = Run#run{lives = Lives#{Number := Life}},
+    case has_ended(Phase) of
+        true -> After#run{left = [Place | Left]};
+        false -> After
     end.
 
 turn(Number, #life{process = Process} = Life, Run) ->
