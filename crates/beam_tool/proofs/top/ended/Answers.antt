@@ -37,8 +37,8 @@ returns-in-Err-SourceFault-clause-stops g c = stops_by _ c.in-Some.form _ _ (sym
 pub returns-in-Err-NoMemory-clause-stops : goal.returns-in-Err-NoMemory-clause-stops
 returns-in-Err-NoMemory-clause-stops g c = stops_by _ c.in-Some.form _ _ (sym c.form_of.ensures ∙ c.in-Some.is) c.form_answer.ensures.stops
 
-pub form_answer-requires : goal.form_answer-requires
-form_answer-requires g c = form_sized (map string_bytes c.args.words.now) c.in-Some.form (sym c.form_of.ensures ∙ c.in-Some.is)
+pub form_answer-requires-after_bounds : goal.form_answer-requires-after_bounds
+form_answer-requires-after_bounds g c κs within = form_sized (map string_bytes c.args.words.now) c.in-Some.form (sym c.form_of.ensures ∙ c.in-Some.is)
 
 pub returns-in-Ok-clause-unread : goal.returns-in-Ok-clause-unread
 returns-in-Ok-clause-unread g c none = c.form_answer.ensures.unread (unread_words _ _ (sym c.form_of.ensures ∙ c.in-Some.is) none)

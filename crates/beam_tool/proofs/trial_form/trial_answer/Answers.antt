@@ -7,8 +7,8 @@ use Rattle.script_core.specs.Sound.{IsScript}
 use Rattle.beam_tool.proofs.SeededScripts.{seeded_is, seeded_sound, tried_so}
 use Rattle.beam_tool.proofs.trial_form.trial_answer.Goals as goal
 
-pub run_script-requires-script : goal.run_script-requires-script
-run_script-requires-script g c = subst IsScript (sym (c.in_ok-script.ensures.made ∙ seeded_is c.args.seed c.args.size)) (seeded_sound c.args.seed c.args.size c.requires.most)
+pub run_script-requires-clause-script : goal.run_script-requires-clause-script
+run_script-requires-clause-script g c κs within = subst IsScript (sym (c.in_ok-script.ensures.made ∙ seeded_is c.args.seed c.args.size)) (seeded_sound c.args.seed c.args.size c.requires.most)
 
 pub returns : goal.returns
 returns g c =
