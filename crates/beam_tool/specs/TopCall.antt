@@ -102,7 +102,7 @@ IsSize size = (1 ≤ size) × (size ≤ MOST_COMMANDS)
 abbrev pub IsCount : ℕ → Type 0
 IsCount schedulers = (0 < schedulers) × (schedulers ≤ MOST_SCHEDULERS)
 
--- a form whose numbers of commands and of schedulers may be
+-- a form whose numbers of commands and of schedulers are within these limits
 abbrev pub IsWithinLimits : Form → Type 0
 IsWithinLimits (forms.Run schedulers) = IsCount schedulers
 IsWithinLimits (forms.Make seed size) = IsSize size
