@@ -1,4 +1,4 @@
--- What holds of the form that words have: the size of a made script, and what is not read.
+-- What holds of the form that words have: its numbers are within their limits, and what is not read.
 use Rattle.std.proofs.Common.{◌≡◌, ℕ, ◌+◌, ◌≤◌, ◌<◌, zero, suc, Bool, true, false, cond, ◌&&◌, nat_le, bytes_eq, codes, decimal, List, [], ◌∷◌, map, length, Option, Some, None, option_map, refl, sym, ap, ◌∙◌, subst, arith}
 use Rattle.std.specs.Prelude.{IfSome, IsTrue}
 use Rattle.std.specs.List.{find, range_with_len}

@@ -1,5 +1,5 @@
 -- What each status of the top call says, from how the call ended.
-use Rattle.std.proofs.Common.{◌≡◌, ◌≢◌, ℕ, ◌≤◌, ◌++◌, false, List, Option, Some, None, refl, sym, subst, arith}
+use Rattle.std.proofs.Common.{◌≡◌, ◌≢◌, ℕ, ◌≤◌, false, List, Option, Some, None, refl, sym, subst, arith}
 use Rattle.std.specs.Prelude.{IsTrue}
 use Rattle.std.specs.Io.KnownBytes.{Appends}
 use Rattle.prgr_core.specs.declared.event.Events.{Events}
@@ -16,7 +16,7 @@ use Rattle.script_core.specs.declared.script.Script.{Script}
 use Rattle.script_text.specs.ScriptText.{ScriptText}
 use Rattle.beam_tool.specs.declared.form.Form.{Form}
 use Rattle.beam_tool.specs.declared.form.Form.TheVariants as forms
-use Rattle.beam_tool.specs.TopCall.{Answered, CheckVerdict, Checked, Delivered, Ends, IsAccepted, IsUnlawful, ListVerdict, Made, ReadVerdict, ReplayOf, ReportVerdict, Reported, ScriptVerdict, SinkFailed, SourceFailed, Summarized, TrialOf, Verdict, all_made, check, cut, cut_off, fault, judged, lawful, lawful_text, long_text, made, make, misread, no_memory, not_lawful, not_lawful_text, progress, reads, refusal, replay, report, report_refused, run, runs, script_refused, source_failed, stopped, tried, trial, whole, whole_text, written}
+use Rattle.beam_tool.specs.TopCall.{Answered, CheckVerdict, Checked, Delivered, Ends, IsAccepted, IsUnlawful, ListVerdict, Made, ReadVerdict, ReplayOf, ReportVerdict, Reported, SinkFailed, SourceFailed, Summarized, Verdict, all_made, check, cut, cut_off, fault, judged, lawful, lawful_text, long_text, made, make, misread, no_memory, not_lawful, not_lawful_text, progress, reads, refusal, replay, report, report_refused, run, runs, script_refused, source_failed, stopped, tried, trial, whole, whole_text, written}
 use Rattle.beam_tool.proofs.SeededScripts.{seeded_text-reads}
 
 -- ---- how a call ended
