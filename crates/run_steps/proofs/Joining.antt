@@ -6,7 +6,6 @@ use Rattle.server_core.specs.declared.command.Cmd.{Cmd}
 use Rattle.server_core.specs.ServerState.{ServerState, empty_state}
 use Rattle.server_core.specs.CommandTable.{apply_of}
 use Rattle.machine_core.specs.Process.{new_process}
-use Rattle.machine_core.specs.LaterStates.{HasAreas}
 use Rattle.script_core.specs.declared.script.Script.{Script}
 use Rattle.script_core.specs.Processes.{SpawnLine, spawns_of}
 use Rattle.run_log.specs.declared.logs.Who.{Who}
@@ -14,7 +13,6 @@ use Rattle.run_log.specs.declared.logs.Entry.{Entry}
 use Rattle.run_log.specs.declared.logs.Span.{Span}
 use Rattle.run_log.specs.Journal.{state_after, next_state, newest_state, published_before, published_count, state_at}
 use Rattle.run_log.specs.Legal.{MayStand, PurgesGo, Replays, commands_in, commands_of, half_after, is_release, is_runtime}
-use Rattle.run_log.proofs.AreaWords.{areas_stay, sound_below}
 use Rattle.run_log.proofs.Journals.{before_kept, counted, entry_follows, never_falls, newest_more, purges_more, replays_more, state_kept}
 use Rattle.run_log.proofs.ListPlaces.{all_weaker, get_within, map_same}
 use Rattle.run_log.proofs.Marks.{marks_under}
@@ -123,10 +121,6 @@ module _ (s : Script) (r : RunState) (known : JournalStands s r) where
         subst (λ j. PurgesGo s.modules empty_state None j (half_after r.half who cmd)) (sym joined.journal)
         (subst (PurgesGo s.modules empty_state None longer) (ap (λ w. half_after r.half w joined.entry.cmd) joined.who_is ∙ ap (half_after r.half who) joined.cmd_is)
         (purges_more s.modules empty_state None r.half r.journal joined.entry known.purges (subst (λ x. MayStand x r.half joined.entry) known.server may)))
-
-    -- areas are added and none changes: what a process that goes on names stays
-    pub areas_after : HasAreas r.server after.server
-    areas_after = subst (HasAreas r.server) next_server (areas_stay s.modules r.server cmd (sound_below r.server known.sound))
 
     same_states : (g : ℕ) → g ≤ r.server.generation → state_at s.modules empty_state longer g ≡ states_in s r g
     same_states g h = state_kept s.modules empty_state r.journal joined.entry g (omega arith) (subst (λ x. g ≤ x.generation) known.server h)

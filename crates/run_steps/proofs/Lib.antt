@@ -1,16 +1,11 @@
 pub mod Generations
-pub mod TurnLaws
-pub mod TurnCounts
-pub mod Taking
 pub mod TurnDefinition
 pub mod Turning
-pub mod Dooms
 pub mod Frames
 pub mod Joining
 pub mod Looking
 pub mod Entries
 pub mod Ends
-pub mod CommandKinds
 pub mod Turns
 pub mod Beginning
 pub mod Observing

@@ -1,5 +1,5 @@
 -- What was looked at for a command is what its answer tells of the processes.
-use Rattle.std.proofs.Common.{◌≡◌, ℕ, Bool, List, [], ◌∷◌, ◌++◌, length, slice_get, Option, Some, None, IfSome, IsTrue, refl, sym, ap, subst, ◌∙◌}
+use Rattle.std.proofs.Common.{◌≡◌, ℕ, Bool, List, [], ◌∷◌, ◌++◌, slice_get, Option, Some, None, IfSome, IsTrue, refl, sym, ap, subst, ◌∙◌}
 use Rattle.std.proofs.lemmas.Option.{same_Some}
 use Rattle.std.specs.List.{list_any}
 use Rattle.term_core.specs.declared.atom.AtomId.{AtomId}
@@ -12,17 +12,12 @@ use Rattle.machine_core.specs.Process.{names_of}
 use Rattle.script_core.specs.declared.script.Script.{Script}
 use Rattle.run_log.specs.declared.logs.Who.{Who}
 use Rattle.run_log.specs.Journal.{newest_state, next_state, published_count}
-use Rattle.run_log.specs.History.{AreKnown, History, IsHistory, IsSilent, has_ended_by}
-use Rattle.run_log.proofs.HistoryMarks.{stands_going}
+use Rattle.run_log.specs.History.{AreKnown, History, IsSilent, has_ended_by}
 use Rattle.run_log.proofs.History.{linger_joins, purge_joins, release_joins, silent_joins, soft_purge_joins}
 use Rattle.run_log.proofs.SpanRuns.{some_and}
 use Rattle.run_steps.specs.Runs.{JournalStands, RunState}
 use Rattle.run_steps.specs.Steps.{HasJoined, LingersNow, MayGo, NoneStandsIn, TellsNow}
 use Rattle.run_steps.proofs.Joining.{applied_at, generations_counted, next_newest}
-
--- a process that stands in an instance has had as many turns as its history tells
-pub turns_told : (top serial : ℕ) (h : History) → IsHistory top h → IsTrue (is_among (names_of h.now).frames serial) → h.now.turns ≡ length h.marks
-turns_told top serial h known stands = known.counted (stands_going serial h.fin h.now known.over stands)
 
 module _ (s : Script) (r : RunState) (known : JournalStands s r) (who : Who) (cmd : Cmd) (after : RunState) (joined : HasJoined s.modules who cmd r.server after.server r.journal after.journal) (histories : List History)
     (answers : AreKnown s.modules r.journal histories) where

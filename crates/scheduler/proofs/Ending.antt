@@ -17,7 +17,7 @@ use Rattle.run_log.proofs.ListPlaces.{all_at, get_within}
 use Rattle.run_log.proofs.SpanRuns.{some_and}
 use Rattle.run_steps.specs.declared.phase.Phase.{Phase}
 use Rattle.run_steps.specs.declared.phase.Phase.TheVariants.{Waiting, Going, Ended}
-use Rattle.run_steps.specs.Runs.{ProcessesStand, states_in}
+use Rattle.run_steps.specs.Runs.{states_in}
 use Rattle.run_steps.specs.Runs as whole
 use Rattle.run_steps.specs.Standing.{StandsIn}
 use Rattle.run_steps.specs.Stands.{Rests, log_of, phase_of}

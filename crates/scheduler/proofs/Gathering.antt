@@ -1,24 +1,10 @@
 -- Marks are gathered seat by seat: what was gathered, and what is left.
 use Rattle.std.proofs.Common.{◌≡◌, ℕ, suc, zero, ◌+◌, ◌<◌, ◌≤◌, List, [], ◌∷◌, ◌++◌, append_assoc, append-nil, drop, take, get_or, length, map, Option, Some, None, refl, sym, ap, ◌∙◌, arith}
 use Rattle.std.proofs.lemmas.List.{drop_all, drop_more, map-append, take_all}
-use Rattle.std.specs.List.{flat_map}
 use Rattle.scheduler.specs.declared.process_run.ProcessRun.{ProcessRun}
 use Rattle.scheduler.specs.declared.round.Seat.{Seat}
 use Rattle.scheduler.specs.Marking.{filled, held_by, held_in, mark_of, marks_in}
 use Rattle.write_permit.specs.declared.mark.Mark.{Mark}
-
--- one more element's names
-pub flat_next : {X Y : Type 0} (f : X → List Y) (names after base : List Y) (xs : List X) (i : ℕ) (x : X) → i < length xs → x ≡ get_or xs i x → after ≡ names ++ f x → names ++ flat_map f (drop i xs) ≡ base → after ++ flat_map f (drop (i + 1) xs) ≡ base
-flat_next f names after base xs i x low is now so_far =
-    ap (λ l. l ++ flat_map f (drop (i + 1) xs)) now
-    ∙ append_assoc names (f x) (flat_map f (drop (i + 1) xs))
-    ∙ ap (λ y. names ++ (f y ++ flat_map f (drop (i + 1) xs))) is
-    ∙ ap (λ l. names ++ flat_map f l) (sym (drop_more xs i x low))
-    ∙ so_far
-
--- no element is left
-pub flat_over : {X Y : Type 0} (f : X → List Y) (names base : List Y) (xs : List X) (i : ℕ) → length xs ≤ i → names ++ flat_map f (drop i xs) ≡ base → names ≡ base
-flat_over f names base xs i high so_far = sym (append-nil names) ∙ ap (λ l. names ++ flat_map f l) (sym (drop_all i xs high)) ∙ so_far
 
 -- one more slot
 take_slot : {X : Type 0} (slots : List (Option X)) (key : ℕ) → filled (take (suc key) slots) ≡ filled (take key slots) ++ filled (get_or slots key None ∷ [])

@@ -24,14 +24,12 @@ use Rattle.run_steps.proofs.Generations.{generations_both, generations_more, gen
 use Rattle.inbox.specs.Ends.{Posting, posted}
 use Rattle.write_permit.specs.declared.answers.OpStep.{OpStep}
 use Rattle.write_permit.specs.declared.answers.Pumped.{Pumped}
-use Rattle.write_permit.specs.declared.answers.Seize.{Seize}
-use Rattle.write_permit.specs.declared.answers.Seize.TheVariants as seizes
 use Rattle.write_permit.specs.declared.holder.Holder.{Holder}
 use Rattle.write_permit.specs.declared.holder.Holder.TheVariants.{Free, Held, Purging}
 use Rattle.write_permit.specs.declared.mark.Mark.{Mark}
 use Rattle.write_permit.specs.declared.spawned.Spawned.{Spawned}
 use Rattle.write_permit.specs.Book.{IsPermit}
-use Rattle.write_permit.specs.Permit.{PermitState, advanced, at_once_of, done_of, holder_of, needs_permission, next_of, opening, pump_of, seize_answer, seized_by, spawned_by}
+use Rattle.write_permit.specs.Permit.{PermitState, advanced, at_once_of, done_of, holder_of, needs_permission, next_of, opening, pump_of, seized_by, spawned_by}
 use Rattle.scheduler.specs.declared.newcomer.Newcomer.{Newcomer}
 use Rattle.scheduler.specs.declared.next_step.NextStep.{NextStep}
 use Rattle.scheduler.specs.declared.next_step.NextStep.TheVariants.{LookForOld, Make, Operate, Over}
@@ -221,27 +219,6 @@ seized_keeps s inboxes seats p q who known after is = record {
   placed = subst (λ (x : PermitState). ArePlaced x.server known.stands known.coming seats) (sym is) known.placed;
   processes = subst (λ (x : PermitState). ProcessesStand s (state_of x known.stands)) (sym is) (record { many = known.processes.many; each = known.processes.each; answers = known.processes.answers });
 }
-
--- who was told that it has the permission has it
-pub seized_held : (who : ℕ) (h : Holder) → seize_answer h ≡ seizes.Seized → holder_of (seized_by who h) ≡ Some who
-seized_held who Free e = refl
-seized_held who (Held by) e = absurd (held_seized by e)
-  where
-    held_seized : (by : ℕ) → seizes.Held by ≡ seizes.Seized → ⊥
-    held_seized by e = cc
-seized_held who (Purging by name) e = absurd (held_seized by e)
-  where
-    held_seized : (by : ℕ) → seizes.Held by ≡ seizes.Seized → ⊥
-    held_seized by e = cc
-
-abbrev by_of : ℕ → Seize → ℕ
-by_of other seizes.Seized = other
-by_of other (seizes.Held by) = by
-
-pub held_still : (who by : ℕ) (h : Holder) → seize_answer h ≡ seizes.Held by → by ≡ who → holder_of (seized_by who h) ≡ Some who
-held_still who by Free e same = refl
-held_still who by (Held x) e same = ap Some (ap (by_of x) e ∙ same)
-held_still who by (Purging x name) e same = ap Some (ap (by_of x) e ∙ same)
 
 -- a journal that stays keeps its generations
 pub seized_later : (s : Script) (p q : PermitState) (who : ℕ) → q ≡ record p { holder = seized_by who p.holder } → KeepsGenerations s.modules p.journal q.journal

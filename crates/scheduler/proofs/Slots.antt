@@ -1,11 +1,10 @@
 -- The logs of processes, put at the places of their numbers.
-use Rattle.std.proofs.Common.{◌≡◌, ◌≢◌, ◌⊎◌, inl, inr, eqb, true, false, ℕ, zero, suc, ◌<◌, List, [], ◌∷◌, ◌++◌, length, length-set, get_or, map, Option, Some, None, IsSome, slice_get, slice_set, option_map, refl, sym, ap, subst, ◌∙◌, arith}
+use Rattle.std.proofs.Common.{◌≡◌, ◌≢◌, ◌⊎◌, inl, inr, eqb, true, false, ℕ, zero, suc, ◌<◌, List, [], ◌∷◌, ◌++◌, length, length-set, get_or, map, Option, Some, IsSome, slice_get, slice_set, option_map, refl, sym, ap, subst, ◌∙◌, arith}
 use Rattle.std.proofs.lemmas.Bool.Decides.{eqb_tells}
 use Rattle.std.proofs.lemmas.List.{length-map}
 use Rattle.std.proofs.lemmas.Option.{none-some, same_Some, slice_get-get_or, slice_get-map, slice_get_within}
-use Rattle.std.specs.List.{AllByRecursion}
 use Rattle.run_log.specs.declared.logs.ProcessLog.{ProcessLog}
-use Rattle.run_log.proofs.ListPlaces.{SetAt, all_at, get_within, here, set_at, set_here, set_there, there}
+use Rattle.run_log.proofs.ListPlaces.{SetAt, get_within, here, set_at, set_here, set_there, there}
 use Rattle.scheduler.specs.declared.process_run.ProcessRun.{ProcessRun}
 use Rattle.scheduler.specs.Finished.{AreLogsOf, AreSlotsOf, IsNumbered, end_log}
 use Rattle.scheduler.proofs.Looking.{Among, among_parts}
@@ -20,14 +19,6 @@ pub record SlotsSoFar (ended first : List ProcessRun) (slots : List (Option Proc
   pub many : length slots ≡ length ended
   pub seen : (k : ℕ) (p : ProcessRun) → slice_get first k ≡ Some p → (log : ProcessLog) × (slice_get slots p.process.number ≡ Some (Some log))
   pub each : (number : ℕ) (log : ProcessLog) → slice_get slots number ≡ Some (Some log) → IsLogAt ended number log
-
--- before the first
-pub slots_none : (ended : List ProcessRun) (slots : List (Option ProcessLog)) → length slots ≡ length ended → AllByRecursion (λ slot. slot ≡ None) slots → SlotsSoFar ended [] slots
-slots_none ended slots many none = record {
-  many = many;
-  seen = λ k p at. absurd (none-some p at);
-  each = λ number log at. absurd (none-some log (sym (all_at (λ (slot : Option ProcessLog). slot ≡ None) slots number (Some log) none at)));
-}
 
 -- one more
 module _ (ended first : List ProcessRun) (slots : List (Option ProcessLog)) (p : ProcessRun) (so_far : SlotsSoFar ended first slots) (k : ℕ) (at : slice_get ended k ≡ Some p) (low : p.process.number < length ended) where

@@ -85,10 +85,6 @@ none_lower n from (x ∷ xs) are low =
     let r = none_lower n (suc from) xs are.1 (omega (arith, low)) in
     omega (arith, other, few, r)
 
-one_at_most : (b : Bool) → one_if b ≤ 1
-one_at_most true = omega arith
-one_at_most false = omega arith
-
 -- so no number is there twice
 pub once : (n from : ℕ) (xs : List runs.Stand) → AreNumbered from xs → spawned_weight (numbered_so n) xs ≤ 1
 once n from [] are = omega arith

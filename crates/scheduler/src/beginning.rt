@@ -1,5 +1,5 @@
 //! The beginning of a run.
-ghost use Rattle.std.specs.Prelude.{◌≡◌, ◌<◌, ◌≤◌, ℕ, List, length, slice_get, IfOk, OnOk, Some};
+ghost use Rattle.std.specs.Prelude.{◌≡◌, ◌<◌, ◌≤◌, ℕ, length, slice_get, IfOk, OnOk, Some};
 ghost use Rattle.script_core.specs.Sound.{IsScript};
 ghost use Rattle.inbox.specs.Queues.{QueueId};
 ghost use Rattle.scheduler.specs.Beginning.{AddsSeat, HaveOpened};

@@ -1,5 +1,5 @@
 //! The marks of the processes, gathered while no turn runs.
-ghost use Rattle.std.specs.Prelude.{◌≡◌, ◌++◌, ◌∷◌, [], List, map, IfOk, OnOk};
+ghost use Rattle.std.specs.Prelude.{◌≡◌, ◌++◌, ◌∷◌, [], map, IfOk, OnOk};
 ghost use Rattle.slab.specs.Slab.{get};
 ghost use Rattle.std.specs.List.{flat_map};
 ghost use Rattle.scheduler.specs.Marking.{filled, frame_names, held_in, killer_of, mark_of, marks_in, value_names};

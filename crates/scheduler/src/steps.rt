@@ -1,5 +1,5 @@
 //! What is done between two rounds: each loader makes a step, and what no process names is released.
-ghost use Rattle.std.specs.Prelude.{◌≡◌, ◌<◌, ℕ, false, true, length, slice_get, IfOk, IsOk, IsSomeAnd, OnOk, Some};
+ghost use Rattle.std.specs.Prelude.{◌≡◌, ◌<◌, ℕ, true, length, slice_get, IfOk, IsOk, IsSomeAnd, OnOk, Some};
 ghost use Rattle.run_steps.specs.Observers.{KeepsGenerations};
 ghost use Rattle.write_permit.specs.Book.{IsPermit};
 ghost use Rattle.write_permit.specs.Permit.{holder_of, needs_permission, next_of, seized_by};
