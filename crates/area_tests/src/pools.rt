@@ -1,7 +1,7 @@
 //! Pools of blocks, without a table. The expected values are those of the rules: 55 blocks from block 9
 //! on are for instances, 256 from block 64 on for terms, and serials begin at 1.
 
-ghost use Rattle.std.specs.Prelude.{◌≡◌, ◌+◌, ◌≤◌, ◌<◌, ◌^◌};
+ghost use Rattle.std.specs.Prelude.{◌+◌, ◌≤◌, ◌<◌, ◌^◌};
 
 use literal_areas::{Pool, Pools, Take};
 use std::test::Fail;

@@ -1,7 +1,7 @@
 //! Areas in the blocks of a shared table, all from one thread. The expected values are those of the map
 //! of the table: the words of block 9 begin at 10,709 and those of block 64 at 67,029.
 
-ghost use Rattle.std.specs.Prelude.{◌≡◌, ◌+◌, ◌≤◌, ◌<◌, ◌^◌, length};
+ghost use Rattle.std.specs.Prelude.{◌+◌, ◌≤◌, ◌<◌, ◌^◌, length};
 ghost use Rattle.progress_words.specs.Tokens.{written_by, IsWriterOf};
 ghost use Rattle.literal_areas.specs.Owned.{AreOf};
 
