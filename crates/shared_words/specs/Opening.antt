@@ -43,6 +43,7 @@ writer_begun members watchers = record {
   notes = [];
   patched = [];
   looks = nothing_kept;
+  named = [];
   taken = [];
 }
 

@@ -21,6 +21,7 @@ use Rattle.marks.specs.declared.mark.ProcessView.{ProcessView}
 use Rattle.marks.specs.Names.{names_in, tells_kill, HasAnchor}
 use Rattle.marks.specs.Steps.{with_anchor, with_turn, with_wait, with_looked, with_read, HasNote, IsNextTurn, IsLookedThrough}
 use Rattle.shared_words.specs.declared.opening.Opening.{Opening}
+use Rattle.shared_words.specs.declared.view.NamedAnchor.{NamedAnchor}
 use Rattle.shared_words.specs.declared.view.ProcessSlot.{ProcessSlot}
 use Rattle.shared_words.specs.declared.view.MemberView.{MemberView}
 use Rattle.shared_words.specs.declared.view.WriterView.{WriterView}
@@ -139,9 +140,15 @@ word_looked wait process zero found k = with_read k (record { wait = wait; proce
 word_looked wait process (suc place) found k =
     if names_in wait.kind found wait.serial then k else with_looked k (record { wait = wait; process = process; place = place; told = tells_kill found wait.serial })
 
+-- and of an anchor that names it
+abbrev pub named_looked : EndedWait → ℕ → ℕ → ℕ → List NamedAnchor → List NamedAnchor
+named_looked wait process zero found named = named
+named_looked wait process (suc place) found named =
+    if names_in wait.kind found wait.serial then record { wait = wait; process = process; place = place; word = found } ∷ named else named
+
 -- with its wait
 abbrev pub wait_looked : EndedWait → ℕ → ℕ → ℕ → WriterView → WriterView
-wait_looked wait process place found w = record w { looks = word_looked wait process place found (with_wait w.looks wait) }
+wait_looked wait process place found w = record w { looks = word_looked wait process place found (with_wait w.looks wait); named = named_looked wait process place found w.named }
 
 -- what the writer knows once it has found this word in a look, or outside every look
 abbrev pub slot_looked : ℕ → ℕ → Option (AreaRef × Option Kind) → ℕ → WriterView → WriterView

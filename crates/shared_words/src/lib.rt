@@ -31,6 +31,7 @@ pub use pass::Pass;
 pub use seats::{Member, Note, Parts, Writer};
 pub use table::{ANCHORS, COUNTER, LEAD, PROCESSES, ROOT, Shared};
 pub use view::{
-    MemberView, NoteNumber, NoteView, ProcessSlot, ProcessSlotList, View, WatcherView, WriterView,
+    MemberView, NamedAnchor, NamedAnchorList, NoteNumber, NoteView, ProcessSlot, ProcessSlotList,
+    View, WatcherView, WriterView,
 };
 pub use writer::Next;

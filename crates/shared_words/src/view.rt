@@ -1,7 +1,7 @@
 //! What each seat at the table knows. No value of these types is made: they are for clauses alone.
 
 use area_core::{KeptList, PublishedList};
-use marks::{MarkList, Slot, WriterKept};
+use marks::{EndedWait, MarkList, Slot, WriterKept};
 use prgr_core::{Member, RetirementList, Watcher};
 use term_core::{CountList, Items, WordList};
 
@@ -13,6 +13,18 @@ pub struct NoteNumber {
 
 /// The notes of processes in a row.
 pub type NoteNumberList = Items<NoteNumber>;
+
+/// An anchor that named the area of a look in its kind when it was loaded.
+pub struct NamedAnchor {
+    pub wait: EndedWait,
+    pub process: u32,
+    /// The place of the anchor, from 0.
+    pub place: u32,
+    pub word: u64,
+}
+
+/// Anchors that looks found in a row.
+pub type NamedAnchorList = Items<NamedAnchor>;
 
 /// What a member keeps of one of its processes: the words of its slot, and the marks of its turns.
 pub struct ProcessSlot {
@@ -81,6 +93,8 @@ pub struct WriterView {
     /// What it keeps of waits that are over, of anchors and turn words that it has looked at, and of its
     /// answers.
     pub looks: WriterKept,
+    /// The anchors that looks found to name their area, the newest first.
+    pub named: NamedAnchorList,
     /// The numbers of the members whose seats came in to its own.
     pub taken: CountList,
 }
