@@ -55,7 +55,7 @@ module _ {Served : Generation → Type 0} {opening : Opening} (s : State (Unit {
         own = r.machine.own_words k m.member shown;
         others = λ j other. refl;
         leader = r.machine.leader_made;
-        slots = goes_on r.writer m (members.counter_loaded c m.member) refl refl;
+        slots = goes_on r.writer m (members.counter_loaded c m.member) m.found refl refl;
       })
 
   -- a member that leads does not wait

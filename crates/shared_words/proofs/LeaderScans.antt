@@ -90,7 +90,7 @@ module _ {Served : Generation → Type 0} {opening : Opening} (s : State (Unit {
         let event = scan_event p k j m.member o scans shown other (leads_with m.member.role leader.leads) awake in
         member_step s r s.words k m m' here (record {
           rest = same_rest s.words;
-          knows = still_knows r.writer k m (members.leading_with (scan_of (known_counter m) scans j (slice_index s.words (CONFIRMED + j))) m.member) refl refl knows;
+          knows = still_knows r.writer k m m'.member m'.found refl refl knows;
           moves = inl (
             prgr.Scan k j,
             event
@@ -100,7 +100,7 @@ module _ {Served : Generation → Type 0} {opening : Opening} (s : State (Unit {
           own = r.machine.own_words k m.member shown;
           others = λ x apart. refl;
           leader = r.machine.leader_made;
-          slots = goes_on r.writer m (members.leading_with (scan_of (known_counter m) scans j (slice_index s.words (CONFIRMED + j))) m.member) refl refl;
+          slots = goes_on r.writer m m'.member m'.found refl refl;
         })
 
     -- the word of a member is at most the value after the counter, unless it waits
@@ -139,7 +139,7 @@ module _ {Served : Generation → Type 0} {opening : Opening} (s : State (Unit {
         let event = advance_event p k m.member scans shown (leads_with m.member.role leader.leads) may_now in
         machine_store s r COUNTER (n + 1) (omega arith) (omega arith) (λ e. omega arith) (n + 1) (slice_index s.words LEAD)
         (get_or-set_same s.words COUNTER (n + 1) 0 (omega arith)) (get_or-set_other s.words COUNTER LEAD (n + 1) 0 (λ e. absurd (omega arith))) r.machine.leader_made
-        k m (members.leading_with (members.no_scans (Some (known_counter m + 1))) m.member) (prgr.Advance k) here refl refl refl
+        k m (members.leading_with (members.no_scans (Some (known_counter m + 1))) m.member) m.found (prgr.Advance k) here refl refl refl
         (event ∙ ap (λ (c : ℕ). Some (record (with_member p k (members.leading_with (members.no_scans (Some (c + 1))) m.member)) { counter = n + 1 })) (sym knows_counter))
 
 -- a leader may look at the word of each member

@@ -1,5 +1,5 @@
 -- The steps of a leader keep the rule: taking and giving up the lead, looking at a member's word, raising the counter.
-use Rattle.std.proofs.Common.{◌≡◌, ℕ, suc, ◌+◌, ◌-◌, ◌<◌, ◌≤◌, inl, Bool, true, false, cond, ◌&&◌, List, length, set, get_or-set_other, get_or-set_same, refl, sym, ap, subst, ◌∙◌, arith, ne_eqb}
+use Rattle.std.proofs.Common.{◌≡◌, ℕ, suc, ◌+◌, ◌-◌, ◌<◌, ◌≤◌, inl, inr, Bool, true, false, cond, ◌&&◌, List, ◌∷◌, length, set, get_or-set_other, get_or-set_same, refl, sym, ap, subst, ◌∙◌, arith, ne_eqb}
 use mathlib.Core.Option.{none, some}
 use lib.ListN.{get_elem?}
 use lib.Seq.{set-get_or}
@@ -20,6 +20,8 @@ use Rattle.prgr_core.specs.Step.{after, with_member, by_role, led, given_up}
 use Rattle.term_core.specs.declared.generation.Generation.{Generation}
 use Rattle.shared_words.specs.declared.table.TheConstants.{COUNTER, LEAD, DELAYS, CONFIRMED}
 use Rattle.shared_words.specs.declared.opening.Opening.{Opening}
+use Rattle.shared_words.specs.declared.view.FoundWord.{FoundWord}
+use Rattle.shared_words.specs.declared.view.FoundWord.TheVariants.{LeaderWord}
 use Rattle.shared_words.specs.declared.view.MemberView.{MemberView}
 use Rattle.shared_words.specs.declared.view.WriterView.{WriterView}
 use Rattle.shared_words.specs.declared.view.View.{View}
@@ -28,19 +30,18 @@ use Rattle.shared_words.specs.Shown.{leader_in, progress_of}
 use Rattle.shared_words.specs.Seats.{member_of}
 use Rattle.shared_words.specs.Kinds.{Sat, IsLeader, MayLead, lead_found, lead_taken, lead_given, lead_dropped}
 use Rattle.shared_words.specs.Rule.{MemberKnows, RunningRule}
-use Rattle.shared_words.proofs.ShownMembers.{shown_at, shown_length, there}
+use Rattle.shared_words.proofs.ShownMembers.{shown_at, shown_length, there, set_same}
 use Rattle.shared_words.proofs.SlotFrames.{goes_on}
-use Rattle.shared_words.proofs.Frames.{after_step, stored_front, progress_set, progress_words, member_step}
-use Rattle.shared_words.proofs.CounterLoads.{same_step}
+use Rattle.shared_words.proofs.Frames.{after_step, same_rest, stored_front, progress_set, progress_words, member_step}
 use Rattle.shared_words.proofs.MemberStores.{seat_of}
 
--- the member with this record
-abbrev pub with_record : MemberView → machines.Member → MemberView
-with_record m a = record m { member = a }
+-- the member with this record, once these words were found
+abbrev pub with_record : MemberView → machines.Member → List FoundWord → MemberView
+with_record m a found = record m { member = a; found = found }
 
 -- a member whose record has the same number and generation knows what it knew
-pub still_knows : (w : WriterView) (k : ℕ) (m : MemberView) (a : machines.Member) → a.number ≡ m.member.number → a.generation ≡ m.member.generation → MemberKnows w k m → MemberKnows w k (with_record m a)
-still_knows w k m a number generation knows = record {
+pub still_knows : (w : WriterView) (k : ℕ) (m : MemberView) (a : machines.Member) (found : List FoundWord) → a.number ≡ m.member.number → a.generation ≡ m.member.generation → MemberKnows w k m → MemberKnows w k (with_record m a found)
+still_knows w k m a found number generation knows = record {
   numbered = number ∙ knows.numbered;
   made = knows.made;
   seen = knows.seen;
@@ -51,23 +52,40 @@ still_knows w k m a number generation knows = record {
 module _ {Served : Generation → Type 0} {opening : Opening} (s : State (Unit {0}) View) (r : RunningRule Served opening s) where
   -- a store of the counter or of the leader's word, which is an event of a member that keeps its word
   pub machine_store : (i x : ℕ) → 0 < i → i < DELAYS → (i ≡ COUNTER → slice_index s.words COUNTER ≤ x) → (c l : ℕ) → slice_index (set s.words i x) COUNTER ≡ c → slice_index (set s.words i x) LEAD ≡ l → l ≤ length r.writer.members
-      → (k : ℕ) (m : MemberView) (a : machines.Member) (event : PrgrEvent) → get_elem? r.seats k ≡ some (Member m) → a.number ≡ m.member.number → a.generation ≡ m.member.generation → a.word ≡ m.member.word
+      → (k : ℕ) (m : MemberView) (a : machines.Member) (found : List FoundWord) (event : PrgrEvent) → get_elem? r.seats k ≡ some (Member m) → a.number ≡ m.member.number → a.generation ≡ m.member.generation → a.word ≡ m.member.word
       → after (progress_of s.words r.writer r.seats) event ≡ Some (record (with_member (progress_of s.words r.writer r.seats) k a) { counter = c; leader = leader_in l })
-      → RunningRule Served opening (after_step s (set s.words i x) (suc k) (Member (with_record m a)))
-  machine_store i x first low later c l counter lead small k m a event at number generation word made =
+      → RunningRule Served opening (after_step s (set s.words i x) (suc k) (Member (with_record m a found)))
+  machine_store i x first low later c l counter lead small k m a found event at number generation word made =
       let knows = r.each_seat k (Member m) at in
       let size = r.words.all in
       let words' : List ℕ = set s.words i x in
       let same = progress_words s.words words' r.writer r.seats c l counter lead (get_or-set_other s.words i DELAYS x 0 (λ e. absurd (omega arith))) (get_or-set_other s.words i (DELAYS + 1) x 0 (λ e. absurd (omega arith))) in
-      let m' = with_record m a in
+      let m' = with_record m a found in
       member_step s r words' k m m' at (record {
         rest = stored_front s.words i x first (omega arith) (omega arith) later;
-        knows = still_knows r.writer k m a number generation knows;
+        knows = still_knows r.writer k m a found number generation knows;
         moves = inl (event, made ∙ ap (λ (p : Progress). Some (with_member p k a)) (sym same) ∙ ap (λ (p : Progress). Some p) (sym (progress_set words' r.writer r.seats k m' knows.made (there r.seats k (Member m) at))));
         own = get_or-set_other s.words i (CONFIRMED + k) x 0 (λ e. absurd (omega arith)) ∙ r.machine.own_words k m.member (shown_at r.writer.members r.seats k m knows.made at) ∙ sym word;
         others = λ j other. get_or-set_other s.words i (CONFIRMED + j) x 0 (λ e. absurd (omega arith));
         leader = subst (λ (n : ℕ). n ≤ length r.writer.members) (sym lead) small;
-        slots = goes_on r.writer m a word generation;
+        slots = goes_on r.writer m a found word generation;
+      })
+
+  -- a step of a member that only finds words
+  pub found_step : (k : ℕ) (m : MemberView) (found : List FoundWord) → get_elem? r.seats k ≡ some (Member m) → RunningRule Served opening (after_step s s.words (suc k) (Member (with_record m m.member found)))
+  found_step k m found at =
+      let knows = r.each_seat k (Member m) at in
+      let p = progress_of s.words r.writer r.seats in
+      let shown = shown_at r.writer.members r.seats k m knows.made at in
+      let m' = with_record m m.member found in
+      member_step s r s.words k m m' at (record {
+        rest = same_rest s.words;
+        knows = still_knows r.writer k m m.member found refl refl knows;
+        moves = inr (progress_set s.words r.writer r.seats k m' knows.made (there r.seats k (Member m) at) ∙ (λ i. record p { members = set_same p.members k m.member shown i }));
+        own = r.machine.own_words k m.member shown;
+        others = λ j other. refl;
+        leader = r.machine.leader_made;
+        slots = goes_on r.writer m m.member found refl refl;
       })
 
 -- ---- the lead
@@ -96,19 +114,20 @@ give_up_event p k a at (Leads scans) is leads =
 
 module _ {Served : Generation → Type 0} {opening : Opening} (s : State (Unit {0}) View) (r : RunningRule Served opening s) where
   -- the exchange, by whether nobody leads
-  takes_lead : (k : ℕ) (m : MemberView) → get_elem? s.views (suc k) ≡ some (Member m) → get_elem? r.seats k ≡ some (Member m) → members.is_value m.member.word ≡ true → (b : Bool) → (slice_index s.words LEAD == 0) ≡ b
-      → RunningRule Served opening (after_step s (set s.words LEAD (either b (k + 1) (slice_index s.words LEAD))) (suc k) (Member (with_record m (cond b (members.leading m.member) m.member))))
-  takes_lead k m at here awake true is =
+  takes_lead : (k : ℕ) (m : MemberView) → get_elem? r.seats k ≡ some (Member m) → members.is_value m.member.word ≡ true → (b : Bool) → (slice_index s.words LEAD == 0) ≡ b
+      → RunningRule Served opening (after_step s (set s.words LEAD (either b (k + 1) (slice_index s.words LEAD))) (suc k) (Member (with_record m (cond b (members.leading m.member) m.member) (LeaderWord (slice_index s.words LEAD) ∷ m.found))))
+  takes_lead k m here awake true is =
       let knows = r.each_seat k (Member m) here in
       let size = r.words.all in
       let p = progress_of s.words r.writer r.seats in
       let made = lead_event p k m.member (shown_at r.writer.members r.seats k m knows.made here) (nobody_leads (slice_index s.words LEAD) is) awake in
       machine_store s r LEAD (k + 1) (omega arith) (omega arith) (λ e. absurd (omega arith)) (slice_index s.words COUNTER) (k + 1)
       (get_or-set_other s.words LEAD COUNTER (k + 1) 0 (λ e. absurd (omega arith))) (get_or-set_same s.words LEAD (k + 1) 0 (omega arith)) (let made = knows.made in omega arith)
-      k m (members.leading m.member) (prgr.Lead k) here refl refl refl
+      k m (members.leading m.member) (LeaderWord (slice_index s.words LEAD) ∷ m.found) (prgr.Lead k) here refl refl refl
       (made ∙ ap (λ (o : Option ℕ). Some (record (with_member p k (members.leading m.member)) { leader = o })) (sym (leader_is k)))
-  takes_lead k m at here awake false is =
-      subst (λ (ws : List ℕ). RunningRule Served opening (after_step s ws (suc k) (Member m))) (sym (set-get_or s.words LEAD 0)) (same_step s r (suc k) (Member m) at)
+  takes_lead k m here awake false is =
+      let m' = with_record m m.member (LeaderWord (slice_index s.words LEAD) ∷ m.found) in
+      subst (λ (ws : List ℕ). RunningRule Served opening (after_step s ws (suc k) (Member m'))) (sym (set-get_or s.words LEAD 0)) (found_step s r k m m'.found here)
 
   drops_lead : (k : ℕ) (m : MemberView) → get_elem? r.seats k ≡ some (Member m) → IsLeader m → RunningRule Served opening (after_step s (set s.words LEAD 0) (suc k) (Member (lead_given m)))
   drops_lead k m here leads =
@@ -117,7 +136,7 @@ module _ {Served : Generation → Type 0} {opening : Opening} (s : State (Unit {
       let p = progress_of s.words r.writer r.seats in
       machine_store s r LEAD 0 (omega arith) (omega arith) (λ e. absurd (omega arith)) (slice_index s.words COUNTER) 0
       (get_or-set_other s.words LEAD COUNTER 0 0 (λ e. absurd (omega arith))) (get_or-set_same s.words LEAD 0 0 (omega arith)) (omega arith)
-      k m (members.following m.member) (prgr.GiveUp k) here refl refl refl
+      k m (members.following m.member) m.found (prgr.GiveUp k) here refl refl refl
       (give_up_event p k m.member (shown_at r.writer.members r.seats k m knows.made here) m.member.role refl leads)
 
 -- the exchange may be made by a member that is awake and follows
@@ -131,7 +150,7 @@ take_lead_is_allowed Served opening slots id number me is numbered may s r wide 
     let knows = r.each_seat k (Member m) seat.2 in
     let place : number ≡ k = sym numbered ∙ knows.numbered in
     let found = slice_index s.words LEAD in
-    let taken = takes_lead s r k m (subst (λ (i : ℕ). get_elem? s.views i ≡ some (Member m)) seat.1 here) seat.2 may.awake (found == 0) refl in (
+    let taken = takes_lead s r k m seat.2 may.awake (found == 0) refl in (
       Member (lead_found found m),
       keeps,
       tt,

@@ -18,6 +18,7 @@ use Rattle.marks.specs.Kept.{Under, IsNoted, IsKnown, IsBacked}
 use Rattle.marks.specs.Steps.{holding}
 use Rattle.marks.proofs.Anchors.{has_element}
 use Rattle.shared_words.specs.declared.view.ProcessSlot.{ProcessSlot}
+use Rattle.shared_words.specs.declared.view.FoundWord.{FoundWord}
 use Rattle.shared_words.specs.declared.view.MemberView.{MemberView}
 use Rattle.shared_words.specs.declared.view.WriterView.{WriterView}
 use Rattle.shared_words.specs.declared.view.View.{View}
@@ -80,9 +81,9 @@ slot_goes_on words words' w old m process on behind h = record {
   known = on.known process h.known;
 }
 
--- a step that leaves the member's word and generation, and its slots and notes
-pub goes_on : (w : WriterView) (m : MemberView) (a : machines.Member) → a.word ≡ m.member.word → a.generation ≡ m.member.generation → SlotsGoOn w m (record m { member = a })
-goes_on w m a word generation = record {
+-- a step that leaves the member's word and generation, and its slots and notes, whatever words it finds
+pub goes_on : (w : WriterView) (m : MemberView) (a : machines.Member) (found : List FoundWord) → a.word ≡ m.member.word → a.generation ≡ m.member.generation → SlotsGoOn w m (record m { member = a; found = found })
+goes_on w m a found word generation = record {
   slots = refl;
   known = λ process h. subst (λ (u : Under). IsKnown u process (process_of m process) w.looks)
       (λ i. holding (members.is_value (sym word i)) (sym generation i) (published_at m.seen (sym generation i))) h;

@@ -26,7 +26,6 @@ use Rattle.marks.specs.declared.mark.ProcessView.{ProcessView}
 use Rattle.shared_words.specs.declared.table.TheConstants.{ROOT, COUNTER, LEAD, DELAYS, CONFIRMED}
 use Rattle.shared_words.specs.declared.opening.Opening.{Opening}
 use Rattle.shared_words.specs.declared.view.MemberView.{MemberView}
-use Rattle.shared_words.specs.declared.view.WriterView.{WriterView}
 use Rattle.shared_words.specs.declared.view.View.{View}
 use Rattle.shared_words.specs.declared.view.View.TheVariants.{Member}
 use Rattle.shared_words.specs.Views.{published_at}
@@ -51,12 +50,6 @@ use Rattle.shared_words.proofs.AnchorStores.{may_become, turns_known, anchor_kno
 module _ {Served : Generation → Type 0} {opening : Opening} (s : State (Unit {0}) View) (r : RunningRule Served opening s) (k : ℕ) (m : MemberView) (at : get_elem? r.seats k ≡ some (Member m)) (process place value : ℕ) (may : MayStoreSlot opening process place value m) where
   knows : MemberKnows r.writer k m
   knows = r.each_seat k (Member m) at
-
-  abbrev words' : List ℕ
-  words' = set s.words (slot_place process place) value
-
-  abbrev w : WriterView
-  w = r.writer
 
   abbrev t : Table
   t = state_of s.words r.writer r.seats

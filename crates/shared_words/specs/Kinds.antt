@@ -19,6 +19,7 @@ use Rattle.area_core.specs.Step.{confirms}
 use Rattle.area_core.specs.Blocks.{RootFits, Among}
 use Rattle.shared_words.specs.declared.table.TheConstants.{CONFIRMED}
 use Rattle.shared_words.specs.declared.opening.Opening.{Opening}
+use Rattle.shared_words.specs.declared.view.FoundWord.TheVariants.{MemberWord, LeaderWord}
 use Rattle.shared_words.specs.declared.view.NoteNumber.{NoteNumber}
 use Rattle.shared_words.specs.declared.view.MemberView.{MemberView}
 use Rattle.shared_words.specs.declared.view.WriterView.{WriterView}
@@ -142,6 +143,7 @@ MayEnter m = IsTrue (members.is_waiting m.member.word)
 abbrev pub now_entering : MemberView → MemberView
 now_entering m = record m { member = members.entering m.member }
 
+-- by the store it enters, and nothing else of it changes
 abbrev pub entering_stored : Step (Unit {0}) → Sat → ℕ → Sat → Type 0
 entering_stored st me stored me' = me' ≡ (Member (now_entering (member_of me.0)), me.1)
 
@@ -168,7 +170,10 @@ pub record MayScan (opening : Opening) (other : ℕ) (m : MemberView) : Type 0 w
 
 -- it has found this word of a member
 abbrev pub word_scanned : ℕ → ℕ → MemberView → MemberView
-word_scanned other word m = record m { member = members.leading_with (scan_of (known_counter m) (scans_of m.member.role) other word) m.member }
+word_scanned other word m = record m {
+  member = members.leading_with (scan_of (known_counter m) (scans_of m.member.role) other word) m.member;
+  found = MemberWord other word ∷ m.found;
+}
 
 -- the word of a member that does not wait is at most the value after the counter
 pub record scanned (st : Step (Unit {0})) (me : Sat) (word : ℕ) (me' : Sat) : Type 0 where
@@ -186,6 +191,7 @@ pub record MayRaise (opening : Opening) (m : MemberView) : Type 0 where
 abbrev pub counter_raised : MemberView → MemberView
 counter_raised m = record m { member = members.leading_with (members.no_scans (Some (known_counter m + 1))) m.member }
 
+-- by the step the counter is raised, and nothing else of the member changes
 abbrev pub raised : Step (Unit {0}) → Sat → ℕ → Sat → Type 0
 raised st me found me' = me' ≡ (Member (counter_raised (member_of me.0)), me.1)
 
@@ -194,9 +200,12 @@ pub record MayLead (m : MemberView) : Type 0 where
   pub awake : IsTrue (members.is_value m.member.word)
   pub follows : IsTrue (follows m.member.role)
 
--- it leads where it found that nobody does
+-- it has found this word of the leader, and leads where that told that nobody did
 abbrev pub lead_found : ℕ → MemberView → MemberView
-lead_found found m = record m { member = if found == 0 then members.leading m.member else m.member }
+lead_found word m = record m {
+  member = if word == 0 then members.leading m.member else m.member;
+  found = LeaderWord word ∷ m.found;
+}
 
 -- who leads is a member
 pub record lead_taken (st : Step (Unit {0})) (me : Sat) (found : ℕ) (me' : Sat) : Type 0 where
@@ -211,5 +220,6 @@ IsLeader m = IsLeading m.member.role
 abbrev pub lead_given : MemberView → MemberView
 lead_given m = record m { member = members.following m.member }
 
+-- by the store it no longer leads, and nothing else of it changes
 abbrev pub lead_dropped : Step (Unit {0}) → Sat → ℕ → Sat → Type 0
 lead_dropped st me stored me' = me' ≡ (Member (lead_given (member_of me.0)), me.1)

@@ -170,6 +170,7 @@ pub record SlotStands (words : List ℕ) (k : WriterKept) (u : Under) (process :
   -- its marks, and what the writer keeps of looks and answers
   pub known : IsKnown u process p k
 
+-- the same of a process of this member
 abbrev pub SlotKnown : List ℕ → WriterView → MemberView → ℕ → Type 0
 SlotKnown words w m process = SlotStands words w.looks (under_of m) process (process_of m process)
 

@@ -12,6 +12,7 @@ use Rattle.shared_words.specs.declared.view.View.TheVariants.{Writer, Member, No
 use Rattle.shared_words.specs.Views.{published_at, root_word}
 use Rattle.shared_words.specs.Opening.{member_begun, writer_begun}
 
+-- a seat as a token has it, with the view of the table's sort
 abbrev pub Place : Type 0
 Place = Seat (Unit {0}) View
 

@@ -91,6 +91,7 @@ abbrev pub with_slot : ℕ → ℕ → ℕ → MemberView → MemberView
 with_slot process place value m =
     record m { slots = slot_with process (process_stored place value m.member.generation (process_of m process)) ∷ m.slots }
 
+-- by the store the word stands in the slot, and nothing else of the member changes
 abbrev pub slot_stored : Step (Unit {0}) → Sat → ℕ → Sat → Type 0
 slot_stored st me stored me' = me' ≡ (Member (with_slot (process_at st.word) (place_at st.word) stored (member_of me.0)), me.1)
 
@@ -102,6 +103,7 @@ IsLookKind None = Unit {0}
 IsLookKind (Some kinds.Frame) = Unit {0}
 IsLookKind (Some kinds.Literal) = ⊥
 
+-- the kind in which such a look finds areas named
 abbrev pub look_kind : Option Kind → LookKind
 look_kind None = Both
 look_kind (Some kind) = Frame

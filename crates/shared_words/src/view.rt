@@ -26,6 +26,17 @@ pub struct NamedAnchor {
 /// Anchors that looks found in a row.
 pub type NamedAnchorList = Items<NamedAnchor>;
 
+/// A word that a member found.
+pub enum FoundWord {
+    /// The word of the member of this number.
+    MemberWord { number: u32, word: u64 },
+    /// The word of the leader: 0, or the number of the member that leads plus 1.
+    LeaderWord { word: u64 },
+}
+
+/// Words that a member found in a row.
+pub type FoundWordList = Items<FoundWord>;
+
 /// What a member keeps of one of its processes: the words of its slot, and the marks of its turns.
 pub struct ProcessSlot {
     pub process: u32,
@@ -47,6 +58,8 @@ pub struct MemberView {
     /// The slots of its processes, the newest store first. A process without one names nothing, and has
     /// done no turn.
     pub slots: ProcessSlotList,
+    /// The words of members and of the leader that it has loaded, the newest first.
+    pub found: FoundWordList,
 }
 
 /// What a watcher knows.
