@@ -12,13 +12,15 @@ use Rattle.prgr_core.specs.Members as members
 use Rattle.prgr_core.specs.Step.{scan_of}
 use Rattle.atomic_table.specs.Seated.{TableId}
 use Rattle.shared_words.specs.declared.seats.Member as tokens
+use Rattle.shared_words.specs.declared.view.FoundWord.{FoundWord}
+use Rattle.shared_words.specs.declared.view.FoundWord.TheVariants.{MemberWord}
 use Rattle.shared_words.specs.declared.view.MemberView.{MemberView}
 use Rattle.shared_words.specs.declared.view.View.TheVariants.{Member}
 use Rattle.shared_words.specs.Seats.{IsSameSeat}
 use Rattle.shared_words.specs.Kinds.{KnowsAsLeader, scans_of, known_counter, word_scanned}
 use Rattle.progress_words.specs.Tokens.{view_of, IsMemberOf, IsSameMember}
 use Rattle.progress_words.specs.Leads.{LeadsAt}
-use Rattle.progress_words.specs.Advances.{words_found, AreDone, IsBehind, HasFound}
+use Rattle.progress_words.specs.Advances.{words_found, AreLoaded, AreDone, IsBehind, HasFound}
 use Rattle.progress_words.specs.declared.advances.Lag.{Lag}
 use Rattle.progress_words.proofs.Tokens.{still_token, same_again, view_is}
 
@@ -80,6 +82,14 @@ leads_on counter k word m h =
 
 -- ---- all words
 
+-- each was loaded
+pub loaded_through : (words : List ℕ) (m : MemberView) → AreLoaded words m (words_found words m)
+loaded_through [] m = refl
+loaded_through (word ∷ words) m = ap (λ (xs : List FoundWord). MemberWord (length words) word ∷ xs) (loaded_through words m)
+
+pub all_loaded : (words : List ℕ) (old new : MemberView) → new ≡ words_found words old → AreLoaded words old new
+all_loaded words old new is = ap (λ (m : MemberView). m.found) is ∙ loaded_through words old
+
 pub leads_through : (counter : ℕ) (words : List ℕ) (m : MemberView) → LeadsAt counter m → LeadsAt counter (words_found words m)
 leads_through counter [] m h = h
 leads_through counter (word ∷ words) m h = leads_on counter (length words) word (words_found words m) (leads_through counter words m h)
@@ -111,6 +121,7 @@ pub record HaveLooked (table : TableId) (counter : ℕ) (old : tokens.Member) (c
   pub all : length words ≡ count
   pub done : AreDone counter words
   pub view : view_of new ≡ words_found words (view_of old)
+  pub loaded : AreLoaded words (view_of old) (view_of new)
 
 -- who waits is done
 pub waits_done : (counter word : ℕ) → word ≡ WAITING → members.is_done counter word ≡ true
@@ -130,6 +141,9 @@ module _ (table : TableId) (counter : ℕ) (old mid new : tokens.Member) (k word
   pub next_view : view_of new ≡ words_found (word ∷ h.words) (view_of old)
   next_view = view_is new.seat (word_scanned k word (view_of mid)) at ∙ (λ i. word_scanned (sym h.all i) word (h.view i))
 
+  pub next_loaded : AreLoaded (word ∷ h.words) (view_of old) (view_of new)
+  next_loaded = all_loaded (word ∷ h.words) (view_of old) (view_of new) next_view
+
   -- one more is done
   pub one_more : new.root ≡ mid.root → members.is_done counter word ≡ true → HaveLooked table counter old (k + 1) new
   one_more root done = record {
@@ -140,6 +154,7 @@ module _ (table : TableId) (counter : ℕ) (old mid new : tokens.Member) (k word
     all = (let all = h.all in omega arith);
     done = (done, h.done);
     view = next_view;
+    loaded = next_loaded;
   }
 
   -- a word that is no other is below the value after the counter
@@ -164,4 +179,5 @@ module _ (table : TableId) (counter : ℕ) (old mid new : tokens.Member) (k word
       behind = behind;
     });
     view = next_view;
+    loaded = next_loaded;
   }

@@ -2,10 +2,12 @@
 -- behind is told.
 -- Source: Erlang/OTP erts internal documentation, ThreadProgress: the leader raises the global progress once all others
 -- have confirmed the present one. There are no unmanaged threads yet.
-use Rattle.std.specs.Prelude.{◌≡◌, ℕ, ◌+◌, ◌<◌, false, List, [], ◌∷◌, length, Option, None, Some, IsTrue}
+use Rattle.std.specs.Prelude.{◌≡◌, ℕ, ◌+◌, ◌<◌, false, List, [], ◌∷◌, ◌++◌, length, Option, None, Some, IsTrue}
 use Rattle.prgr_core.specs.declared.member.TheConstants.{LAST_VALUE}
 use Rattle.prgr_core.specs.Members as members
 use Rattle.prgr_core.specs.Invariant.{CounterInRange}
+use Rattle.shared_words.specs.declared.view.FoundWord.{FoundWord}
+use Rattle.shared_words.specs.declared.view.FoundWord.TheVariants.{MemberWord}
 use Rattle.shared_words.specs.declared.view.MemberView.{MemberView}
 use Rattle.shared_words.specs.Kinds.{counter_raised, word_scanned}
 use Rattle.progress_words.specs.declared.advances.Lag.{Lag}
@@ -22,6 +24,15 @@ with_counter counter m = record m { member = members.counter_loaded counter m.me
 abbrev pub words_found : List ℕ → MemberView → MemberView
 words_found [] m = m
 words_found (word ∷ words) m = word_scanned (length words) word (words_found words m)
+
+-- these words, each with the number of its member
+abbrev pub with_numbers : List ℕ → List FoundWord
+with_numbers [] = []
+with_numbers (word ∷ words) = MemberWord (length words) word ∷ with_numbers words
+
+-- between these two views just these words were loaded
+abbrev pub AreLoaded : List ℕ → MemberView → MemberView → Type 0
+AreLoaded words old new = new.found ≡ with_numbers words ++ old.found
 
 -- each of these words shows that its member waits, or has confirmed the value after this counter
 abbrev pub AreDone : ℕ → List ℕ → Type 0
@@ -62,6 +73,8 @@ pub record HasFound (count counter : ℕ) (old new : MemberView) (found : Option
   pub words : List ℕ
   pub cause : FoundBy count counter words found
   pub view : new ≡ words_found words old
+  -- the words were loaded by this look
+  pub loaded : AreLoaded words old new
 
 -- the counter is at its last value, and no word was looked at
 pub record IsAtEnd (counter : ℕ) (words : List ℕ) : Type 0 where
@@ -89,3 +102,5 @@ pub record HasLooked (count : ℕ) (old new : MemberView) (answer : Advance) : T
   pub words : List ℕ
   pub cause : CauseOf count counter words answer
   pub view : new ≡ view_after answer (words_found words (with_counter counter old))
+  -- the words were loaded in this call
+  pub loaded : AreLoaded words old new

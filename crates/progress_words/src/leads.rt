@@ -3,7 +3,7 @@
 ghost use Rattle.std.specs.Prelude.{◌≡◌, ℕ};
 ghost use Rattle.shared_words.specs.Kinds.{MayLead, lead_given};
 ghost use Rattle.progress_words.specs.Tokens.{view_of, IsMemberOf, IsSameMember};
-ghost use Rattle.progress_words.specs.Leads.{HasTried, IsLeader};
+ghost use Rattle.progress_words.specs.Leads.{HasTried, IsLeader, held_by};
 
 use crate::answers::Lead;
 use shared_words::{Member, Served, Shared};
@@ -19,7 +19,7 @@ pub fn lead<N: Served>(shared: &Shared<N>, member: &mut Member) -> Lead
     ensures tried { HasTried (view_of member.old) (view_of member.new) result }
     ensures slots { (view_of member.new).slots ≡ (view_of member.old).slots }
     ensures led { result ≡ Lead.Led → IsLeader (view_of member.new) }
-    ensures held { (by : ℕ) → result ≡ Lead.Held by → view_of member.new ≡ view_of member.old }
+    ensures held { (by : ℕ) → result ≡ Lead.Held by → view_of member.new ≡ held_by by (view_of member.old) }
 {
     match shared.take_lead(member) {
         0 => Lead::Led,
