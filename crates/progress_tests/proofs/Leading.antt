@@ -15,7 +15,7 @@ use Rattle.shared_words.specs.Processes.{process_of}
 use Rattle.shared_words.specs.Making.{AreMembersBegun}
 use Rattle.progress_words.specs.Tokens.{view_of, IsMemberOf, IsSameMember}
 use Rattle.progress_words.specs.Reports.{IsAwake, Reported}
-use Rattle.progress_words.specs.Leads.{IsLeader}
+use Rattle.progress_words.specs.Leads.{IsLeader, held_by}
 use Rattle.progress_tests.specs.Running.{IsReady, HasReported}
 use Rattle.progress_tests.proofs.Begun.{empty_rests}
 
@@ -35,9 +35,9 @@ given_ready table old between new first leads kept none of second is = record {
 pub led_ready : (table : TableId) (old between new : tokens.Member) → IsSameMember old between → HasReported table between new → HasReported table old new
 led_ready table old between new same told = record { ready = told.ready; number = told.number ∙ same.number }
 
--- who found that another leads is as it was
-pub held_ready : (table : TableId) (old new : tokens.Member) → IsReady table old → IsMemberOf table new → IsSameMember old new → view_of new ≡ view_of old → HasReported table old new
-held_ready table old new ready of same is = record { ready = record { of = of; may = subst MayLead (sym is) ready.may; slots = ap (λ (m : MemberView). m.slots) is ∙ ready.slots }; number = same.number }
+-- who found that another leads is ready as it was
+pub held_ready : (table : TableId) (old new : tokens.Member) → IsReady table old → IsMemberOf table new → (by : ℕ) → IsSameMember old new → view_of new ≡ held_by by (view_of old) → HasReported table old new
+held_ready table old new ready of by same is = record { ready = record { of = of; may = subst MayLead (sym is) (record { awake = ready.may.awake; follows = ready.may.follows }); slots = ap (λ (m : MemberView). m.slots) is ∙ ready.slots }; number = same.number }
 
 -- what a call leaves of the slots of a member that is ready
 pub still_none : (table : TableId) (old : tokens.Member) (new : MemberView) → IsReady table old → new.slots ≡ (view_of old).slots → new.slots ≡ []
