@@ -1,0 +1,9 @@
+pub mod Walks
+pub mod Holding
+pub mod Stored
+pub mod Dropping
+pub mod Killing
+pub mod Scanning
+pub mod SlotWalks
+pub mod AllSlots
+pub mod ClearNow

@@ -1,0 +1,4 @@
+pub mod Holds
+pub mod Drops
+pub mod Turns
+pub mod Scans
