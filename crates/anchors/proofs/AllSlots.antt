@@ -1,12 +1,10 @@
 -- A look through all slots, one after another.
-use Rattle.std.proofs.Common.{◌≡◌, ℕ, ◌+◌, ◌-◌, ◌<◌, ◌≤◌, ⊎_elim, Bool, true, false, ◌||◌, List, [], ◌∷◌, ◌++◌, length, length-append, Option, Some, refl, sym, ap, subst, ◌∙◌, arith}
+use Rattle.std.proofs.Common.{◌≡◌, ℕ, ◌+◌, ◌-◌, ◌≤◌, ⊎_elim, Bool, false, ◌||◌, List, [], ◌∷◌, ◌++◌, length, length-append, Option, Some, refl, sym, ap, subst, ◌∙◌, arith}
 use Rattle.std.specs.Prelude.{slice_get}
-use Rattle.std.specs.List.{list_any}
 use Rattle.prgr_core.proofs.Parts.{slice_get-push_at}
 use Rattle.atomic_table.specs.Seated.{TableId}
 use Rattle.term_core.specs.declared.hold.Kind.{Kind}
-use Rattle.area_core.specs.declared.map.TheConstants.{PROCESSES, ANCHORS}
-use Rattle.area_core.specs.Blocks.{Among}
+use Rattle.area_core.specs.declared.map.TheConstants.{PROCESSES}
 use Rattle.area_core.proofs.Joined.{any_joined}
 use Rattle.marks.specs.declared.kept.EndedWait.{EndedWait}
 use Rattle.marks.specs.declared.kept.ReadTurn.{ReadTurn}
@@ -17,7 +15,7 @@ use Rattle.shared_words.specs.declared.seats.Writer as tokens
 use Rattle.shared_words.specs.declared.view.WriterView.{WriterView}
 use Rattle.shared_words.specs.Seats.{IsSameSeat, IsWriterSeat, writer_of}
 use Rattle.shared_words.specs.Rule.{HasEnded}
-use Rattle.shared_words.specs.Slots.{look_kind, LookMayBegin, wait_for, IsClear}
+use Rattle.shared_words.specs.Slots.{look_kind, LookMayBegin, IsClear}
 use Rattle.shared_words.proofs.SlotFrames.{ended_as}
 use Rattle.shared_words.proofs.SlotLoads.{wait_over}
 use Rattle.anchors.specs.Scans.{scan_wait, tells_any, LooksMore, AreFound, IsSlotClear, IsSlotNamed, AreClear}

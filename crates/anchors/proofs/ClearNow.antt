@@ -1,8 +1,6 @@
 -- A look that was clear stays so: the writer forgets nothing.
-use Rattle.std.proofs.Common.{◌≡◌, ℕ, zero, suc, ◌+◌, ◌<◌, ◌≤◌, Bool, true, false, cond, List, [], ◌∷◌, ◌++◌, append_assoc, Option, Some, None, refl, sym, ap, subst, ◌∙◌, arith}
+use Rattle.std.proofs.Common.{◌≡◌, ℕ, zero, suc, Bool, true, false, cond, List, [], ◌∷◌, ◌++◌, append_assoc, Option, Some, None, refl, ap, ◌∙◌, arith}
 use Rattle.std.specs.Prelude.{slice_get}
-use Rattle.atomic_table.specs.Table.{State}
-use Rattle.prgr_core.specs.declared.member.Retirement.{Retirement}
 use Rattle.term_core.specs.declared.area.AreaRef.{AreaRef}
 use Rattle.term_core.specs.declared.generation.Generation.{Generation}
 use Rattle.term_core.specs.declared.hold.Kind.{Kind}
@@ -16,8 +14,7 @@ use Rattle.marks.specs.Names.{names_in, tells_kill}
 use Rattle.marks.specs.Steps.{with_wait, with_looked}
 use Rattle.shared_words.specs.declared.opening.Opening.{Opening}
 use Rattle.shared_words.specs.declared.view.WriterView.{WriterView}
-use Rattle.shared_words.specs.declared.view.View.{View}
-use Rattle.shared_words.specs.Rule.{HasEnded, RunningRule}
+use Rattle.shared_words.specs.Rule.{HasEnded}
 use Rattle.shared_words.specs.Slots.{IsClear, word_looked, slot_looked}
 use Rattle.shared_words.proofs.ShownMembers.{still_at}
 use Rattle.shared_words.proofs.ClearLooks.{out_of_use}

@@ -1,5 +1,5 @@
 -- What it means for a slot that one kind of an area is named in it no more.
-use Rattle.std.proofs.Common.{◌≡◌, ◌≢◌, ℕ, ◌+◌, ◌-◌, ◌%◌, ◌<◌, ◌≤◌, ◌⊎◌, ◌↔◌, inl, inr, Bool, true, false, List, length, length-set, Option, Some, refl, sym, ap, subst, ◌∙◌, arith}
+use Rattle.std.proofs.Common.{◌≡◌, ℕ, ◌+◌, ◌-◌, ◌<◌, ◌≤◌, ◌↔◌, inl, inr, true, false, List, length, length-set, Option, Some, refl, sym, ap, subst, ◌∙◌, arith}
 use mathlib.Core.Logic.{dite}
 use native.Mathlib.Decide.{ℕ_discrete}
 use Rattle.std.specs.Prelude.{slice_get, slice_set, unwrap_or}
@@ -10,7 +10,6 @@ use Rattle.term_core.specs.declared.hold.Kind.{Kind}
 use Rattle.term_core.specs.declared.hold.Kind.TheVariants.{Frame, Literal}
 use Rattle.area_core.specs.Map.{word_at}
 use Rattle.area_core.specs.declared.table.Published.{Published}
-use Rattle.area_core.specs.Generations.{serial_in, names_frame, names_literal}
 use Rattle.marks.specs.Names.{HasAnchor, tells_kill}
 use Rattle.marks.proofs.Anchors.{has_element, stays_elsewhere}
 use Rattle.shared_words.specs.declared.opening.Opening.{Opening}
@@ -20,8 +19,8 @@ use Rattle.shared_words.specs.declared.view.View.{View}
 use Rattle.shared_words.specs.declared.view.View.TheVariants.{Member}
 use Rattle.shared_words.specs.Views.{published_at}
 use Rattle.shared_words.specs.Seats.{IsMemberSeat, IsSameSeat, member_of}
-use Rattle.shared_words.specs.Processes.{process_of, AreCopied}
-use Rattle.shared_words.specs.Slots.{IsOfArea, FitsAnchor, MayStoreSlot, with_slot}
+use Rattle.shared_words.specs.Processes.{AreCopied}
+use Rattle.shared_words.specs.Slots.{FitsAnchor, MayStoreSlot, with_slot}
 use Rattle.shared_words.proofs.ShownMembers.{there_is, within_get}
 use Rattle.anchors.specs.Holds.{view_of, anchors_of, names_for, Holds, MayRun}
 use Rattle.anchors.specs.Drops.{AnchorsStored, IsWordWithout, HasDroppedAt, HasDropped}

@@ -1,9 +1,9 @@
 -- What it means for a slot that one more kind of an area is named in it.
-use Rattle.std.proofs.Common.{◌≡◌, ◌≢◌, ℕ, zero, suc, ◌+◌, ◌-◌, ◌*◌, ◌/◌, ◌%◌, ◌<◌, ◌≤◌, ◌⊎◌, ◌↔◌, inl, inr, ⊎_elim, Bool, true, false, not, ◌&&◌, List, [], ◌∷◌, length, Option, Some, refl, sym, ap, subst, ◌∙◌, arith}
+use Rattle.std.proofs.Common.{◌≡◌, ◌≢◌, ℕ, zero, suc, ◌+◌, ◌-◌, ◌*◌, ◌/◌, ◌%◌, ◌≤◌, ◌⊎◌, ◌↔◌, inl, inr, true, false, not, List, [], ◌∷◌, Option, Some, refl, sym, ap, subst, ◌∙◌, arith}
 use mathlib.Core.Logic.{dite}
 use native.Mathlib.Decide.{ℕ_discrete}
 use Rattle.std.specs.Prelude.{◌==◌, slice_get, slice_set, unwrap_or}
-use Rattle.std.proofs.lemmas.Bool.{cases_Bool, and_from, eq-eqb, ne_eqb, not_from_false, both_ways}
+use Rattle.std.proofs.lemmas.Bool.{cases_Bool, and_from, eq-eqb, ne_eqb, not_from_false}
 use Rattle.prgr_core.proofs.Parts.{slice_get-slice_set}
 use Rattle.term_core.specs.declared.hold.Kind.{Kind}
 use Rattle.term_core.specs.declared.hold.Kind.TheVariants.{Frame, Literal}
@@ -18,10 +18,9 @@ use Rattle.shared_words.specs.declared.view.View.{View}
 use Rattle.shared_words.specs.declared.view.View.TheVariants.{Member}
 use Rattle.shared_words.specs.Views.{published_at}
 use Rattle.shared_words.specs.Seats.{member_of}
-use Rattle.shared_words.specs.Processes.{process_of}
 use Rattle.shared_words.specs.Slots.{IsOfArea, FitsAnchor, FitsSlot, MayStoreSlot, with_slot}
 use Rattle.shared_words.proofs.AnchorStores.{process_here}
-use Rattle.anchors.specs.Holds.{anchors_of, StandsNowhere, IsPlaceFor, HasNoPlace, names_for, Holds, MayRun, IsUnkilled, MayReach, MayHold, AreOthers, HasHeld, IsNamedWord}
+use Rattle.anchors.specs.Holds.{anchors_of, IsPlaceFor, HasNoPlace, names_for, Holds, MayRun, IsUnkilled, MayReach, MayHold, AreOthers, HasHeld, IsNamedWord}
 
 -- ---- the word
 

@@ -1,9 +1,8 @@
 -- What it means for a slot that an anchor that named an instance tells of a kill.
-use Rattle.std.proofs.Common.{◌≡◌, ◌≢◌, ℕ, ◌+◌, ◌-◌, ◌*◌, ◌/◌, ◌%◌, ◌<◌, ◌≤◌, ◌⊎◌, inl, inr, Bool, true, false, not, ◌&&◌, List, length, Option, Some, refl, sym, ap, subst, ◌∙◌, arith}
+use Rattle.std.proofs.Common.{◌≡◌, ◌≢◌, ℕ, ◌+◌, ◌-◌, ◌*◌, ◌%◌, ◌<◌, true, false, not, List, Option, Some, refl, sym, ap, subst, ◌∙◌, arith}
 use Rattle.std.specs.Prelude.{◌==◌, slice_get, slice_set, unwrap_or}
 use Rattle.std.proofs.lemmas.Bool.{and_parts, and_from, eqb-true, eq-eqb, ne_eqb}
 use Rattle.std.proofs.lemmas.Bool.Decides.{nat_tests}
-use Rattle.term_core.specs.declared.hold.Kind.TheVariants.{Frame}
 use Rattle.area_core.specs.Map.{word_at}
 use Rattle.area_core.specs.declared.table.Published.{Published}
 use Rattle.area_core.specs.Generations.{serial_in, names_frame, names_literal}
@@ -14,7 +13,7 @@ use Rattle.shared_words.specs.declared.view.View.{View}
 use Rattle.shared_words.specs.declared.view.View.TheVariants.{Member}
 use Rattle.shared_words.specs.Views.{published_at}
 use Rattle.shared_words.specs.Seats.{member_of}
-use Rattle.shared_words.specs.Slots.{IsOfArea, FitsAnchor, MayStoreSlot, with_slot}
+use Rattle.shared_words.specs.Slots.{FitsAnchor, MayStoreSlot, with_slot}
 use Rattle.anchors.specs.Holds.{anchors_of, MayRun}
 use Rattle.anchors.specs.Drops.{IsFrameAt, HasKilled}
 use Rattle.anchors.proofs.Holding.{may_store, anchors_stored}

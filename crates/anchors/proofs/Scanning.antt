@@ -1,22 +1,17 @@
 -- A look through one slot, anchor by anchor.
-use Rattle.std.proofs.Common.{◌≡◌, ℕ, zero, suc, ◌+◌, ◌-◌, ◌<◌, ◌≤◌, ⊎_elim, Bool, true, false, cond, ◌||◌, List, [], ◌∷◌, ◌++◌, length, length-append, Some, refl, sym, ap, subst, ◌∙◌, arith}
+use Rattle.std.proofs.Common.{◌≡◌, ℕ, zero, suc, ◌+◌, ◌-◌, ◌≤◌, ⊎_elim, Bool, true, false, cond, ◌||◌, List, [], ◌∷◌, ◌++◌, length, length-append, Some, refl, sym, ap, subst, ◌∙◌, arith}
 use Rattle.std.specs.Prelude.{slice_get}
-use Rattle.std.specs.List.{list_any}
 use Rattle.prgr_core.proofs.Parts.{slice_get-push_at}
-use Rattle.term_core.specs.declared.hold.Kind.{Kind}
-use Rattle.area_core.specs.Blocks.{Among}
 use Rattle.area_core.proofs.Joined.{any_joined}
 use Rattle.marks.specs.declared.kept.LookKind.{LookKind}
 use Rattle.marks.specs.declared.kept.EndedWait.{EndedWait}
 use Rattle.marks.specs.declared.kept.LookedAnchor.{LookedAnchor}
 use Rattle.marks.specs.declared.kept.ReadTurn.{ReadTurn}
-use Rattle.marks.specs.declared.kept.WriterKept.{WriterKept}
 use Rattle.marks.specs.Names.{names_in, tells_kill}
 use Rattle.marks.specs.Steps.{with_wait, with_looked}
-use Rattle.shared_words.specs.declared.view.NamedAnchor.{NamedAnchor}
 use Rattle.shared_words.specs.declared.view.WriterView.{WriterView}
-use Rattle.shared_words.specs.Slots.{wait_for, look_kind, wait_looked, word_looked, named_looked}
-use Rattle.anchors.specs.Scans.{scan_wait, tells_any, LooksMore, AreFound, IsSlotClear, IsSlotNamed}
+use Rattle.shared_words.specs.Slots.{wait_for, wait_looked}
+use Rattle.anchors.specs.Scans.{tells_any, LooksMore, AreFound, IsSlotClear, IsSlotNamed}
 
 -- ---- what the writer keeps more
 

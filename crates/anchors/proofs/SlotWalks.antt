@@ -15,7 +15,7 @@ use Rattle.shared_words.specs.declared.view.View.TheVariants.{Writer}
 use Rattle.shared_words.specs.Seats.{Place, IsSameSeat, IsWriterSeat, writer_of}
 use Rattle.shared_words.specs.Slots.{look_kind, LookMayBegin, wait_for, wait_looked, slot_looked}
 use Rattle.shared_words.proofs.SlotFrames.{ended_as}
-use Rattle.anchors.specs.Scans.{scan_wait, LooksMore, IsSlotClear, IsSlotNamed}
+use Rattle.anchors.specs.Scans.{scan_wait, LooksMore, IsSlotNamed}
 use Rattle.anchors.proofs.Scanning.{same_wait, SlotLooked, turn_looked, anchor_clear, anchor_named}
 
 -- two steps leave the same seat

@@ -1,5 +1,5 @@
 -- What the store of anchors of one process leaves of what a member knows.
-use Rattle.std.proofs.Common.{◌≡◌, ℕ, zero, suc, ◌+◌, ◌-◌, ◌<◌, ◌≤◌, ⊎_elim, inl, inr, List, [], ◌∷◌, Some, refl, sym, ap, subst, ◌∙◌, arith}
+use Rattle.std.proofs.Common.{◌≡◌, ℕ, zero, suc, ◌+◌, ◌≤◌, inl, inr, List, [], ◌∷◌, Some, refl, sym, ap, subst, ◌∙◌, arith}
 use Rattle.std.specs.Prelude.{slice_get, slice_set}
 use Rattle.atomic_table.specs.Seated.{TableId}
 use Rattle.area_core.specs.Map.{word_at}
@@ -12,9 +12,8 @@ use Rattle.shared_words.specs.Seats.{Place, IsSameSeat, IsMemberSeat, member_of}
 use Rattle.shared_words.specs.Processes.{process_of}
 use Rattle.shared_words.specs.Slots.{with_slot}
 use Rattle.shared_words.proofs.AnchorStores.{process_here, process_else}
-use Rattle.anchors.specs.Holds.{anchors_of, MayRun, HasStored, IsStored}
+use Rattle.anchors.specs.Holds.{anchors_of, MayRun, IsStored}
 use Rattle.anchors.specs.Drops.{AnchorsStored}
-use Rattle.anchors.proofs.Holding.{anchors_stored}
 
 -- ---- lists
 

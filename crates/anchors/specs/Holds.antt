@@ -1,7 +1,7 @@
 -- What a process names: which anchors of its slot are of which area, and what it means to hold an area and to drop it.
 -- Source: Erlang/OTP, the manual pages of the module code (check_process_code, purge) and of persistent_term; anchors are
 -- this project's own.
-use Rattle.std.specs.Prelude.{◌≡◌, ◌≢◌, ℕ, ◌+◌, ◌-◌, ◌*◌, ◌%◌, ◌<◌, ◌≤◌, ◌⊎◌, ◌↔◌, Bool, true, List, Some, slice_get, IsTrue}
+use Rattle.std.specs.Prelude.{◌≡◌, ◌≢◌, ℕ, ◌+◌, ◌-◌, ◌%◌, ◌<◌, ◌≤◌, ◌⊎◌, ◌↔◌, Bool, true, List, Some, slice_get, IsTrue}
 use Rattle.prgr_core.specs.Members as members
 use Rattle.term_core.specs.declared.hold.Kind.{Kind}
 use Rattle.term_core.specs.declared.hold.Kind.TheVariants.{Frame, Literal}

@@ -1,6 +1,6 @@
 -- What a look through the slots finds: the turn word and the anchors of each slot, one after another.
 -- Source: Erlang/OTP, the manual page of the module code (check_process_code, purge); anchors are this project's own.
-use Rattle.std.specs.Prelude.{◌≡◌, ℕ, ◌+◌, ◌-◌, ◌<◌, ◌≤◌, Bool, true, false, List, ◌∷◌, ◌++◌, length, Option, Some, slice_get}
+use Rattle.std.specs.Prelude.{◌≡◌, ℕ, ◌-◌, ◌<◌, ◌≤◌, Bool, true, false, List, ◌∷◌, ◌++◌, length, Option, Some, slice_get}
 use Rattle.std.specs.List.{list_any}
 use Rattle.atomic_table.specs.Table.{State}
 use Rattle.prgr_core.specs.declared.member.Retirement.{Retirement}

@@ -1,4 +1,3 @@
-use Rattle.anchors.specs.Holds.{view_of}
 use Rattle.anchors.proofs.Dropping.{drop_begins, drop_goes_on, drop_ends}
 use Rattle.anchors.proofs.drops.drop_hold.Goals as goal
 

@@ -1,7 +1,6 @@
-use Rattle.std.proofs.Common.{◌≡◌, ℕ, arith}
 use Rattle.shared_words.specs.Slots.{IsOfArea}
 use Rattle.anchors.specs.Holds.{view_of, anchors_of}
-use Rattle.anchors.proofs.Walks.{none_first, none_next, none_at_all, stands}
+use Rattle.anchors.proofs.Walks.{none_first, none_next, none_at_all}
 use Rattle.anchors.proofs.places.anchor_of.Goals as goal
 use Rattle.anchors.proofs.places.anchor_of.Goals.{else-word-ne0-via-then-word-ne0+else-word-serial, else-word-ne0-via-else-word-ne0}
 

@@ -1,6 +1,6 @@
 use Rattle.std.specs.Prelude.{◌≡◌}
 use Rattle.anchors.specs.Holds.{view_of, anchors_of}
-use Rattle.anchors.proofs.Walks.{none_first, none_next, none_at_all, is_free}
+use Rattle.anchors.proofs.Walks.{none_first, none_next, none_at_all}
 use Rattle.anchors.proofs.places.free_anchor.Goals as goal
 
 pub loop-place-init : goal.loop-place-init

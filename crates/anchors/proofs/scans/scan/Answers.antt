@@ -1,4 +1,4 @@
-use Rattle.std.proofs.Common.{◌≡◌, Bool, ◌||◌, sym, ap, ◌∙◌, arith}
+use Rattle.std.proofs.Common.{◌∙◌, arith}
 use Rattle.shared_words.specs.Seats.{writer_of}
 use Rattle.shared_words.specs.Slots.{look_kind}
 use Rattle.anchors.proofs.Scanning.{none_more, more_again}

@@ -1,8 +1,7 @@
-use Rattle.std.proofs.Common.{◌≡◌, Bool, ◌||◌, sym, ap, ◌∙◌, arith}
+use Rattle.std.proofs.Common.{Bool, ◌||◌, sym, ap, ◌∙◌, arith}
 use Rattle.shared_words.specs.Seats.{writer_of}
 use Rattle.shared_words.specs.Slots.{look_kind}
-use Rattle.anchors.proofs.SlotWalks.{may_still, same_again, steps_begin, steps_next, steps_named}
-use Rattle.anchors.proofs.Scanning.{slot_clear}
+use Rattle.anchors.proofs.SlotWalks.{may_still, steps_begin, steps_next, steps_named}
 use Rattle.anchors.proofs.scans.scan_slot.Goals as goal
 
 -- the turn word
