@@ -3,3 +3,5 @@
 
 #[cfg(test)]
 mod exports;
+#[cfg(test)]
+mod staged;

@@ -1,0 +1,6 @@
+mod Indices
+mod Words
+mod Owned
+mod Rooted
+mod Copying
+mod Commits

@@ -1,0 +1,6 @@
+pub mod Exports
+pub mod Staging
+pub mod Roots
+pub mod Copied
+pub mod Committed
+pub mod Laws
