@@ -1,5 +1,5 @@
-mod Begun
-mod Emptied
+pub mod Begun
+pub mod Emptied
 mod Ended
-mod Leading
+pub mod Leading
 mod Noted

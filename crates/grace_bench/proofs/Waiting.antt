@@ -1,0 +1,63 @@
+-- What the calls of one who waits for a grace period leave of the writer and of the member that leads.
+use Rattle.std.proofs.Common.{◌≡◌, ℕ, [], ◌∷◌, ◌+◌, ◌≤◌, List, refl, sym, ap, subst, ◌∙◌}
+use Rattle.atomic_table.specs.Seated.{TableId}
+use Rattle.term_core.specs.declared.generation.Generation.{Generation}
+use Rattle.prgr_core.specs.declared.member.Retirement.{Retirement}
+use Rattle.area_core.specs.Blocks.{Among}
+use Rattle.area_core.specs.Map.{word_at}
+use Rattle.shared_words.specs.declared.opening.Opening.{Opening}
+use Rattle.shared_words.specs.declared.seats.Member as members
+use Rattle.shared_words.specs.declared.seats.Writer as writers
+use Rattle.shared_words.specs.declared.view.MemberView.{MemberView}
+use Rattle.shared_words.specs.declared.view.WriterView.{WriterView}
+use Rattle.shared_words.specs.Kinds.{counter_kept}
+use Rattle.shared_words.specs.Views.{newest}
+use Rattle.shared_words.proofs.ShownMembers.{still_at}
+use Rattle.progress_words.specs.Tokens.{view_of, IsMemberOf, IsWriterOf}
+use Rattle.progress_words.specs.Reports.{Reported}
+use Rattle.progress_words.specs.Leads.{IsLeader}
+use Rattle.progress_words.specs.Needs.{HasLoadedCounter, HasTaken}
+use Rattle.progress_tests.specs.Running.{IsReady, IsEmpty}
+use Rattle.grace_bench.specs.Waiting.{AreWaiting, HasAsked, IsOver}
+
+-- ---- the writer
+
+-- each load of the counter takes one more value
+one_more : (w : WriterView) (counter : ℕ) → HasAsked w (counter_kept counter w)
+one_more w counter = record { published = refl; words = refl; kept = refl; pairs = λ pair among. (among.0, still_at w.pairs (record { generation = newest w.published; need = counter + 2 } ∷ []) among.0 pair among.1) }
+
+pub asked_now : (old new : WriterView) → HasLoadedCounter old new → HasAsked old new
+asked_now old new loaded = subst (HasAsked old) (sym loaded.view) (one_more old loaded.counter)
+
+pub asked_none : (w : WriterView) → HasAsked w w
+asked_none w = record { published = refl; words = refl; kept = refl; pairs = λ pair among. among }
+
+pub asked_more : (a b c : WriterView) → HasAsked a b → HasAsked b c → HasAsked a c
+asked_more a b c first second = record {
+  published = second.published ∙ first.published;
+  words = second.words ∙ first.words;
+  kept = second.kept ∙ first.kept;
+  pairs = λ pair among. second.pairs pair (first.pairs pair among);
+}
+
+-- what was taken before is over once it is reached
+pub over_now : (old new : WriterView) (generation need : ℕ) → HasTaken old generation need → HasAsked old new → need ≤ new.counter → IsOver new generation
+over_now old new generation need taken asked reached = record { need = need; taken = asked.pairs (record { generation = generation; need = need }) taken; reached = reached }
+
+-- who has published empty generations alone has done so still
+pub still_empty : (old new : WriterView) → HasAsked old new → IsEmpty old → IsEmpty new
+still_empty old new asked empty = record {
+  published = λ p among. empty.published p (subst (λ xs. Among xs p) asked.published among);
+  words = λ place. ap (λ xs. word_at xs place) asked.words ∙ empty.words place;
+  kept = asked.kept ∙ empty.kept;
+}
+
+-- ---- the member
+
+-- a report and a try to raise the counter leave a leader without slots
+pub still_none : (Served : Generation → Type 0) (old between new : MemberView) (generation : ℕ) → Reported Served old between generation → new.slots ≡ between.slots → old.slots ≡ [] → new.slots ≡ []
+still_none Served old between new generation told kept none = kept ∙ ap (λ (m : MemberView). m.slots) told.view ∙ none
+
+-- who was ready and has taken the lead waits with the writer
+pub begins : (table : TableId) (opening : Opening) (writer : writers.Writer) (old new : members.Member) → IsWriterOf table opening writer → IsReady table old → IsMemberOf table new → IsLeader (view_of new) → (view_of new).slots ≡ (view_of old).slots → AreWaiting table opening writer new
+begins table opening writer old new token ready of leads kept = record { token = token; of = of; leads = leads; slots = kept ∙ ready.slots }

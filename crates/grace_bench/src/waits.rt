@@ -1,0 +1,63 @@
+//! A wait of the writer, beside a member that leads in the same thread.
+
+ghost use Rattle.std.specs.Prelude.{◌≡◌, ◌≤◌, true};
+ghost use Rattle.shared_words.specs.Views.{newest};
+ghost use Rattle.progress_words.specs.Tokens.{written_by};
+ghost use Rattle.progress_words.specs.Needs.{HasTaken};
+ghost use Rattle.grace_bench.specs.Waiting.{AreWaiting, HasAsked, IsOver};
+
+use crate::tables::Any;
+use progress_words::{advance, later, reached, report};
+use shared_words::{Member, Shared, Writer};
+use std::sync::Wait;
+use std::thread::yield_now;
+
+/// How often the writer asks before it lets another thread run. liburcu asks as often before it sleeps.
+const ASKED: u32 = 100;
+
+/// Waits until no thread may read a generation before the newest one.
+pub fn wait_over<R: Wait>(rt: &R, shared: &Shared<Any>, writer: &mut Writer, leader: &mut Member)
+    requires waiting { AreWaiting shared.now.table.shared.table_id shared.now.table.shared.key writer.old leader.old }
+    ensures waiting { AreWaiting shared.now.table.shared.table_id shared.now.table.shared.key writer.new leader.new }
+    ensures generation { writer.new.generation ≡ writer.old.generation }
+    ensures asked { HasAsked (written_by writer.old) (written_by writer.new) }
+    ensures over { IsOver (written_by writer.new) (newest (written_by writer.old).published) }
+{
+    let need = later(shared, writer);
+    for _ in rt.forever() {
+        if ask_often(shared, writer, leader, need) {
+            return;
+        }
+        yield_now();
+    }
+}
+
+/// Asks some times whether the value is reached.
+fn ask_often(shared: &Shared<Any>, writer: &mut Writer, leader: &mut Member, need: u64) -> bool
+    requires waiting { AreWaiting shared.now.table.shared.table_id shared.now.table.shared.key writer.old leader.old }
+    ensures waiting { AreWaiting shared.now.table.shared.table_id shared.now.table.shared.key writer.new leader.new }
+    ensures generation { writer.new.generation ≡ writer.old.generation }
+    ensures asked { HasAsked (written_by writer.old) (written_by writer.new) }
+    ensures reached { result ≡ true → need ≤ (written_by writer.new).counter }
+{
+    for _ in 0..ASKED {
+        if ask(shared, writer, leader, need) {
+            return true;
+        }
+    }
+    false
+}
+
+/// Reports, tries to raise the counter, and asks whether the value is reached.
+#[tactic(auto, using(crate::proofs::Waiting::asked_now, crate::proofs::Waiting::still_none, progress_tests::proofs::Begun::empty_rests))]
+fn ask(shared: &Shared<Any>, writer: &mut Writer, leader: &mut Member, need: u64) -> bool
+    requires waiting { AreWaiting shared.now.table.shared.table_id shared.now.table.shared.key writer.old leader.old }
+    ensures waiting { AreWaiting shared.now.table.shared.table_id shared.now.table.shared.key writer.new leader.new }
+    ensures generation { writer.new.generation ≡ writer.old.generation }
+    ensures asked { HasAsked (written_by writer.old) (written_by writer.new) }
+    ensures reached { result ≡ true → need ≤ (written_by writer.new).counter }
+{
+    report(shared, leader);
+    advance(shared, leader);
+    reached(shared, writer, need).is_ok()
+}

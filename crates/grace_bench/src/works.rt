@@ -1,0 +1,50 @@
+//! What the words after the program's name ask for.
+
+use term_core::narrow_of;
+
+/// A kind of work, and how often it is done.
+#[derive(Clone, Copy, Debug, PartialEq, Eq)]
+pub enum Work {
+    /// `report N`: one member reports, and nobody waits.
+    Report { times: u32 },
+    /// `wait R N`: the writer waits for grace periods beneath so many threads, from 1 to 15, that report
+    /// all the time.
+    Wait { readers: u32, times: u32 },
+    /// `load N`: the writer loads all anchors of all processes.
+    Load { times: u32 },
+}
+
+/// A little of each work.
+pub const LITTLE: [Work; 5] = [
+    Work::Report { times: 1000 },
+    Work::Wait {
+        readers: 1,
+        times: 100,
+    },
+    Work::Wait {
+        readers: 2,
+        times: 100,
+    },
+    Work::Wait {
+        readers: 4,
+        times: 10,
+    },
+    Work::Load { times: 10 },
+];
+
+/// The work that these words ask for.
+pub fn work_of(words: &[String]) -> Option<Work> {
+    match words {
+        [name, times] if name.as_str() == "report" => Some(Work::Report {
+            times: narrow_of(times.as_bytes())?,
+        }),
+        [name, times] if name.as_str() == "load" => Some(Work::Load {
+            times: narrow_of(times.as_bytes())?,
+        }),
+        [name, readers, times] if name.as_str() == "wait" => Some(Work::Wait {
+            readers: narrow_of(readers.as_bytes())?,
+            times: narrow_of(times.as_bytes())?,
+        }),
+        _ => None,
+    }
+}
