@@ -26,7 +26,7 @@ class Times(unittest.TestCase):
         return path
 
     def test_difference_of_two_counts(self):
-        work = time_grace.Work("wait 1", (1, 11), 2)
+        work = time_grace.Work("wait 1", "", (1, 11), 2)
         times = {("a", 1): [3.0, 2.0], ("a", 11): [7.0, 8.0], ("b", 1): [1.0, 1.5], ("b", 11): [3.0, 2.0]}
         with mock.patch.object(time_grace, "seconds", lambda program, _, count: times[program, count].pop(0)):
             taken = time_grace.nanoseconds(["a", "b"], work, 2)
@@ -34,19 +34,19 @@ class Times(unittest.TestCase):
 
     def test_work_that_was_done(self):
         program = self.program("import sys\nprint(*sys.argv[1:])\n")
-        self.assertGreater(time_grace.seconds(program, time_grace.Work("wait 1", (1, 2), 2), 1), 0)
+        self.assertGreater(time_grace.seconds(program, time_grace.Work("wait 1", "", (1, 2), 2), 1), 0)
 
     def test_work_that_was_not_done(self):
         with self.assertRaisesRegex(SystemExit, "it wrote 'wait 1 0"):
-            time_grace.seconds(self.program("print('wait 1 0')\n"), time_grace.Work("wait 1", (1, 2), 2), 1)
+            time_grace.seconds(self.program("print('wait 1 0')\n"), time_grace.Work("wait 1", "", (1, 2), 2), 1)
 
     def test_row(self):
-        work = time_grace.Work("report", (1, 2), 10)
-        self.assertEqual(time_grace.row(work, [12.0, 6.0, 0.5]), "| report | 12.0 | 6.0 | 2.0 | 0.5 | 24.0 | 10 |")
-        self.assertEqual(time_grace.row(work, [12.0, 6.0, 0.0]), "| report | 12.0 | 6.0 | 2.0 | 0.0 | - | 10 |")
+        work = time_grace.Work("report", "a report", (1, 2), 10)
+        self.assertEqual(time_grace.row(work, [12.0, 6.0, 0.5]), "| a report | 12.0 | 6.0 | 2.0 | 0.5 | 24.0 | 10 |")
+        self.assertEqual(time_grace.row(work, [12.0, 6.0, 0.0]), "| a report | 12.0 | 6.0 | 2.0 | 0.0 | - | 10 |")
 
     def test_one_thread_alone(self):
-        self.assertEqual([work.is_alone() for work in time_grace.WORKS], [True, False, False, False])
+        self.assertEqual([work.is_alone() for work in time_grace.BESIDE], [True, False, False, False])
 
 
 if __name__ == "__main__":

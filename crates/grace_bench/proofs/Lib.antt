@@ -1,2 +1,5 @@
+mod Holding
+mod Looking
 mod Members
+mod Used
 mod Waiting

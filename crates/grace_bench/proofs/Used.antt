@@ -1,5 +1,5 @@
 -- The generation of one instance without words may be published over words that are all 0.
-use Rattle.std.proofs.Common.{◌≡◌, ℕ, zero, suc, ◌+◌, ◌-◌, ◌*◌, ◌<◌, inl, inr, ⊎_elim, Bool, true, false, ◌||◌, List, [], ◌∷◌, ◌++◌, length, refl, sym, ap, subst, ◌∙◌, arith}
+use Rattle.std.proofs.Common.{◌≡◌, ℕ, zero, suc, inl, inr, ⊎_elim, Bool, true, false, ◌||◌, List, [], ◌∷◌, ◌++◌, length, refl, sym, ap, subst, ◌∙◌, arith}
 use Rattle.std.specs.Prelude.{◌==◌, Some, slice_get, IsTrue}
 use Rattle.std.specs.List.{list_any}
 use Rattle.std.proofs.lemmas.Bool.{cases_Bool, eqb-true}
@@ -103,7 +103,8 @@ module _ (w : WriterView) (h : IsEmpty w) where
   -- it may be published
   pub may_publish_used : (Served : Generation → Type 0) → Served used_published.state → MayPublish Served w used_published
   may_publish_used Served served =
-      let b = blocks_opened word h.words (λ g. Unit {0}) in record {
+      let b = blocks_opened word h.words (λ g. Unit {0}) in
+      let empty_terms = b.terms_stand 0 opening_published tt refl in record {
         served = served;
         old_stays = λ g later p q serial le at_p at_q old. absurd (each (λ x. has_serial x.state.old serial ≡ true → ⊥) never never g p at_p old);
         retired_stays = λ g later p q serial le at_p at_q retired. dropped_unused serial p q g later at_p at_q retired;
@@ -112,7 +113,7 @@ module _ (w : WriterView) (h : IsEmpty w) where
           placed = placed;
           code = b.code_stands 0 opening_published tt refl;
           breakpoints = breakpoints;
-          terms = b.terms_stand 0 opening_published tt refl;
+          terms = record { found = λ i k at. absurd (no_element i at); only = empty_terms.only };
           used = subst (λ (xs : List KeptArea). UsedAreKept xs used_published) (sym kept_is) (λ serial used. subst (λ (n : ℕ). IsTrue (list_any (is_kept_as used_published n) (the_kept ∷ []))) (sym (used_is serial used)) refl);
           areas = λ k among. subst (λ (x : KeptArea). AreaStands word x (length w.published) used_published) (sym (one_kept k among)) (stands (length w.published) used_published refl refl refl);
         };

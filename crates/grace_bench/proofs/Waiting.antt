@@ -1,8 +1,7 @@
 -- What the calls of one who waits for a grace period leave of the writer and of the member that leads.
-use Rattle.std.proofs.Common.{◌≡◌, ℕ, [], ◌∷◌, ◌+◌, ◌≤◌, List, refl, sym, ap, subst, ◌∙◌}
+use Rattle.std.proofs.Common.{◌≡◌, ℕ, [], ◌∷◌, ◌+◌, ◌≤◌, refl, sym, ap, subst, ◌∙◌}
 use Rattle.atomic_table.specs.Seated.{TableId}
 use Rattle.term_core.specs.declared.generation.Generation.{Generation}
-use Rattle.prgr_core.specs.declared.member.Retirement.{Retirement}
 use Rattle.area_core.specs.Blocks.{Among}
 use Rattle.area_core.specs.Map.{word_at}
 use Rattle.shared_words.specs.declared.opening.Opening.{Opening}

@@ -1,1 +1,3 @@
+pub mod Used
+pub mod Holding
 pub mod Waiting

@@ -4,14 +4,18 @@
 #![tactic(auto)]
 
 mod grace;
+mod holds;
 mod reports;
+mod scans;
 mod slots;
 mod tables;
 mod waits;
 mod works;
 
 use grace::{MOST_READERS, wait_beside};
+use holds::hold_alone;
 use reports::report_alone;
+use scans::scan_alone;
 use slots::load_alone;
 use std::alloc::Global;
 use std::env;
@@ -72,6 +76,8 @@ fn do_little<R: Threads + Wait + Sync + Print>(rt: &R, alloc: Global) -> u8 {
 fn do_work<R: Threads + Wait + Sync + Print>(rt: &R, alloc: Global, work: Work) -> u8 {
     let done = match work {
         Work::Report { times } => report_alone(alloc, times),
+        Work::Hold { times } => hold_alone(alloc, times),
+        Work::Scan { times } => scan_alone(rt, alloc, times),
         Work::Load { times } => load_alone(alloc, times),
         Work::Wait { readers, times } if readers > 0 && readers <= MOST_READERS => {
             wait_beside(rt, alloc, readers, times)
@@ -96,6 +102,8 @@ fn told(written: io::Result<()>) -> u8 {
 fn write_done<R: Print>(rt: &R, work: Work, done: u32) -> io::Result<()> {
     match work {
         Work::Report { .. } => println!(rt; "report {done}"),
+        Work::Hold { .. } => println!(rt; "hold {done}"),
+        Work::Scan { .. } => println!(rt; "scan {done}"),
         Work::Load { .. } => println!(rt; "load {done}"),
         Work::Wait { readers, .. } => println!(rt; "wait {readers} {done}"),
     }

@@ -10,12 +10,16 @@ pub enum Work {
     /// `wait R N`: the writer waits for grace periods beneath so many threads, from 1 to 15, that report
     /// all the time.
     Wait { readers: u32, times: u32 },
+    /// `hold N`: a process names an area and drops it.
+    Hold { times: u32 },
+    /// `scan N`: the writer looks through the slots of all processes for an area that none names.
+    Scan { times: u32 },
     /// `load N`: the writer loads all anchors of all processes.
     Load { times: u32 },
 }
 
 /// A little of each work.
-pub const LITTLE: [Work; 5] = [
+pub const LITTLE: [Work; 7] = [
     Work::Report { times: 1000 },
     Work::Wait {
         readers: 1,
@@ -29,22 +33,30 @@ pub const LITTLE: [Work; 5] = [
         readers: 4,
         times: 10,
     },
+    Work::Hold { times: 1000 },
+    Work::Scan { times: 10 },
     Work::Load { times: 10 },
 ];
 
 /// The work that these words ask for.
 pub fn work_of(words: &[String]) -> Option<Work> {
     match words {
-        [name, times] if name.as_str() == "report" => Some(Work::Report {
-            times: narrow_of(times.as_bytes())?,
-        }),
-        [name, times] if name.as_str() == "load" => Some(Work::Load {
-            times: narrow_of(times.as_bytes())?,
-        }),
+        [name, times] => work_named(name.as_str(), narrow_of(times.as_bytes())?),
         [name, readers, times] if name.as_str() == "wait" => Some(Work::Wait {
             readers: narrow_of(readers.as_bytes())?,
             times: narrow_of(times.as_bytes())?,
         }),
+        _ => None,
+    }
+}
+
+/// The work of this name that needs a count alone.
+fn work_named(name: &str, times: u32) -> Option<Work> {
+    match name {
+        "report" => Some(Work::Report { times }),
+        "hold" => Some(Work::Hold { times }),
+        "scan" => Some(Work::Scan { times }),
+        "load" => Some(Work::Load { times }),
         _ => None,
     }
 }
