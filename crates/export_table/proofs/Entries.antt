@@ -1,13 +1,12 @@
 -- Lemmas on the names of a table: what a look-up finds, and what an addition leaves.
-use Rattle.std.proofs.Common.{◌≡◌, ℕ, ◌+◌, ◌<◌, ◌≤◌, ◌==◌, ◌&&◌, ◌⊎◌, inl, inr, Bool, true, false, cond, List, [], ◌∷◌, ◌++◌, map, length, Option, Some, None, is_some, position, slice_get, get_or, unwrap_or, refl, sym, ap, ◌∙◌, subst, arith, length-append}
+use Rattle.std.proofs.Common.{◌≡◌, ℕ, ◌+◌, ◌<◌, ◌==◌, ◌&&◌, ◌⊎◌, inl, inr, Bool, true, false, cond, List, [], ◌∷◌, ◌++◌, map, length, Option, Some, None, is_some, position, slice_get, get_or, unwrap_or, refl, sym, ap, ◌∙◌, subst, arith, length-append}
 use Rattle.std.specs.List.{list_any}
 use Rattle.std.proofs.lemmas.Bool.Decides.{nat_tests}
-use Rattle.std.proofs.lemmas.List.{map-append, length-map}
+use Rattle.std.proofs.lemmas.List.{map-append}
 use Rattle.std.proofs.lemmas.List.Folds.{list_any_at}
 use Rattle.std.proofs.lemmas.Option.{get_or_from_slice_get, slice_get_within}
 use Rattle.term_core.specs.declared.atom.Mfa.{Mfa}
-use Rattle.term_core.proofs.Places.{position-map, is_some-position, position-append_one, position-append_found, slice_get-append, slice_get-append_one}
-use Rattle.term_core.proofs.Truths.{none_is_not_some}
+use Rattle.term_core.proofs.Places.{position-map, is_some-position, position-append_one, slice_get-append, slice_get-append_one}
 use Rattle.export_table.specs.declared.names.FunctionKey.{FunctionKey}
 use Rattle.export_table.specs.FunctionKeys.{name_of_key}
 use Rattle.export_table.specs.Exports.{is_same_name, entry_of, names_with, AreEntries, HasEntry}
@@ -42,10 +41,6 @@ stands_nowhere names to i none at =
     let not : is_some (entry_of names to) ≡ false = ap is_some none in
     absurd (cc)
 
--- there are no names at first
-pub none_held : AreEntries []
-none_held = record { once = λ i j name a b. cc; room = omega arith }
-
 -- what stands behind a list is in it, or is what follows
 place_of : (names : List Mfa) (to : Mfa) (i : ℕ) (name : Mfa) → slice_get (names ++ to ∷ []) i ≡ Some name → (slice_get names i ≡ Some name) ⊎ ((i ≡ length names) × (to ≡ name))
 place_of names to i name at =
@@ -79,14 +74,6 @@ entries_with names to sound none room =
 -- a new name has the next number
 pub entry_next : (names : List Mfa) (to : Mfa) → entry_of names to ≡ None → entry_of (names_with names to) to ≡ Some (length names)
 entry_next names to none = ap (λ o. entry_of (cond (is_some o) names (names ++ to ∷ [])) to) none ∙ position-append_one (is_same_name to) names to none (same_self to)
-
--- a name that was held keeps its number
-pub entry_kept : (names : List Mfa) (to name : Mfa) (number : ℕ) → entry_of names name ≡ Some number → entry_of (names_with names to) name ≡ Some number
-entry_kept names to name number at = by_test (is_some (entry_of names to))
-  where
-    by_test : (t : Bool) → entry_of (cond t names (names ++ to ∷ [])) name ≡ Some number
-    by_test true = at
-    by_test false = position-append_found (is_same_name name) names (to ∷ []) number at
 
 -- with a new name the table has its entry
 pub entry_added : (names : List Mfa) (to : Mfa) (number : ℕ) (after : List Mfa) → entry_of names to ≡ None → number ≡ length names → number < 1024 → after ≡ names_with names to → HasEntry names to number after

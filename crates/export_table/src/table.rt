@@ -1,4 +1,4 @@
-ghost use Rattle.std.specs.Prelude.{◌≡◌, ◌↔◌, ◌<◌, ℕ, [], length, IfOk, IfErr, IsErrOf, None, OnErr, Ok, Some};
+ghost use Rattle.std.specs.Prelude.{◌≡◌, ◌↔◌, ◌<◌, ℕ, [], length, IfOk, IsErrOf, None, OnErr, Ok, Some};
 ghost use Rattle.std.specs.Option.{IfSome};
 ghost use Rattle.term_core.specs.declared.atom.Mfa.{Mfa};
 ghost use Rattle.export_table.specs.Exports.{HasEntry, entry_of};

@@ -1,9 +1,9 @@
 -- What `add` answers, by the number that its set finds.
-use Rattle.std.proofs.Common.{rules, ◌≡◌, ℕ, None, Ok, length, map, sym, ap, ◌∙◌, arith, subst}
+use Rattle.std.proofs.Common.{rules, ◌≡◌, Ok, length, map, sym, ap, ◌∙◌, arith, subst}
 use Rattle.std.proofs.lemmas.List.{length-map}
 use Rattle.term_core.proofs.Truths.{none_is_not_some}
 use Rattle.export_table.specs.FunctionKeys.{name_of_key}
-use Rattle.export_table.specs.Exports.{AreEntries, HasEntry, entry_of, names_with}
+use Rattle.export_table.specs.Exports.{AreEntries, entry_of, names_with}
 use Rattle.export_table.proofs.Entries.{found_at, key_added, entries_with, entry_added, entry_held, one_number}
 use Rattle.export_table.proofs.table.ExportTable.add.Goals as goal
 

@@ -1,5 +1,5 @@
 -- The set has the key of the name at its number, or has it not.
-use Rattle.std.proofs.Common.{◌≡◌, sym, ◌∙◌}
+use Rattle.std.proofs.Common.{sym, ◌∙◌}
 use Rattle.export_table.specs.Exports.{entry_of}
 use Rattle.export_table.proofs.Entries.{key_place}
 use Rattle.export_table.proofs.table.ExportTable.entry.Goals as goal
