@@ -19,7 +19,7 @@ use Rattle.shared_words.specs.Publishing.{FitsInBlock, FitsWord, MayStoreWord, M
 use Rattle.shared_words.proofs.ShownMembers.{there_is}
 use Rattle.progress_words.specs.Tokens.{written_by, IsWriterOf, IsSameWriter}
 use Rattle.code_index.specs.declared.index.Staging.{Staging}
-use Rattle.code_index.specs.declared.index.Staging.TheVariants.{Nothing, Staged}
+use Rattle.code_index.specs.declared.index.Staging.TheVariants.{Nothing}
 use Rattle.code_index.specs.Staging.{newest_of, active_index, staging_index, block_of, IsStaged, GoesWith, IsIndexOf}
 use Rattle.code_index.specs.Copied.{HasCopiedWord, HasCopied}
 use Rattle.code_index.proofs.Indices.{behind_fits, behind_differs, index_kind, index_within, index_apart}
@@ -71,9 +71,6 @@ owned_staged x w entry value few own =
 
 -- ---- one word after another
 
-pub none_copied : (block : ℕ) (w : WriterView) → HasCopied block 0 w w
-none_copied block w = record { leads = λ entry few. absurd (omega (arith)); others = λ place off. refl; same = refl }
-
 module _ (block count : ℕ) (old now next : WriterView) (h : HasCopied block count old now) (one : HasCopiedWord block count now next) (all : length now.words ≡ 83413) (fits : block < 3) (few : count < 1024) where
   abbrev place : ℕ
   place = block_place block count
@@ -119,18 +116,6 @@ pub record CopiesOn (table : TableId) (opening : Opening) (block count : ℕ) (o
   pub copied : HasCopied block count (written_by old) (written_by now)
   pub owned : IsIndexOf Nothing (written_by now)
 
-pub copies_none : (table : TableId) (opening : Opening) (block : ℕ) (old : writers.Writer) → IsWriterOf table opening old → IsIndexOf Nothing (written_by old) → CopiesOn table opening block 0 old old
-copies_none table opening block old token own = record {
-  token = token;
-  same = record { seat = record { same_table = refl; same_number = refl; same_slots = refl }; generation = refl };
-  copied = none_copied block (written_by old);
-  owned = own;
-}
-
--- the active and the staging index are the same while words are copied
-pub active_now : (block count : ℕ) (old now : WriterView) → HasCopied block count old now → active_index now ≡ active_index old
-active_now block count old now h = ap active_index h.same
-
 pub copies_more : (table : TableId) (opening : Opening) (block count : ℕ) (old now next : writers.Writer) → CopiesOn table opening block count old now → block ≡ staging_index (written_by now) → count < 1024 → IsWriterOf table opening next → IsSameWriter now next → HasCopiedWord block count (written_by now) (written_by next) → CopiesOn table opening block (count + 1) old next
 copies_more table opening block count old now next h staging few token same one = record {
   token = token;
@@ -150,9 +135,6 @@ copies_more table opening block count old now next h staging few token same one 
     fits = let low = behind_fits (active_index (written_by now)) in omega (arith, low, staging)
 
 -- ---- what is staged then
-
-pub owned_begun : (w : WriterView) (block : ℕ) → block ≡ staging_index w → IsIndexOf Nothing w → IsIndexOf (Staged block) w
-owned_begun w block is own = record { all = own.all; areas = own.areas; fits = own.fits; active = own.active; free = own.free; staged = is }
 
 -- the block of what is staged is that of the staging index
 pub staged_block : (x : Staging) (w : WriterView) → IsStaged x → GoesWith x w → block_of x ≡ staging_index w

@@ -1,14 +1,14 @@
 //! The call by which what is staged is published.
 
-ghost use Rattle.std.specs.Prelude.{◌≡◌, ◌≢◌, ◌+◌, ◌≤◌, ◌<◌, ◌^◌, length, IfOk, IfErr, OnOk, OnErr};
+ghost use Rattle.std.specs.Prelude.{◌≡◌, ◌≢◌, ◌≤◌, ◌<◌, ◌^◌, length, IfOk, IfErr, OnOk, OnErr};
 ghost use Rattle.area_core.specs.declared.map.TheConstants.{CODE_INDICES, BREAKPOINT_INDICES, TERM_TABLES};
 ghost use Rattle.area_core.specs.Step.{to_publish};
 ghost use Rattle.shared_words.specs.Seats.{IsSameSeat};
 ghost use Rattle.shared_words.specs.Publishing.{MayPublish, with_next};
 ghost use Rattle.progress_words.specs.Tokens.{written_by, IsWriterOf, IsSameWriter};
 ghost use Rattle.code_index.specs.declared.index.Staging.TheVariants as staging;
-ghost use Rattle.code_index.specs.Staging.{IsIndexOf, block_of};
-ghost use Rattle.code_index.specs.Committed.{MayCommit, HasAsked, HasBegun, HasCommitted, IsWaiting, committed};
+ghost use Rattle.code_index.specs.Staging.{IsIndexOf};
+ghost use Rattle.code_index.specs.Committed.{MayCommit, HasBegun, HasCommitted, IsWaiting, committed};
 
 use crate::index::{CodeIndex, Staging};
 use crate::roots::newest_root;

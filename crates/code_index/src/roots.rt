@@ -1,10 +1,7 @@
 //! What the root word says.
 
-ghost use Rattle.std.specs.Prelude.{◌≡◌, ◌+◌, ◌<◌, length};
-ghost use Rattle.area_core.specs.declared.map.TheConstants.{CODE_INDICES, BREAKPOINT_INDICES, TERM_TABLES};
-ghost use Rattle.shared_words.specs.Views.{newest};
+ghost use Rattle.std.specs.Prelude.{◌≡◌};
 ghost use Rattle.progress_words.specs.Tokens.{written_by, IsWriterOf, IsSameWriter};
-ghost use Rattle.code_index.specs.Staging.{newest_of};
 ghost use Rattle.code_index.specs.Roots.{IsNewestRoot};
 
 use shared_words::{Served, Shared, Writer};
