@@ -25,23 +25,27 @@ class Times(unittest.TestCase):
         path.chmod(path.stat().st_mode | stat.S_IXUSR)
         return path
 
-    def test_difference_of_two_counts(self):
-        work = time_grace.Work("wait 1", "", (1, 11), 2)
-        times = {("a", 1): [3.0, 2.0], ("a", 11): [7.0, 8.0], ("b", 1): [1.0, 1.5], ("b", 11): [3.0, 2.0]}
-        with mock.patch.object(time_grace, "seconds", lambda program, _, count: times[program, count].pop(0)):
-            taken = time_grace.nanoseconds(["a", "b"], work, 2)
-        self.assertEqual(taken, [0.5e9, 0.1e9])
+    def test_count_that_takes_long_enough(self):
+        with mock.patch.object(time_grace, "seconds", lambda _program, _work, count: count / 100):
+            self.assertEqual(time_grace.large_count("a", time_grace.Work("wait 1", "", 2)), 160)
+
+    def test_least_times(self):
+        times = {("a", 1): [3.0, 2.0], ("a", 10): [7.0, 6.5], ("b", 1): [1.0, 1.5], ("b", 10): [2.8, 1.9]}
+        with mock.patch.object(time_grace, "large_count", lambda *_: 10):
+            with mock.patch.object(time_grace, "seconds", lambda program, _, count: times[program, count].pop(0)):
+                taken = time_grace.nanoseconds(["a", "b"], time_grace.Work("wait 1", "", 2), 2)
+        self.assertEqual([round(each) for each in taken], [500_000_000, 100_000_000])
 
     def test_work_that_was_done(self):
         program = self.program("import sys\nprint(*sys.argv[1:])\n")
-        self.assertGreater(time_grace.seconds(program, time_grace.Work("wait 1", "", (1, 2), 2), 1), 0)
+        self.assertGreater(time_grace.seconds(program, time_grace.Work("wait 1", "", 2), 1), 0)
 
     def test_work_that_was_not_done(self):
         with self.assertRaisesRegex(SystemExit, "it wrote 'wait 1 0"):
-            time_grace.seconds(self.program("print('wait 1 0')\n"), time_grace.Work("wait 1", "", (1, 2), 2), 1)
+            time_grace.seconds(self.program("print('wait 1 0')\n"), time_grace.Work("wait 1", "", 2), 1)
 
     def test_row(self):
-        work = time_grace.Work("report", "a report", (1, 2), 10)
+        work = time_grace.Work("report", "a report", 10)
         self.assertEqual(time_grace.row(work, [12.0, 6.0, 0.5]), "| a report | 12.0 | 6.0 | 2.0 | 0.5 | 24.0 | 10 |")
         self.assertEqual(time_grace.row(work, [12.0, 6.0, 0.0]), "| a report | 12.0 | 6.0 | 2.0 | 0.0 | - | 10 |")
 

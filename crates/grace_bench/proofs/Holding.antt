@@ -34,6 +34,7 @@ use Rattle.shared_words.proofs.OpeningRule.{last_get}
 use Rattle.progress_words.specs.Tokens.{view_of, written_by, IsMemberOf, IsSameMember}
 use Rattle.progress_words.specs.Reports.{IsAwake, Reported}
 use Rattle.progress_tests.proofs.Begun.{empty_rests}
+use Rattle.progress_tests.proofs.Emptied.{no_element}
 use Rattle.anchors.specs.Holds.{anchors_of, IsUnkilled, HasHeld}
 use Rattle.anchors.specs.Drops.{AnchorsStored, HasDropped}
 use Rattle.anchors.proofs.Stored.{hold_stored, run_still}
@@ -51,14 +52,11 @@ tells_now table opening handed begun w n is next noted =
       seen = ap (λ (v : NoteView). v.seen) noted ∙ published;
     }
 
-no_note : (note : NoteNumber) (i : ℕ) → slice_get {X = NoteNumber} [] i ≡ Some note → ⊥
-no_note note i at = (cc)
-
 -- it may be made for process 0
 pub may_tell : (table : TableId) (opening : Opening) (handed : ℕ) (begun : writers.Writer) (w : WriterView) → IsHanding table opening handed begun.seat → w ≡ with_next used_published (written_by begun) → MaySplitNote w 0
 may_tell table opening handed begun w is next =
     let none : w.notes ≡ [] = ap (λ (v : WriterView). v.notes) (next ∙ ap (with_next used_published) (ap writer_of is.view)) in
-    record { below = omega (arith); first = λ note among same. no_note note among.0 (subst (λ (ns : List NoteNumber). slice_get ns among.0 ≡ Some note) none among.1) }
+    record { below = omega (arith); first = λ note among same. no_element among.0 (subst (λ (ns : List NoteNumber). slice_get ns among.0 ≡ Some note) none among.1) }
 
 -- ---- the member
 

@@ -17,13 +17,8 @@ use Rattle.area_core.proofs.Opened.{blocks_opened}
 use Rattle.shared_words.specs.declared.view.WriterView.{WriterView}
 use Rattle.shared_words.specs.Publishing.{MayPublish, IsRootOf, kept_next}
 use Rattle.progress_tests.specs.Running.{IsEmpty}
+use Rattle.progress_tests.proofs.Emptied.{never, no_element}
 use Rattle.grace_bench.specs.Used.{used_area, used_published}
-
-never : false ≡ true → ⊥
-never e = (cc)
-
-no_element : {X : Type 0} (k : ℕ) {x : X} → slice_get {X = X} [] k ≡ Some x → ⊥
-no_element k e = (cc)
 
 only : {X : Type 0} (x y : X) (k : ℕ) → slice_get (x ∷ []) k ≡ Some y → y ≡ x
 only x y zero at = sym (some_same x y at)

@@ -28,17 +28,6 @@ one_more w counter = record { published = refl; words = refl; kept = refl; pairs
 pub asked_now : (old new : WriterView) → HasLoadedCounter old new → HasAsked old new
 asked_now old new loaded = subst (HasAsked old) (sym loaded.view) (one_more old loaded.counter)
 
-pub asked_none : (w : WriterView) → HasAsked w w
-asked_none w = record { published = refl; words = refl; kept = refl; pairs = λ pair among. among }
-
-pub asked_more : (a b c : WriterView) → HasAsked a b → HasAsked b c → HasAsked a c
-asked_more a b c first second = record {
-  published = second.published ∙ first.published;
-  words = second.words ∙ first.words;
-  kept = second.kept ∙ first.kept;
-  pairs = λ pair among. second.pairs pair (first.pairs pair among);
-}
-
 -- what was taken before is over once it is reached
 pub over_now : (old new : WriterView) (generation need : ℕ) → HasTaken old generation need → HasAsked old new → need ≤ new.counter → IsOver new generation
 over_now old new generation need taken asked reached = record { need = need; taken = asked.pairs (record { generation = generation; need = need }) taken; reached = reached }

@@ -5,7 +5,6 @@ ghost use Rattle.marks.specs.declared.kept.LookKind.TheVariants as look;
 ghost use Rattle.shared_words.specs.Slots.{LookMayBegin};
 ghost use Rattle.progress_words.specs.Tokens.{written_by, IsWriterOf};
 ghost use Rattle.progress_tests.specs.Running.{IsReady, IsEmpty};
-ghost use Rattle.grace_bench.specs.Waiting.{AreWaiting};
 
 use crate::tables::{Any, publish_used};
 use crate::waits::wait_over;

@@ -3,7 +3,6 @@
 ghost use Rattle.std.specs.Prelude.{◌≡◌, ◌≤◌, true};
 ghost use Rattle.shared_words.specs.Views.{newest};
 ghost use Rattle.progress_words.specs.Tokens.{written_by};
-ghost use Rattle.progress_words.specs.Needs.{HasTaken};
 ghost use Rattle.grace_bench.specs.Waiting.{AreWaiting, HasAsked, IsOver};
 
 use crate::tables::Any;

@@ -24,10 +24,10 @@ use Rattle.shared_words.specs.Publishing.{MayPublish, IsRootOf, kept_next, with_
 use Rattle.progress_words.specs.Tokens.{written_by, IsWriterOf}
 use Rattle.progress_tests.specs.Running.{IsEmpty}
 
-never : false ≡ true → ⊥
+pub never : false ≡ true → ⊥
 never e = (cc)
 
-no_element : {X : Type 0} (k : ℕ) {x : X} → slice_get {X = X} [] k ≡ Some x → ⊥
+pub no_element : {X : Type 0} (k : ℕ) {x : X} → slice_get {X = X} [] k ≡ Some x → ⊥
 no_element k e = (cc)
 
 none_among : {X : Type 0} (x : X) → Among {X = X} [] x → ⊥
