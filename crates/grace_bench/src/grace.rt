@@ -6,7 +6,7 @@ ghost use Rattle.progress_tests.specs.Running.{IsReady, IsEmpty};
 ghost use Rattle.grace_bench.specs.Waiting.{AreWaiting};
 
 use crate::tables::{Any, publish};
-use crate::waits::wait_over;
+use crate::waits::{ASLEEP, AWAKE, DONE, wait_over, wake};
 use progress_words::{Lead, lead, report};
 use shared_words::{Member, Parts, Shared, Writer};
 use std::alloc::Global;
@@ -61,15 +61,15 @@ fn run_beside<R: Threads + Wait + Sync>(
     requires count { 0 < count }
     requires readers { All (λ token. IsReady shared.now.table.shared.table_id token) readers.items }
 {
-    let done = AtomicU64::new(0);
-    let flag = &done;
+    let word = AtomicU64::new(AWAKE);
+    let state = &word;
     let (waited, ()) = join(
         rt,
-        move || wait_often(rt, shared, writer, leader, times, flag),
+        move || wait_often(rt, shared, writer, leader, times, state),
         move || -> ()
             requires count { 0 < count }
             requires readers { All (λ token. IsReady shared.now.table.shared.table_id token) readers.items }
-        { report_each(rt, shared, readers, count, flag) },
+        { report_each(rt, shared, readers, count, state) },
     );
     waited
 }
@@ -80,7 +80,7 @@ fn report_each<R: Threads + Wait + Sync>(
     shared: &Shared<Any>,
     mut readers: Vec<Member>,
     count: usize,
-    done: &AtomicU64,
+    state: &AtomicU64,
 )
     requires count { 0 < count }
     requires ready { All (λ token. IsReady shared.now.table.shared.table_id token) readers.items }
@@ -89,20 +89,24 @@ fn report_each<R: Threads + Wait + Sync>(
         rt,
         readers.as_mut_slice(),
         count,
-        &|_, reader| { report_on(rt, shared, reader, done) },
+        &|_, reader| { report_on(rt, shared, reader, state) },
     );
 }
 
 /// Reports until the writer is done.
 #[tactic(auto, using(progress_tests::proofs::Leading::reported_ready, progress_tests::proofs::Leading::ready_rests))]
-fn report_on<R: Wait>(rt: &R, shared: &Shared<Any>, member: &mut Member, done: &AtomicU64)
+fn report_on<R: Wait>(rt: &R, shared: &Shared<Any>, member: &mut Member, state: &AtomicU64)
     requires ready { IsReady shared.now.table.shared.table_id member.old }
 {
     for _ in rt.forever() {
-        if done.load(Ordering::SeqCst) != 0 {
+        let found = state.load(Ordering::SeqCst);
+        if found == DONE {
             return;
         }
         report(shared, member);
+        if found == ASLEEP {
+            wake(state);
+        }
     }
 }
 
@@ -115,7 +119,7 @@ fn wait_often<R: Wait>(
     mut writer: Writer,
     mut leader: Member,
     times: u32,
-    done: &AtomicU64,
+    state: &AtomicU64,
 ) -> u32
     requires token { IsWriterOf shared.now.table.shared.table_id shared.now.table.shared.key writer }
     requires empty { IsEmpty (written_by writer) }
@@ -124,12 +128,12 @@ fn wait_often<R: Wait>(
 {
     let waited = match lead(shared, &mut leader) {
         Lead::Led => {
-            wait_in_turn(rt, shared, &mut writer, &mut leader, times);
+            wait_in_turn(rt, shared, &mut writer, &mut leader, times, state);
             times
         }
         Lead::Held { .. } => 0,
     };
-    done.store(1, Ordering::SeqCst);
+    state.store(DONE, Ordering::SeqCst);
     waited
 }
 
@@ -140,18 +144,25 @@ fn wait_in_turn<R: Wait>(
     writer: &mut Writer,
     leader: &mut Member,
     times: u32,
+    state: &AtomicU64,
 )
     requires waiting { AreWaiting shared.now.table.shared.table_id shared.now.table.shared.key writer.old leader.old }
     requires empty { IsEmpty (written_by writer.old) }
     requires first { writer.old.generation ≡ 0 }
 {
     for _ in 0..times {
-        wait_once(rt, shared, writer, leader);
+        wait_once(rt, shared, writer, leader, state);
     }
 }
 
 /// Publishes a generation, and waits until no thread may read the one before.
-fn wait_once<R: Wait>(rt: &R, shared: &Shared<Any>, writer: &mut Writer, leader: &mut Member)
+fn wait_once<R: Wait>(
+    rt: &R,
+    shared: &Shared<Any>,
+    writer: &mut Writer,
+    leader: &mut Member,
+    state: &AtomicU64,
+)
     requires waiting { AreWaiting shared.now.table.shared.table_id shared.now.table.shared.key writer.old leader.old }
     requires empty { IsEmpty (written_by writer.old) }
     requires room { writer.old.generation + 1 < 2 ^ 59 }
@@ -160,5 +171,5 @@ fn wait_once<R: Wait>(rt: &R, shared: &Shared<Any>, writer: &mut Writer, leader:
     ensures generation { writer.new.generation ≡ writer.old.generation + 1 }
 {
     publish(shared, writer);
-    wait_over(rt, shared, writer, leader);
+    wait_over(rt, shared, writer, leader, state);
 }

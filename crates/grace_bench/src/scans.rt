@@ -7,12 +7,13 @@ ghost use Rattle.progress_words.specs.Tokens.{written_by, IsWriterOf};
 ghost use Rattle.progress_tests.specs.Running.{IsReady, IsEmpty};
 
 use crate::tables::{Any, publish_used};
-use crate::waits::wait_over;
+use crate::waits::{AWAKE, wait_over};
 use anchors::scan;
 use progress_words::{Lead, lead};
 use shared_words::{Member, Parts, Shared, Writer};
 use std::alloc::Global;
 use std::sync::Wait;
+use std::sync::atomic::AtomicU64;
 use term_core::{AreaRef, NoMemory};
 
 /// The area that was dropped.
@@ -53,7 +54,7 @@ fn scan_after<R: Wait>(
     publish_used(shared, writer);
     match lead(shared, leader) {
         Lead::Led => {
-            wait_over(rt, shared, writer, leader);
+            wait_over(rt, shared, writer, leader, &AtomicU64::new(AWAKE));
             scan_often(shared, writer, times);
             times
         }

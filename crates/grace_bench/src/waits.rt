@@ -9,13 +9,36 @@ use crate::tables::Any;
 use progress_words::{advance, later, reached, report};
 use shared_words::{Member, Shared, Writer};
 use std::sync::Wait;
-use std::thread::yield_now;
+use std::sync::atomic::{AtomicU64, Ordering};
 
-/// How often the writer asks before it lets another thread run. liburcu asks as often before it sleeps.
+/// How often the writer asks before it sleeps. liburcu asks as often.
 const ASKED: u32 = 100;
 
-/// Waits until no thread may read a generation before the newest one.
-pub fn wait_over<R: Wait>(rt: &R, shared: &Shared<Any>, writer: &mut Writer, leader: &mut Member)
+/// The writer is awake.
+pub const AWAKE: u64 = 0;
+
+/// The writer sleeps until a reader has reported.
+pub const ASLEEP: u64 = 1;
+
+/// The writer is done.
+pub const DONE: u64 = 2;
+
+/// Wakes the writer where it sleeps.
+pub fn wake(state: &AtomicU64) {
+    let found = state.compare_exchange(ASLEEP, AWAKE, Ordering::SeqCst, Ordering::SeqCst);
+    if found.is_ok() {
+        state.wake_one();
+    }
+}
+
+/// Waits until no thread may read a generation before the newest one. Readers wake it where it sleeps.
+pub fn wait_over<R: Wait>(
+    rt: &R,
+    shared: &Shared<Any>,
+    writer: &mut Writer,
+    leader: &mut Member,
+    state: &AtomicU64,
+)
     requires waiting { AreWaiting shared.now.table.shared.table_id shared.now.table.shared.key writer.old leader.old }
     ensures waiting { AreWaiting shared.now.table.shared.table_id shared.now.table.shared.key writer.new leader.new }
     ensures generation { writer.new.generation ≡ writer.old.generation }
@@ -27,7 +50,8 @@ pub fn wait_over<R: Wait>(rt: &R, shared: &Shared<Any>, writer: &mut Writer, lea
         if ask_often(shared, writer, leader, need) {
             return;
         }
-        yield_now();
+        state.store(ASLEEP, Ordering::SeqCst);
+        state.park(rt, ASLEEP as u32);
     }
 }
 
