@@ -46,9 +46,6 @@ module _ (p : Published) (anchors : List ℕ) (serial place word : ℕ) (h : IsF
   named : names_frame word serial ≡ true
   named = ap (λ (w : ℕ). names_frame w serial) (sym same_word) ∙ h.named
 
-  here : slice_get anchors (place - 1) ≡ Some word
-  here = h.at ∙ ap (λ (x : ℕ). Some x) same_word
-
   named_at : names_frame (word_at anchors (place - 1)) serial ≡ true
   named_at = ap (λ (w : ℕ). names_frame w serial) (sym is) ∙ named
 

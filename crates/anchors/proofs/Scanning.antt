@@ -46,10 +46,6 @@ module _ (wait : EndedWait) (process place found : ℕ) (w : WriterView) where
   after_more true = record { same = refl; anchors = λ l among. among; turns = ([], refl) }
   after_more false = record { same = refl; anchors = λ l among. (suc among.0, among.1); turns = ([], refl) }
 
-  after_turns : (named : Bool) → (after named).looks.turns ≡ w.looks.turns
-  after_turns true = refl
-  after_turns false = refl
-
 -- ---- the anchors so far
 
 -- the anchors before this place, counted from 1, were found clear, after the turn word
@@ -127,13 +123,3 @@ pub anchor_named : (wait : EndedWait) (process turn : ℕ) (old mid new : Writer
 anchor_named wait process turn old mid new zero word killed h is names last = absurd (let all = h.all in omega (arith, all))
 anchor_named wait process turn old mid new (suc place) word killed h is names last =
     subst (λ (w : WriterView). IsSlotNamed wait process turn (suc place) word old w × LooksMore old w) (sym (is ∙ loaded_is wait process place word mid true names)) (next_named wait process turn old mid place word killed h names last)
-
--- all are clear
-pub slot_clear : (wait : EndedWait) (process turn : ℕ) (old new : WriterView) (count : ℕ) (killed : Bool) → SlotLooked wait process turn old count killed new → 17 ≤ count → count ≤ 17 → IsSlotClear wait process killed old new
-slot_clear wait process turn old new count killed h late early = record {
-  words = h.words;
-  all = (let all = h.all in omega (arith, all, late, early));
-  found = h.found;
-  told = h.told;
-  named = h.named;
-}

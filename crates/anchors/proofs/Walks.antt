@@ -26,20 +26,3 @@ none_next Test anchors n word first before is fails place other within at =
 -- all
 pub none_at_all : (Test : ℕ → Type 0) (anchors : List ℕ) (n : ℕ) → length anchors ≡ 16 → 17 ≤ n → NoneBefore Test anchors n → (place word : ℕ) → slice_get anchors place ≡ Some word → Test word → ⊥
 none_at_all Test anchors n wide late before place word at = before place word (let within = within_get anchors place word at in omega (arith, within, wide, late)) at
-
--- the word at a place
-pub word_there : (anchors : List ℕ) (n word : ℕ) → length anchors ≡ 16 → 1 ≤ n → n ≤ 16 → word ≡ word_at anchors (n - 1) → slice_get anchors (n - 1) ≡ Some word
-word_there anchors n word wide first last is = there_is anchors (n - 1) 0 (omega (arith, wide, first, last)) ∙ ap (λ (x : ℕ). Some x) (sym is)
-
--- what is found
-pub stands : (anchors : List ℕ) (serial n word : ℕ) → length anchors ≡ 16 → 1 ≤ n → n < 17 → word ≡ word_at anchors (n - 1) → word ≢ 0 → word / 4 ≡ serial → StandsAt anchors serial n
-stands anchors serial n word wide first last is some_word of = record {
-  first = first;
-  last = omega arith;
-  word = word;
-  at = word_there anchors n word wide first (omega arith) is;
-  of = record { some = some_word; of = of };
-}
-
-pub is_free : (anchors : List ℕ) (n word : ℕ) → length anchors ≡ 16 → 1 ≤ n → n < 17 → word ≡ word_at anchors (n - 1) → word ≡ 0 → IsFreeAt anchors n
-is_free anchors n word wide first last is empty = record { first = first; last = omega arith; at = word_there anchors n word wide first (omega arith) is ∙ ap (λ (x : ℕ). Some x) empty }
