@@ -59,6 +59,14 @@ begun_words opening handed = record { published = λ p among. only opening_publi
 pub begun_empty : (table : TableId) (opening : Opening) (handed : ℕ) (writer : writers.Writer) → IsHanding table opening handed writer.seat → IsBegun (written_by writer)
 begun_empty table opening handed writer is = subst IsBegun (sym (ap writer_of is.view)) (begun_words opening handed)
 
+-- and there are as many as the table has
+pub long_begun : (table : TableId) (opening : Opening) (handed : ℕ) (writer : writers.Writer) → IsHanding table opening handed writer.seat → length (written_by writer).words ≡ TABLE_WORDS
+long_begun table opening handed writer is = ap (λ (w : WriterView). length w.words) (ap writer_of is.view) ∙ long_words TABLE_WORDS
+
+-- it has published the empty generation
+pub begun_published : (table : TableId) (opening : Opening) (handed : ℕ) (writer : writers.Writer) → IsHanding table opening handed writer.seat → (written_by writer).published ≡ opening_published ∷ []
+begun_published table opening handed writer is = ap (λ (w : WriterView). w.published) (ap writer_of is.view)
+
 -- its newest generation is 0
 pub begun_newest : (table : TableId) (opening : Opening) (handed : ℕ) (writer : writers.Writer) → IsHanding table opening handed writer.seat → IsWriterOf table opening writer → writer.generation ≡ 0
 begun_newest table opening handed writer is token =

@@ -1,3 +1,8 @@
-mod Serials
 mod Begun
 mod Publishing
+mod Serials
+mod Many
+mod Started
+mod Work
+mod Naming
+mod Gone

@@ -194,7 +194,7 @@ first_root = record { code_is = refl; bp_is = refl; term_is = refl }
 -- ---- the pools
 
 -- once the area alone is taken, no block has a retired one
-none_retired : (big small block n g : ℕ) → use_of (free_areas big small) 9 ≡ Some Free → use_of (with_area first_area (free_areas big small)) block ≡ Some (Retired n g) → ⊥
+pub none_retired : (big small block n g : ℕ) → use_of (free_areas big small) 9 ≡ Some Free → use_of (with_area first_area (free_areas big small)) block ≡ Some (Retired n g) → ⊥
 none_retired big small block n g free now =
     elim (use_after (record (free_areas big small) { next = 2 }) 9 block Free (Live 1) (Retired n g) free now) as (λ _. ⊥) [
       | inl here ↦ live_retired here.1

@@ -1,1 +1,4 @@
 pub mod First
+pub mod Gone
+pub mod Many
+pub mod Work

@@ -1,9 +1,15 @@
-//! Tests of what stands in the blocks of the shared table.
+//! Tests of what stands in the blocks and slots of the shared table.
 #![tactic(auto)]
 
 #[cfg(test)]
 mod pools;
 #[cfg(test)]
+mod released;
+#[cfg(test)]
 mod retired;
+#[cfg(test)]
+mod slots;
+#[cfg(test)]
+mod starting;
 #[cfg(test)]
 mod written;

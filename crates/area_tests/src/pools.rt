@@ -2,18 +2,21 @@
 //! on are for instances, 256 from block 64 on for terms, and serials begin at 1.
 
 ghost use Rattle.std.specs.Prelude.{◌+◌, ◌≤◌, ◌<◌, ◌^◌};
+ghost use Rattle.shared_words.specs.declared.view.WriterView.{WriterView};
+ghost use Rattle.area_tests.specs.Gone.{IsGone};
 
 use literal_areas::{Pool, Pools, Take};
 use std::test::Fail;
 use term_core::AreaRef;
 
 /// Takes so many areas for instances, after the first ones; answers how many of them came in their order.
-#[tactic(auto, using(crate::proofs::Serials::next_after))]
+#[tactic(auto, using(crate::proofs::Serials::next_after, crate::proofs::Gone::gone_after))]
 pub fn take_instances(pools: &mut Pools, first: u32, count: u32) -> u32
     requires first { first ≤ 64 }
     requires few { count ≤ 64 }
     requires room { pools.old.next + count < 2 ^ 40 }
     ensures next { pools.new.next ≤ pools.old.next + count }
+    ensures gone { (w : WriterView) → IsGone pools.old w → IsGone pools.new w }
 {
     let mut right = 0;
     for at in 0..count {

@@ -1,19 +1,24 @@
-//! An area that is published and then retired, all from one thread. The expected values are those of
-//! the rules: 55 blocks from block 9 on are for instances, serials begin at 1, and where no block of a
-//! pool is free and one is retired, its release is awaited.
+//! An area that is published, retired and released, all from one thread. The expected values are those
+//! of the rules: 55 blocks from block 9 on are for instances, serials begin at 1, and where no block of
+//! a pool is free and one is retired, its release is awaited.
 
-ghost use Rattle.std.specs.Prelude.{◌≡◌, ◌+◌, ◌<◌, ◌^◌};
+ghost use Rattle.std.specs.Prelude.{◌≡◌, ◌+◌, ◌≤◌, ◌<◌, ◌^◌, [], ◌∷◌};
+ghost use Rattle.area_core.specs.Step.{opening_published};
+ghost use Rattle.shared_words.specs.declared.view.WriterView.{WriterView};
+ghost use Rattle.shared_words.specs.Making.{IsHanding, IsMemberBegun};
 ghost use Rattle.shared_words.specs.Publishing.{with_next};
 ghost use Rattle.progress_words.specs.Tokens.{written_by, IsWriterOf};
 ghost use Rattle.literal_areas.specs.declared.blocks.Pool.TheVariants as pool;
 ghost use Rattle.literal_areas.specs.Blocks.{HasTaken, opening_areas};
 ghost use Rattle.literal_areas.specs.Owned.{AreOf, IsUnpublished};
 ghost use Rattle.area_tests.specs.First.{first_area, first_published, IsBegun, HasWords};
+ghost use Rattle.area_tests.specs.Gone.{IsRetiring, IsGone};
 
 use crate::pools::take_instances;
+use crate::released::{pass_both, release_first, take_need};
 use crate::written::Any;
 use literal_areas::{Pool, Pools, Take, roots_keep_pools};
-use shared_words::{Next, Parts, Shared, Writer};
+use shared_words::{Member, Next, Parts, Shared, Writer};
 use std::test::Fail;
 use term_core::AreaRef;
 
@@ -24,6 +29,15 @@ impl Next for First {
     ghost use Rattle.area_tests.specs.First.{first_published};
 
     ghost next = { first_published };
+}
+
+/// The generation in which it is retired.
+struct Gone;
+
+impl Next for Gone {
+    ghost use Rattle.area_tests.specs.Gone.{gone_published};
+
+    ghost next = { gone_published };
 }
 
 /// Publishes the generation of one instance, whose words stand in its block.
@@ -43,11 +57,14 @@ fn retire_first(shared: &Shared<Any>, writer: &mut Writer, pools: &mut Pools, ar
     requires token { IsWriterOf shared.now.table.shared.table_id shared.now.table.shared.key writer.old }
     requires room { writer.old.generation + 1 < 2 ^ 59 }
     requires begun { IsBegun (written_by writer.old) }
+    requires one { (written_by writer.old).published ≡ opening_published ∷ [] }
     requires area { area ≡ first_area }
     requires taken { HasTaken pool.Big first_area opening_areas pools.old }
     requires owned { AreOf pools.old (written_by writer.old) }
     requires unpublished { IsUnpublished (written_by writer.old) first_area }
+    ensures token { IsWriterOf shared.now.table.shared.table_id shared.now.table.shared.key writer.new }
     ensures next { pools.new.next ≡ pools.old.next }
+    ensures retiring { IsRetiring pools.new (written_by writer.new) }
 {
     pools.write(shared, writer, area, &[7, 7, 7, 0]);
     publish_first(shared, writer);
@@ -55,15 +72,73 @@ fn retire_first(shared: &Shared<Any>, writer: &mut Writer, pools: &mut Pools, ar
     pools.retire(shared, writer, area);
 }
 
-/// Once one of 55 areas for instances is retired, the next one has to wait until it is released.
+/// Publishes the generation in which the area is retired.
+#[tactic(auto, using(crate::proofs::Gone::gone_root, crate::proofs::Gone::gone_room))]
+fn publish_gone(shared: &Shared<Any>, writer: &mut Writer, pools: &Pools)
+    requires token { IsWriterOf shared.now.table.shared.table_id shared.now.table.shared.key writer.old }
+    requires retiring { IsRetiring pools.now (written_by writer.old) }
+    ensures token { IsWriterOf shared.now.table.shared.table_id shared.now.table.shared.key writer.new }
+    ensures gone { IsGone pools.now (written_by writer.new) }
+{
+    let _ = pools;
+    roots_keep_pools();
+    shared.store_root::<Gone>(writer, 0, 0, 0);
+}
+
+/// Takes all blocks for instances that are left, and then has to wait. Answers how many were taken.
+#[tactic(auto, using(crate::proofs::Serials::next_after, crate::proofs::Gone::gone_after))]
+fn take_rest(pools: &mut Pools) -> (u32, Take)
+    requires room { pools.old.next ≤ 2 }
+    ensures next { pools.new.next ≤ 57 }
+    ensures gone { (w : WriterView) → IsGone pools.old w → IsGone pools.new w }
+{
+    let taken = take_instances(pools, 1, 54);
+    (taken, pools.take(Pool::Big))
+}
+
+/// The life of the first area from its publication to its release, while all other blocks are taken. Answers
+/// how many these were, what the next take comes to, and whether the wait ended and no slot named the area.
+#[tactic(auto, using(crate::proofs::Begun::begun_empty, crate::proofs::Begun::begun_newest, crate::proofs::Begun::begun_published, crate::proofs::Naming::one_of, crate::proofs::Naming::one_view))]
+fn live_and_go(
+    shared: &Shared<Any>,
+    writer: &mut Writer,
+    member: &mut Member,
+    pools: &mut Pools,
+    area: AreaRef,
+) -> (u32, Take, bool, bool)
+    requires token { IsWriterOf shared.now.table.shared.table_id shared.now.table.shared.key writer.old }
+    requires handing { IsHanding shared.now.table.shared.table_id shared.now.table.shared.key 1 writer.old.seat }
+    requires begun { IsMemberBegun shared.now.table.shared.table_id 0 member.old }
+    requires area { area ≡ first_area }
+    requires taken { HasTaken pool.Big first_area opening_areas pools.old }
+    requires owned { AreOf pools.old (written_by writer.old) }
+    requires unpublished { IsUnpublished (written_by writer.old) first_area }
+    requires room { pools.old.next ≤ 2 }
+    ensures { pools.new.next ≤ 57 }
+{
+    retire_first(shared, writer, pools, area);
+    publish_gone(shared, writer, pools);
+    let (right, waits) = take_rest(pools);
+    let need = take_need(shared, writer, pools);
+    let passed = pass_both(shared, member);
+    let released = release_first(shared, writer, pools, need);
+    (right, waits, passed, released)
+}
+
+/// Once one of 55 areas for instances is retired, the next one has to wait until it is released, and then
+/// has its block and the next serial.
 #[test]
-#[tactic(auto, using(crate::proofs::Begun::begun_owned, crate::proofs::Begun::begun_empty, crate::proofs::Begun::begun_newest, crate::proofs::Serials::taken_first, crate::proofs::Serials::next_after))]
+#[tactic(auto, using(crate::proofs::Begun::begun_owned, crate::proofs::Serials::taken_first, crate::proofs::Serials::next_after, crate::proofs::Naming::one_begun))]
 fn a_retired_area_awaits_its_release(rt: HostRuntime) -> Result<(), Fail> {
     let (shared, parts) = Shared::<Any>::new(rt.alloc(), 1, 0)?;
     let Parts {
         mut writer,
-        members: _,
+        mut members,
     } = parts;
+    let Some(mut member) = members.pop() else {
+        assert!(rt; false, "there is a member");
+        return Ok(());
+    };
     let mut pools = Pools::new(rt.alloc())?;
     let area = AreaRef {
         serial: 1,
@@ -72,9 +147,13 @@ fn a_retired_area_awaits_its_release(rt: HostRuntime) -> Result<(), Fail> {
     let taken = pools.take(Pool::Big);
     assert_eq!(rt; taken, Take::Area(area));
     if taken == Take::Area(area) {
-        retire_first(&shared, &mut writer, &mut pools, area);
-        assert_eq!(rt; take_instances(&mut pools, 1, 54), 54);
-        assert_eq!(rt; pools.take(Pool::Big), Take::AwaitRelease);
+        let told = live_and_go(&shared, &mut writer, &mut member, &mut pools, area);
+        assert_eq!(rt; told, (54, Take::AwaitRelease, true, true));
+        let next = AreaRef {
+            serial: 56,
+            block: 9,
+        };
+        assert_eq!(rt; pools.take(Pool::Big), Take::Area(next));
     }
     Ok(())
 }

@@ -3,8 +3,8 @@ use Rattle.progress_words.specs.Tokens.{written_by}
 use Rattle.area_tests.proofs.Begun.{begun_owned}
 use Rattle.area_tests.proofs.retired.a_retired_area_awaits_its_release.Goals as goal
 
-pub retire_first-requires-clause-owned : goal.retire_first-requires-clause-owned
-retire_first-requires-clause-owned g c =
+pub live_and_go-told-requires-clause-owned : goal.live_and_go-told-requires-clause-owned
+live_and_go-told-requires-clause-owned g c =
     let made = c.in_ok-shared in
     c.take-taken.ensures.owned (written_by made.parts.writer)
     (begun_owned made.shared.table.shared.table_id made.shared.table.shared.key 1 made.parts.writer c.in_ok-pools.pools made.ensures.writer c.in_ok-pools.ensures.owned)

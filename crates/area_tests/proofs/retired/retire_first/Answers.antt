@@ -1,10 +1,17 @@
 -- The words stand once they are written, then the generation may be published, and its area retired.
-use Rattle.std.proofs.Common.{refl, sym, subst, arith}
+use Rattle.std.proofs.Common.{◌≡◌, List, [], ◌∷◌, ◌++◌, length, refl, sym, ap, subst, ◌∙◌, arith}
+use Rattle.area_core.specs.declared.table.Published.{Published}
+use Rattle.area_core.specs.Map.{retire_place}
+use Rattle.area_core.specs.Step.{opening_published}
+use Rattle.shared_words.specs.declared.view.WriterView.{WriterView}
+use Rattle.shared_words.specs.Publishing.{with_word}
 use Rattle.progress_words.specs.Tokens.{written_by}
 use Rattle.literal_areas.specs.declared.areas.Areas.{Areas}
-use Rattle.literal_areas.specs.Blocks.{IsLive}
+use Rattle.literal_areas.specs.Blocks.{IsLive, with_retired}
 use Rattle.literal_areas.specs.Owned.{IsUnpublished}
+use Rattle.area_tests.specs.First.{first_published}
 use Rattle.area_tests.proofs.Begun.{few_fit}
+use Rattle.area_tests.proofs.Gone.{retiring}
 use Rattle.area_tests.proofs.Publishing.{live_first, words_now, owned_now, published_now}
 use Rattle.area_tests.proofs.retired.retire_first.Goals as goal
 
@@ -33,3 +40,14 @@ retire-requires-clause-published c =
     published_now (written_by c.write.new.writer) (written_by c.publish_first.new.writer) c.args.area
     (words_now (written_by c.args.writer.now) (written_by c.write.new.writer) _ c.args.area c.requires.begun refl c.requires.area c.write.ensures.written)
     c.publish_first.ensures.published c.requires.area
+
+pub returns-clause-retiring : goal.returns-clause-retiring
+returns-clause-retiring c =
+    let w = written_by c.write.new.writer in
+    let v = written_by c.publish_first.new.writer in
+    let first : w.published ≡ opening_published ∷ [] = ap (λ (x : WriterView). x.published) c.write.ensures.written.same ∙ c.requires.one in
+    let two : length v.published ≡ 2 = ap (λ (x : WriterView). length x.published) c.publish_first.ensures.published ∙ ap (λ (xs : List Published). length (xs ++ first_published ∷ [])) first in
+    retiring c.args.pools.now c.retire.new.self w v (written_by c.retire.new.writer) (words_now (written_by c.args.writer.now) w _ c.args.area c.requires.begun refl c.requires.area c.write.ensures.written) c.requires.taken first c.write.ensures.owned.all c.publish_first.ensures.published
+    (c.retire.ensures.retired ∙ (λ i. with_retired (c.requires.area i) (two i) (c.write.ensures.pools i)))
+    (c.retire.ensures.stored ∙ (λ i. with_word (retire_place (c.requires.area i).block) (two i) v))
+    c.retire.ensures.owned

@@ -1,0 +1,251 @@
+//! The slot of a process, all from one thread. The expected values are those of the rules: a slot has
+//! 16 anchors, an anchor is four times the serial of its area, with 1 for a frame and 2 for a literal,
+//! and a killed one is four times the serial alone.
+
+ghost use Rattle.std.specs.Prelude.{◌≡◌, ◌≤◌, true};
+ghost use Rattle.term_core.specs.declared.hold.Kind.TheVariants as kinds;
+ghost use Rattle.shared_words.specs.Making.{IsHanding, IsMemberBegun};
+ghost use Rattle.shared_words.specs.Publishing.{with_next};
+ghost use Rattle.progress_words.specs.Tokens.{view_of, written_by, IsMemberOf, IsWriterOf};
+ghost use Rattle.anchors.specs.Holds.{anchors_of, Holds};
+ghost use Rattle.area_tests.specs.Many.{many_published, IsPrepared};
+ghost use Rattle.area_tests.specs.Work.{IsWorking, IsUnder, turns_done};
+
+use crate::starting::begin_work;
+use crate::written::Any;
+use anchors::{drop_hold, hold, kill, mark_turn};
+use shared_words::{Member, Next, Parts, Shared, Writer, close};
+use std::test::Fail;
+use term_core::{AreaRef, Full, Kind};
+
+/// The generation of seventeen instances.
+struct Many;
+
+impl Next for Many {
+    ghost use Rattle.area_tests.specs.Many.{many_published};
+
+    ghost next = { many_published };
+}
+
+/// The doom word of block 24.
+const DOOM_WORD: u32 = 1_453;
+
+/// Publishes the generation of seventeen instances.
+#[tactic(auto, using(crate::proofs::Many::may_publish_many, crate::proofs::Many::many_root))]
+fn publish_many(shared: &Shared<Any>, writer: &mut Writer)
+    requires token { IsWriterOf shared.now.table.shared.table_id shared.now.table.shared.key writer.old }
+    requires prepared { IsPrepared (written_by writer.old) }
+    requires room { writer.old.generation ≡ 0 }
+    ensures token { IsWriterOf shared.now.table.shared.table_id shared.now.table.shared.key writer.new }
+    ensures published { written_by writer.new ≡ with_next many_published (written_by writer.old) }
+{
+    shared.store_root::<Many>(writer, 0, 0, 0);
+}
+
+/// Holds an instance for a frame, where the slot has room.
+#[tactic(auto, using(crate::proofs::Work::held_works, crate::proofs::Work::held_under, crate::proofs::Work::held_turns, crate::proofs::Work::held_names, crate::proofs::Work::refused_works, crate::proofs::Naming::may_frame))]
+fn hold_frame(shared: &Shared<Any>, member: &mut Member, serial: u64) -> bool
+    requires works { IsWorking shared.now.table.shared.table_id shared.now.table.shared.key 0 member.old }
+    requires under { IsUnder many_published (view_of member.old) }
+    requires serial { (1 ≤ serial) × (serial ≤ 17) }
+    ensures works { IsWorking shared.now.table.shared.table_id shared.now.table.shared.key 0 member.new }
+    ensures under { IsUnder many_published (view_of member.new) }
+    ensures turns { turns_done 0 (view_of member.new) ≡ turns_done 0 (view_of member.old) }
+    ensures holds { result ≡ true → Holds kinds.Frame (anchors_of (view_of member.new) 0) serial }
+{
+    match hold(shared, member, 0, AreaRef { serial, block: 0 }, Kind::Frame) {
+        Ok(()) => true,
+        Err(Full) => false,
+    }
+}
+
+/// Holds an instance for a frame and then for a literal.
+#[tactic(auto, using(crate::proofs::Work::held_works, crate::proofs::Work::held_under, crate::proofs::Work::held_turns, crate::proofs::Work::held_names, crate::proofs::Work::refused_works, crate::proofs::Naming::may_literal, crate::proofs::Naming::still_frame))]
+fn hold_both(shared: &Shared<Any>, member: &mut Member, serial: u64) -> bool
+    requires works { IsWorking shared.now.table.shared.table_id shared.now.table.shared.key 0 member.old }
+    requires under { IsUnder many_published (view_of member.old) }
+    requires serial { (1 ≤ serial) × (serial ≤ 17) }
+    ensures works { IsWorking shared.now.table.shared.table_id shared.now.table.shared.key 0 member.new }
+    ensures under { IsUnder many_published (view_of member.new) }
+    ensures turns { turns_done 0 (view_of member.new) ≡ turns_done 0 (view_of member.old) }
+    ensures frame { result ≡ true → Holds kinds.Frame (anchors_of (view_of member.new) 0) serial }
+    ensures literal { result ≡ true → Holds kinds.Literal (anchors_of (view_of member.new) 0) serial }
+{
+    if !hold_frame(shared, member, serial) {
+        return false;
+    }
+    match hold(
+        shared,
+        member,
+        0,
+        AreaRef { serial, block: 0 },
+        Kind::Literal,
+    ) {
+        Ok(()) => true,
+        Err(Full) => false,
+    }
+}
+
+/// Names an instance for a frame no more.
+#[tactic(auto, using(crate::proofs::Work::dropped_works, crate::proofs::Work::dropped_under, crate::proofs::Work::dropped_turns, crate::proofs::Naming::literal_left))]
+fn drop_frame(shared: &Shared<Any>, member: &mut Member, serial: u64)
+    requires works { IsWorking shared.now.table.shared.table_id shared.now.table.shared.key 0 member.old }
+    requires under { IsUnder many_published (view_of member.old) }
+    requires frame { Holds kinds.Frame (anchors_of (view_of member.old) 0) serial }
+    requires literal { Holds kinds.Literal (anchors_of (view_of member.old) 0) serial }
+    ensures works { IsWorking shared.now.table.shared.table_id shared.now.table.shared.key 0 member.new }
+    ensures under { IsUnder many_published (view_of member.new) }
+    ensures turns { turns_done 0 (view_of member.new) ≡ turns_done 0 (view_of member.old) }
+    ensures literal { Holds kinds.Literal (anchors_of (view_of member.new) 0) serial }
+{
+    drop_hold(shared, member, 0, AreaRef { serial, block: 0 }, Kind::Frame);
+}
+
+/// Names an instance for a literal no more.
+#[tactic(auto, using(crate::proofs::Work::dropped_works, crate::proofs::Work::dropped_under, crate::proofs::Work::dropped_turns))]
+fn drop_literal(shared: &Shared<Any>, member: &mut Member, serial: u64)
+    requires works { IsWorking shared.now.table.shared.table_id shared.now.table.shared.key 0 member.old }
+    requires under { IsUnder many_published (view_of member.old) }
+    requires literal { Holds kinds.Literal (anchors_of (view_of member.old) 0) serial }
+    ensures works { IsWorking shared.now.table.shared.table_id shared.now.table.shared.key 0 member.new }
+    ensures under { IsUnder many_published (view_of member.new) }
+    ensures turns { turns_done 0 (view_of member.new) ≡ turns_done 0 (view_of member.old) }
+{
+    drop_hold(
+        shared,
+        member,
+        0,
+        AreaRef { serial, block: 0 },
+        Kind::Literal,
+    );
+}
+
+/// Names an instance no more, for neither kind.
+fn drop_both(shared: &Shared<Any>, member: &mut Member, serial: u64) -> bool
+    requires works { IsWorking shared.now.table.shared.table_id shared.now.table.shared.key 0 member.old }
+    requires under { IsUnder many_published (view_of member.old) }
+    requires serial { (1 ≤ serial) × (serial ≤ 17) }
+    ensures works { IsWorking shared.now.table.shared.table_id shared.now.table.shared.key 0 member.new }
+    ensures under { IsUnder many_published (view_of member.new) }
+    ensures turns { turns_done 0 (view_of member.new) ≡ turns_done 0 (view_of member.old) }
+{
+    let both = hold_both(shared, member, serial);
+    if both {
+        drop_frame(shared, member, serial);
+        drop_literal(shared, member, serial);
+    }
+    both
+}
+
+/// The sixteenth instance, which is doomed, kills the process, which then ends its turn.
+#[tactic(auto, using(crate::proofs::Work::killed_ends, crate::proofs::Work::killed_turns, crate::proofs::Naming::doomed_many, crate::proofs::Naming::next_mark))]
+fn end_killed(shared: &Shared<Any>, member: &mut Member) -> bool
+    requires works { IsWorking shared.now.table.shared.table_id shared.now.table.shared.key 0 member.old }
+    requires under { IsUnder many_published (view_of member.old) }
+    requires turns { turns_done 0 (view_of member.old) ≡ 0 }
+    ensures token { IsMemberOf shared.now.table.shared.table_id member.new }
+    ensures number { member.new.number ≡ member.old.number }
+{
+    let held = hold_frame(shared, member, 16);
+    if held {
+        kill(
+            shared,
+            member,
+            0,
+            AreaRef {
+                serial: 16,
+                block: 0,
+            },
+        );
+        mark_turn(shared, member, 0, 1);
+    }
+    held
+}
+
+/// Holds the first so many instances for frames; answers how many found room.
+fn hold_first(shared: &Shared<Any>, member: &mut Member, count: u64) -> u64
+    requires works { IsWorking shared.now.table.shared.table_id shared.now.table.shared.key 0 member.old }
+    requires under { IsUnder many_published (view_of member.old) }
+    requires few { count ≤ 17 }
+    ensures works { IsWorking shared.now.table.shared.table_id shared.now.table.shared.key 0 member.new }
+    ensures under { IsUnder many_published (view_of member.new) }
+    ensures turns { turns_done 0 (view_of member.new) ≡ turns_done 0 (view_of member.old) }
+{
+    let mut held = 0;
+    for serial in 1..count + 1 {
+        if hold_frame(shared, member, serial) {
+            held += 1;
+        }
+    }
+    held
+}
+
+/// A slot of 16 areas has no room for a seventeenth, and has room for one of the 16 in the other kind.
+fn fill_slot(shared: &Shared<Any>, member: &mut Member) -> [bool; 7]
+    requires works { IsWorking shared.now.table.shared.table_id shared.now.table.shared.key 0 member.old }
+    requires under { IsUnder many_published (view_of member.old) }
+    requires turns { turns_done 0 (view_of member.old) ≡ 0 }
+    ensures token { IsMemberOf shared.now.table.shared.table_id member.new }
+    ensures number { member.new.number ≡ member.old.number }
+{
+    let all = hold_first(shared, member, 16) == 16;
+    let seventeenth = hold_frame(shared, member, 17);
+    let again = hold_frame(shared, member, 1);
+    let other = hold_both(shared, member, 1);
+    let dropped = drop_both(shared, member, 1);
+    let room = hold_frame(shared, member, 17);
+    let killed = end_killed(shared, member);
+    [all, seventeenth, again, other, dropped, room, killed]
+}
+
+/// Publishes the generation, has the process begin, and fills its slot.
+#[tactic(auto, using(crate::proofs::Many::may_doom_begun, crate::proofs::Many::prepared, crate::proofs::Many::may_note, crate::proofs::Many::two_published, crate::proofs::Many::second_many, crate::proofs::Many::under_many, crate::proofs::Many::begun_zero, crate::proofs::Naming::one_of, crate::proofs::Naming::one_view, crate::proofs::Naming::one_copied))]
+fn begin_and_fill(shared: &Shared<Any>, writer: &mut Writer, member: &mut Member) -> [bool; 7]
+    requires token { IsWriterOf shared.now.table.shared.table_id shared.now.table.shared.key writer.old }
+    requires handing { IsHanding shared.now.table.shared.table_id shared.now.table.shared.key 1 writer.old.seat }
+    requires begun { IsMemberBegun shared.now.table.shared.table_id 0 member.old }
+    requires one { shared.now.table.shared.key.members ≡ 1 }
+    ensures writer { IsWriterOf shared.now.table.shared.table_id shared.now.table.shared.key writer.new }
+    ensures token { IsMemberOf shared.now.table.shared.table_id member.new }
+    ensures number { member.new.number ≡ member.old.number }
+{
+    shared.store_word(writer, DOOM_WORD, 1);
+    publish_many(shared, writer);
+    if begin_work(shared, writer, member, 0) {
+        fill_slot(shared, member)
+    } else {
+        [false; 7]
+    }
+}
+
+/// A slot that is full: what each call answers, and the words of the slot when the table is closed.
+#[test]
+#[tactic(auto, using(crate::proofs::Naming::one_begun, crate::proofs::Naming::one_again))]
+fn a_slot_holds_sixteen_areas(rt: HostRuntime) -> Result<(), Fail> {
+    let (shared, parts) = Shared::<Any>::new(rt.alloc(), 1, 0)?;
+    let Parts {
+        mut writer,
+        mut members,
+    } = parts;
+    let Some(mut member) = members.pop() else {
+        assert!(rt; false, "there is a member");
+        return Ok(());
+    };
+    let answers = begin_and_fill(&shared, &mut writer, &mut member);
+    assert_eq!(rt; answers, [true, false, true, true, true, true, true]);
+    members.push(member)?;
+    let closed = close(shared, Parts { writer, members })?;
+    let words = closed.words(rt.alloc())?;
+    let slot = [
+        1, 69, 9, 13, 17, 21, 25, 29, 33, 37, 41, 45, 49, 53, 57, 61, 64,
+    ];
+    for place in 0..17 {
+        let expected = slot[place];
+        assert_eq!(rt;
+            words.get(place + 21).copied(),
+            Some(expected),
+            "at {place}"
+        );
+    }
+    Ok(())
+}
