@@ -1,18 +1,83 @@
-use machine_core::End;
-use run_log::{ProcessLog, SpanList};
-use span_check::Standing;
+ghost use Rattle.span_check.specs.Watches.{AreInOrder};
+
+use crate::exports::loaded;
+use machine_core::{End, Line, LineList};
+use run_log::{ProcessLog, Span, SpanList};
+use script_text::read_script;
+use server_core::Server;
+use span_check::{Standing, Watch, take_spans};
+use std::alloc::Global;
 use std::test::Fail;
-use term_core::{AtomId, Mfa, TermList};
+use term_core::{AtomId, Mfa, NoMemory, Term, TermList};
+
+/// A process that prints in two turns. Its atoms are `m` and `main`, numbered from 3 on.
+const TWO_TURNS: &str = "beam script 1
+module m.1
+export main/0
+print 1
+yield
+print 2
+end
+go
+";
+
+const MAIN: Mfa = Mfa {
+    module: AtomId(3),
+    name: AtomId(4),
+    arity: 0,
+};
+
+/// The lines of a process that prints 1 and a number.
+fn printed(alloc: Global, number: i64) -> Result<LineList, NoMemory> {
+    let mut lines = LineList::new(alloc);
+    lines.push(Line::Print(Term::Int(1)))?;
+    lines.push(Line::Print(Term::Int(number)))?;
+    Ok(lines)
+}
+
+/// Whether the process prints so in two turns under the newest generation, ends as normal, and is where the watches see it.
+fn is_so(alloc: Global, server: &Server, number: i64, watches: &[Watch]) -> Result<bool, NoMemory>
+    requires { AreInOrder watches.now }
+{
+    let mut spans = SpanList::new(alloc);
+    spans.push(Span {
+        generation: server.generation(),
+        turns: 2,
+        lines: printed(alloc, number)?,
+    })?;
+    let log = ProcessLog {
+        target: MAIN,
+        args: TermList::new(alloc),
+        spans,
+        fin: End::Normal,
+    };
+    let mut standing = Standing::new(alloc, 0, &log)?;
+    take_spans(alloc, server, &log, watches, &mut standing)
+}
+
+/// A server that has loaded the module.
+fn loaded_server(alloc: Global) -> Result<Server, Fail> {
+    let script = read_script(alloc, TWO_TURNS.as_bytes())?;
+    Ok(loaded(alloc, 1, &script.modules)?)
+}
+
+/// Whether the process prints 1 and this number.
+fn follows(alloc: Global, number: i64) -> Result<bool, Fail> {
+    let server = loaded_server(alloc)?;
+    Ok(is_so(alloc, &server, number, &[])?)
+}
+
+/// Whether a frame of the process that prints 1 and 2 is of this instance after so many turns.
+fn stands(alloc: Global, turn: u32, serial: u64) -> Result<bool, Fail> {
+    let server = loaded_server(alloc)?;
+    Ok(is_so(alloc, &server, 2, &[Watch { turn, serial }])?)
+}
 
 #[test]
 fn a_process_stands_before_its_spans_at_first(rt: HostRuntime) -> Result<(), Fail> {
     let alloc = rt.alloc();
     let log = ProcessLog {
-        target: Mfa {
-            module: AtomId(3),
-            name: AtomId(4),
-            arity: 0,
-        },
+        target: MAIN,
         args: TermList::new(alloc),
         spans: SpanList::new(alloc),
         fin: End::Normal,
@@ -20,5 +85,21 @@ fn a_process_stands_before_its_spans_at_first(rt: HostRuntime) -> Result<(), Fai
     let standing = Standing::new(alloc, 0, &log)?;
     assert_eq!(rt; standing.gone, 0);
     assert!(rt; !standing.ended);
+    Ok(())
+}
+
+#[test]
+fn turns_are_held_against_a_span(rt: HostRuntime) -> Result<(), Fail> {
+    assert!(rt; follows(rt.alloc(), 2)?);
+    assert!(rt; !follows(rt.alloc(), 3)?);
+    Ok(())
+}
+
+#[test]
+fn watches_look_after_their_turns(rt: HostRuntime) -> Result<(), Fail> {
+    assert!(rt; stands(rt.alloc(), 1, 1)?);
+    assert!(rt; !stands(rt.alloc(), 2, 1)?);
+    assert!(rt; !stands(rt.alloc(), 0, 1)?);
+    assert!(rt; !stands(rt.alloc(), 1, 2)?);
     Ok(())
 }
