@@ -47,14 +47,8 @@ use Rattle.literal_areas.proofs.Uses.{use_here, use_other}
 use Rattle.literal_areas.proofs.Serials.{use_after}
 use Rattle.area_tests.specs.First.{first_area, first_published, HasWords}
 use Rattle.area_tests.specs.Gone.{gone_published, first_kept, IsRetiring, IsGone}
-use Rattle.area_tests.proofs.Publishing.{none_found, none_retired}
+use Rattle.area_tests.proofs.Publishing.{no_element, never, none_found, none_retired}
 use Rattle.area_tests.proofs.Started.{empty_rests}
-
-no_element : {X : Type 0} (k : ℕ) {x : X} → slice_get {X = X} [] k ≡ Some x → ⊥
-no_element k e = (cc)
-
-never : false ≡ true → ⊥
-never e = (cc)
 
 -- ---- it is retired
 
@@ -106,9 +100,6 @@ module _ (s : Areas) (w : WriterView) (h : IsRetiring s w) where
 
   kept_is : kept_next w gone_published ≡ first_kept ∷ []
   kept_is = ap (λ (xs : List KeptArea). xs ++ fresh_areas xs gone_published) h.kept
-
-  none_fresh : fresh_areas w.kept gone_published ≡ []
-  none_fresh = refl
 
   no_fresh : (k : KeptArea) → Among (fresh_areas w.kept gone_published) k → ⊥
   no_fresh k among = no_element among.0 among.1

@@ -34,13 +34,7 @@ use Rattle.area_tests.specs.Many.{serials, refs, many_published, IsPrepared}
 use Rattle.area_tests.specs.Work.{IsUnder}
 use Rattle.area_tests.specs.First.{IsBegun}
 use Rattle.area_tests.proofs.Begun.{begun_empty, begun_newest, long_begun}
-use Rattle.area_tests.proofs.Publishing.{none_found}
-
-no_element : {X : Type 0} (k : ℕ) {x : X} → slice_get {X = X} [] k ≡ Some x → ⊥
-no_element k e = (cc)
-
-never : false ≡ true → ⊥
-never e = (cc)
+use Rattle.area_tests.proofs.Publishing.{no_element, never, none_found}
 
 -- ---- the instances
 
@@ -114,10 +108,6 @@ all_used s used =
     subst (λ (n : ℕ). IsTrue (list_any (is_kept_as many_published n) (kepts 17))) (sym found.2) (each_passes (λ n. list_any (is_kept_as many_published n) (kepts 17)) 17 refl found.0 found.1)
 
 -- ---- what is published
-
--- the doom word of an instance's block
-doom_of : ℕ → Bool
-doom_of i = i == 15
 
 module _ (w : WriterView) (h : IsPrepared w) where
   abbrev word : ℕ → ℕ

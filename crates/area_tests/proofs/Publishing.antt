@@ -31,10 +31,10 @@ use Rattle.literal_areas.proofs.Serials.{use_after}
 use Rattle.literal_areas.proofs.AtFirst.{free_areas, each_free}
 use Rattle.area_tests.specs.First.{image, first_area, first_published, IsBegun, HasWords}
 
-no_element : {X : Type 0} (k : ℕ) {x : X} → slice_get {X = X} [] k ≡ Some x → ⊥
+pub no_element : {X : Type 0} (k : ℕ) {x : X} → slice_get {X = X} [] k ≡ Some x → ⊥
 no_element k e = (cc)
 
-never : false ≡ true → ⊥
+pub never : false ≡ true → ⊥
 never e = (cc)
 
 only : {X : Type 0} (x y : X) (k : ℕ) → slice_get (x ∷ []) k ≡ Some y → y ≡ x

@@ -28,6 +28,7 @@ images (suc n) = record { serial = suc n; words = [] } ∷ images n
 abbrev pub many_state : Generation
 many_state = record empty_generation { current = serials 17; doomed = 16 ∷ []; areas = images 17 }
 
+-- as it is published, over the first block of each sort
 abbrev pub many_published : Published
 many_published = to_publish 0 0 0 many_state (refs 17)
 
