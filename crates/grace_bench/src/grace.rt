@@ -6,7 +6,7 @@ ghost use Rattle.progress_tests.specs.Running.{IsReady, IsEmpty};
 ghost use Rattle.grace_bench.specs.Waiting.{AreWaiting};
 
 use crate::tables::{Any, publish};
-use crate::waits::{ASLEEP, AWAKE, DONE, wait_over, wake};
+use crate::waits::{AWAKE, DONE, wait_over, wake};
 use progress_words::{Lead, lead, report};
 use shared_words::{Member, Parts, Shared, Writer};
 use std::alloc::Global;
@@ -89,13 +89,19 @@ fn report_each<R: Threads + Wait + Sync>(
         rt,
         readers.as_mut_slice(),
         count,
-        &|_, reader| { report_on(rt, shared, reader, state) },
+        &|number, reader| { report_on(rt, shared, reader, number as u64, state) },
     );
 }
 
-/// Reports until the writer is done.
+/// Reports until the writer is done, and wakes it where it sleeps for this member.
 #[tactic(auto, using(progress_tests::proofs::Leading::reported_ready, progress_tests::proofs::Leading::ready_rests))]
-fn report_on<R: Wait>(rt: &R, shared: &Shared<Any>, member: &mut Member, state: &AtomicU64)
+fn report_on<R: Wait>(
+    rt: &R,
+    shared: &Shared<Any>,
+    member: &mut Member,
+    number: u64,
+    state: &AtomicU64,
+)
     requires ready { IsReady shared.now.table.shared.table_id member.old }
 {
     for _ in rt.forever() {
@@ -104,8 +110,8 @@ fn report_on<R: Wait>(rt: &R, shared: &Shared<Any>, member: &mut Member, state: 
             return;
         }
         report(shared, member);
-        if found == ASLEEP {
-            wake(state);
+        if found == number {
+            wake(state, number);
         }
     }
 }

@@ -1,12 +1,13 @@
 //! A wait of the writer, beside a member that leads in the same thread.
 
-ghost use Rattle.std.specs.Prelude.{◌≡◌, ◌≤◌, true};
+ghost use Rattle.std.specs.Prelude.{◌≡◌, ◌≤◌, true, []};
 ghost use Rattle.shared_words.specs.Views.{newest};
-ghost use Rattle.progress_words.specs.Tokens.{written_by};
+ghost use Rattle.progress_words.specs.Tokens.{view_of, written_by, IsMemberOf};
+ghost use Rattle.progress_words.specs.Leads.{IsLeader};
 ghost use Rattle.grace_bench.specs.Waiting.{AreWaiting, HasAsked, IsOver};
 
 use crate::tables::Any;
-use progress_words::{advance, later, reached, report};
+use progress_words::{Advance, advance, later, reached, report};
 use shared_words::{Member, Shared, Writer};
 use std::sync::Wait;
 use std::sync::atomic::{AtomicU64, Ordering};
@@ -14,24 +15,22 @@ use std::sync::atomic::{AtomicU64, Ordering};
 /// How often the writer asks before it sleeps. liburcu asks as often.
 const ASKED: u32 = 100;
 
-/// The writer is awake.
-pub const AWAKE: u64 = 0;
-
-/// The writer sleeps until a reader has reported.
-pub const ASLEEP: u64 = 1;
+/// The writer is awake. Any number below is that of the member for whose report it sleeps.
+pub const AWAKE: u64 = 64;
 
 /// The writer is done.
-pub const DONE: u64 = 2;
+pub const DONE: u64 = 65;
 
-/// Wakes the writer where it sleeps.
-pub fn wake(state: &AtomicU64) {
-    let found = state.compare_exchange(ASLEEP, AWAKE, Ordering::SeqCst, Ordering::SeqCst);
+/// Wakes the writer where it sleeps for a report of this member.
+pub fn wake(state: &AtomicU64, number: u64) {
+    let found = state.compare_exchange(number, AWAKE, Ordering::SeqCst, Ordering::SeqCst);
     if found.is_ok() {
         state.wake_one();
     }
 }
 
-/// Waits until no thread may read a generation before the newest one. Readers wake it where it sleeps.
+/// Waits until no thread may read a generation before the newest one. The reader that is behind wakes it
+/// where it sleeps.
 pub fn wait_over<R: Wait>(
     rt: &R,
     shared: &Shared<Any>,
@@ -50,8 +49,24 @@ pub fn wait_over<R: Wait>(
         if ask_often(shared, writer, leader, need) {
             return;
         }
-        state.store(ASLEEP, Ordering::SeqCst);
-        state.park(rt, ASLEEP as u32);
+        sleep(rt, shared, leader, state);
+    }
+}
+
+/// Reports, and sleeps until the first member that is behind has reported too, if one is.
+#[tactic(auto, using(crate::proofs::Waiting::still_none, progress_tests::proofs::Begun::empty_rests))]
+fn sleep<R: Wait>(rt: &R, shared: &Shared<Any>, leader: &mut Member, state: &AtomicU64)
+    requires token { IsMemberOf shared.now.table.shared.table_id leader.old }
+    requires leads { IsLeader (view_of leader.old) }
+    requires slots { (view_of leader.old).slots ≡ [] }
+    ensures token { IsMemberOf shared.now.table.shared.table_id leader.new }
+    ensures leads { IsLeader (view_of leader.new) }
+    ensures slots { (view_of leader.new).slots ≡ [] }
+{
+    report(shared, leader);
+    if let Advance::Behind { member, .. } = advance(shared, leader) {
+        state.store(u64::from(member), Ordering::SeqCst);
+        state.park(rt, member);
     }
 }
 
