@@ -7,7 +7,7 @@
 #include <string.h>
 #include <urcu/urcu-qsbr.h>
 
-enum { MOST_READERS = 15, NOT_UNDERSTOOD = 2, NO_THREAD = 6 };
+enum { MOST_READERS = 16, NOT_UNDERSTOOD = 2, NO_THREAD = 6 };
 
 static _Alignas(128) long generations[2];
 static _Alignas(128) long *root = generations;

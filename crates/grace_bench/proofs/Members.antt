@@ -8,7 +8,6 @@ use Rattle.prgr_core.specs.declared.member.TheConstants.{MOST_MEMBERS}
 use Rattle.shared_words.specs.declared.seats.Member as tokens
 use Rattle.shared_words.specs.declared.view.MemberView.{MemberView}
 use Rattle.shared_words.specs.Making.{IsMemberBegun, AreMembersBegun}
-use Rattle.shared_words.proofs.ShownMembers.{still_at}
 use Rattle.shared_words.proofs.OpeningRule.{last_get}
 use Rattle.progress_words.specs.Tokens.{view_of}
 use Rattle.progress_tests.specs.Running.{IsReady}
@@ -30,12 +29,8 @@ last_ready table count all rest last few taken begun =
     let sum = length-append rest (last ∷ []) in
     begun_ready table (length rest) last (omega (arith, few, long, counted, sum)) (begun.each (length rest) last (ap (λ (xs : List tokens.Member). slice_get xs (length rest)) taken ∙ last_get rest last))
 
-pub rest_ready : (table : TableId) (count : ℕ) (all rest : List tokens.Member) (last : tokens.Member) → count ≤ MOST_MEMBERS → all ≡ rest ++ last ∷ [] → AreMembersBegun table count all → All (λ (token : tokens.Member). IsReady table token) rest
-rest_ready table count all rest last few taken begun =
-    let long : length all ≡ length (rest ++ last ∷ []) = ap length taken in
+pub all_ready : (table : TableId) (count : ℕ) (all : List tokens.Member) → count ≤ MOST_MEMBERS → AreMembersBegun table count all → All (λ (token : tokens.Member). IsReady table token) all
+all_ready table count all few begun =
     let counted : length all ≡ count = begun.all in
-    let sum = length-append rest (last ∷ []) in
-    each_in (λ (token : tokens.Member). IsReady table token) rest
-    (λ k token at.
-    let within = slice_get_within rest k token at in
-    begun_ready table k token (omega (arith, few, long, counted, sum, within)) (begun.each k token (ap (λ (xs : List tokens.Member). slice_get xs k) taken ∙ still_at rest (last ∷ []) k token at)))
+    each_in (λ (token : tokens.Member). IsReady table token) all
+    (λ k token at. let within = slice_get_within all k token at in begun_ready table k token (omega (arith, few, counted, within)) (begun.each k token at))

@@ -1,23 +1,17 @@
--- What the calls of one who waits for a grace period leave of the writer and of the member that leads.
+-- What the calls of one who waits for a grace period leave of the writer, and of the member that leads.
 use Rattle.std.proofs.Common.{◌≡◌, ℕ, [], ◌∷◌, ◌+◌, ◌≤◌, refl, sym, ap, subst, ◌∙◌}
-use Rattle.atomic_table.specs.Seated.{TableId}
 use Rattle.term_core.specs.declared.generation.Generation.{Generation}
 use Rattle.area_core.specs.Blocks.{Among}
 use Rattle.area_core.specs.Map.{word_at}
-use Rattle.shared_words.specs.declared.opening.Opening.{Opening}
-use Rattle.shared_words.specs.declared.seats.Member as members
-use Rattle.shared_words.specs.declared.seats.Writer as writers
 use Rattle.shared_words.specs.declared.view.MemberView.{MemberView}
 use Rattle.shared_words.specs.declared.view.WriterView.{WriterView}
 use Rattle.shared_words.specs.Kinds.{counter_kept}
 use Rattle.shared_words.specs.Views.{newest}
 use Rattle.shared_words.proofs.ShownMembers.{still_at}
-use Rattle.progress_words.specs.Tokens.{view_of, IsMemberOf, IsWriterOf}
 use Rattle.progress_words.specs.Reports.{Reported}
-use Rattle.progress_words.specs.Leads.{IsLeader}
 use Rattle.progress_words.specs.Needs.{HasLoadedCounter, HasTaken}
-use Rattle.progress_tests.specs.Running.{IsReady, IsEmpty}
-use Rattle.grace_bench.specs.Waiting.{AreWaiting, HasAsked, IsOver}
+use Rattle.progress_tests.specs.Running.{IsEmpty}
+use Rattle.grace_bench.specs.Waiting.{HasAsked, IsOver}
 
 -- ---- the writer
 
@@ -45,7 +39,3 @@ still_empty old new asked empty = record {
 -- a report and a try to raise the counter leave a leader without slots
 pub still_none : (Served : Generation → Type 0) (old between new : MemberView) (generation : ℕ) → Reported Served old between generation → new.slots ≡ between.slots → old.slots ≡ [] → new.slots ≡ []
 still_none Served old between new generation told kept none = kept ∙ ap (λ (m : MemberView). m.slots) told.view ∙ none
-
--- who was ready and has taken the lead waits with the writer
-pub begins : (table : TableId) (opening : Opening) (writer : writers.Writer) (old new : members.Member) → IsWriterOf table opening writer → IsReady table old → IsMemberOf table new → IsLeader (view_of new) → (view_of new).slots ≡ (view_of old).slots → AreWaiting table opening writer new
-begins table opening writer old new token ready of leads kept = record { token = token; of = of; leads = leads; slots = kept ∙ ready.slots }

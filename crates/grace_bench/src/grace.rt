@@ -1,13 +1,15 @@
-//! A writer that waits for grace periods, beneath threads that report all the time.
+//! A writer that waits for grace periods, beneath members that report all the time, one of which leads.
 
-ghost use Rattle.std.specs.Prelude.{◌≡◌, ◌≤◌, ◌<◌, ◌+◌, ◌^◌, All};
-ghost use Rattle.progress_words.specs.Tokens.{written_by, IsWriterOf};
+ghost use Rattle.std.specs.Prelude.{◌≡◌, ◌≤◌, ◌<◌, ◌+◌, ◌^◌, true, [], All};
+ghost use Rattle.shared_words.specs.Views.{newest};
+ghost use Rattle.progress_words.specs.Tokens.{view_of, written_by, IsMemberOf, IsWriterOf};
+ghost use Rattle.progress_words.specs.Leads.{IsLeader};
 ghost use Rattle.progress_tests.specs.Running.{IsReady, IsEmpty};
-ghost use Rattle.grace_bench.specs.Waiting.{AreWaiting};
+ghost use Rattle.grace_bench.specs.Waiting.{HasAsked, IsOver};
 
 use crate::tables::{Any, publish};
-use crate::waits::{AWAKE, DONE, wait_over, wake};
-use progress_words::{Lead, lead, report};
+use crate::waits::{advance_once, ask};
+use progress_words::{Lead, later, lead, report};
 use shared_words::{Member, Parts, Shared, Writer};
 use std::alloc::Global;
 use std::sync::Wait;
@@ -15,12 +17,22 @@ use std::sync::atomic::{AtomicU64, Ordering};
 use std::thread::{Threads, for_each_mut, join};
 use term_core::NoMemory;
 
-/// How many readers there may be beside the member that leads.
-pub const MOST_READERS: u32 = 15;
+/// How many readers there may be.
+pub const MOST_READERS: u32 = 16;
 
-/// Makes a table of so many readers and a member that leads, and waits for so many grace periods.
-/// Answers for how many it waited.
-#[tactic(auto, using(crate::proofs::Members::last_ready, crate::proofs::Members::rest_ready, progress_tests::proofs::Emptied::handing_empty, progress_tests::proofs::Emptied::handing_first))]
+/// How often the writer asks before it sleeps. liburcu asks as often.
+const ASKED: u32 = 100;
+
+/// The writer is awake. Any other number but the next one is the value of the counter until which it
+/// sleeps.
+const AWAKE: u64 = 0;
+
+/// The writer is done.
+const DONE: u64 = u64::MAX;
+
+/// Makes a table of so many readers, one of which leads, and waits for so many grace periods. Answers
+/// for how many it waited.
+#[tactic(auto, using(crate::proofs::Members::all_ready, progress_tests::proofs::Emptied::handing_empty, progress_tests::proofs::Emptied::handing_first))]
 pub fn wait_beside<R: Threads + Wait + Sync>(
     rt: &R,
     alloc: Global,
@@ -30,26 +42,17 @@ pub fn wait_beside<R: Threads + Wait + Sync>(
     requires some { 1 ≤ readers }
     requires few { readers ≤ MOST_READERS }
 {
-    let (shared, parts) = Shared::<Any>::new(alloc, readers + 1, 0)?;
-    let Parts {
-        writer,
-        mut members,
-    } = parts;
-    match members.pop() {
-        Some(leader) => {
-            let count = readers as usize;
-            Ok(run_beside(rt, &shared, writer, leader, members, count, times))
-        }
-        None => Ok(0),
-    }
+    let (shared, parts) = Shared::<Any>::new(alloc, readers, 0)?;
+    let Parts { writer, members } = parts;
+    let count = readers as usize;
+    Ok(run_beside(rt, &shared, writer, members, count, times))
 }
 
-/// The writer waits, with the member that leads, in one thread, and each reader reports in its own.
+/// The writer waits in one thread, and each reader reports in its own.
 fn run_beside<R: Threads + Wait + Sync>(
     rt: &R,
     shared: &Shared<Any>,
     writer: Writer,
-    leader: Member,
     readers: Vec<Member>,
     count: usize,
     times: u32,
@@ -57,7 +60,6 @@ fn run_beside<R: Threads + Wait + Sync>(
     requires token { IsWriterOf shared.now.table.shared.table_id shared.now.table.shared.key writer }
     requires empty { IsEmpty (written_by writer) }
     requires first { writer.generation ≡ 0 }
-    requires leader { IsReady shared.now.table.shared.table_id leader }
     requires count { 0 < count }
     requires readers { All (λ token. IsReady shared.now.table.shared.table_id token) readers.items }
 {
@@ -65,7 +67,7 @@ fn run_beside<R: Threads + Wait + Sync>(
     let state = &word;
     let (waited, ()) = join(
         rt,
-        move || wait_often(rt, shared, writer, leader, times, state),
+        move || wait_often(rt, shared, writer, times, state),
         move || -> ()
             requires count { 0 < count }
             requires readers { All (λ token. IsReady shared.now.table.shared.table_id token) readers.items }
@@ -74,7 +76,7 @@ fn run_beside<R: Threads + Wait + Sync>(
     waited
 }
 
-/// Each reader reports in a thread of its own.
+/// Each reader reports in a thread of its own, and the first one leads.
 fn report_each<R: Threads + Wait + Sync>(
     rt: &R,
     shared: &Shared<Any>,
@@ -89,93 +91,128 @@ fn report_each<R: Threads + Wait + Sync>(
         rt,
         readers.as_mut_slice(),
         count,
-        &|number, reader| { report_on(rt, shared, reader, number as u64, state) },
+        &|number, reader| {
+            if number == 0 {
+                lead_on(rt, shared, reader, state);
+            } else {
+                report_on(rt, shared, reader, state);
+            }
+        },
     );
 }
 
-/// Reports until the writer is done, and wakes it where it sleeps for this member.
+/// Reports until the writer is done.
 #[tactic(auto, using(progress_tests::proofs::Leading::reported_ready, progress_tests::proofs::Leading::ready_rests))]
-fn report_on<R: Wait>(
-    rt: &R,
-    shared: &Shared<Any>,
-    member: &mut Member,
-    number: u64,
-    state: &AtomicU64,
-)
+fn report_on<R: Wait>(rt: &R, shared: &Shared<Any>, member: &mut Member, state: &AtomicU64)
     requires ready { IsReady shared.now.table.shared.table_id member.old }
 {
     for _ in rt.forever() {
-        let found = state.load(Ordering::SeqCst);
-        if found == DONE {
+        if state.load(Ordering::SeqCst) == DONE {
             return;
         }
         report(shared, member);
-        if found == number {
-            wake(state, number);
+    }
+}
+
+/// Takes the lead, and reports until the writer is done.
+#[tactic(auto, using(progress_tests::proofs::Leading::still_none))]
+fn lead_on<R: Wait>(rt: &R, shared: &Shared<Any>, member: &mut Member, state: &AtomicU64)
+    requires ready { IsReady shared.now.table.shared.table_id member.old }
+{
+    if let Lead::Led = lead(shared, member) {
+        advance_on(rt, shared, member, state);
+    }
+}
+
+/// Reports, and raises the counter where all have reported, until the writer is done.
+fn advance_on<R: Wait>(rt: &R, shared: &Shared<Any>, leader: &mut Member, state: &AtomicU64)
+    requires token { IsMemberOf shared.now.table.shared.table_id leader.old }
+    requires leads { IsLeader (view_of leader.old) }
+    requires slots { (view_of leader.old).slots ≡ [] }
+{
+    for _ in rt.forever() {
+        let until = state.load(Ordering::SeqCst);
+        if until == DONE {
+            return;
+        }
+        let raised = advance_once(shared, leader);
+        if until != AWAKE && raised >= until {
+            wake(state, until);
         }
     }
 }
 
-/// Takes the lead, waits for one grace period after the other, and then ends the readers. Answers for
-/// how many it waited.
-#[tactic(auto, using(crate::proofs::Waiting::begins))]
+/// Wakes the writer where it sleeps until this value.
+fn wake(state: &AtomicU64, until: u64) {
+    let found = state.compare_exchange(until, AWAKE, Ordering::SeqCst, Ordering::SeqCst);
+    if found.is_ok() {
+        state.wake_one();
+    }
+}
+
+/// Waits for one grace period after the other, and then ends the readers. Answers for how many it waited.
 fn wait_often<R: Wait>(
     rt: &R,
     shared: &Shared<Any>,
     mut writer: Writer,
-    mut leader: Member,
     times: u32,
     state: &AtomicU64,
 ) -> u32
     requires token { IsWriterOf shared.now.table.shared.table_id shared.now.table.shared.key writer }
     requires empty { IsEmpty (written_by writer) }
     requires first { writer.generation ≡ 0 }
-    requires ready { IsReady shared.now.table.shared.table_id leader }
-{
-    let waited = match lead(shared, &mut leader) {
-        Lead::Led => {
-            wait_in_turn(rt, shared, &mut writer, &mut leader, times, state);
-            times
-        }
-        Lead::Held { .. } => 0,
-    };
-    state.store(DONE, Ordering::SeqCst);
-    waited
-}
-
-/// Waits for one grace period after the other.
-fn wait_in_turn<R: Wait>(
-    rt: &R,
-    shared: &Shared<Any>,
-    writer: &mut Writer,
-    leader: &mut Member,
-    times: u32,
-    state: &AtomicU64,
-)
-    requires waiting { AreWaiting shared.now.table.shared.table_id shared.now.table.shared.key writer.old leader.old }
-    requires empty { IsEmpty (written_by writer.old) }
-    requires first { writer.old.generation ≡ 0 }
 {
     for _ in 0..times {
-        wait_once(rt, shared, writer, leader, state);
+        wait_once(rt, shared, &mut writer, state);
     }
+    state.store(DONE, Ordering::SeqCst);
+    times
 }
 
 /// Publishes a generation, and waits until no thread may read the one before.
-fn wait_once<R: Wait>(
-    rt: &R,
-    shared: &Shared<Any>,
-    writer: &mut Writer,
-    leader: &mut Member,
-    state: &AtomicU64,
-)
-    requires waiting { AreWaiting shared.now.table.shared.table_id shared.now.table.shared.key writer.old leader.old }
+fn wait_once<R: Wait>(rt: &R, shared: &Shared<Any>, writer: &mut Writer, state: &AtomicU64)
+    requires token { IsWriterOf shared.now.table.shared.table_id shared.now.table.shared.key writer.old }
     requires empty { IsEmpty (written_by writer.old) }
     requires room { writer.old.generation + 1 < 2 ^ 59 }
-    ensures waiting { AreWaiting shared.now.table.shared.table_id shared.now.table.shared.key writer.new leader.new }
+    ensures token { IsWriterOf shared.now.table.shared.table_id shared.now.table.shared.key writer.new }
     ensures empty { IsEmpty (written_by writer.new) }
     ensures generation { writer.new.generation ≡ writer.old.generation + 1 }
 {
     publish(shared, writer);
-    wait_over(rt, shared, writer, leader, state);
+    wait_over(rt, shared, writer, state);
+}
+
+/// Waits until no thread may read a generation before the newest one. The leader wakes it where it
+/// sleeps.
+fn wait_over<R: Wait>(rt: &R, shared: &Shared<Any>, writer: &mut Writer, state: &AtomicU64)
+    requires token { IsWriterOf shared.now.table.shared.table_id shared.now.table.shared.key writer.old }
+    ensures token { IsWriterOf shared.now.table.shared.table_id shared.now.table.shared.key writer.new }
+    ensures generation { writer.new.generation ≡ writer.old.generation }
+    ensures asked { HasAsked (written_by writer.old) (written_by writer.new) }
+    ensures over { IsOver (written_by writer.new) (newest (written_by writer.old).published) }
+{
+    let need = later(shared, writer);
+    for _ in rt.forever() {
+        if ask_often(shared, writer, need) {
+            return;
+        }
+        state.store(need, Ordering::SeqCst);
+        state.park(rt, (need % 4_294_967_296) as u32);
+    }
+}
+
+/// Asks some times whether the value is reached.
+fn ask_often(shared: &Shared<Any>, writer: &mut Writer, need: u64) -> bool
+    requires token { IsWriterOf shared.now.table.shared.table_id shared.now.table.shared.key writer.old }
+    ensures token { IsWriterOf shared.now.table.shared.table_id shared.now.table.shared.key writer.new }
+    ensures generation { writer.new.generation ≡ writer.old.generation }
+    ensures asked { HasAsked (written_by writer.old) (written_by writer.new) }
+    ensures reached { result ≡ true → need ≤ (written_by writer.new).counter }
+{
+    for _ in 0..ASKED {
+        if ask(shared, writer, need) {
+            return true;
+        }
+    }
+    false
 }

@@ -7,13 +7,12 @@ ghost use Rattle.progress_words.specs.Tokens.{written_by, IsWriterOf};
 ghost use Rattle.progress_tests.specs.Running.{IsReady, IsEmpty};
 
 use crate::tables::{Any, publish_used};
-use crate::waits::{AWAKE, wait_over};
+use crate::waits::wait_alone;
 use anchors::scan;
 use progress_words::{Lead, lead};
 use shared_words::{Member, Parts, Shared, Writer};
 use std::alloc::Global;
 use std::sync::Wait;
-use std::sync::atomic::AtomicU64;
 use term_core::{AreaRef, NoMemory};
 
 /// The area that was dropped.
@@ -38,7 +37,7 @@ pub fn scan_alone<R: Wait>(rt: &R, alloc: Global, times: u32) -> Result<u32, NoM
 }
 
 /// Publishes that the area is dropped, waits, and looks so often.
-#[tactic(auto, using(crate::proofs::Waiting::begins))]
+#[tactic(auto, using(progress_tests::proofs::Leading::still_none))]
 fn scan_after<R: Wait>(
     rt: &R,
     shared: &Shared<Any>,
@@ -54,7 +53,7 @@ fn scan_after<R: Wait>(
     publish_used(shared, writer);
     match lead(shared, leader) {
         Lead::Led => {
-            wait_over(rt, shared, writer, leader, &AtomicU64::new(AWAKE));
+            wait_alone(rt, shared, writer, leader);
             scan_often(shared, writer, times);
             times
         }

@@ -7,7 +7,7 @@ use term_core::narrow_of;
 pub enum Work {
     /// `report N`: one member reports, and nobody waits.
     Report { times: u32 },
-    /// `wait R N`: the writer waits for grace periods beneath so many threads, from 1 to 15, that report
+    /// `wait R N`: the writer waits for grace periods beneath so many threads, from 1 to 16, that report
     /// all the time.
     Wait { readers: u32, times: u32 },
     /// `hold N`: a process names an area and drops it.

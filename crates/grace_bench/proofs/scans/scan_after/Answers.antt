@@ -5,5 +5,5 @@ use Rattle.grace_bench.proofs.scans.scan_after.Goals as goal
 
 pub scan_often-requires-clause-may : goal.scan_often-requires-clause-may
 scan_often-requires-clause-may g c =
-    may_look (written_by c.args.writer.now) (written_by c.publish_used.new.writer) (written_by c.wait_over.new.writer) c.publish_used.ensures.published c.wait_over.ensures.asked
-    c.wait_over.ensures.over
+    may_look (written_by c.args.writer.now) (written_by c.publish_used.new.writer) (written_by c.wait_alone.new.writer) c.publish_used.ensures.published c.wait_alone.ensures.asked
+    c.wait_alone.ensures.over

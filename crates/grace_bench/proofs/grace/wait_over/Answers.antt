@@ -2,7 +2,7 @@
 use Rattle.shared_words.specs.Views.{newest}
 use Rattle.progress_words.specs.Tokens.{written_by}
 use Rattle.grace_bench.proofs.Waiting.{over_now}
-use Rattle.grace_bench.proofs.waits.wait_over.Goals as goal
+use Rattle.grace_bench.proofs.grace.wait_over.Goals as goal
 
 pub returns-then-ask_often-clause-over : goal.returns-then-ask_often-clause-over
 returns-then-ask_often-clause-over g c =
