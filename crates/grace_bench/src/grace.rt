@@ -12,6 +12,7 @@ use crate::waits::{advance_once, ask};
 use progress_words::{Lead, later, lead, report};
 use shared_words::{Member, Parts, Shared, Writer};
 use std::alloc::Global;
+use std::hint::spin_loop;
 use std::sync::Wait;
 use std::sync::atomic::{AtomicU64, Ordering};
 use std::thread::{Threads, for_each_mut, join};
@@ -213,6 +214,7 @@ fn ask_often(shared: &Shared<Any>, writer: &mut Writer, need: u64) -> bool
         if ask(shared, writer, need) {
             return true;
         }
+        spin_loop();
     }
     false
 }
