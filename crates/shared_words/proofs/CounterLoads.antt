@@ -20,14 +20,16 @@ use Rattle.area_core.proofs.Fewer.{fewer_count}
 use Rattle.shared_words.specs.declared.table.TheConstants.{COUNTER}
 use Rattle.shared_words.specs.declared.opening.Opening.{Opening}
 use Rattle.shared_words.specs.declared.view.MemberView.{MemberView}
+use Rattle.shared_words.specs.declared.view.WriterView.{WriterView}
 use Rattle.shared_words.specs.declared.view.View.{View}
 use Rattle.shared_words.specs.declared.view.View.TheVariants.{Writer, Member, Watcher, Note, Spent}
 use Rattle.shared_words.specs.Shown.{progress_of}
-use Rattle.shared_words.specs.Kinds.{Sat, MayLoadCounter, counter_kept, counter_found, counter_loaded}
+use Rattle.shared_words.specs.Kinds.{Sat, MayLoadCounter, IsRising, counter_kept, counter_found, counter_loaded}
 use Rattle.shared_words.specs.Rule.{MayBeRead, blocks_shown, Knows, RunningRule}
 use Rattle.shared_words.proofs.ShownMembers.{shown_at, there, still_at}
 use Rattle.shared_words.proofs.SlotFrames.{goes_on, LooksStay, looks_same, looks_stay, marks_stay, ended_still}
 use Rattle.shared_words.proofs.Frames.{after_step, same_rest, progress_set, member_step}
+use Rattle.shared_words.proofs.WriterFrames.{writer_at}
 
 -- ---- by a member
 
@@ -134,6 +136,10 @@ module _ {Served : Generation → Type 0} {opening : Opening} (s : State (Unit {
       subst (λ (x : View). RunningRule Served opening (after_step s s.words 0 (counter_found (slice_index s.words COUNTER) x))) is writer_loads
   counter_loads (suc k) v at may = behind_loads k v at (ap (λ (vs : List View). get_elem? vs (suc k)) (sym r.views) ∙ at) may
 
+  -- it has reached what the writer loaded before
+  pub rises : (id : ℕ) (v : View) → get_elem? s.views id ≡ some v → IsRising v (slice_index s.words COUNTER)
+  rises id v at w is = subst (λ (x : WriterView). x.counter ≤ slice_index s.words COUNTER) (writer_at s r id w (at ∙ ap some is)).1 r.words.reached
+
 -- the load of the counter may be made by each seat that may make it
 pub load_counter_is_allowed : (Served : Generation → Type 0) (opening : Opening) (slots id : ℕ) (me : Sat) → MayLoadCounter me.0 → Allows (RunningRule Served opening) slots id me COUNTER (λ n. n) (counter_loaded (step slots COUNTER 0 0 none) me)
 load_counter_is_allowed Served opening slots id me may s r wide at fits = (
@@ -141,5 +147,5 @@ load_counter_is_allowed Served opening slots id me may s r wide at fits = (
   keeps,
   tt,
   subst (λ (ws : List ℕ). RunningRule Served opening (after_step s ws id (counter_found (slice_index s.words COUNTER) me.0))) (sym (set-get_or s.words COUNTER 0)) (counter_loads s r id me.0 at may),
-  record { range = r.machine.progress.invariant.counter_in_range; view = refl },
+  record { range = r.machine.progress.invariant.counter_in_range; rising = rises s r id me.0 at; view = refl },
 )

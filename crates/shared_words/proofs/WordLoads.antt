@@ -8,13 +8,13 @@ use Rattle.std.specs.Option.{option_and_then}
 use Rattle.std.proofs.lemmas.Bool.Decides.{nat_tests}
 use Rattle.atomic_table.specs.Table.{State, keeps, step, Allows}
 use Rattle.term_core.specs.declared.generation.Generation.{Generation}
-use Rattle.area_core.specs.declared.map.TheConstants.{SLOTS_START, TABLE_WORDS}
+use Rattle.area_core.specs.declared.map.TheConstants.{RETIRE_START, TABLE_WORDS}
 use Rattle.area_core.specs.declared.map.WordKind.{WordKind}
 use Rattle.area_core.specs.declared.map.WordKind.TheVariants.{Machine, Slot, Retire, Doom, InBlock, Nowhere}
 use Rattle.area_core.specs.declared.event.SeatName.{SeatName}
 use Rattle.area_core.specs.declared.event.SeatName.TheVariants as names
 use Rattle.area_core.specs.declared.table.Published.{Published}
-use Rattle.area_core.specs.Map.{kind_at}
+use Rattle.area_core.specs.Map.{kind_at, word_at}
 use Rattle.area_core.specs.Readers.{held_by, held_by_member, reads_word, is_read_under}
 use Rattle.area_core.proofs.Fewer.{fewer_count}
 use Rattle.area_core.proofs.Held.{held_readable}
@@ -23,6 +23,7 @@ use Rattle.area_core.proofs.BlockStores.{block_within}
 use Rattle.area_core.proofs.Places.{kind_retire_place, kind_doom_place}
 use Rattle.shared_words.specs.declared.opening.Opening.{Opening}
 use Rattle.shared_words.specs.declared.view.MemberView.{MemberView}
+use Rattle.shared_words.specs.declared.view.WriterView.{WriterView}
 use Rattle.shared_words.specs.declared.view.View.{View}
 use Rattle.shared_words.specs.declared.view.View.TheVariants.{Writer, Member, Watcher, Note, Spent}
 use Rattle.shared_words.specs.Views.{newest}
@@ -32,19 +33,20 @@ use Rattle.shared_words.specs.Seats.{Place}
 use Rattle.shared_words.specs.Kinds.{Sat}
 use Rattle.shared_words.specs.Passes.{MayLoad}
 use Rattle.shared_words.specs.Rule.{MayBeRead, blocks_shown, RunningRule}
-use Rattle.shared_words.specs.Publishing.{ReadsHeld, MayLoadWord, IsWordUnder, WordTells, word_loaded}
+use Rattle.shared_words.specs.Publishing.{ReadsHeld, MayLoadWord, IsWordUnder, IsOwnWord, WordTells, word_loaded}
 use Rattle.shared_words.proofs.ShownMembers.{shown_at, still_at}
 use Rattle.shared_words.proofs.ShownWords.{shown_word}
 use Rattle.shared_words.proofs.SoundState.{counts}
 use Rattle.shared_words.proofs.Frames.{after_step}
+use Rattle.shared_words.proofs.WriterFrames.{writer_at}
 use Rattle.shared_words.proofs.CounterLoads.{same_step}
 
 -- ---- where such a word stands
 
-word_behind : (word : ℕ) (kind : WordKind) (p : Published) → kind_at word ≡ kind → IsTrue (reads_word kind p) → (SLOTS_START ≤ word) × (word < TABLE_WORDS)
+word_behind : (word : ℕ) (kind : WordKind) (p : Published) → kind_at word ≡ kind → IsTrue (reads_word kind p) → (RETIRE_START ≤ word) × (word < TABLE_WORDS)
 word_behind word (InBlock block at) p is reads = (behind word block at is, block_within word block at is)
   where
-    behind : (word block at : ℕ) → kind_at word ≡ InBlock block at → 21 ≤ word
+    behind : (word block at : ℕ) → kind_at word ≡ InBlock block at → 1109 ≤ word
     behind word block at is = grind (arith, nat_tests)
 word_behind word (Retire block) p is reads = (let at = kind_retire_place word block is in (omega (arith, at.0), omega (arith, at.0, at.1)))
 word_behind word (Doom block) p is reads = (let at = kind_doom_place word block is in (omega (arith, at.0), omega (arith, at.0, at.1)))
@@ -52,16 +54,16 @@ word_behind word Machine p is reads = absurd (cc)
 word_behind word Slot p is reads = absurd (cc)
 word_behind word Nowhere p is reads = absurd (cc)
 
-under_behind : (word : ℕ) (o : Option Published) → IsTrue (is_read_under (kind_at word) o) → (SLOTS_START ≤ word) × (word < TABLE_WORDS)
+under_behind : (word : ℕ) (o : Option Published) → IsTrue (is_read_under (kind_at word) o) → (RETIRE_START ≤ word) × (word < TABLE_WORDS)
 under_behind word None reads = absurd (cc)
 under_behind word (Some p) reads = word_behind word (kind_at word) p refl reads
 
-held_behind : (word : ℕ) (published : List Published) (o : Option ℕ) → ReadsHeld word published o → (SLOTS_START ≤ word) × (word < TABLE_WORDS)
+held_behind : (word : ℕ) (published : List Published) (o : Option ℕ) → ReadsHeld word published o → (RETIRE_START ≤ word) × (word < TABLE_WORDS)
 held_behind word published None reads = absurd reads
 held_behind word published (Some g) reads = under_behind word (slice_get published g) reads
 
--- a word that may be loaded is one behind those of the machine
-pub may_behind : (word : ℕ) (v : View) → MayLoadWord word v → (SLOTS_START ≤ word) × (word < TABLE_WORDS)
+-- a word that may be loaded is one behind the slots
+pub may_behind : (word : ℕ) (v : View) → MayLoadWord word v → (RETIRE_START ≤ word) × (word < TABLE_WORDS)
 may_behind word (Writer w) may = held_behind word w.published (Some (newest w.published)) may
 may_behind word (Member m) may = held_behind word m.seen (held_by_member m.member) may
 may_behind word (Watcher w) may = absurd may
@@ -70,7 +72,7 @@ may_behind word Spent may = absurd may
 
 -- ---- what is told
 
-module _ {Served : Generation → Type 0} {opening : Opening} (s : State (Unit {0}) View) (r : RunningRule Served opening s) (word : ℕ) (late : SLOTS_START ≤ word) where
+module _ {Served : Generation → Type 0} {opening : Opening} (s : State (Unit {0}) View) (r : RunningRule Served opening s) (word : ℕ) (late : RETIRE_START ≤ word) where
   -- of a generation that a seat of the machine holds
   told : (seat : SeatName) (g : ℕ) (p : Published) → held_by (progress_of s.words r.writer r.seats) seat ≡ Some g → slice_get r.writer.published g ≡ Some p → IsWordUnder g p word (slice_index s.words word)
   told seat g p holds at =
@@ -80,7 +82,7 @@ module _ {Served : Generation → Type 0} {opening : Opening} (s : State (Unit {
         blocks = blocks_shown s.words r.writer;
         stands = fewer_count (blocks_shown s.words r.writer) (MayBeRead r.writer) (λ h. h ≡ g) r.words.blocks (λ h same. subst (MayBeRead r.writer) (sym same) (counts s r g readable));
         published = at;
-        here = shown_word s.words word late;
+        here = shown_word s.words word (omega (arith, late));
       }
 
   member_told : (k : ℕ) (m : MemberView) → get_elem? r.seats k ≡ some (Member m) → WordTells (Member m) word (slice_index s.words word)
@@ -103,6 +105,10 @@ module _ {Served : Generation → Type 0} {opening : Opening} (s : State (Unit {
       subst (λ (x : View). WordTells x word (slice_index s.words word)) is (λ g p holds here. told names.Writer g p holds here)
   tells (suc k) v at may = behind_told k v (ap (λ (vs : List View). get_elem? vs (suc k)) (sym r.views) ∙ at) may
 
+  -- the words behind the slots are those that the writer has stored
+  pub own_word : (id : ℕ) (v : View) → get_elem? s.views id ≡ some v → IsOwnWord v word (slice_index s.words word)
+  own_word id v at w is = subst (λ (x : WriterView). slice_index s.words word ≡ word_at x.words word) (writer_at s r id w (at ∙ ap some is)).1 (r.words.mirrored word late)
+
 -- a word that the generation reads which a seat holds may be loaded
 pub load_word_is_allowed : (Served : Generation → Type 0) (opening : Opening) (slots id word : ℕ) (me : Sat) → MayLoadWord word me.0 → Allows (RunningRule Served opening) slots id me word (λ n. n) (word_loaded (step slots word 0 0 none) me)
 load_word_is_allowed Served opening slots id word me may s r wide at fits = (
@@ -110,7 +116,7 @@ load_word_is_allowed Served opening slots id word me may s r wide at fits = (
   keeps,
   tt,
   subst (λ (ws : List ℕ). RunningRule Served opening (after_step s ws id me.0)) (sym (set-get_or s.words word 0)) (same_step s r id me.0 at),
-  record { same = refl; tells = tells s r word (may_behind word me.0 may).0 id me.0 at may },
+  record { same = refl; own = own_word s r word (may_behind word me.0 may).0 id me.0 at; tells = tells s r word (may_behind word me.0 may).0 id me.0 at may },
 )
 
 -- the same as what a load by any token asks

@@ -60,9 +60,14 @@ counter_found counter (Watcher w) = Watcher (record w { watcher = watchers.count
 counter_found counter (Note n) = Note n
 counter_found counter Spent = Spent
 
--- what a load of the counter tells: the counter is in its range, and the seat knows it
+-- for the writer the counter is not below what it loaded before
+abbrev pub IsRising : View → ℕ → Type 0
+IsRising v counter = (w : WriterView) → v ≡ Writer w → w.counter ≤ counter
+
+-- what a load of the counter tells: the counter is in its range, it does not fall, and the seat knows it
 pub record counter_loaded (st : Step (Unit {0})) (me : Sat) (counter : ℕ) (me' : Sat) : Type 0 where
   pub range : CounterInRange counter
+  pub rising : IsRising me.0 counter
   pub view : me' ≡ (counter_found counter me.0, me.1)
 
 -- ---- the load of the root

@@ -162,7 +162,12 @@ pub record IsWordUnder (g : ℕ) (p : Published) (word found : ℕ) : Type 0 whe
 abbrev pub WordTells : View → ℕ → ℕ → Type 0
 WordTells v word found = (g : ℕ) (p : Published) → held v ≡ Some g → slice_get (seen v) g ≡ Some p → IsWordUnder g p word found
 
+-- what the writer loads is what it has stored
+abbrev pub IsOwnWord : View → ℕ → ℕ → Type 0
+IsOwnWord v word found = (w : WriterView) → v ≡ Writer w → found ≡ word_at w.words word
+
 -- what the load of a word tells and leaves: the view is as before
 pub record word_loaded (st : Step (Unit {0})) (me : Sat) (found : ℕ) (me' : Sat) : Type 0 where
   pub same : me' ≡ me
+  pub own : IsOwnWord me.0 st.word found
   pub tells : WordTells me.0 st.word found

@@ -3,7 +3,7 @@
 ghost use Rattle.std.specs.Prelude.{◌≡◌};
 ghost use Rattle.prgr_core.specs.Invariant.{CounterInRange};
 ghost use Rattle.shared_words.specs.Seats.{IsSeatOf, IsSameSeat};
-ghost use Rattle.shared_words.specs.Kinds.{MayLoadCounter, counter_found};
+ghost use Rattle.shared_words.specs.Kinds.{MayLoadCounter, IsRising, counter_found};
 
 use crate::law::Served;
 use crate::pass::Pass;
@@ -12,7 +12,7 @@ use crate::table::{COUNTER, Shared};
 
 impl<N: Served> Shared<N> {
     /// Loads the counter. A member has then loaded it and confirmed nothing since; the writer keeps
-    /// that its newest generation needs two more values.
+    /// that its newest generation needs two more values, and finds no counter below the one before.
     pub fn load_counter<P: Pass>(&self, pass: &mut P) -> u64
         requires token { IsSeatOf self.now.table.shared.table_id (P.seat pass.old) }
         requires may { MayLoadCounter (P.seat pass.old).me.0 }
@@ -21,6 +21,7 @@ impl<N: Served> Shared<N> {
         ensures root { P.root pass.new ≡ P.root pass.old }
         ensures anchors { P.anchors pass.new ≡ P.anchors pass.old }
         ensures range { CounterInRange result }
+        ensures rising { IsRising (P.seat pass.old).me.0 result }
         ensures view { (P.seat pass.new).me.0 ≡ counter_found result (P.seat pass.old).me.0 }
     {
         pass.load::<LoadCounter, N>(&self.table.shared, COUNTER as usize)

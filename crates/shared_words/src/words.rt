@@ -2,7 +2,7 @@
 
 ghost use Rattle.std.specs.Prelude.{◌≡◌};
 ghost use Rattle.shared_words.specs.Seats.{IsSeatOf, IsSameSeat};
-ghost use Rattle.shared_words.specs.Publishing.{MayLoadWord, WordTells};
+ghost use Rattle.shared_words.specs.Publishing.{MayLoadWord, IsOwnWord, WordTells};
 
 use crate::law::Served;
 use crate::pass::Pass;
@@ -11,7 +11,7 @@ use crate::table::Shared;
 
 impl<N: Served> Shared<N> {
     /// Loads a word of a block, or its retire or doom word, that the generation reads which the token
-    /// holds.
+    /// holds. What the writer loads is what it has stored.
     pub fn load_word<P: Pass>(&self, pass: &mut P, word: u32) -> u64
         requires token { IsSeatOf self.now.table.shared.table_id (P.seat pass.old) }
         requires may { MayLoadWord word (P.seat pass.old).me.0 }
@@ -20,6 +20,7 @@ impl<N: Served> Shared<N> {
         ensures root { P.root pass.new ≡ P.root pass.old }
         ensures anchors { P.anchors pass.new ≡ P.anchors pass.old }
         ensures view { (P.seat pass.new).me.0 ≡ (P.seat pass.old).me.0 }
+        ensures own { IsOwnWord (P.seat pass.old).me.0 word result }
         ensures tells { WordTells (P.seat pass.old).me.0 word result }
     {
         pass.load::<LoadWord, N>(&self.table.shared, word as usize)
