@@ -27,6 +27,7 @@ use Rattle.shared_words.specs.Shown.{progress_of}
 use Rattle.shared_words.specs.Kinds.{Sat, MayLoadCounter, IsRising, counter_kept, counter_found, counter_loaded}
 use Rattle.shared_words.specs.Rule.{MayBeRead, blocks_shown, Knows, RunningRule}
 use Rattle.shared_words.proofs.ShownMembers.{shown_at, there, still_at}
+use Rattle.shared_words.proofs.KeptWords.{kept_as}
 use Rattle.shared_words.proofs.SlotFrames.{goes_on, LooksStay, looks_same, looks_stay, marks_stay, ended_still}
 use Rattle.shared_words.proofs.Frames.{after_step, same_rest, progress_set, member_step}
 use Rattle.shared_words.proofs.WriterFrames.{writer_at}
@@ -52,7 +53,7 @@ module _ {Served : Generation → Type 0} {opening : Opening} (s : State (Unit {
       let within = there r.seats k (Member m) at in
       member_step s r s.words k m (with_counter c m) at (record {
         rest = same_rest s.words;
-        knows = record { numbered = knows.numbered; made = knows.made; seen = knows.seen; holds = knows.holds; noted = knows.noted };
+        knows = record { numbered = knows.numbered; made = knows.made; seen = knows.seen; holds = knows.holds; noted = knows.noted; words = knows.words };
         moves = inl (prgr.LoadCounter k, loaded_event (progress_of s.words r.writer r.seats) k m.member shown awake ∙ ap (λ (p : Progress). Some p) (sym (progress_set s.words r.writer r.seats k (with_counter c m) knows.made within)));
         own = r.machine.own_words k m.member shown;
         others = λ j other. refl;
@@ -78,13 +79,13 @@ module _ {Served : Generation → Type 0} {opening : Opening} (s : State (Unit {
   fewer c later g may pair among need =
       may pair (among.0, still_at r.writer.pairs _ among.0 pair among.1) (let n : pair.need ≤ r.writer.counter = need in omega arith)
 
-  -- what each seat knows says nothing of pairs and the counter
-  same_knows : (c place : ℕ) (v : View) → Knows r.writer place v → Knows (counter_kept c r.writer) place v
-  same_knows c place (Writer w) h = h
-  same_knows c place (Member m) h = record { numbered = h.numbered; made = h.made; seen = h.seen; holds = h.holds; noted = h.noted }
-  same_knows c place (Watcher w) h = record { numbered = h.numbered; made = h.made; seen = h.seen }
-  same_knows c place (Note n) h = record { behind = h.behind; seen = h.seen; noted = h.noted; learnt = h.learnt }
-  same_knows c place Spent h = h
+  -- what each seat knows stays with fewer generations that may be read
+  same_knows : (c : ℕ) → r.writer.counter ≤ c → (place : ℕ) (v : View) → Knows r.writer place v → Knows (counter_kept c r.writer) place v
+  same_knows c later place (Writer w) h = h
+  same_knows c later place (Member m) h = record { numbered = h.numbered; made = h.made; seen = h.seen; holds = h.holds; noted = h.noted; words = λ f among. kept_as r.writer (counter_kept c r.writer) refl refl (fewer c later) f (h.words f among) }
+  same_knows c later place (Watcher w) h = record { numbered = h.numbered; made = h.made; seen = h.seen }
+  same_knows c later place (Note n) h = record { behind = h.behind; seen = h.seen; noted = h.noted; learnt = h.learnt }
+  same_knows c later place Spent h = h
 
   writer_loads : RunningRule Served opening (after_step s s.words 0 (Writer (counter_kept (slice_index s.words COUNTER) r.writer)))
   writer_loads =
@@ -103,7 +104,7 @@ module _ {Served : Generation → Type 0} {opening : Opening} (s : State (Unit {
           reached = omega arith;
           blocks = fewer_count (blocks_shown s.words r.writer) (MayBeRead r.writer) (MayBeRead (counter_kept c r.writer)) r.words.blocks (fewer c r.words.reached);
         };
-        each_seat = λ place v at. same_knows c place v (r.each_seat place v at);
+        each_seat = λ place v at. same_knows c r.words.reached place v (r.each_seat place v at);
         machine = record {
           progress = pair_sound (progress_of s.words r.writer r.seats) r.machine.progress;
           own_words = r.machine.own_words;
@@ -112,7 +113,7 @@ module _ {Served : Generation → Type 0} {opening : Opening} (s : State (Unit {
         };
         handed = r.handed;
         out = r.out;
-        at_home = λ k m at. same_knows c k (Member m) (r.at_home k m at);
+        at_home = λ k m at. same_knows c r.words.reached k (Member m) (r.at_home k m at);
         looks = looks_stay s.words s.words r.writer w' stay r.looks;
         marks = marks_stay s.words s.words r.writer w' r.seats r.seats stay refl refl r.marks;
         come = λ number among. record { made = (r.come number among).made; spent = (r.come number among).spent };

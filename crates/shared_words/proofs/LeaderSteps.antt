@@ -47,6 +47,7 @@ still_knows w k m a found number generation knows = record {
   seen = knows.seen;
   holds = subst (λ (g : ℕ). g < length m.seen) (sym generation) knows.holds;
   noted = knows.noted;
+  words = knows.words;
 }
 
 module _ {Served : Generation → Type 0} {opening : Opening} (s : State (Unit {0}) View) (r : RunningRule Served opening s) where

@@ -1,6 +1,7 @@
 pub mod ShownMembers
 pub mod ShownViews
 pub mod SlotFrames
+pub mod KeptWords
 pub mod Frames
 pub mod CounterLoads
 pub mod RootLoads

@@ -23,6 +23,7 @@ use Rattle.shared_words.specs.Seats.{member_of, writer_of}
 use Rattle.shared_words.specs.Kinds.{Sat}
 use Rattle.shared_words.specs.Rule.{Knows, MemberKnows, SlotKnown, HasCome, RunningRule}
 use Rattle.shared_words.specs.Closing.{with_member, member_taken, HasBrought, AreKnown, AreMarked, members_seen}
+use Rattle.shared_words.proofs.KeptWords.{kept_as}
 use Rattle.shared_words.proofs.ShownMembers.{drop_set, there}
 use Rattle.shared_words.proofs.ShownViews.{views_come, views_taken}
 use Rattle.shared_words.proofs.SlotFrames.{LooksStay, looks_same, looks_stay, marks_stay, ended_as}
@@ -49,7 +50,7 @@ module _ {Served : Generation → Type 0} {about : Opening} (s : State (Unit {0}
   long = length-set r.writer.members k m
 
   more : WriterGrows r.writer (taken k)
-  more = record { members = long; watchers = refl; learnt = λ xs is. is; noted = λ note is. is }
+  more = record { members = long; watchers = refl; learnt = λ xs is. is; noted = λ note is. is; words = kept_as r.writer (taken k) refl refl (λ g may. may) }
 
   same : members_shown (slice_set r.writer.members k m) (set r.seats k Spent) ≡ members_shown r.writer.members r.seats
   same = shown_taken r.writer.members r.seats k m knows.made at

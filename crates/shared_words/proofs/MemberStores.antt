@@ -25,6 +25,7 @@ use Rattle.shared_words.specs.declared.table.TheConstants.{COUNTER, LEAD, DELAYS
 use Rattle.shared_words.specs.declared.opening.Opening.{Opening}
 use Rattle.area_core.specs.declared.table.Published.{Published}
 use Rattle.area_core.specs.Blocks.{Among}
+use Rattle.shared_words.specs.declared.view.BlockWord.{BlockWord}
 use Rattle.shared_words.specs.declared.view.NoteNumber.{NoteNumber}
 use Rattle.shared_words.specs.declared.view.MemberView.{MemberView}
 use Rattle.shared_words.specs.declared.view.View.{View}
@@ -32,7 +33,7 @@ use Rattle.shared_words.specs.declared.view.View.TheVariants.{Writer, Member}
 use Rattle.shared_words.specs.Shown.{progress_of}
 use Rattle.shared_words.specs.Seats.{member_of}
 use Rattle.shared_words.specs.Kinds.{Sat, MayConfirm, value_confirmed, confirmed}
-use Rattle.shared_words.specs.Rule.{IsBeginning, RunningRule}
+use Rattle.shared_words.specs.Rule.{IsBeginning, WordKept, RunningRule}
 use Rattle.shared_words.proofs.ShownMembers.{shown_at, shown_length, there}
 use Rattle.shared_words.specs.Processes.{process_of, under_of}
 use Rattle.shared_words.proofs.SlotFrames.{SlotsGoOn, known_awake}
@@ -65,9 +66,9 @@ confirmed_event p k a value at (CounterAndRoot c) is may =
 
 module _ {Served : Generation → Type 0} {opening : Opening} (s : State (Unit {0}) View) (r : RunningRule Served opening s) where
   -- a store of a member's word, which is an event of that member
-  pub own_store : (k value : ℕ) (old m : MemberView) (event : PrgrEvent) → get_elem? r.seats k ≡ some (Member old) → m.member.number ≡ old.member.number → m.seen ≡ old.seen → m.notes ≡ old.notes → m.member.generation ≡ old.member.generation → m.member.word ≡ value → SlotsGoOn r.writer old m
+  pub own_store : (k value : ℕ) (old m : MemberView) (event : PrgrEvent) → get_elem? r.seats k ≡ some (Member old) → m.member.number ≡ old.member.number → m.seen ≡ old.seen → m.notes ≡ old.notes → m.blocks ≡ old.blocks → m.member.generation ≡ old.member.generation → m.member.word ≡ value → SlotsGoOn r.writer old m
       → after (progress_of s.words r.writer r.seats) event ≡ Some (with_member (progress_of s.words r.writer r.seats) k m.member) → RunningRule Served opening (after_step s (set s.words (CONFIRMED + k) value) (suc k) (Member m))
-  own_store k value old m event at number learnt noted generation word slots made =
+  own_store k value old m event at number learnt noted blocks generation word slots made =
       let knows = r.each_seat k (Member old) at in
       let few_members = few s r k old at in
       let size = r.words.all in
@@ -85,6 +86,7 @@ module _ {Served : Generation → Type 0} {opening : Opening} (s : State (Unit {
           seen = subst (λ (xs : _). IsBeginning xs r.writer.published) (sym learnt) knows.seen;
           holds = subst (λ (z : ℕ × List Published). z.0 < length z.1) (λ i. (sym generation i, sym learnt i)) knows.holds;
           noted = subst (λ (xs : List NoteNumber). (note : NoteNumber) → Among xs note → Among r.writer.notes note) (sym noted) knows.noted;
+          words = subst (λ (xs : List BlockWord). (f : BlockWord) → Among xs f → WordKept r.writer f) (sym blocks) knows.words;
         };
         moves = inl (event, made ∙ ap (λ (p : Progress). Some (with_member p k m.member)) (sym same) ∙ ap (λ (p : Progress). Some p) (sym (progress_set words' r.writer r.seats k m knows.made (there r.seats k (Member old) at))));
         own = get_or-set_same s.words (CONFIRMED + k) value 0 (omega arith) ∙ sym word;
@@ -118,7 +120,7 @@ confirm_is_allowed Served opening slots id number value me is numbered may s r w
       slots = refl;
       known = λ process h. known_awake (under_of m) (members.is_value value) process (process_of m process) r.writer.looks (λ awake. confirms_value value (slice_index s.words COUNTER) m.member.loaded range (λ c loaded. (near c loaded).0) may) h;
     } in
-    let stored = own_store s r k value m (value_confirmed value m) (prgr.Report k) seat.2 refl refl refl refl refl slots
+    let stored = own_store s r k value m (value_confirmed value m) (prgr.Report k) seat.2 refl refl refl refl refl refl slots
     (confirmed_event (progress_of s.words r.writer r.seats) k m.member value (shown_at r.writer.members r.seats k m knows.made seat.2) m.member.loaded refl may) in (
       Member (value_confirmed value m),
       keeps,

@@ -21,6 +21,7 @@ use Rattle.shared_words.specs.Shown.{member_shown, members_shown, watcher_shown,
 use Rattle.shared_words.specs.Notes.{SplitsNote, IsSplittingNote, note_number, with_note, note_begun, note_left, note_right}
 use Rattle.shared_words.specs.Rule.{NoteFits, Knows, RunningRule}
 use Rattle.shared_words.proofs.ShownMembers.{still_at}
+use Rattle.shared_words.proofs.KeptWords.{kept_as}
 use Rattle.shared_words.proofs.OpeningRule.{last_get, at_push}
 use Rattle.shared_words.proofs.RootLoads.{whole}
 use Rattle.shared_words.proofs.ShownViews.{views_more}
@@ -55,7 +56,7 @@ splits process s r may =
     let first = r.published.some in
     let behind : length w.members + length w.watchers ≤ length r.seats = omega (arith, r.published.made, r.published.watched, may.out, r.out) in
     let same = members_more w.members r.seats (Note n) (omega (arith, behind)) in
-    let more : WriterGrows w w' = record { members = refl; watchers = refl; learnt = λ xs is. is; noted = λ note among. (among.0, still_at w.notes (note_number process w ∷ []) among.0 note among.1) } in
+    let more : WriterGrows w w' = record { members = refl; watchers = refl; learnt = λ xs is. is; noted = λ note among. (among.0, still_at w.notes (note_number process w ∷ []) among.0 note among.1); words = kept_as w w' refl refl (λ g may. may) } in
     let stay : LooksStay s.words s.words w w' = looks_same s.words w w' refl (ended_as w w' refl refl (omega arith)) in
     record {
       writer = w';
@@ -103,7 +104,4 @@ split_note_is_allowed Served about process zero v may s r at =
     subst (λ (x : View). IsSplittingNote about process x → RunningRule Served about record { words = s.words; homes = s.homes; views = set s.views 0 (note_left process x) ++ note_right process x ∷ [] }) is
     (λ may. splits process s r may) may
 split_note_is_allowed Served about process (suc k) (Writer w) may s r at = absurd (r.each_seat k (Writer w) (ap (λ (vs : List View). get_elem? vs (suc k)) (sym r.views) ∙ at))
-split_note_is_allowed Served about process (suc k) (Member m) may s r at = absurd may
-split_note_is_allowed Served about process (suc k) (Watcher x) may s r at = absurd may
-split_note_is_allowed Served about process (suc k) (Note n) may s r at = absurd may
-split_note_is_allowed Served about process (suc k) Spent may s r at = absurd may
+split_note_is_allowed Served about process (suc k) v may s r at = absurd may

@@ -37,6 +37,7 @@ use Rattle.shared_words.specs.Opening.{member_begun, members_begun, watcher_begu
 use Rattle.shared_words.specs.Making.{AreBegun, HasSeatsAtHome, handed_on, handed_out}
 use Rattle.shared_words.specs.Processes.{under_of}
 use Rattle.shared_words.specs.Rule.{Knows, MemberKnows, MayBeRead, SlotKnown, RunningRule}
+use Rattle.shared_words.proofs.KeptWords.{kept_as}
 use Rattle.shared_words.proofs.ShownMembers.{there_is, still_at, drop_none}
 use Rattle.shared_words.proofs.ShownViews.{views_none, views_push}
 use Rattle.shared_words.proofs.SlotFrames.{LooksStay, looks_same, looks_stay, marks_stay, ended_as}
@@ -142,6 +143,7 @@ member_knows members watchers k m at =
       seen = ([], refl);
       holds = omega arith;
       noted = λ note among. absurd (cc);
+      words = λ f among. absurd (cc);
     })
 
 -- ---- the slots at first
@@ -239,7 +241,7 @@ at_push (z ∷ zs) y (suc k) x at = ⊎_elim (λ t. inl t) (λ (t : (k ≡ lengt
 -- what a seat knows says nothing of how many were handed out
 same_handed : (w : WriterView) (n place : ℕ) (v : View) → Knows w place v → Knows (record w { handed = n }) place v
 same_handed w n place (Writer other) h = h
-same_handed w n place (Member m) h = record { numbered = h.numbered; made = h.made; seen = h.seen; holds = h.holds; noted = h.noted }
+same_handed w n place (Member m) h = record { numbered = h.numbered; made = h.made; seen = h.seen; holds = h.holds; noted = h.noted; words = λ f among. kept_as w (record w { handed = n }) refl refl (λ g may. may) f (h.words f among) }
 same_handed w n place (Watcher v) h = record { numbered = h.numbered; made = h.made; seen = h.seen }
 same_handed w n place (Note v) h = record { behind = h.behind; seen = h.seen; noted = h.noted; learnt = h.learnt }
 same_handed w n place Spent h = h

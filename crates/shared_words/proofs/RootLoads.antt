@@ -136,6 +136,7 @@ module _ {Served : Generation → Type 0} {opening : Opening} (s : State (Unit {
           seen = whole all;
           holds = within b g (length all) m.member last (shorter m.seen all knows.seen m.member.generation knows.holds);
           noted = knows.noted;
+          words = knows.words;
         };
         moves = subst (Moves p) (sym (progress_set s.words r.writer r.seats k m' knows.made (there r.seats k (Member m) at))) (root_moves p k m.member shown b refl);
         own = r.machine.own_words k m.member shown ∙ sym (word_kept b g m.member);

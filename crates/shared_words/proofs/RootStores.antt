@@ -33,6 +33,7 @@ use Rattle.shared_words.specs.Kinds.{Sat}
 use Rattle.shared_words.specs.Rule.{IsBeginning, MayBeRead, RunningRule}
 use Rattle.shared_words.specs.Publishing.{kept_next, StandsFor, FreshStand, MayPublish, IsRootOf, with_next, root_stored}
 use Rattle.shared_words.proofs.ShownMembers.{drop_set}
+use Rattle.shared_words.proofs.KeptWords.{kept_with}
 use Rattle.shared_words.proofs.ShownWords.{shown_word}
 use Rattle.shared_words.proofs.SlotFrames.{ended_still}
 use Rattle.shared_words.proofs.Mirrors.{code_mirrored, breakpoints_mirrored, terms_mirrored, area_mirrored, image_mirrored}
@@ -144,7 +145,7 @@ module _ {Served : Generation → Type 0} {opening : Opening} (s : State (Unit {
       (get_or-set_other s.words ROOT LEAD x 0 (λ e. absurd (omega arith)))
       (get_or-set_other s.words ROOT DELAYS x 0 (λ e. absurd (omega arith)))
       (get_or-set_other s.words ROOT (DELAYS + 1) x 0 (λ e. absurd (omega arith))) in
-      writer_step s r words' w' (record { members = refl; watchers = refl; learnt = λ xs is. begins_longer xs w.published p is; noted = λ note is. is }) refl refl refl
+      writer_step s r words' w' (record { members = refl; watchers = refl; learnt = λ xs is. begins_longer xs w.published p is; noted = λ note is. is; words = kept_with w p }) refl refl refl
       (record {
         looks = refl;
         ended = ended_still w w' [] (p ∷ []) (sym (append-nil w.pairs)) refl (omega arith);

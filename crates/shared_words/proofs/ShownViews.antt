@@ -72,11 +72,8 @@ view_cases [] seats k m at = absurd (cc)
 view_cases (kept ∷ members) [] zero m at = inr at
 view_cases (kept ∷ members) [] (suc k) m at = inr (ap (λ (xs : List MemberView). slice_get xs k) (sym (views_none members)) ∙ at)
 view_cases (kept ∷ members) (Member x ∷ seats) zero m at = inl (let is : x ≡ m = cc in ap (λ (y : MemberView). some (Member y)) is)
-view_cases (kept ∷ members) (Writer x ∷ seats) zero m at = inr at
-view_cases (kept ∷ members) (Watcher x ∷ seats) zero m at = inr at
-view_cases (kept ∷ members) (Note x ∷ seats) zero m at = inr at
-view_cases (kept ∷ members) (Spent ∷ seats) zero m at = inr at
 view_cases (kept ∷ members) (seat ∷ seats) (suc k) m at = view_cases members seats k m at
+view_cases (kept ∷ members) (seat ∷ seats) zero m at = inr at
 
 -- it has the record that is shown
 pub shown_view : (members : List MemberView) (seats : List View) (k : ℕ) (m : MemberView) → slice_get (views_shown members seats) k ≡ Some m → slice_get (members_shown members seats) k ≡ Some m.member

@@ -235,7 +235,7 @@ module _ {Served : Generation → Type 0} {opening : Opening} (s : State (Unit {
       (get_or-set_other s.words (slot_place process place) (DELAYS + 1) value 0 (λ e. absurd (omega (arith, e)))) in
       member_changes s r (set s.words (slot_place process place) value) k m m' at (record {
         agree = agrees;
-        knows = record { numbered = knows.numbered; made = knows.made; seen = knows.seen; holds = knows.holds; noted = knows.noted };
+        knows = record { numbered = knows.numbered; made = knows.made; seen = knows.seen; holds = knows.holds; noted = knows.noted; words = knows.words };
         moves = inr (progress_set (set s.words (slot_place process place) value) r.writer r.seats k m' knows.made (there r.seats k (Member m) at) ∙ (λ i. record (front i) { members = slice_set (front i).members k m.member }) ∙ (λ i. record q { members = set_same q.members k m.member shown i }));
         own = get_or-set_other s.words (slot_place process place) (CONFIRMED + k) value 0 (λ e. absurd (omega (arith, e, few_members, many, made))) ∙ r.machine.own_words k m.member shown;
         others = λ j other few. get_or-set_other s.words (slot_place process place) (CONFIRMED + j) value 0 (λ e. elim few as (λ _. ⊥) [ inl low ↦ absurd (omega (arith, e, few_members, many, low)) | inr low ↦ absurd (omega (arith, e, low)) ]);

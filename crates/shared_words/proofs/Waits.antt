@@ -72,7 +72,7 @@ store_waiting_is_allowed Served opening slots id number me is numbered may s r w
     let k = seat.0 in
     let knows = r.each_seat k (Member m) seat.2 in
     let place : number ≡ k = sym numbered ∙ knows.numbered in
-    let stored = own_store s r k WAITING m (now_waiting m) (prgr.Wait k) seat.2 refl refl refl refl refl (now_rests r.writer m WAITING may.rest)
+    let stored = own_store s r k WAITING m (now_waiting m) (prgr.Wait k) seat.2 refl refl refl refl refl refl (now_rests r.writer m WAITING may.rest)
     (waiting_event (progress_of s.words r.writer r.seats) k m.member (shown_at r.writer.members r.seats k m knows.made seat.2) may.awake may.follows) in (
       Member (now_waiting m),
       keeps,
@@ -90,7 +90,7 @@ store_entering_is_allowed Served opening slots id number me is numbered may s r 
     let k = seat.0 in
     let knows = r.each_seat k (Member m) seat.2 in
     let place : number ≡ k = sym numbered ∙ knows.numbered in
-    let stored = own_store s r k ENTERING m (now_entering m) (prgr.Enter k) seat.2 refl refl refl refl refl (sleeps_on r.writer m ENTERING (waits_asleep m.member.word may))
+    let stored = own_store s r k ENTERING m (now_entering m) (prgr.Enter k) seat.2 refl refl refl refl refl refl (sleeps_on r.writer m ENTERING (waits_asleep m.member.word may))
     (entering_event (progress_of s.words r.writer r.seats) k m.member (shown_at r.writer.members r.seats k m knows.made seat.2) may) in (
       Member (now_entering m),
       keeps,

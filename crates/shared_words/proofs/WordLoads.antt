@@ -1,5 +1,5 @@
 -- A load of a word of a block tells of blocks that stand for the generation that is held.
-use Rattle.std.proofs.Common.{◌≡◌, ℕ, zero, suc, ◌<◌, ◌≤◌, List, refl, sym, ap, subst, ◌∙◌, arith}
+use Rattle.std.proofs.Common.{◌≡◌, ℕ, zero, suc, ◌<◌, ◌≤◌, inr, List, [], refl, sym, ap, subst, ◌∙◌, arith}
 use mathlib.Core.Option.{none, some, some-injective}
 use lib.ListN.{get_elem?}
 use lib.Seq.{set-get_or}
@@ -15,6 +15,7 @@ use Rattle.area_core.specs.declared.event.SeatName.{SeatName}
 use Rattle.area_core.specs.declared.event.SeatName.TheVariants as names
 use Rattle.area_core.specs.declared.table.Published.{Published}
 use Rattle.area_core.specs.Map.{kind_at, word_at}
+use Rattle.area_core.specs.Blocks.{Among}
 use Rattle.area_core.specs.Readers.{held_by, held_by_member, reads_word, is_read_under}
 use Rattle.area_core.proofs.Fewer.{fewer_count}
 use Rattle.area_core.proofs.Held.{held_readable}
@@ -22,6 +23,7 @@ use Rattle.area_core.proofs.UnreadStores.{seat_held}
 use Rattle.area_core.proofs.BlockStores.{block_within}
 use Rattle.area_core.proofs.Places.{kind_retire_place, kind_doom_place}
 use Rattle.shared_words.specs.declared.opening.Opening.{Opening}
+use Rattle.shared_words.specs.declared.view.BlockWord.{BlockWord}
 use Rattle.shared_words.specs.declared.view.MemberView.{MemberView}
 use Rattle.shared_words.specs.declared.view.WriterView.{WriterView}
 use Rattle.shared_words.specs.declared.view.View.{View}
@@ -32,22 +34,23 @@ use Rattle.atomic_table.specs.Seated.{TableId}
 use Rattle.shared_words.specs.Seats.{Place}
 use Rattle.shared_words.specs.Kinds.{Sat}
 use Rattle.shared_words.specs.Passes.{MayLoad}
-use Rattle.shared_words.specs.Rule.{MayBeRead, blocks_shown, RunningRule}
-use Rattle.shared_words.specs.Publishing.{ReadsHeld, MayLoadWord, IsWordUnder, IsOwnWord, WordTells, word_loaded}
-use Rattle.shared_words.proofs.ShownMembers.{shown_at, still_at}
+use Rattle.shared_words.specs.Rule.{MayBeRead, blocks_shown, WordKept, RunningRule}
+use Rattle.shared_words.specs.Publishing.{ReadsHeld, MayLoadWord, IsWordUnder, IsOwnWord, WordTells, with_block_word, word_found, word_loaded}
+use Rattle.shared_words.proofs.ShownMembers.{shown_at, still_at, there, set_same}
 use Rattle.shared_words.proofs.ShownWords.{shown_word}
 use Rattle.shared_words.proofs.SoundState.{counts}
-use Rattle.shared_words.proofs.Frames.{after_step}
+use Rattle.shared_words.proofs.Frames.{after_step, same_rest, progress_set, member_step}
+use Rattle.shared_words.proofs.KeptWords.{member_reads, read_published}
 use Rattle.shared_words.proofs.WriterFrames.{writer_at}
 use Rattle.shared_words.proofs.CounterLoads.{same_step}
 
 -- ---- where such a word stands
 
+block_behind : (word block at : ℕ) → kind_at word ≡ InBlock block at → RETIRE_START ≤ word
+block_behind word block at is = grind (arith, nat_tests)
+
 word_behind : (word : ℕ) (kind : WordKind) (p : Published) → kind_at word ≡ kind → IsTrue (reads_word kind p) → (RETIRE_START ≤ word) × (word < TABLE_WORDS)
-word_behind word (InBlock block at) p is reads = (behind word block at is, block_within word block at is)
-  where
-    behind : (word block at : ℕ) → kind_at word ≡ InBlock block at → 1109 ≤ word
-    behind word block at is = grind (arith, nat_tests)
+word_behind word (InBlock block at) p is reads = (block_behind word block at is, block_within word block at is)
 word_behind word (Retire block) p is reads = (let at = kind_retire_place word block is in (omega (arith, at.0), omega (arith, at.0, at.1)))
 word_behind word (Doom block) p is reads = (let at = kind_doom_place word block is in (omega (arith, at.0), omega (arith, at.0, at.1)))
 word_behind word Machine p is reads = absurd (cc)
@@ -73,28 +76,49 @@ may_behind word Spent may = absurd may
 -- ---- what is told
 
 module _ {Served : Generation → Type 0} {opening : Opening} (s : State (Unit {0}) View) (r : RunningRule Served opening s) (word : ℕ) (late : RETIRE_START ≤ word) where
-  -- of a generation that a seat of the machine holds
-  told : (seat : SeatName) (g : ℕ) (p : Published) → held_by (progress_of s.words r.writer r.seats) seat ≡ Some g → slice_get r.writer.published g ≡ Some p → IsWordUnder g p word (slice_index s.words word)
-  told seat g p holds at =
+  -- of a generation that a seat of the machine holds, with the words that the seat found
+  told : (seat : SeatName) (g : ℕ) (p : Published) (read : List BlockWord) → ((f : BlockWord) → Among read f → WordKept r.writer f) → held_by (progress_of s.words r.writer r.seats) seat ≡ Some g → slice_get r.writer.published g ≡ Some p
+      → IsWordUnder g p read word (slice_index s.words word)
+  told seat g p read kept holds at =
       let q = progress_of s.words r.writer r.seats in
-      let readable = held_readable q r.machine.progress g (seat_held q seat g holds) in
+      let counted = counts s r g (held_readable q r.machine.progress g (seat_held q seat g holds)) in
       record {
         blocks = blocks_shown s.words r.writer;
-        stands = fewer_count (blocks_shown s.words r.writer) (MayBeRead r.writer) (λ h. h ≡ g) r.words.blocks (λ h same. subst (MayBeRead r.writer) (sym same) (counts s r g readable));
+        stands = fewer_count (blocks_shown s.words r.writer) (MayBeRead r.writer) (λ h. h ≡ g) r.words.blocks (λ h same. subst (MayBeRead r.writer) (sym same) counted);
         published = at;
         here = shown_word s.words word (omega (arith, late));
+        all = λ f among same steady.
+            let behind = block_behind f.word steady.block steady.at steady.is in
+            shown_word s.words f.word (omega (arith, behind)) ∙ r.words.mirrored f.word behind
+            ∙ (kept f among).stands (subst (MayBeRead r.writer) (sym same) counted) steady.block steady.at steady.is;
       }
 
-  member_told : (k : ℕ) (m : MemberView) → get_elem? r.seats k ≡ some (Member m) → WordTells (Member m) word (slice_index s.words word)
-  member_told k m at g p holds here =
+  -- what a member finds stands
+  finds : (k : ℕ) (m : MemberView) → get_elem? r.seats k ≡ some (Member m) → MayLoadWord word (Member m) → (f : BlockWord) → Among (with_block_word word (slice_index s.words word) m).blocks f → WordKept r.writer f
+  finds k m at may f (zero, is) =
       let knows = r.each_seat k (Member m) at in
-      told (names.Member k) g p
+      let read = read_published (kind_at word) (slice_get m.seen m.member.generation) (member_reads word m.seen m.member may) in
+      subst (WordKept r.writer) (the_same f is) (record {
+        published = read.0;
+        at = ap (λ (xs : List Published). slice_get xs m.member.generation) knows.seen.1 ∙ still_at m.seen knows.seen.0 m.member.generation read.0 read.1;
+        reads = read.2;
+        stands = λ counted block place in_block. sym (r.words.mirrored word late);
+      })
+    where
+      the_same : (f : BlockWord) → Some (record { generation = m.member.generation; word = word; value = slice_index s.words word }) ≡ Some f → record { generation = m.member.generation; word = word; value = slice_index s.words word } ≡ f
+      the_same f is = cc
+  finds k m at may f (suc i, is) = (r.each_seat k (Member m) at).words f (i, is)
+
+  member_told : (k : ℕ) (m : MemberView) → get_elem? r.seats k ≡ some (Member m) → MayLoadWord word (Member m) → WordTells (Member m) word (slice_index s.words word)
+  member_told k m at may g p holds here =
+      let knows = r.each_seat k (Member m) at in
+      told (names.Member k) g p (with_block_word word (slice_index s.words word) m).blocks (finds k m at may)
       (ap (option_and_then held_by_member) (shown_at r.writer.members r.seats k m knows.made at) ∙ holds)
       (ap (λ (xs : List Published). slice_get xs g) knows.seen.1 ∙ still_at m.seen knows.seen.0 g p here)
 
   behind_told : (k : ℕ) (v : View) → get_elem? r.seats k ≡ some v → MayLoadWord word v → WordTells v word (slice_index s.words word)
   behind_told k (Writer w) at may = absurd (r.each_seat k (Writer w) at)
-  behind_told k (Member m) at may = member_told k m at
+  behind_told k (Member m) at may = member_told k m at may
   behind_told k (Watcher w) at may = absurd may
   behind_told k (Note n) at may = absurd may
   behind_told k Spent at may = absurd may
@@ -102,22 +126,55 @@ module _ {Served : Generation → Type 0} {opening : Opening} (s : State (Unit {
   pub tells : (id : ℕ) (v : View) → get_elem? s.views id ≡ some v → MayLoadWord word v → WordTells v word (slice_index s.words word)
   tells zero v at may =
       let is : Writer r.writer ≡ v = some-injective (Writer r.writer) v (ap (λ (vs : List View). get_elem? vs 0) (sym r.views) ∙ at) in
-      subst (λ (x : View). WordTells x word (slice_index s.words word)) is (λ g p holds here. told names.Writer g p holds here)
+      subst (λ (x : View). WordTells x word (slice_index s.words word)) is (λ g p holds here. told names.Writer g p [] (λ f among. absurd (cc)) holds here)
   tells (suc k) v at may = behind_told k v (ap (λ (vs : List View). get_elem? vs (suc k)) (sym r.views) ∙ at) may
 
   -- the words behind the slots are those that the writer has stored
   pub own_word : (id : ℕ) (v : View) → get_elem? s.views id ≡ some v → IsOwnWord v word (slice_index s.words word)
   own_word id v at w is = subst (λ (x : WriterView). slice_index s.words word ≡ word_at x.words word) (writer_at s r id w (at ∙ ap some is)).1 (r.words.mirrored word late)
 
+  -- ---- the rule
+
+  -- a load by a member, which keeps what it found
+  member_loads : (k : ℕ) (m : MemberView) → get_elem? r.seats k ≡ some (Member m) → MayLoadWord word (Member m) → RunningRule Served opening (after_step s s.words (suc k) (Member (with_block_word word (slice_index s.words word) m)))
+  member_loads k m at may =
+      let knows = r.each_seat k (Member m) at in
+      let p = progress_of s.words r.writer r.seats in
+      let shown = shown_at r.writer.members r.seats k m knows.made at in
+      let m' = with_block_word word (slice_index s.words word) m in
+      member_step s r s.words k m m' at (record {
+        rest = same_rest s.words;
+        knows = record { numbered = knows.numbered; made = knows.made; seen = knows.seen; holds = knows.holds; noted = knows.noted; words = finds k m at may };
+        moves = inr (progress_set s.words r.writer r.seats k m' knows.made (there r.seats k (Member m) at) ∙ (λ i. record p { members = set_same p.members k m.member shown i }));
+        own = r.machine.own_words k m.member shown;
+        others = λ j other. refl;
+        leader = r.machine.leader_made;
+        slots = record { slots = refl; known = λ process h. h };
+      })
+
+  behind_loads : (k : ℕ) (v : View) → get_elem? r.seats k ≡ some v → MayLoadWord word v → RunningRule Served opening (after_step s s.words (suc k) (word_found word (slice_index s.words word) v))
+  behind_loads k (Writer w) at may = absurd (r.each_seat k (Writer w) at)
+  behind_loads k (Member m) at may = member_loads k m at may
+  behind_loads k (Watcher w) at may = absurd may
+  behind_loads k (Note n) at may = absurd may
+  behind_loads k Spent at may = absurd may
+
+  pub word_loads : (id : ℕ) (v : View) → get_elem? s.views id ≡ some v → MayLoadWord word v → RunningRule Served opening (after_step s s.words id (word_found word (slice_index s.words word) v))
+  word_loads zero v at may =
+      let is : Writer r.writer ≡ v = some-injective (Writer r.writer) v (ap (λ (vs : List View). get_elem? vs 0) (sym r.views) ∙ at) in
+      subst (λ (x : View). RunningRule Served opening (after_step s s.words 0 (word_found word (slice_index s.words word) x))) is (same_step s r 0 (Writer r.writer) (at ∙ ap some (sym is)))
+  word_loads (suc k) v at may = behind_loads k v (ap (λ (vs : List View). get_elem? vs (suc k)) (sym r.views) ∙ at) may
+
 -- a word that the generation reads which a seat holds may be loaded
 pub load_word_is_allowed : (Served : Generation → Type 0) (opening : Opening) (slots id word : ℕ) (me : Sat) → MayLoadWord word me.0 → Allows (RunningRule Served opening) slots id me word (λ n. n) (word_loaded (step slots word 0 0 none) me)
-load_word_is_allowed Served opening slots id word me may s r wide at fits = (
-  me.0,
-  keeps,
-  tt,
-  subst (λ (ws : List ℕ). RunningRule Served opening (after_step s ws id me.0)) (sym (set-get_or s.words word 0)) (same_step s r id me.0 at),
-  record { same = refl; own = own_word s r word (may_behind word me.0 may).0 id me.0 at; tells = tells s r word (may_behind word me.0 may).0 id me.0 at may },
-)
+load_word_is_allowed Served opening slots id word me may s r wide at fits =
+    let late = (may_behind word me.0 may).0 in (
+      word_found word (slice_index s.words word) me.0,
+      keeps,
+      tt,
+      subst (λ (ws : List ℕ). RunningRule Served opening (after_step s ws id (word_found word (slice_index s.words word) me.0))) (sym (set-get_or s.words word 0)) (word_loads s r word late id me.0 at may),
+      record { view = refl; own = own_word s r word late id me.0 at; tells = tells s r word late id me.0 at may },
+    )
 
 -- the same as what a load by any token asks
 pub load_word_may : (Served : Generation → Type 0) (opening : Opening) (table : TableId) (seat : Place) (word : ℕ) → seat.table_id ≡ table → table.words ≡ TABLE_WORDS → MayLoadWord word seat.me.0 → MayLoad Served opening table word_loaded seat word

@@ -35,6 +35,7 @@ use Rattle.shared_words.specs.Kinds.{Sat}
 use Rattle.shared_words.specs.Rule.{MayBeRead, MachineHolds, RunningRule}
 use Rattle.shared_words.specs.Publishing.{FitsInBlock, FitsRetire, FitsDoom, FitsWord, MayStoreWord, is_released, kept_left, with_word, word_stored}
 use Rattle.shared_words.proofs.ShownMembers.{within_get}
+use Rattle.shared_words.proofs.KeptWords.{kept_stored}
 use Rattle.marks.specs.declared.kept.LookKind.TheVariants.{Both}
 use Rattle.shared_words.specs.Slots.{IsClear}
 use Rattle.shared_words.proofs.ShownWords.{shown_stored, shown_word, shown_words}
@@ -185,16 +186,12 @@ owes_by w value Nowhere fits = absurd fits
 
 -- what is kept then meets the invariant before the store
 left_sound : (w : WriterView) (words : List ℕ) (value : ℕ) (kind : WordKind) → ((serial process anchor : ℕ) → IsClear w Both serial → IsAnchor process anchor → names (word_at words (slot_place process anchor)) serial ≡ false) → FitsWord w value kind → BlockInvariant (record { word = word_at words; published = w.published; kept = w.kept }) (MayBeRead w) → BlockInvariant (record { word = word_at words; published = w.published; kept = kept_left w value kind }) (MayBeRead w)
-left_sound w words value (InBlock block at) clear fits sound = sound
 left_sound w words value (Retire block) clear fits sound =
     released (record { word = word_at words; published = w.published; kept = w.kept }) (MayBeRead w) sound (λ (x : KeptArea). not ((x.area.block == block) && is_released w value x))
     (λ g p counts here k among uses. unless (k.area.block == block) (is_released w value k) (λ same goes. true≢false (sym uses ∙ fits.unused g p counts here k among (eqb-true k.area.block block same) goes)))
     (λ k process anchor among is named. unless (k.area.block == block) (is_released w value k)
     (λ same goes. true≢false (sym named ∙ clear k.area.serial process anchor (fits.cleared k among (eqb-true k.area.block block same) goes) is)))
-left_sound w words value (Doom block) clear fits sound = sound
-left_sound w words value Machine clear fits sound = sound
-left_sound w words value Slot clear fits sound = sound
-left_sound w words value Nowhere clear fits sound = sound
+left_sound w words value kind clear fits sound = sound
 
 -- the word is one behind the slots
 pub word_placed : (w : WriterView) (word value : ℕ) (kind : WordKind) → kind_at word ≡ kind → FitsWord w value kind → (RETIRE_START ≤ word) × (word < TABLE_WORDS)
@@ -250,7 +247,7 @@ module _ {Served : Generation → Type 0} {opening : Opening} (s : State (Unit {
       let size = r.words.all in
       let shown = shown_stored s.words word value (omega (arith, late)) (omega (arith, size)) in
       let w' : WriterView = with_word word value w in
-      writer_step s r (set s.words word value) w' (record { members = refl; watchers = refl; learnt = λ xs is. is; noted = λ note is. is }) refl refl refl
+      writer_step s r (set s.words word value) w' (record { members = refl; watchers = refl; learnt = λ xs is. is; noted = λ note is. is; words = kept_stored w word value may }) refl refl refl
       (record {
         looks = refl;
         ended = ended_as w w' refl refl (omega arith);

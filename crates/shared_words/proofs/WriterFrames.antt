@@ -8,6 +8,7 @@ use Rattle.term_core.specs.declared.generation.Generation.{Generation}
 use Rattle.area_core.specs.declared.table.Published.{Published}
 use Rattle.area_core.specs.Blocks.{Among}
 use Rattle.shared_words.specs.declared.opening.Opening.{Opening}
+use Rattle.shared_words.specs.declared.view.BlockWord.{BlockWord}
 use Rattle.shared_words.specs.declared.view.NoteNumber.{NoteNumber}
 use Rattle.shared_words.specs.declared.view.MemberView.{MemberView}
 use Rattle.shared_words.specs.declared.view.WriterView.{WriterView}
@@ -15,7 +16,7 @@ use Rattle.shared_words.specs.declared.view.View.{View}
 use Rattle.shared_words.specs.declared.view.View.TheVariants.{Writer, Member, Watcher, Note, Spent}
 use Rattle.shared_words.specs.Seats.{writer_of}
 use Rattle.shared_words.specs.Shown.{views_shown}
-use Rattle.shared_words.specs.Rule.{IsBeginning, PublishedKept, LooksKept, WordsAgree, MarksKept, Knows, MachineHolds, RunningRule}
+use Rattle.shared_words.specs.Rule.{IsBeginning, WordKept, PublishedKept, LooksKept, WordsAgree, MarksKept, Knows, MachineHolds, RunningRule}
 use Rattle.shared_words.proofs.SlotFrames.{LooksStay, looks_stay, marks_stay}
 use Rattle.shared_words.proofs.Frames.{after_step}
 
@@ -25,6 +26,7 @@ pub record WriterGrows (w w' : WriterView) : Type 0 where
   pub watchers : length w'.watchers ≡ length w.watchers
   pub learnt : (xs : List Published) → IsBeginning xs w.published → IsBeginning xs w'.published
   pub noted : (note : NoteNumber) → Among w.notes note → Among w'.notes note
+  pub words : (f : BlockWord) → WordKept w f → WordKept w' f
 
 -- then each seat knows what it must
 pub knows_more : (w w' : WriterView) → WriterGrows w w' → (place : ℕ) (v : View) → Knows w place v → Knows w' place v
@@ -35,6 +37,7 @@ knows_more w w' more place (Member m) h = record {
   seen = more.learnt m.seen h.seen;
   holds = h.holds;
   noted = λ note among. more.noted note (h.noted note among);
+  words = λ f among. more.words f (h.words f among);
 }
 knows_more w w' more place (Watcher v) h = record {
   numbered = subst (λ (n : ℕ). n + v.watcher.number ≡ place) (sym more.members) h.numbered;

@@ -3,8 +3,10 @@ use Rattle.std.proofs.Common.{◌≡◌, ℕ, ◌+◌, ◌≤◌, length, sym, a
 use Rattle.atomic_table.specs.Seated.{TableId}
 use Rattle.shared_words.specs.declared.opening.Opening.{Opening}
 use Rattle.shared_words.specs.declared.view.WriterView.{WriterView}
+use Rattle.shared_words.specs.declared.view.View.{View}
 use Rattle.shared_words.specs.declared.view.View.TheVariants.{Writer}
 use Rattle.shared_words.specs.Making.{IsHanding}
+use Rattle.shared_words.specs.Publishing.{word_found}
 use Rattle.shared_words.proofs.OpeningRule.{begun_length}
 use Rattle.shared_words.specs.Seats.{Place, IsSameSeat, IsWriterSeat, writer_of}
 
@@ -29,3 +31,7 @@ writer_seat_begins table opening members seat all h =
       made = ap (λ (x : WriterView). length x.members) here ∙ begun_length opening.members;
       out = subst (λ (x : WriterView). opening.members ≤ x.handed) (sym here) (omega (arith, all));
     }
+
+-- after a load of a word, which leaves what the writer knows
+pub writer_loads_word : (word found : ℕ) (old new : View) → old ≡ Writer (writer_of old) → new ≡ word_found word found old → new ≡ old
+writer_loads_word word found old new is loaded = loaded ∙ ap (word_found word found) is ∙ sym is

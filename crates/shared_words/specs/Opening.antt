@@ -13,7 +13,7 @@ use Rattle.shared_words.specs.declared.view.View.TheVariants.{Writer}
 
 -- a member as it begins: it has learnt of generation 0, and holds it
 abbrev pub member_begun : ℕ → MemberView
-member_begun k = record { member = opening_member k; seen = opening_published ∷ []; notes = []; slots = []; found = [] }
+member_begun k = record { member = opening_member k; seen = opening_published ∷ []; notes = []; slots = []; found = []; blocks = [] }
 
 -- as many members, numbered from 0
 unfoldable pub members_begun : ℕ → List MemberView

@@ -19,10 +19,12 @@ use Rattle.area_core.specs.Terms.{TermsStand}
 use Rattle.area_core.specs.Readers.{reads_in_block, held_by_member, is_read_under}
 use Rattle.area_core.specs.Roots.{fresh_areas}
 use Rattle.marks.specs.declared.kept.LookKind.TheVariants.{Both}
+use Rattle.shared_words.specs.declared.view.BlockWord.{BlockWord}
+use Rattle.shared_words.specs.declared.view.MemberView.{MemberView}
 use Rattle.shared_words.specs.declared.view.WriterView.{WriterView}
 use Rattle.shared_words.specs.declared.view.View.{View}
 use Rattle.shared_words.specs.declared.view.View.TheVariants.{Writer, Member, Watcher, Note, Spent}
-use Rattle.shared_words.specs.Views.{newest, seen, held}
+use Rattle.shared_words.specs.Views.{newest, seen, held, blocks_found}
 use Rattle.shared_words.specs.Seats.{writer_of}
 use Rattle.shared_words.specs.Rule.{MayBeRead, OldStays, RetiredStays}
 use Rattle.shared_words.specs.Kinds.{Sat}
@@ -77,11 +79,7 @@ MayStoreWord w word value = FitsWord w value (kind_at word)
 -- the areas that are kept after a store of this value into a word of this kind
 abbrev pub kept_left : WriterView → ℕ → WordKind → List KeptArea
 kept_left w value (Retire block) = filter (λ k. not ((k.area.block == block) && is_released w value k)) w.kept
-kept_left w value (InBlock block at) = w.kept
-kept_left w value (Doom block) = w.kept
-kept_left w value Machine = w.kept
-kept_left w value Slot = w.kept
-kept_left w value Nowhere = w.kept
+kept_left w value _ = w.kept
 
 -- it has stored it
 abbrev pub with_word : ℕ → ℕ → WriterView → WriterView
@@ -151,23 +149,40 @@ MayLoadWord word (Watcher w) = ⊥
 MayLoadWord word (Note n) = ⊥
 MayLoadWord word Spent = ⊥
 
--- the word is one of blocks that stand for this generation
-pub record IsWordUnder (g : ℕ) (p : Published) (word found : ℕ) : Type 0 where
+-- no store changes the word while a generation reads it: it is one of a block, and no entry word of an area
+pub record IsSteady (b : Blocks) (word : ℕ) : Type 0 where
+  pub block : ℕ
+  pub at : ℕ
+  pub is : kind_at word ≡ InBlock block at
+  pub plain : (k : KeptArea) → Among b.kept k → k.area.block ≡ block → is_entry_word k at ≡ false
+
+-- the word is one of blocks that stand for this generation, and so is each word of these that was found under it
+pub record IsWordUnder (g : ℕ) (p : Published) (read : List BlockWord) (word found : ℕ) : Type 0 where
   pub blocks : Blocks
   pub stands : BlockInvariant blocks (λ h. h ≡ g)
   pub published : slice_get blocks.published g ≡ Some p
   pub here : blocks.word word ≡ found
+  pub all : (f : BlockWord) → Among read f → f.generation ≡ g → IsSteady blocks f.word → blocks.word f.word ≡ f.value
+
+-- the member has found this word under the generation that it holds
+abbrev pub with_block_word : ℕ → ℕ → MemberView → MemberView
+with_block_word word found m = record m { blocks = record { generation = m.member.generation; word = word; value = found } ∷ m.blocks }
+
+-- what a seat knows once it has found this word
+abbrev pub word_found : ℕ → ℕ → View → View
+word_found word found (Member m) = Member (with_block_word word found m)
+word_found word found v = v
 
 -- what the load of a word tells: it is a word under the generation that is held
 abbrev pub WordTells : View → ℕ → ℕ → Type 0
-WordTells v word found = (g : ℕ) (p : Published) → held v ≡ Some g → slice_get (seen v) g ≡ Some p → IsWordUnder g p word found
+WordTells v word found = (g : ℕ) (p : Published) → held v ≡ Some g → slice_get (seen v) g ≡ Some p → IsWordUnder g p (blocks_found (word_found word found v)) word found
 
 -- what the writer loads is what it has stored
 abbrev pub IsOwnWord : View → ℕ → ℕ → Type 0
 IsOwnWord v word found = (w : WriterView) → v ≡ Writer w → found ≡ word_at w.words word
 
--- what the load of a word tells and leaves: the view is as before
+-- what the load of a word tells and leaves: a member keeps what it found
 pub record word_loaded (st : Step (Unit {0})) (me : Sat) (found : ℕ) (me' : Sat) : Type 0 where
-  pub same : me' ≡ me
+  pub view : me' ≡ (word_found st.word found me.0, me.1)
   pub own : IsOwnWord me.0 st.word found
   pub tells : WordTells me.0 st.word found

@@ -12,9 +12,11 @@ use Rattle.prgr_core.specs.declared.member.Retirement.{Retirement}
 use Rattle.prgr_core.specs.Step.{IsSound}
 use Rattle.term_core.specs.declared.generation.Generation.{Generation}
 use Rattle.area_core.specs.declared.map.TheConstants.{TABLE_WORDS, PROCESSES, RETIRE_START}
+use Rattle.area_core.specs.declared.map.WordKind.TheVariants.{InBlock}
 use Rattle.area_core.specs.declared.table.Published.{Published}
 use Rattle.area_core.specs.Generations.{is_current, is_used, is_retired, has_serial}
-use Rattle.area_core.specs.Map.{word_at, slot_place}
+use Rattle.area_core.specs.Map.{word_at, slot_place, kind_at}
+use Rattle.area_core.specs.Readers.{reads_word}
 use Rattle.area_core.specs.Blocks.{Blocks, BlockInvariant, Among}
 use Rattle.marks.specs.declared.kept.LookKind.{LookKind}
 use Rattle.marks.specs.declared.kept.LookKind.TheVariants.{Frame, Both}
@@ -24,6 +26,7 @@ use Rattle.marks.specs.declared.mark.ProcessView.{ProcessView}
 use Rattle.marks.specs.Kept.{Under, IsKnown, IsBacked}
 use Rattle.shared_words.specs.declared.table.TheConstants.{ROOT, COUNTER, LEAD, CONFIRMED}
 use Rattle.shared_words.specs.declared.opening.Opening.{Opening}
+use Rattle.shared_words.specs.declared.view.BlockWord.{BlockWord}
 use Rattle.shared_words.specs.declared.view.NoteNumber.{NoteNumber}
 use Rattle.shared_words.specs.declared.view.NoteView.{NoteView}
 use Rattle.shared_words.specs.declared.view.MemberView.{MemberView}
@@ -123,6 +126,14 @@ pub record WordsAgree (words : List ℕ) (w : WriterView) : Type 0 where
 
 -- ---- each view
 
+-- a word of blocks that a member found: the generation that it held reads it, and while a thread may read that generation,
+-- a word of a block stands as it was found
+pub record WordKept (w : WriterView) (f : BlockWord) : Type 0 where
+  pub published : Published
+  pub at : slice_get w.published f.generation ≡ Some published
+  pub reads : IsTrue (reads_word (kind_at f.word) published)
+  pub stands : MayBeRead w f.generation → (block at : ℕ) → kind_at f.word ≡ InBlock block at → word_at w.words f.word ≡ f.value
+
 -- what a member in the seat at this place, counted behind the writer's, knows
 pub record MemberKnows (w : WriterView) (place : ℕ) (m : MemberView) : Type 0 where
   -- it has the number of its place
@@ -134,6 +145,8 @@ pub record MemberKnows (w : WriterView) (place : ℕ) (m : MemberView) : Type 0 
   pub holds : m.member.generation < length m.seen
   -- the notes that it joined are those that the writer made
   pub noted : (note : NoteNumber) → Among m.notes note → Among w.notes note
+  -- the words of blocks that it found stand while their generations may be read
+  pub words : (f : BlockWord) → Among m.blocks f → WordKept w f
 
 -- what a watcher knows
 pub record WatcherKnows (w : WriterView) (place : ℕ) (v : WatcherView) : Type 0 where

@@ -7,6 +7,7 @@ use Rattle.area_core.specs.declared.table.Published.{Published}
 use Rattle.area_core.specs.Readers.{held_by_member, held_by_watcher}
 use Rattle.area_core.specs.Step.{opening_published}
 use Rattle.shared_words.specs.declared.view.NoteNumber.{NoteNumber}
+use Rattle.shared_words.specs.declared.view.BlockWord.{BlockWord}
 use Rattle.shared_words.specs.declared.view.View.{View}
 use Rattle.shared_words.specs.declared.view.View.TheVariants.{Writer, Member, Watcher, Note, Spent}
 
@@ -53,3 +54,8 @@ held (Member m) = held_by_member m.member
 held (Watcher w) = held_by_watcher w.watcher
 held (Note n) = None
 held Spent = None
+
+-- the words of blocks that a seat keeps to have found
+abbrev pub blocks_found : View → List BlockWord
+blocks_found (Member m) = m.blocks
+blocks_found _ = []

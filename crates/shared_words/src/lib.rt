@@ -31,7 +31,7 @@ pub use pass::Pass;
 pub use seats::{Member, Note, Parts, Writer};
 pub use table::{ANCHORS, COUNTER, LEAD, PROCESSES, ROOT, Shared};
 pub use view::{
-    FoundWord, FoundWordList, MemberView, NamedAnchor, NamedAnchorList, NoteNumber, NoteView,
-    ProcessSlot, ProcessSlotList, View, WatcherView, WriterView,
+    BlockWord, BlockWordList, FoundWord, FoundWordList, MemberView, NamedAnchor, NamedAnchorList,
+    NoteNumber, NoteView, ProcessSlot, ProcessSlotList, View, WatcherView, WriterView,
 };
 pub use writer::Next;

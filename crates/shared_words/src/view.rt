@@ -37,6 +37,16 @@ pub enum FoundWord {
 /// Words that a member found in a row.
 pub type FoundWordList = Items<FoundWord>;
 
+/// A word of blocks that a member found, and the generation that it held then.
+pub struct BlockWord {
+    pub generation: u64,
+    pub word: u32,
+    pub value: u64,
+}
+
+/// Words of blocks that a member found in a row.
+pub type BlockWordList = Items<BlockWord>;
+
 /// What a member keeps of one of its processes: the words of its slot, and the marks of its turns.
 pub struct ProcessSlot {
     pub process: u32,
@@ -60,6 +70,8 @@ pub struct MemberView {
     pub slots: ProcessSlotList,
     /// The words of members and of the leader that it has loaded, the newest first.
     pub found: FoundWordList,
+    /// The words of blocks that it has loaded, the newest first.
+    pub blocks: BlockWordList,
 }
 
 /// What a watcher knows.

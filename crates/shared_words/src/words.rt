@@ -2,7 +2,7 @@
 
 ghost use Rattle.std.specs.Prelude.{◌≡◌};
 ghost use Rattle.shared_words.specs.Seats.{IsSeatOf, IsSameSeat};
-ghost use Rattle.shared_words.specs.Publishing.{MayLoadWord, IsOwnWord, WordTells};
+ghost use Rattle.shared_words.specs.Publishing.{MayLoadWord, IsOwnWord, WordTells, word_found};
 
 use crate::law::Served;
 use crate::pass::Pass;
@@ -19,7 +19,7 @@ impl<N: Served> Shared<N> {
         ensures number { P.number pass.new ≡ P.number pass.old }
         ensures root { P.root pass.new ≡ P.root pass.old }
         ensures anchors { P.anchors pass.new ≡ P.anchors pass.old }
-        ensures view { (P.seat pass.new).me.0 ≡ (P.seat pass.old).me.0 }
+        ensures view { (P.seat pass.new).me.0 ≡ word_found word result (P.seat pass.old).me.0 }
         ensures own { IsOwnWord (P.seat pass.old).me.0 word result }
         ensures tells { WordTells (P.seat pass.old).me.0 word result }
     {
