@@ -1,6 +1,6 @@
 -- A commit: what its wait leaves, that what is staged may then be published, and that the indices stay those of their writer.
 use Rattle.std.proofs.Common.{◌≡◌, ℕ, ◌+◌, ◌<◌, ◌≤◌, List, [], ◌∷◌, ◌++◌, length, refl, sym, ap, subst, ◌∙◌, arith}
-use Rattle.std.specs.Prelude.{Some, slice_get, Result, Ok, Err, OnErr}
+use Rattle.std.specs.Prelude.{Some, slice_get}
 use Rattle.std.proofs.lemmas.Option.{slice_get_within}
 use Rattle.prgr_core.specs.declared.member.Retirement.{Retirement}
 use Rattle.prgr_core.proofs.Parts.{some_same}
@@ -18,12 +18,12 @@ use Rattle.shared_words.specs.Publishing.{MayPublish, with_next}
 use Rattle.shared_words.proofs.ShownMembers.{still_at}
 use Rattle.shared_words.proofs.OpeningRule.{last_get}
 use Rattle.progress_words.specs.Needs.{HasTaken, HasLoadedCounter}
+use Rattle.progress_words.specs.Roots.{newest_of, IsNewestRoot}
 use Rattle.code_index.specs.declared.index.Staging.{Staging}
 use Rattle.code_index.specs.declared.index.Staging.TheVariants.{Nothing, Staged, Committing}
-use Rattle.code_index.specs.declared.roots.RootParts.{RootParts}
-use Rattle.code_index.specs.Roots.{IsNewestRoot}
+use Rattle.progress_words.specs.declared.roots.RootParts.{RootParts}
 use Rattle.code_index.specs.Exports.{LeadTo}
-use Rattle.code_index.specs.Staging.{newest_of, active_index, staging_index, block_of, GoesWith, Stages, IsIndexOf}
+use Rattle.code_index.specs.Staging.{active_index, staging_index, block_of, GoesWith, Stages, IsIndexOf}
 use Rattle.code_index.specs.Committed.{MayCommit, TakesNeed, HasBegun, HasAsked, committed}
 use Rattle.code_index.proofs.Indices.{behind_fits, third_differs}
 use Rattle.code_index.proofs.Owned.{owned_next, kept_high}
@@ -31,10 +31,11 @@ use Rattle.code_index.proofs.Copying.{newest_there}
 
 -- ---- the wait
 
--- only the counter was loaded, and the value that is waited for was taken while the newest generation was that
+-- only the counter was loaded, which did not fall, and the value that is waited for was taken while the newest generation was that
 pub record LoadsOn (old new : WriterView) (need : ℕ) : Type 0 where
   pub view : new ≡ record old { pairs = new.pairs; counter = new.counter }
   pub more : (pair : Retirement) → Among old.pairs pair → Among new.pairs pair
+  pub rising : old.counter ≤ new.counter
   pub taken : HasTaken new (newest old.published) need
 
 begun_on : (x : Staging) (old begun : WriterView) (need : ℕ) → TakesNeed x old begun need → GoesWith x old → LoadsOn old begun need
@@ -44,11 +45,12 @@ begun_on (Staged block) old begun need taken goes =
     let here : LoadsOn old (counter_kept taken.counter old) (taken.counter + 2) = record {
       view = refl;
       more = λ pair among. (among.0, still_at old.pairs _ among.0 pair among.1);
+      rising = taken.rising;
       taken = (length old.pairs, last_get old.pairs last);
     } in
     subst (λ (z : WriterView × ℕ). LoadsOn old z.0 z.1) (λ i. (sym taken.view i, sym taken.ahead i)) here
 begun_on (Committing block kept) old begun need taken goes =
-    let here : LoadsOn old old kept = record { view = refl; more = λ pair among. among; taken = goes.1 } in
+    let here : LoadsOn old old kept = record { view = refl; more = λ pair among. among; rising = omega (arith); taken = goes.1 } in
     subst (λ (z : WriterView × ℕ). LoadsOn old z.0 z.1) (λ i. (sym taken.0 i, sym taken.1 i)) here
 
 loaded_on : (old begun new : WriterView) (need : ℕ) → LoadsOn old begun need → HasLoadedCounter begun new → LoadsOn old new need
@@ -58,6 +60,7 @@ loaded_on old begun new need h loaded =
     let here : LoadsOn old (counter_kept counter begun) need = record {
       view = ap (λ (v : WriterView). record v { pairs = pairs; counter = counter }) h.view;
       more = λ pair among. let found = h.more pair among in (found.0, still_at begun.pairs _ found.0 pair found.1);
+      rising = (let first = h.rising in let second = loaded.rising in omega (arith, first, second));
       taken = (h.taken.0, still_at begun.pairs _ h.taken.0 _ h.taken.1);
     } in
     subst (λ (v : WriterView). LoadsOn old v need) (sym loaded.view) here
@@ -75,10 +78,11 @@ goes_block (Committing block kept) old begun need taken goes = goes.0
 pub asked_block : (x y : Staging) (old new : WriterView) (need : ℕ) → HasAsked x y old new need → GoesWith x old → block_of x ≡ staging_index old
 asked_block x y old new need h goes = goes_block x old h.begun need h.waits.taken goes
 
--- while the value is not reached, the indices stay those of the writer, as the counter does not fall
-pub owned_yet : (x y : Staging) (old new : WriterView) (need : ℕ) → HasAsked x y old new need → IsIndexOf x old → old.counter ≤ new.counter → IsIndexOf y new
-owned_yet x y old new need h own rises =
+-- while the value is not reached, the indices stay those of the writer
+pub owned_yet : (x y : Staging) (old new : WriterView) (need : ℕ) → HasAsked x y old new need → IsIndexOf x old → IsIndexOf y new
+owned_yet x y old new need h own =
     let on = asked_on x y old new need h own.staged in
+    let rises = on.rising in
     let here : IsIndexOf (Committing (block_of x) need) (record old { pairs = new.pairs; counter = new.counter }) = record {
       all = own.all;
       areas = own.areas;
@@ -180,8 +184,3 @@ module _ (Served : Generation → Type 0) (x y : Staging) (old : WriterView) (st
 -- a commit that has begun and then loaded the counter has asked
 pub asked_by : (z x y : Staging) (old begun new : WriterView) (need : ℕ) → z ≡ x → HasBegun z y old begun need → HasLoadedCounter begun new → HasAsked x y old new need
 asked_by z x y old begun new need is waits loaded = record { begun = begun; waits = subst (λ (s : Staging). HasBegun s y old begun need) is waits; loaded = loaded }
-
--- what holds holds at an error's exit
-pub on_err : {T E : Type 0} (r : Result T E) (P : Type 0) → P → OnErr r P
-on_err (Ok value) P holds = tt
-on_err (Err fault) P holds = holds

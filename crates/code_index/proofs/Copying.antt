@@ -18,9 +18,10 @@ use Rattle.shared_words.specs.Views.{newest}
 use Rattle.shared_words.specs.Publishing.{FitsInBlock, FitsWord, MayStoreWord, MayLoadWord, WordTells, with_word, kept_left}
 use Rattle.shared_words.proofs.ShownMembers.{there_is}
 use Rattle.progress_words.specs.Tokens.{written_by, IsWriterOf, IsSameWriter}
+use Rattle.progress_words.specs.Roots.{newest_of}
 use Rattle.code_index.specs.declared.index.Staging.{Staging}
 use Rattle.code_index.specs.declared.index.Staging.TheVariants.{Nothing}
-use Rattle.code_index.specs.Staging.{newest_of, active_index, staging_index, block_of, IsStaged, GoesWith, IsIndexOf}
+use Rattle.code_index.specs.Staging.{active_index, staging_index, block_of, IsStaged, GoesWith, IsIndexOf}
 use Rattle.code_index.specs.Copied.{HasCopiedWord, HasCopied}
 use Rattle.code_index.proofs.Indices.{behind_fits, behind_differs, index_kind, index_within, index_apart}
 use Rattle.code_index.proofs.Owned.{owned_stored}

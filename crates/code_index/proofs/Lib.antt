@@ -1,6 +1,5 @@
 mod Indices
 mod Words
 mod Owned
-mod Rooted
 mod Copying
 mod Commits

@@ -1,5 +1,5 @@
 -- The code indices stay those of their writer: over stores of words, stores of the root, loads of the counter and notes.
-use Rattle.std.proofs.Common.{◌≡◌, ℕ, zero, suc, ◌+◌, ◌%◌, ◌<◌, ◌≤◌, inl, inr, ⊎_elim, not, ◌&&◌, List, [], ◌∷◌, ◌++◌, length, refl, sym, ap, subst, ◌∙◌, arith}
+use Rattle.std.proofs.Common.{◌≡◌, ℕ, zero, suc, ◌+◌, ◌%◌, ◌<◌, ◌≤◌, inl, inr, ⊎_elim, not, ◌&&◌, List, [], ◌∷◌, ◌++◌, length, length-set, refl, sym, ap, subst, ◌∙◌, arith}
 use Rattle.std.specs.Prelude.{◌==◌, Some, slice_get, slice_set}
 use Rattle.prgr_core.proofs.Parts.{slice_get-push_at}
 use Rattle.area_core.specs.declared.map.WordKind.{WordKind}
@@ -20,10 +20,12 @@ use Rattle.shared_words.specs.Rule.{MayBeRead}
 use Rattle.shared_words.specs.Publishing.{kept_left, kept_next, with_next, with_word, is_released}
 use Rattle.shared_words.proofs.ShownMembers.{still_at}
 use Rattle.shared_words.proofs.RootStores.{newest_next, at_next}
+use Rattle.progress_words.specs.Needs.{HasLoadedCounter}
+use Rattle.progress_words.specs.Roots.{newest_of}
 use Rattle.code_index.specs.declared.index.Staging.{Staging}
 use Rattle.code_index.specs.declared.index.Staging.TheVariants.{Nothing, Staged, Committing}
 use Rattle.code_index.specs.Exports.{LeadTo}
-use Rattle.code_index.specs.Staging.{newest_of, active_index, staging_index, block_of, GoesWith, IsIndexOf}
+use Rattle.code_index.specs.Staging.{active_index, staging_index, block_of, GoesWith, IsIndexOf}
 use Rattle.code_index.specs.Laws.{IsElsewhere, KeepsIndex}
 use Rattle.code_index.proofs.Indices.{behind_fits, behind_differs}
 use Rattle.code_index.proofs.Words.{leads_kept, stages_kept}
@@ -39,11 +41,6 @@ kept_was w value Machine k among = among
 kept_was w value Slot k among = among
 kept_was w value Nowhere k among = among
 
-set_long : {X : Type 0} (xs : List X) (k : ℕ) (x : X) → length (slice_set xs k x) ≡ length xs
-set_long [] k x = refl
-set_long (z ∷ zs) zero x = refl
-set_long (z ∷ zs) (suc k) x = ap suc (set_long zs k x)
-
 goes_stored : (x : Staging) (w : WriterView) (word value : ℕ) → GoesWith x w → GoesWith x (with_word word value w)
 goes_stored Nothing w word value goes = goes
 goes_stored (Staged block) w word value goes = goes
@@ -52,7 +49,7 @@ goes_stored (Committing block need) w word value goes = goes
 -- a store that is none of the active index
 pub owned_stored : (x : Staging) (w : WriterView) (word value : ℕ) → ((entry : ℕ) → entry < 1024 → block_place (active_index w) entry ≡ word → ⊥) → IsIndexOf x w → IsIndexOf x (with_word word value w)
 owned_stored x w word value off own = record {
-  all = set_long w.words word value ∙ own.all;
+  all = length-set w.words word value ∙ own.all;
   areas = λ k among. own.areas k (kept_was w value (kind_at word) k among);
   fits = own.fits;
   active = leads_kept w.words (slice_set w.words word value) (active_index w) (newest_of w) (λ entry few. word_there w.words word value (block_place (active_index w) entry) (off entry few)) own.active;
@@ -124,8 +121,8 @@ goes_counted Nothing w counter goes = goes
 goes_counted (Staged block) w counter goes = goes
 goes_counted (Committing block need) w counter goes = (goes.0, (goes.1.0, still_at w.pairs _ goes.1.0 _ goes.1.1))
 
-pub counted : (x : Staging) (w : WriterView) (counter : ℕ) → w.counter ≤ counter → KeepsIndex x w (counter_kept counter w)
-counted x w counter rises = record {
+kept_counted : (x : Staging) (w : WriterView) (counter : ℕ) → w.counter ≤ counter → KeepsIndex x w (counter_kept counter w)
+kept_counted x w counter rises = record {
   owned = λ own. record {
     all = own.all;
     areas = own.areas;
@@ -136,6 +133,9 @@ counted x w counter rises = record {
   };
   staged = λ p staged. stages_kept x w (counter_kept counter w) p (λ entry few. refl) staged;
 }
+
+pub counted : (x : Staging) (old new : WriterView) → HasLoadedCounter old new → KeepsIndex x old new
+counted x old new loaded = subst (KeepsIndex x old) (sym loaded.view) (kept_counted x old loaded.counter loaded.rising)
 
 goes_noted : (x : Staging) (w : WriterView) (process : ℕ) → GoesWith x w → GoesWith x (with_note process w)
 goes_noted Nothing w process goes = goes

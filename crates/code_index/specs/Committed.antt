@@ -17,9 +17,10 @@ use Rattle.shared_words.specs.Rule.{OldStays, RetiredStays}
 use Rattle.shared_words.specs.Publishing.{kept_next, with_next}
 use Rattle.progress_words.specs.declared.answers.NotYet.{NotYet}
 use Rattle.progress_words.specs.Needs.{HasLoadedCounter}
+use Rattle.progress_words.specs.Roots.{newest_of}
 use Rattle.code_index.specs.declared.index.Staging.{Staging}
 use Rattle.code_index.specs.declared.index.Staging.TheVariants.{Nothing, Staged, Committing}
-use Rattle.code_index.specs.Staging.{newest_of, staging_index, block_of, Stages}
+use Rattle.code_index.specs.Staging.{staging_index, block_of, Stages}
 
 -- ---- what is published
 
@@ -46,9 +47,10 @@ pub record MayCommit (Served : Generation → Type 0) (x : Staging) (w : WriterV
 
 -- ---- the wait
 
--- the first call of a commit takes a value two above the counter, and the commit waits for it from then on
+-- the first call of a commit takes a value two above the counter, which never falls, and the commit waits for it from then on
 pub record HasTakenFirst (old new : WriterView) (need : ℕ) : Type 0 where
   pub counter : ℕ
+  pub rising : old.counter ≤ counter
   pub view : new ≡ counter_kept counter old
   pub ahead : need ≡ counter + 2
 

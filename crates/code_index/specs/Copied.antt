@@ -5,7 +5,7 @@ use Rattle.area_core.specs.Map.{word_at, block_place}
 use Rattle.area_core.specs.Generations.{is_code_word}
 use Rattle.shared_words.specs.declared.view.WriterView.{WriterView}
 use Rattle.shared_words.specs.Publishing.{with_word}
-use Rattle.code_index.specs.Staging.{newest_of}
+use Rattle.progress_words.specs.Roots.{newest_of}
 
 -- one word was copied
 pub record HasCopiedWord (block entry : ℕ) (old new : WriterView) : Type 0 where

@@ -7,9 +7,9 @@ use Rattle.area_core.specs.Map.{block_place}
 use Rattle.area_core.specs.Blocks.{Among}
 use Rattle.area_core.specs.Roots.{fresh_areas}
 use Rattle.shared_words.specs.declared.view.WriterView.{WriterView}
-use Rattle.shared_words.specs.Kinds.{counter_kept}
 use Rattle.shared_words.specs.Notes.{with_note}
 use Rattle.shared_words.specs.Publishing.{with_next, with_word}
+use Rattle.progress_words.specs.Needs.{HasLoadedCounter}
 use Rattle.code_index.specs.declared.index.Staging.{Staging}
 use Rattle.code_index.specs.declared.index.Staging.TheVariants.{Nothing}
 use Rattle.code_index.specs.Exports.{LeadTo, KeepsExport}
@@ -33,9 +33,9 @@ abbrev pub KeptByRoots : Type 0
 KeptByRoots =
     (w : WriterView) (p : Published) → p.root.code ≡ active_index w → LeadTo w.words p.root.code p → ((k : KeptArea) → Among (fresh_areas w.kept p) k → AREAS_START ≤ k.area.block) → IsIndexOf Nothing w → IsIndexOf Nothing (with_next p w)
 
--- a load of the counter, which never falls
+-- a load of the counter
 abbrev pub KeptByCounters : Type 0
-KeptByCounters = (x : Staging) (w : WriterView) (counter : ℕ) → w.counter ≤ counter → KeepsIndex x w (counter_kept counter w)
+KeptByCounters = (x : Staging) (old new : WriterView) → HasLoadedCounter old new → KeepsIndex x old new
 
 -- the split of a note
 abbrev pub KeptByNotes : Type 0

@@ -1,6 +1,5 @@
 pub mod Exports
 pub mod Staging
-pub mod Roots
 pub mod Copied
 pub mod Committed
 pub mod Laws

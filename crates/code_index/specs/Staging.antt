@@ -11,15 +11,12 @@ use Rattle.shared_words.specs.declared.view.WriterView.{WriterView}
 use Rattle.shared_words.specs.Views.{newest, published_at}
 use Rattle.shared_words.specs.Publishing.{EachMayBeRead}
 use Rattle.progress_words.specs.Needs.{HasTaken}
+use Rattle.progress_words.specs.Roots.{newest_of}
 use Rattle.code_index.specs.declared.index.Staging.{Staging}
 use Rattle.code_index.specs.declared.index.Staging.TheVariants.{Nothing, Staged, Committing}
 use Rattle.code_index.specs.Exports.{LeadTo}
 
 -- ---- which index
-
--- the newest generation
-abbrev pub newest_of : WriterView → Published
-newest_of w = published_at w.published (newest w.published)
 
 -- the index by which it is called
 abbrev pub active_index : WriterView → ℕ

@@ -1,6 +1,6 @@
 //! The call by which what is staged is published.
 
-ghost use Rattle.std.specs.Prelude.{◌≡◌, ◌≢◌, ◌≤◌, ◌<◌, ◌^◌, length, IfOk, IfErr, OnOk, OnErr};
+ghost use Rattle.std.specs.Prelude.{◌≡◌, ◌≢◌, ◌<◌, ◌^◌, length, IfOk, IfErr};
 ghost use Rattle.area_core.specs.declared.map.TheConstants.{CODE_INDICES, BREAKPOINT_INDICES, TERM_TABLES};
 ghost use Rattle.area_core.specs.Step.{to_publish};
 ghost use Rattle.shared_words.specs.Seats.{IsSameSeat};
@@ -11,8 +11,7 @@ ghost use Rattle.code_index.specs.Staging.{IsIndexOf};
 ghost use Rattle.code_index.specs.Committed.{MayCommit, HasBegun, HasCommitted, IsWaiting, committed};
 
 use crate::index::{CodeIndex, Staging};
-use crate::roots::newest_root;
-use progress_words::{NotYet, later, reached};
+use progress_words::{NotYet, later, newest_root, reached};
 use shared_words::{Next as Picked, Served, Shared, Writer};
 use std::marker::Brand;
 use term_core::Next;
@@ -81,8 +80,7 @@ impl CodeIndex {
         ensures same { IsSameSeat writer.old.seat writer.new.seat }
         ensures committed { IfOk result (λ generation. HasCommitted self.old self.new (committed (written_by writer.old) (M.next next.now) (M.blocks next.now)) (written_by writer.old) (written_by writer.new) generation) }
         ensures waits { IfErr result (λ answer. IsWaiting self.old self.new (written_by writer.old) (written_by writer.new) answer) }
-        ensures owned { OnOk result (IsIndexOf self.new (written_by writer.new)) }
-        ensures owned_yet { OnErr result ((written_by writer.old).counter ≤ (written_by writer.new).counter → IsIndexOf self.new (written_by writer.new)) }
+        ensures owned { IsIndexOf self.new (written_by writer.new) }
     {
         let need = self.staging.need(shared, writer);
         reached(shared, writer, need)?;

@@ -6,7 +6,6 @@ mod committing;
 mod index;
 mod laws;
 mod places;
-mod roots;
 mod setting;
 mod starting;
 

@@ -4,12 +4,13 @@ ghost use Rattle.std.specs.Prelude.{◌≡◌, ◌<◌};
 ghost use Rattle.area_core.specs.declared.map.TheConstants.{EXPORT_ENTRIES};
 ghost use Rattle.progress_words.specs.Tokens.{written_by, IsWriterOf, IsSameWriter};
 ghost use Rattle.code_index.specs.declared.index.Staging.TheVariants as staging;
-ghost use Rattle.code_index.specs.Staging.{active_index, staging_index, newest_of, IsIndexOf, Stages};
+ghost use Rattle.progress_words.specs.Roots.{newest_of};
+ghost use Rattle.code_index.specs.Staging.{active_index, staging_index, IsIndexOf, Stages};
 ghost use Rattle.code_index.specs.Copied.{HasCopiedWord, HasCopied};
 
 use crate::index::{CodeIndex, Staging};
 use crate::places::{CODE_INDICES, EXPORT_ENTRIES, index_word};
-use crate::roots::newest_root;
+use progress_words::newest_root;
 use shared_words::{Served, Shared, Writer};
 
 /// Copies one word of the active index into the staging index.

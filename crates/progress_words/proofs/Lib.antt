@@ -5,3 +5,4 @@ mod Passing
 mod Raising
 mod Noting
 mod Slots
+pub mod Rooted

@@ -2,6 +2,7 @@
 use Rattle.std.proofs.Common.{◌≡◌, ℕ, ◌+◌, ◌≤◌, List, [], ◌∷◌, ◌++◌, length, refl, sym, ap, subst, ◌∙◌, arith}
 use Rattle.std.specs.Prelude.{Some, slice_get}
 use Rattle.prgr_core.specs.declared.member.Retirement.{Retirement}
+use Rattle.prgr_core.specs.Invariant.{CounterInRange}
 use Rattle.prgr_core.specs.Machine.{machine_of}
 use Rattle.prgr_core.proofs.GraceHolds.{grace_holds}
 use Rattle.term_core.specs.declared.generation.Generation.{Generation}
@@ -14,7 +15,7 @@ use Rattle.shared_words.specs.declared.seats.Writer as writers
 use Rattle.shared_words.specs.Seats.{IsSameSeat, IsWriterSeat, writer_of}
 use Rattle.shared_words.specs.Views.{newest}
 use Rattle.shared_words.specs.Shown.{progress_of}
-use Rattle.shared_words.specs.Kinds.{counter_kept, counter_found}
+use Rattle.shared_words.specs.Kinds.{IsRising, counter_kept, counter_found}
 use Rattle.shared_words.proofs.ShownMembers.{still_at}
 use Rattle.shared_words.proofs.WriterSeats.{writer_seat_next}
 use Rattle.progress_words.specs.Tokens.{IsWriterOf}
@@ -36,6 +37,10 @@ got_last (y ∷ ys) x = got_last ys x
 -- what the writer knows once it has loaded the counter
 pub view_now : (counter : ℕ) (old new : View) → old ≡ Writer (writer_of old) → new ≡ counter_found counter old → writer_of new ≡ counter_kept counter (writer_of old)
 view_now counter old new is found = ap writer_of (found ∙ ap (counter_found counter) is)
+
+-- that is a load of the counter
+pub loaded_now : (counter : ℕ) (old new : View) → old ≡ Writer (writer_of old) → CounterInRange counter → IsRising old counter → new ≡ counter_found counter old → HasLoadedCounter (writer_of old) (writer_of new)
+loaded_now counter old new is range rising found = record { counter = counter; range = range; rising = rising (writer_of old) is; view = view_now counter old new is found }
 
 -- the writer's token after a load of the counter
 pub writer_counts : (table : TableId) (opening : Opening) (old new : writers.Writer) (counter : ℕ) → IsWriterOf table opening old → IsSameSeat old.seat new.seat → new.generation ≡ old.generation → new.seat.me.0 ≡ counter_found counter old.seat.me.0 → IsWriterOf table opening new

@@ -1,5 +1,5 @@
 -- What a leader knows once it has found the words of members: who is done is scanned, and it leads as before.
-use Rattle.std.proofs.Common.{◌≡◌, ℕ, zero, suc, ◌+◌, ◌<◌, ◌≤◌, Bool, true, false, cond, List, [], ◌∷◌, length, refl, sym, ap, subst, ◌∙◌, arith}
+use Rattle.std.proofs.Common.{◌≡◌, ℕ, zero, suc, ◌+◌, ◌<◌, ◌≤◌, Bool, true, false, cond, List, [], ◌∷◌, length, length-set, refl, sym, ap, subst, ◌∙◌, arith}
 use mathlib.Core.Logic.{dite}
 use native.Mathlib.Decide.{ℕ_discrete}
 use Rattle.std.specs.Prelude.{Option, Some, slice_get, slice_set, unwrap_or, IsTrue, ◌==◌}
@@ -38,11 +38,6 @@ got_other (y ∷ ys) zero (suc j) x apart = refl
 got_other (y ∷ ys) (suc k) zero x apart = refl
 got_other (y ∷ ys) (suc k) (suc j) x apart = got_other ys k j x (λ e. apart (ap suc e))
 
-set_length : {A : Type 0} (xs : List A) (k : ℕ) (x : A) → length (slice_set xs k x) ≡ length xs
-set_length [] k x = refl
-set_length (y ∷ ys) zero x = refl
-set_length (y ∷ ys) (suc k) x = ap suc (set_length ys k x)
-
 -- ---- one word
 
 -- it may take the steps of a leader
@@ -58,7 +53,7 @@ known counter m h = ap (λ (role : Role). unwrap_or (scans_of role).counter 0) h
 
 module _ (counter k : ℕ) (scans : Scans) where
   places_stay : (b : Bool) → length (cond b (members.with_scanned k scans) scans).members ≡ length scans.members
-  places_stay true = set_length scans.members k true
+  places_stay true = length-set scans.members k true
   places_stay false = refl
 
   counter_stays : (b : Bool) → (cond b (members.with_scanned k scans) scans).counter ≡ scans.counter

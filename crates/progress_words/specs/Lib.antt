@@ -3,3 +3,4 @@ pub mod Reports
 pub mod Leads
 pub mod Advances
 pub mod Needs
+pub mod Roots

@@ -19,10 +19,11 @@ use Rattle.progress_words.specs.declared.answers.NotYet.{NotYet}
 abbrev pub HasTaken : WriterView → ℕ → ℕ → Type 0
 HasTaken w generation need = Among w.pairs (record { generation = generation; need = need })
 
--- the writer has loaded the counter
+-- the writer has loaded the counter, which never falls
 pub record HasLoadedCounter (old new : WriterView) : Type 0 where
   pub counter : ℕ
   pub range : CounterInRange counter
+  pub rising : old.counter ≤ counter
   pub view : new ≡ counter_kept counter old
 
 -- the counter that was loaded in this call is below the value that was asked for

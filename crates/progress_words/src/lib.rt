@@ -8,6 +8,7 @@ mod leads;
 mod needs;
 mod notes;
 mod reports;
+mod roots;
 
 pub use advances::advance;
 pub use answers::{Advance, Lead, NotYet};
@@ -15,3 +16,4 @@ pub use leads::{give_up, lead};
 pub use needs::{later, reached};
 pub use notes::{learn, note};
 pub use reports::{report, wait, wake};
+pub use roots::{RootParts, newest_root};

@@ -16,7 +16,7 @@ const VALUES_AHEAD: u64 = 2;
 /// confirm the next value without having seen that generation.
 ///
 /// Source: Erlang/OTP erts internal documentation, ThreadProgress.
-#[tactic(auto, using(crate::proofs::Passing::taken_now, crate::proofs::Passing::writer_counts))]
+#[tactic(auto, using(crate::proofs::Passing::taken_now, crate::proofs::Passing::loaded_now, crate::proofs::Passing::writer_counts))]
 pub fn later<N: Served>(shared: &Shared<N>, writer: &mut Writer) -> u64
     requires token { IsWriterOf shared.now.table.shared.table_id shared.now.table.shared.key writer.old }
     ensures token { IsWriterOf shared.now.table.shared.table_id shared.now.table.shared.key writer.new }
@@ -29,7 +29,7 @@ pub fn later<N: Served>(shared: &Shared<N>, writer: &mut Writer) -> u64
 }
 
 /// Whether the counter has reached a value that `later` gave.
-#[tactic(auto, using(crate::proofs::Passing::writer_counts))]
+#[tactic(auto, using(crate::proofs::Passing::loaded_now, crate::proofs::Passing::writer_counts))]
 pub fn reached<N: Served>(shared: &Shared<N>, writer: &mut Writer, need: u64) -> Result<(), NotYet>
     requires token { IsWriterOf shared.now.table.shared.table_id shared.now.table.shared.key writer.old }
     ensures token { IsWriterOf shared.now.table.shared.table_id shared.now.table.shared.key writer.new }

@@ -1,15 +1,15 @@
 -- The next generation may be published behind the wait, and the indices stay those of the writer.
 use Rattle.progress_words.specs.Tokens.{written_by}
-use Rattle.code_index.proofs.Rooted.{some_published}
-use Rattle.code_index.proofs.Commits.{owned_yet, asked_by, on_err, may_publish_now, owned_now}
+use Rattle.progress_words.proofs.Rooted.{some_published}
+use Rattle.code_index.proofs.Commits.{owned_yet, asked_by, may_publish_now, owned_now}
 use Rattle.code_index.proofs.index.CodeIndex.commit.Goals as goal
 
-pub returns-in_err-reached-clause-owned_yet : goal.returns-in_err-reached-clause-owned_yet
-returns-in_err-reached-clause-owned_yet g c =
+pub returns-in_err-reached-clause-owned : goal.returns-in_err-reached-clause-owned
+returns-in_err-reached-clause-owned g c =
     let old = written_by c.args.writer.now in
     let new = written_by c.reached.new.writer in
     let asked = asked_by c.self.inside.staging c.args.self.now c.need-need.new.self old (written_by c.need-need.new.writer) new c.need-need.result c.self.view_is c.need-need.ensures.begun c.reached.ensures.loaded in
-    on_err c.from_residual.result _ (owned_yet c.args.self.now c.need-need.new.self old new c.need-need.result asked c.requires.owned)
+    owned_yet c.args.self.now c.need-need.new.self old new c.need-need.result asked c.requires.owned
 
 pub publish-requires-clause-may : goal.publish-requires-clause-may
 publish-requires-clause-may g c =

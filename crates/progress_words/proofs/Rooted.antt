@@ -12,8 +12,7 @@ use Rattle.shared_words.specs.Views.{newest, newest_root, published_at, seen}
 use Rattle.shared_words.specs.Seats.{writer_of}
 use Rattle.shared_words.specs.Kinds.{RootLoaded, root_found}
 use Rattle.progress_words.specs.Tokens.{written_by, IsWriterOf}
-use Rattle.code_index.specs.Staging.{newest_of}
-use Rattle.code_index.specs.Roots.{IsNewestRoot}
+use Rattle.progress_words.specs.Roots.{newest_of, IsNewestRoot}
 
 -- the writer has published something
 pub some_published : (table : TableId) (opening : Opening) (writer : writers.Writer) → IsWriterOf table opening writer → 0 < length (written_by writer).published

@@ -1,8 +1,8 @@
-//! What the root word says.
+//! What the root word says to the writer.
 
 ghost use Rattle.std.specs.Prelude.{◌≡◌};
 ghost use Rattle.progress_words.specs.Tokens.{written_by, IsWriterOf, IsSameWriter};
-ghost use Rattle.code_index.specs.Roots.{IsNewestRoot};
+ghost use Rattle.progress_words.specs.Roots.{IsNewestRoot};
 
 use shared_words::{Served, Shared, Writer};
 

@@ -1,8 +1,8 @@
 -- The view is as before, and the word is that of the newest generation.
 use Rattle.std.proofs.Common.{ap}
 use Rattle.shared_words.specs.Seats.{writer_of}
-use Rattle.code_index.proofs.Rooted.{some_published, view_same, parts_told}
-use Rattle.code_index.proofs.roots.newest_root.Goals as goal
+use Rattle.progress_words.proofs.Rooted.{some_published, view_same, parts_told}
+use Rattle.progress_words.proofs.roots.newest_root.Goals as goal
 
 pub returns-clause-view : goal.returns-clause-view
 returns-clause-view g c = ap writer_of (view_same g.N.Served.served _ _ _ c.load_root-root.ensures.view c.requires.token.view)

@@ -1,9 +1,14 @@
 -- What the root word of the newest generation says.
 use Rattle.std.specs.Prelude.{◌≡◌, ◌+◌, length}
+use Rattle.area_core.specs.declared.table.Published.{Published}
 use Rattle.area_core.specs.Blocks.{RootFits}
 use Rattle.shared_words.specs.declared.view.WriterView.{WriterView}
-use Rattle.code_index.specs.declared.roots.RootParts.{RootParts}
-use Rattle.code_index.specs.Staging.{newest_of}
+use Rattle.shared_words.specs.Views.{newest, published_at}
+use Rattle.progress_words.specs.declared.roots.RootParts.{RootParts}
+
+-- the newest generation
+abbrev pub newest_of : WriterView → Published
+newest_of w = published_at w.published (newest w.published)
 
 -- the numbers are those of the newest generation and of its blocks, which there are
 pub record IsNewestRoot (w : WriterView) (parts : RootParts) : Type 0 where
