@@ -64,9 +64,6 @@ module _ (s : Areas) (sound : IsSound s) (block : ℕ) (old : BlockUse) (was : u
 -- ---- the area is out of use
 
 module _ (s : Areas) (w : WriterView) (own : AreOf s w) (area : AreaRef) (may : MayRelease s w area) where
-  high : 9 ≤ area.block
-  high = use_there s area.block (Retired area.serial may.since) may.retired
-
   pub within : area.block < BLOCKS
   within = use_within s area.block (Retired area.serial may.since) own.sound.sizes may.retired
 

@@ -6,5 +6,5 @@ pub mod AtFirst
 mod Stores
 mod WordByWord
 mod Retired
-mod Listed
+pub mod Listed
 mod Freed

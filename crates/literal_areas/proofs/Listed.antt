@@ -1,4 +1,4 @@
--- The pools stay those of the writer over what it publishes, over a load of the counter, and over a note.
+-- The pools stay those of the writer over what it publishes, over a load of the counter, over looks, and over a note.
 use Rattle.std.proofs.Common.{◌≡◌, ℕ, zero, suc, ◌<◌, ◌≤◌, inl, inr, ⊎_elim, Bool, true, false, cond, List, [], ◌∷◌, ◌++◌, length, sym, ap, subst, ◌∙◌, arith}
 use Rattle.std.specs.Prelude.{Option, Some, None, slice_get, IsTrue}
 use Rattle.std.specs.List.{flat_map}
@@ -13,12 +13,15 @@ use Rattle.area_core.specs.Generations.{is_kept, is_reached, is_retired, is_used
 use Rattle.area_core.specs.Blocks.{Among}
 use Rattle.area_core.specs.Roots.{image_of, fresh_in, fresh_areas}
 use Rattle.area_core.proofs.RootTests.{in_either}
+use Rattle.marks.specs.declared.kept.WriterKept.{WriterKept}
+use Rattle.shared_words.specs.declared.view.NamedAnchor.{NamedAnchor}
 use Rattle.shared_words.specs.declared.view.WriterView.{WriterView}
 use Rattle.shared_words.specs.Kinds.{counter_kept}
 use Rattle.shared_words.specs.Notes.{with_note}
 use Rattle.shared_words.specs.Rule.{MayBeRead}
 use Rattle.shared_words.specs.Publishing.{kept_next, with_next}
 use Rattle.shared_words.proofs.ShownMembers.{still_at}
+use Rattle.progress_words.specs.Needs.{HasLoadedCounter}
 use Rattle.literal_areas.specs.declared.blocks.BlockUse.TheVariants.{Live, Retired}
 use Rattle.literal_areas.specs.declared.areas.Areas.{Areas}
 use Rattle.literal_areas.specs.Blocks.{use_of, Stands}
@@ -96,8 +99,8 @@ fewer_read : (w : WriterView) (counter : ℕ) → w.counter ≤ counter → (g :
 fewer_read w counter rises g may pair among need =
     may pair (among.0, still_at w.pairs _ among.0 pair among.1) (omega (arith, rises, need))
 
-pub owned_counted : (s : Areas) (w : WriterView) (counter : ℕ) → w.counter ≤ counter → AreOf s w → AreOf s (counter_kept counter w)
-owned_counted s w counter rises own = record {
+kept_counted : (s : Areas) (w : WriterView) (counter : ℕ) → w.counter ≤ counter → AreOf s w → AreOf s (counter_kept counter w)
+kept_counted s w counter rises own = record {
   sound = own.sound;
   all = own.all;
   kept = own.kept;
@@ -106,6 +109,25 @@ owned_counted s w counter rises own = record {
   past = own.past;
   since = own.since;
 }
+
+pub owned_counted : (s : Areas) (old new : WriterView) → HasLoadedCounter old new → AreOf s old → AreOf s new
+owned_counted s old new loaded own = subst (AreOf s) (sym loaded.view) (kept_counted s old loaded.counter loaded.rising own)
+
+-- ---- a look
+
+kept_looked : (s : Areas) (w : WriterView) (looks : WriterKept) (named : List NamedAnchor) → AreOf s w → AreOf s (record w { looks = looks; named = named })
+kept_looked s w looks named own = record {
+  sound = own.sound;
+  all = own.all;
+  kept = own.kept;
+  reached = own.reached;
+  taken = own.taken;
+  past = own.past;
+  since = own.since;
+}
+
+pub owned_looked : (s : Areas) (old new : WriterView) → new ≡ record old { looks = new.looks; named = new.named } → AreOf s old → AreOf s new
+owned_looked s old new same own = subst (AreOf s) (sym same) (kept_looked s old new.looks new.named own)
 
 -- ---- a note
 

@@ -8,15 +8,12 @@ use Rattle.shared_words.specs.declared.seats.Writer as writers
 use Rattle.shared_words.specs.declared.view.WriterView.{WriterView}
 use Rattle.shared_words.specs.Publishing.{MayStoreWord, with_word}
 use Rattle.progress_words.specs.Tokens.{written_by, IsWriterOf}
+use Rattle.progress_words.proofs.Rooted.{some_published}
 use Rattle.literal_areas.specs.declared.areas.Areas.{Areas}
 use Rattle.literal_areas.specs.Blocks.{IsSound, IsLive, with_retired}
 use Rattle.literal_areas.specs.Owned.{AreOf}
 use Rattle.literal_areas.proofs.Serials.{sound_retired}
 use Rattle.literal_areas.proofs.Stores.{may_retire, owned_retired, owned_stored}
-
--- the writer has published something
-some_published : (table : TableId) (opening : Opening) (writer : writers.Writer) → IsWriterOf table opening writer → 0 < length (written_by writer).published
-some_published table opening writer token = let counted : length (written_by writer).published ≡ writer.generation + 1 = token.published in omega (arith, counted)
 
 -- the number of the next generation may be stored
 pub may_retire_now : (table : TableId) (opening : Opening) (s : Areas) (old now : writers.Writer) (area : AreaRef) (word value : ℕ) → IsWriterOf table opening old → AreOf s (written_by old) → IsLive s area → written_by now ≡ written_by old → word ≡ retire_place area.block → value ≡ length (written_by old).published → MayStoreWord (written_by now) word value

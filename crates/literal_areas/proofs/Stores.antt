@@ -1,5 +1,5 @@
 -- Which stores into words of areas the writer may make, and that the pools stay those of the writer.
-use Rattle.std.proofs.Common.{◌≡◌, ◌≢◌, ℕ, ◌+◌, ◌<◌, ◌≤◌, inl, inr, Bool, true, false, not, ◌&&◌, List, length, refl, sym, ap, subst, ◌∙◌, arith}
+use Rattle.std.proofs.Common.{◌≡◌, ◌≢◌, ℕ, ◌+◌, ◌<◌, ◌≤◌, inl, inr, Bool, true, false, not, ◌&&◌, List, length, length-set, refl, sym, ap, subst, ◌∙◌, arith}
 use Rattle.std.specs.Prelude.{◌==◌, Some, slice_get, slice_set, IsTrue}
 use Rattle.std.proofs.lemmas.Bool.{cases_eq, cases_Bool, le-ltb, eqb-true, and_parts}
 use Rattle.std.proofs.lemmas.Bool.Decides.{nat_tests}
@@ -25,7 +25,7 @@ use Rattle.literal_areas.specs.declared.areas.Areas.{Areas}
 use Rattle.literal_areas.specs.Blocks.{serial_at, IsLive, with_retired}
 use Rattle.literal_areas.specs.Owned.{AreOf, IsPast, HasRetired, IsUnpublished}
 use Rattle.literal_areas.specs.Written.{HasWritten, KeepsOtherBlocks}
-use Rattle.literal_areas.proofs.Uses.{use_there, use_within, set_long}
+use Rattle.literal_areas.proofs.Uses.{use_there, use_within}
 use Rattle.literal_areas.proofs.Serials.{serial_here, use_after, retired_serial, sound_retired}
 
 -- ---- any store
@@ -43,7 +43,7 @@ kept_was w value Nowhere k among = among
 pub owned_stored : (s : Areas) (w : WriterView) (word value : ℕ) → AreOf s w → AreOf s (with_word word value w)
 owned_stored s w word value own = record {
   sound = own.sound;
-  all = set_long w.words word value ∙ own.all;
+  all = length-set w.words word value ∙ own.all;
   kept = λ k among. own.kept k (kept_was w value (kind_at word) k among);
   reached = own.reached;
   taken = own.taken;

@@ -1,5 +1,5 @@
 -- What a block is used for, before and after one of them has another use.
-use Rattle.std.proofs.Common.{◌≡◌, ℕ, zero, suc, ◌-◌, ◌<◌, ◌≤◌, inl, inr, List, [], ◌∷◌, length, refl, sym, ap, ◌∙◌, arith}
+use Rattle.std.proofs.Common.{◌≡◌, ℕ, zero, suc, ◌-◌, ◌<◌, ◌≤◌, inl, inr, List, [], ◌∷◌, length, length-set, refl, sym, ap, ◌∙◌, arith}
 use Rattle.std.specs.Prelude.{Option, Some, None, slice_get, slice_set}
 use Rattle.std.proofs.lemmas.Bool.{cases_lt, lt-ltb, le-ltb}
 use Rattle.std.proofs.lemmas.Option.{slice_get_within}
@@ -20,11 +20,6 @@ set_there (z ∷ zs) zero zero x differ = absurd (differ refl)
 set_there (z ∷ zs) zero (suc j) x differ = refl
 set_there (z ∷ zs) (suc k) zero x differ = refl
 set_there (z ∷ zs) (suc k) (suc j) x differ = set_there zs k j x (λ same. differ (ap suc same))
-
-pub set_long : {X : Type 0} (xs : List X) (k : ℕ) (x : X) → length (slice_set xs k x) ≡ length xs
-set_long [] k x = refl
-set_long (z ∷ zs) zero x = refl
-set_long (z ∷ zs) (suc k) x = ap suc (set_long zs k x)
 
 -- ---- one block
 
@@ -129,11 +124,11 @@ pub sizes_stay : (s : Areas) (block : ℕ) (used : BlockUse) → HasSizes s → 
 sizes_stay s block used sizes =
     elim (cases_lt block 64) as (λ _. HasSizes (with_use block used s)) [
       | inl low ↦ record {
-        big = ap (λ (xs : List BlockUse). length xs) (big_set s block used low) ∙ set_long s.big (block - 9) used ∙ sizes.big;
+        big = ap (λ (xs : List BlockUse). length xs) (big_set s block used low) ∙ length-set s.big (block - 9) used ∙ sizes.big;
         small = ap (λ (xs : List BlockUse). length xs) (small_left s block used low) ∙ sizes.small;
       }
       | inr over ↦ record {
         big = ap (λ (xs : List BlockUse). length xs) (big_left s block used over) ∙ sizes.big;
-        small = ap (λ (xs : List BlockUse). length xs) (small_set s block used over) ∙ set_long s.small (block - 64) used ∙ sizes.small;
+        small = ap (λ (xs : List BlockUse). length xs) (small_set s block used over) ∙ length-set s.small (block - 64) used ∙ sizes.small;
       }
     ]

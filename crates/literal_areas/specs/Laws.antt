@@ -1,10 +1,10 @@
 -- What keeps the pools those of their writer besides the calls on them: the stores and loads of that writer.
-use Rattle.std.specs.Prelude.{ℕ, ◌≤◌}
+use Rattle.std.specs.Prelude.{◌≡◌, ℕ}
 use Rattle.area_core.specs.declared.table.Published.{Published}
 use Rattle.shared_words.specs.declared.view.WriterView.{WriterView}
-use Rattle.shared_words.specs.Kinds.{counter_kept}
 use Rattle.shared_words.specs.Notes.{with_note}
 use Rattle.shared_words.specs.Publishing.{with_next, with_word}
+use Rattle.progress_words.specs.Needs.{HasLoadedCounter}
 use Rattle.literal_areas.specs.declared.areas.Areas.{Areas}
 use Rattle.literal_areas.specs.Owned.{AreOf, IsListed}
 
@@ -16,9 +16,13 @@ KeptByStores = (s : Areas) (w : WriterView) (word value : ℕ) → AreOf s w →
 abbrev pub KeptByRoots : Type 0
 KeptByRoots = (s : Areas) (w : WriterView) (p : Published) → AreOf s w → IsListed s p → AreOf s (with_next p w)
 
--- a load of the counter, which never falls
+-- a load of the counter
 abbrev pub KeptByCounters : Type 0
-KeptByCounters = (s : Areas) (w : WriterView) (counter : ℕ) → w.counter ≤ counter → AreOf s w → AreOf s (counter_kept counter w)
+KeptByCounters = (s : Areas) (old new : WriterView) → HasLoadedCounter old new → AreOf s old → AreOf s new
+
+-- a look, which tells the writer of anchors and turn words alone
+abbrev pub KeptByLooks : Type 0
+KeptByLooks = (s : Areas) (old new : WriterView) → new ≡ record old { looks = new.looks; named = new.named } → AreOf s old → AreOf s new
 
 -- the split of a note
 abbrev pub KeptByNotes : Type 0

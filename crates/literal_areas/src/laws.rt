@@ -1,6 +1,6 @@
 //! What keeps the pools those of their writer besides the calls on them.
 
-ghost use Rattle.literal_areas.specs.Laws.{KeptByStores, KeptByRoots, KeptByCounters, KeptByNotes};
+ghost use Rattle.literal_areas.specs.Laws.{KeptByStores, KeptByRoots, KeptByCounters, KeptByLooks, KeptByNotes};
 
 /// A store of a word of any block.
 pub fn stores_keep_pools()
@@ -17,6 +17,11 @@ pub fn roots_keep_pools()
 /// A load of the counter.
 pub fn counters_keep_pools()
     ensures { KeptByCounters }
+{}
+
+/// A look at the slots, whatever it finds.
+pub fn looks_keep_pools()
+    ensures { KeptByLooks }
 {}
 
 /// The split of a note.
