@@ -1,7 +1,8 @@
 -- The areas that a turn holds, as a list and as a set.
 use Rattle.std.proofs.Common.{◌≡◌, ◌∙◌, ℕ, refl, sym, ap, Bool, true, false, ◌||◌, ◌==◌, List, [], ◌∷◌, ◌++◌, map, Result, Ok, Err, OnOk}
-use Rattle.std.proofs.Common.{◌<◌, ◌+◌, length, take, get_or, append_assoc}
+use Rattle.std.proofs.Common.{◌<◌, ◌+◌, All, length, subst, take, get_or, append_assoc}
 use Rattle.std.proofs.lemmas.List.{append-nil, map-append, take_more}
+use Rattle.std.proofs.lemmas.List.Elements.{All-append, All-cons, All-nil}
 use Rattle.std.proofs.lemmas.Grind.{flat_map-append}
 use Rattle.std.proofs.lemmas.List.Folds.{list_any-append}
 use Rattle.std.specs.List.{flat_map, list_any}
@@ -13,6 +14,7 @@ use Rattle.machine_core.specs.declared.process.Value.{Value}
 use Rattle.machine_core.specs.declared.process.Value.TheVariants.{Literal}
 use Rattle.machine_core.specs.declared.process.LitRef.{LitRef}
 use Rattle.machine_core.specs.Process.{area_serials, code_names, value_area, value_areas}
+use Rattle.machine_core.specs.View.{IsInBlock, IsValue, Shown}
 use Rattle.machine_core.proofs.SerialLists.{among-serials_of, increasing-serials_of, serials_of-same, with-there}
 
 -- which serials are those of areas
@@ -53,6 +55,21 @@ pub noted : (r : Result (Unit {0}) NoMemory) (before after : List AreaRef) (area
     OnOk r (serials_of (area_serials after) ≡ with_serial (serials_of (area_serials before)) area.serial)
 noted (Ok done) before after area h = ap (λ areas. serials_of (area_serials areas)) h ∙ serials-pushed before area
 noted (Err refused) before after area h = h
+
+-- areas that stand in their blocks, and one more that does
+pub stand_noted : (shown : Shown) (r : Result (Unit {0}) NoMemory) (before after : List AreaRef) (area : AreaRef) → OnOk r (after ≡ before ++ area ∷ []) →
+    All (IsInBlock shown) before → IsInBlock shown area → OnOk r (All (IsInBlock shown) after)
+stand_noted shown (Ok done) before after area e stand one =
+    subst (All (IsInBlock shown)) (sym e) (All-append (IsInBlock shown) before (area ∷ []) stand (All-cons (IsInBlock shown) area [] one (All-nil (IsInBlock shown))))
+stand_noted shown (Err refused) before after area e stand one = tt
+
+-- the area of a literal does
+pub literal_stands : (shown : Shown) (value : Value) (at : LitRef) → value ≡ Literal at → IsValue shown value → IsInBlock shown at.area
+literal_stands shown value at e is = let literal = subst (IsValue shown) e is in literal.stands
+
+-- what holds of each of a list holds of the next one
+pub next_of : {X : Type 0} (P : X → Type 0) (xs : List X) (n : ℕ) (x : X) → n < length xs → x ≡ get_or xs n x → All P xs → P x
+next_of P xs n x below is all = subst P (sym is) (all n x below)
 
 -- the area of one value is named with the others
 pub noted_literal : (r : Result (Unit {0}) NoMemory) (before after : List AreaRef) (value : Value) (at : LitRef) → value ≡ Literal at →

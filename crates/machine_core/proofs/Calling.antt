@@ -5,6 +5,7 @@ use Rattle.std.proofs.Common.{All, drop, get_or, replicate, take}
 use Rattle.std.proofs.lemmas.List.{drop-map, length-map, length-reverse, map-append, take-map}
 use Rattle.std.proofs.lemmas.List.Elements.{All-append, All-cons, All-drop, All-map, All-nil, All-replicate, All-take}
 use Rattle.std.proofs.lemmas.Option.{option_and_then_some}
+use Rattle.term_core.specs.declared.area.CodeRef.{CodeRef}
 use Rattle.term_core.specs.declared.atom.Mfa.{Mfa}
 use Rattle.term_core.specs.declared.hold.Full.{Full}
 use Rattle.term_core.specs.declared.hold.Kind.TheVariants.{Frame, Literal as for_literals}
@@ -16,7 +17,7 @@ use Rattle.machine_core.specs.declared.process.End.TheVariants.{SystemLimit}
 use Rattle.machine_core.specs.declared.process.Value.{Value}
 use Rattle.machine_core.specs.declared.process.Value.TheVariants.{Owned, Literal}
 use Rattle.machine_core.specs.Holds.{Holds, is_among, is_held, with_hold}
-use Rattle.machine_core.specs.View.{AreValues, HasValues, IsLawful, IsValue, Shown}
+use Rattle.machine_core.specs.View.{AreValues, HasValues, IsInBlock, IsLawful, IsValue, Shown}
 use Rattle.machine_core.specs.declared.process.Frame.{Frame as CodeFrame}
 use Rattle.machine_core.specs.Process.{PlainFrame, PlainValue, Words, arguments_at, arguments_of, entered_values, first_registers, frame_of, frames_of, no_held, owned, owned_terms, owned_values, value_shown, values_shown}
 use Rattle.machine_core.specs.Turn.{called, called_by_name, called_out, entered, stacked, trace_of}
@@ -161,8 +162,12 @@ pub values_pushed : (shown : Shown) (below pushed : List CodeFrame) (left : Code
 values_pushed shown below pushed left e h one = subst (AreValues shown) (sym e) (All-append (HasValues shown) below (left ∷ []) h (All-cons (HasValues shown) left [] one (All-nil (HasValues shown))))
 
 -- the values of a frame that is entered
-pub frame_values : (shown : Shown) (f : CodeFrame) (registers args : List Value) → f.registers ≡ registers → registers ≡ entered_values args → All (IsValue shown) args → HasValues shown f
-frame_values shown f registers args e r h = subst (λ (vs : List Value). All (IsValue shown) vs) (sym (e ∙ r)) (all_entered shown args h)
+pub frame_values : (shown : Shown) (f : CodeFrame) (code : CodeRef) (registers args : List Value) → f.code ≡ code → IsInBlock shown code.area → f.registers ≡ registers → registers ≡ entered_values args →
+    All (IsValue shown) args → HasValues shown f
+frame_values shown f code registers args c stands e r h = (
+  subst (λ (k : CodeRef). IsInBlock shown k.area) (sym c) stands,
+  subst (λ (vs : List Value). All (IsValue shown) vs) (sym (e ∙ r)) (all_entered shown args h),
+)
 
 -- the same frame in another place
 pub values_same : (shown : Shown) (f g : CodeFrame) → f ≡ g → HasValues shown g → HasValues shown f

@@ -16,7 +16,7 @@ use Rattle.mod_core.proofs.Places.{ConstantsStand, InstrAt, StandsAt, code_behin
 use Rattle.mod_core.proofs.Lengths.{instr_words_len, some_words}
 use Rattle.machine_core.specs.declared.op.Op.{Op}
 use Rattle.machine_core.specs.Process.{PlainFrame}
-use Rattle.machine_core.specs.View.{Shown, IsLawful, IsOfModule, IsReadable, IsImagePlace}
+use Rattle.machine_core.specs.View.{Shown, IsInBlock, IsLawful, IsOfModule, IsReadable, IsImagePlace}
 use Rattle.machine_core.specs.Turn.{IsPlaced}
 use Rattle.machine_core.proofs.NextInstr.{IsNext, instr_stands, is_instr, is_next}
 use Rattle.machine_core.specs.Decode.{instr_word, len_of_number, op_at, op_of_words}
@@ -65,14 +65,15 @@ behind_heads m at past within = record { within = within; no_entry = λ i below 
 -- ---- the constants
 
 -- the constants of an instance stand there as a view shows it
-pub constants_stand : (shown : Shown) (area : AreaRef) (m : Module) (place : ℕ) (ts : List PlainTerm) → IsOfModule shown area.serial m →
+pub constants_stand : (shown : Shown) (area : AreaRef) (m : Module) (place : ℕ) (ts : List PlainTerm) → IsInBlock shown area → IsOfModule shown area.serial m →
     ConstantsStand (module_image m) place ts → code_start m.functions ≤ place → place + constants_len ts ≤ length (module_image m) → LiteralsStand shown area place ts
-constants_stand shown area m place [] is stand past within = tt
-constants_stand shown area m place (t ∷ ts) is stand past within =
+constants_stand shown area m place [] stands is stand past within = tt
+constants_stand shown area m place (t ∷ ts) stands is stand past within =
     let short = is.sound.short in
     let at : (k : ℕ) → k < term_words t → IsImagePlace m (place + k) = λ k l. behind_heads m (place + k) (omega arith) (omega arith) in (
       record {
         literal = record {
+          stands = stands;
           term = t;
           image = image_moved (module_image m) (shown.words area.serial) place t stand.0 (λ k l. view_word shown area.serial (place + k) m is (at k l) (omega arith));
           readable = λ k l. readable_at shown area.serial (place + k) m is (at k l);
@@ -80,7 +81,7 @@ constants_stand shown area m place (t ∷ ts) is stand past within =
         is = refl;
         low = omega arith;
       },
-      constants_stand shown area m (place + term_words t) ts is stand.1 (omega arith) (omega arith),
+      constants_stand shown area m (place + term_words t) ts stands is stand.1 (omega arith) (omega arith),
     )
 
 -- ---- the words of the next instruction
@@ -153,12 +154,12 @@ pub record IsFetched (shown : Shown) (area : AreaRef) (f : PlainFrame) : Type 0 
   pub constants : ℕ
   pub back : IsInstrBack shown area constants (instr_at shown.reads f) (op_at (shown.words area.serial) f.place)
 
-pub fetched_next : (shown : Shown) (area : AreaRef) (f : PlainFrame) → f.serial ≡ area.serial → (n : IsNext shown f) → InstrAt n.m f.place (instr_at shown.reads f) → IsFetched shown area f
-fetched_next shown area f same n a =
+pub fetched_next : (shown : Shown) (area : AreaRef) (f : PlainFrame) → IsInBlock shown area → f.serial ≡ area.serial → (n : IsNext shown f) → InstrAt n.m f.place (instr_at shown.reads f) → IsFetched shown area f
+fetched_next shown area f stands same n a =
     let first = first_word shown f n a in
     let heads = code_behind_heads n.m in
     let behind = a.behind in
-    let stand = constants_stand shown area n.m a.constants (instr_constants (instr_at shown.reads f)) (subst (λ serial. IsOfModule shown serial n.m) same n.loaded) a.images (omega arith) a.inside in
+    let stand = constants_stand shown area n.m a.constants (instr_constants (instr_at shown.reads f)) stands (subst (λ serial. IsOfModule shown serial n.m) same n.loaded) a.images (omega arith) a.inside in
     let back = instr_back shown area a.constants (instr_at shown.reads f) (next_words shown f n) stand in
     record {
       number = subst (λ serial. IsReadable shown serial f.place) same first.readable;
@@ -167,10 +168,10 @@ fetched_next shown area f same n a =
       back = subst (IsInstrBack shown area a.constants (instr_at shown.reads f)) (sym (op_is shown f n a) ∙ ap (λ serial. op_at (shown.words serial) f.place) same) back;
     }
 
-pub fetched : (shown : Shown) (area : AreaRef) (f : PlainFrame) → f.serial ≡ area.serial → IsLawful shown → IsPlaced shown.reads f → IsFetched shown area f
-fetched shown area f same lawful p =
+pub fetched : (shown : Shown) (area : AreaRef) (f : PlainFrame) → IsInBlock shown area → f.serial ≡ area.serial → IsLawful shown → IsPlaced shown.reads f → IsFetched shown area f
+fetched shown area f stands same lawful p =
     let n = is_next shown f lawful p in
-    fetched_next shown area f same n (instr_stands shown f n)
+    fetched_next shown area f stands same n (instr_stands shown f n)
 
 -- a word that the number says the instruction has
 pub numbered_word : (shown : Shown) (f : PlainFrame) (number at len : ℕ) → IsLawful shown → IsPlaced shown.reads f → number ≡ slice_index (shown.words f.serial) f.place → len ≡ len_of_number number → at < len →

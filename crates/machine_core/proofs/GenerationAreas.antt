@@ -43,11 +43,11 @@ module _ (names : List Mfa) (s : ServerState) (sound : IsSound s) where
       words_kept s names serial sound ∙ rw (kept, none, area) refl
 
   -- what a generation says of an instance is what its module says
-  pub of_module : (serial : ℕ) (m : Module) → code_of s serial ≡ Some m → is_serial_in s.released serial ≡ false → IsOfModule (shown_in names (generation_of names s)) serial m
-  of_module serial m code kept =
+  pub of_module : (block : ℕ → ℕ) (serial : ℕ) (m : Module) → code_of s serial ≡ Some m → is_serial_in s.released serial ≡ false → IsOfModule (shown_in names block (generation_of names s)) serial m
+  of_module block serial m code kept =
       let words = instance_words serial m code kept in
       let module_sound = (some_of (λ m. IsModule m × (serial < s.next_serial)) (code_of s serial) m (sound.modules serial) code).0 in
-      module_read names (generation_of names s) (shown_of s) serial m (is_of_module s serial m module_sound code) (words ∙ sym (module_words s serial m code))
+      module_read names block (generation_of names s) (shown_of s) serial m (is_of_module s serial m module_sound code) (words ∙ sym (module_words s serial m code))
       (ap function_count words ∙ instance_functions serial m) (ap (λ ws. slice_index ws 1) words)
 
   -- an area that has functions is an instance that is not released

@@ -18,7 +18,7 @@ use Rattle.machine_core.proofs.Fetching.{fetched_next}
 use Rattle.machine_core.proofs.NextInstr.{IsNext, instr_is, instr_stands}
 use Rattle.machine_core.proofs.Viewing.{entry_at}
 
-module _ (names : List Mfa) (g : Generation) (shown : Shown) (serial : ℕ) (m : Module) (is : IsOfModule shown serial m) (same : words_in g serial ≡ shown.words serial) where
+module _ (names : List Mfa) (block : ℕ → ℕ) (g : Generation) (shown : Shown) (serial : ℕ) (m : Module) (is : IsOfModule shown serial m) (same : words_in g serial ≡ shown.words serial) where
   instr_read : (i number : ℕ) (f : Function) → slice_get m.functions i ≡ Some f → number ≤ length f.code →
       instr_in g (record { serial = serial; function = i }) (place_in (function_place m i) f.code number) ≡ module_instr m i (place_in (function_place m i) f.code number)
   instr_read i number f found within =
@@ -26,8 +26,8 @@ module _ (names : List Mfa) (g : Generation) (shown : Shown) (serial : ℕ) (m :
       let e : Entry = record { serial = serial; function = i } in
       let frame : PlainFrame = record { serial = serial; function = i; place = place; back = 0; registers = [] } in
       let next : IsNext shown frame = record { m = m; function = f; number = number; loaded = is; found = found; within = within; place = refl; instr = instr_is shown e m f is found number within } in
-      let area : AreaRef = record { serial = serial; block = 0 } in
-      let fetched = fetched_next shown area frame refl next (instr_stands shown frame next) in
+      let area : AreaRef = record { serial = serial; block = shown.block serial } in
+      let fetched = fetched_next shown area frame refl refl next (instr_stands shown frame next) in
       ap (λ words. instr_shown words (op_at words place)) same ∙ fetched.back.shows ∙ (is.functions i f found).instrs number within
 
   function_read : (i : ℕ) (f : Function) → slice_get m.functions i ≡ Some f → IsFunctionOf (reads_in names g) (record { serial = serial; function = i }) m f
@@ -45,7 +45,7 @@ module _ (names : List Mfa) (g : Generation) (shown : Shown) (serial : ℕ) (m :
       }
 
   -- what a generation says of an instance is what its module says, where its words are those of a view that says so
-  pub module_read : function_count (words_in g serial) ≡ length m.functions → slice_index (words_in g serial) 1 ≡ m.name.0 → IsOfModule (shown_in names g) serial m
+  pub module_read : function_count (words_in g serial) ≡ length m.functions → slice_index (words_in g serial) 1 ≡ m.name.0 → IsOfModule (shown_in names block g) serial m
   module_read count name = record {
     sound = is.sound;
     name = ap (λ n. record { 0 = n }) name;

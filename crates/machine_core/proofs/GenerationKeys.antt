@@ -71,17 +71,17 @@ module _ (names : List Mfa) (s : ServerState) (sound : IsSound s) where
       ap (λ o. found_of (option_map (held_value (generation_of names s)) o)) (among_keys s.keys key) ∙ found_by key (persistent_of s key) (sound.keys key)
       ∙ sym (ap found_held (among_keys s.keys key))
 
-  value_holds : (key : ℕ) (t : PlainTerm) (area : Option ℕ) → IsShortTerm t → HasItsArea s t area → ((serial : ℕ) → area ≡ Some serial → key_area s key ≡ Some serial) →
-      IsKeyValue (shown_in names (generation_of names s)) (Some (persistent_value t area))
-  value_holds key t None short has held = record { plain = t; is = refl; immediate = has; fits = short.fits }
-  value_holds key t (Some serial) short has held =
+  value_holds : (block : ℕ → ℕ) (key : ℕ) (t : PlainTerm) (area : Option ℕ) → IsShortTerm t → HasItsArea s t area → ((serial : ℕ) → area ≡ Some serial → key_area s key ≡ Some serial) →
+      IsKeyValue (shown_in names block (generation_of names s)) (Some (persistent_value t area))
+  value_holds block key t None short has held = record { plain = t; is = refl; immediate = has; fits = short.fits }
+  value_holds block key t (Some serial) short has held =
       let words = term_words_in names s sound serial t has (key_kept names s sound key serial (held serial refl)) in
       record { plain = t; is = refl; sound = short; area = ap is_term_image words ∙ term_image t short; image = words }
 
-  holds_by : (key : ℕ) (o : Option Persistent) → persistent_of s key ≡ o → IfSome o (IsPersistent s) → IsKeyValue (shown_in names (generation_of names s)) (option_map (λ p. persistent_value p.term p.area) o)
-  holds_by key None e h = tt
-  holds_by key (Some p) e h = value_holds key p.term p.area h.sound h.area (λ serial area. area_of_key key serial (Some p) p e refl area)
+  holds_by : (block : ℕ → ℕ) (key : ℕ) (o : Option Persistent) → persistent_of s key ≡ o → IfSome o (IsPersistent s) → IsKeyValue (shown_in names block (generation_of names s)) (option_map (λ p. persistent_value p.term p.area) o)
+  holds_by block key None e h = tt
+  holds_by block key (Some p) e h = value_holds block key p.term p.area h.sound h.area (λ serial area. area_of_key key serial (Some p) p e refl area)
 
   -- it is a term of one word, or a term whose image its area has
-  pub key_holds : (key : ℕ) → IsKeyValue (shown_in names (generation_of names s)) (key_value s key)
-  key_holds key = holds_by key (persistent_of s key) refl (sound.keys key)
+  pub key_holds : (block : ℕ → ℕ) (key : ℕ) → IsKeyValue (shown_in names block (generation_of names s)) (key_value s key)
+  key_holds block key = holds_by block key (persistent_of s key) refl (sound.keys key)

@@ -10,7 +10,7 @@ use Rattle.machine_core.specs.declared.process.LitRef.{LitRef}
 use Rattle.machine_core.specs.GenerationLaws.{IsAreaOfState}
 use Rattle.machine_core.specs.GenerationReads.{function_count, is_term_image, shown_in}
 use Rattle.machine_core.specs.ServerReads.{functions_of}
-use Rattle.machine_core.specs.View.{IsLiteral, IsNoEntry, IsReadable, Shown, server_words, shown_of}
+use Rattle.machine_core.specs.View.{IsLiteral, IsNoEntry, IsReadable, Shown, server_words, shown_at}
 use Rattle.machine_core.proofs.ImageKinds.{instance_functions, instance_no_term, term_functions, term_image}
 use Rattle.machine_core.proofs.KeptAreas.{words_agree}
 
@@ -49,6 +49,7 @@ record ShowSame (a b : Shown) (serial : ℕ) : Type 0 where
   words : b.words serial ≡ a.words serial
   functions : b.reads.functions serial ≡ a.reads.functions serial
   is_term : b.reads.is_term serial ≡ a.reads.is_term serial
+  block : b.block serial ≡ a.block serial
 
 module _ (a b : Shown) where
   no_entry : (serial at : ℕ) → ShowSame a b serial → (a.reads.is_term serial ≡ true) ⊎ IsNoEntry a.reads serial at → (b.reads.is_term serial ≡ true) ⊎ IsNoEntry b.reads serial at
@@ -60,6 +61,7 @@ module _ (a b : Shown) where
 
   literal : (at : LitRef) → ShowSame a b at.area.serial → IsLiteral a at → IsLiteral b at
   literal at same l = record {
+    stands = l.stands ∙ sym same.block;
     term = l.term;
     image = subst (λ words. IsImageAt words at.at l.term) (sym same.words) l.image;
     readable = λ i h. readable at.area.serial (at.at + i) same (l.readable i h);
@@ -67,12 +69,12 @@ module _ (a b : Shown) where
 
 module _ (names : List Mfa) (s : ServerState) (sound : IsSound s) where
   -- a literal by the one is one by the other
-  pub literal_of_state : (at : LitRef) → is_serial_in s.released at.area.serial ≡ false → IsLiteral (shown_in names (generation_of names s)) at → IsLiteral (shown_of s) at
-  literal_of_state at kept l =
+  pub literal_of_state : (block : ℕ → ℕ) (at : LitRef) → is_serial_in s.released at.area.serial ≡ false → IsLiteral (shown_in names block (generation_of names s)) at → IsLiteral (shown_at block s) at
+  literal_of_state block at kept l =
       let area = area_agrees names s sound at.area.serial kept in
-      literal (shown_in names (generation_of names s)) (shown_of s) at (record { words = sym area.words; functions = sym area.functions; is_term = sym area.is_term }) l
+      literal (shown_in names block (generation_of names s)) (shown_at block s) at (record { words = sym area.words; functions = sym area.functions; is_term = sym area.is_term; block = refl }) l
 
-  pub literal_of_generation : (at : LitRef) → is_serial_in s.released at.area.serial ≡ false → IsLiteral (shown_of s) at → IsLiteral (shown_in names (generation_of names s)) at
-  literal_of_generation at kept l =
+  pub literal_of_generation : (block : ℕ → ℕ) (at : LitRef) → is_serial_in s.released at.area.serial ≡ false → IsLiteral (shown_at block s) at → IsLiteral (shown_in names block (generation_of names s)) at
+  literal_of_generation block at kept l =
       let area = area_agrees names s sound at.area.serial kept in
-      literal (shown_of s) (shown_in names (generation_of names s)) at (record { words = area.words; functions = area.functions; is_term = area.is_term }) l
+      literal (shown_at block s) (shown_in names block (generation_of names s)) at (record { words = area.words; functions = area.functions; is_term = area.is_term; block = refl }) l

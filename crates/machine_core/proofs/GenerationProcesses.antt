@@ -1,6 +1,7 @@
 -- That a process of the code which names no released area is by a generation the process that it is by the state.
 use Rattle.std.proofs.Common.{◌≡◌, ◌∙◌, ℕ, false, refl, sym, ap, subst, All, List, [], ◌∷◌, ◌++◌, get_or, map, reverse}
 use Rattle.std.proofs.lemmas.List.Elements.{All-head, All-tail}
+use Rattle.term_core.specs.declared.area.AreaRef.{AreaRef}
 use Rattle.term_core.specs.declared.atom.Mfa.{Mfa}
 use Rattle.term_core.specs.Image.{term_at}
 use Rattle.term_core.specs.Plain.{term_of}
@@ -17,7 +18,7 @@ use Rattle.machine_core.specs.Holds.{Holds}
 use Rattle.machine_core.specs.Process.{HasNotEnded, PlainFrame, Words, frame_of, frames_of, literal, names_of, process_of, value_shown, values_shown}
 use Rattle.machine_core.specs.ServerReads.{reads_of}
 use Rattle.machine_core.specs.Turn.{ArePlaced, MayTurn}
-use Rattle.machine_core.specs.View.{AreValues, HasValues, IsLiteral, IsValue, Shown, server_words, shown_of}
+use Rattle.machine_core.specs.View.{AreValues, HasValues, IsInBlock, IsLiteral, IsValue, Shown, server_words, shown_at}
 use Rattle.machine_core.proofs.CodeNames.{frames_of-cons}
 use Rattle.machine_core.proofs.GenerationLiterals.{area_agrees, literal_of_generation, literal_of_state}
 use Rattle.machine_core.proofs.GenerationTurns.{places_agree}
@@ -55,13 +56,13 @@ module _ (s : ServerState) (w v : Words) (same : (serial : ℕ) → is_serial_in
       ∙ ap (λ gs. frame_of v f ∷ gs) (frames_same fs (All-tail (HasKept s) f fs h))
 
 -- literals of one view are literals of another
-module _ (s : ServerState) (a b : Shown) (carries : (at : LitRef) → is_serial_in s.released at.area.serial ≡ false → IsLiteral a at → IsLiteral b at) where
+module _ (s : ServerState) (a b : Shown) (stands : (area : AreaRef) → IsInBlock a area → IsInBlock b area) (carries : (at : LitRef) → is_serial_in s.released at.area.serial ≡ false → IsLiteral a at → IsLiteral b at) where
   value_carried : (value : Value) → IsKeptValue s value → IsValue a value → IsValue b value
   value_carried (Owned term) kept h = tt
   value_carried (Literal at) kept h = carries at kept h
 
   frame_carried : (f : Frame) → HasKept s f → HasValues a f → HasValues b f
-  frame_carried f kept h = λ i d l. value_carried (get_or f.registers i d) (kept.values i d l) (h i d l)
+  frame_carried f kept h = (stands f.code.area h.0, λ i d l. value_carried (get_or f.registers i d) (kept.values i d l) (h.1 i d l))
 
   frames_carried : (fs : List Frame) → All (HasKept s) fs → AreValues a fs → AreValues b fs
   frames_carried fs kept h = λ i d l. frame_carried (get_or fs i d) (kept i d l) (h i d l)
@@ -75,23 +76,23 @@ module _ (names : List Mfa) (s : ServerState) (sound : IsSound s) (numbered : Ar
   process_agrees : process_of (words_in (generation_of names s)) p ≡ process_of (server_words s) p
   process_agrees = ap (λ frames. record { number = p.number; target = p.target; args = p.args; turns = p.turns; frames = frames }) frames_agree
 
-  ready_by_state : (held : Holds) → MayTurn (shown_in names (generation_of names s)) held p → MayTurn (shown_of s) held p
-  ready_by_state held r = record {
+  ready_by_state : (block : ℕ → ℕ) (held : Holds) → MayTurn (shown_in names block (generation_of names s)) held p → MayTurn (shown_at block s) held p
+  ready_by_state block held r = record {
     going = subst HasNotEnded process_agrees r.going;
     names = r.names ∙ ap names_of process_agrees;
     placed = subst (ArePlaced (reads_of s)) frames_agree ((places_agree names s sound numbered (frames_of (words_in (generation_of names s)) p.frames)).0 r.placed).0;
-    values = frames_carried s (shown_in names (generation_of names s)) (shown_of s) (literal_of_state names s sound) p.frames kept r.values;
+    values = frames_carried s (shown_in names block (generation_of names s)) (shown_at block s) (λ area h. h) (literal_of_state names s sound block) p.frames kept r.values;
   }
 
-  ready_by_generation : (held : Holds) → MayTurn (shown_of s) held p → MayTurn (shown_in names (generation_of names s)) held p
-  ready_by_generation held r = record {
+  ready_by_generation : (block : ℕ → ℕ) (held : Holds) → MayTurn (shown_at block s) held p → MayTurn (shown_in names block (generation_of names s)) held p
+  ready_by_generation block held r = record {
     going = subst HasNotEnded (sym process_agrees) r.going;
     names = r.names ∙ sym (ap names_of process_agrees);
     placed = subst (ArePlaced (reads_in names (generation_of names s))) (sym frames_agree)
         ((places_agree names s sound numbered (frames_of (server_words s) p.frames)).1 (r.placed, instances_kept s (server_words s) p.frames kept));
-    values = frames_carried s (shown_of s) (shown_in names (generation_of names s)) (literal_of_generation names s sound) p.frames kept r.values;
+    values = frames_carried s (shown_at block s) (shown_in names block (generation_of names s)) (λ area h. h) (literal_of_generation names s sound block) p.frames kept r.values;
   }
 
   -- it stands for the same, and is ready where it is
   pub process_of_state : IsProcessOfState names s p
-  process_of_state = record { process = process_agrees; ready = λ held. (ready_by_state held, ready_by_generation held) }
+  process_of_state = record { process = process_agrees; ready = λ block held. (ready_by_state block held, ready_by_generation block held) }

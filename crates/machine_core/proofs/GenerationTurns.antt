@@ -15,7 +15,7 @@ use Rattle.machine_core.specs.Reads.{HasFunction, entry_at}
 use Rattle.machine_core.specs.ServerReads.{reads_of}
 use Rattle.machine_core.specs.GenerationLaws.{AreInKept, IsTurnOfState, PlacesAgree}
 use Rattle.machine_core.specs.Turn.{ArePlaced, IsPlaced, counted, ran_of, turn_from}
-use Rattle.machine_core.specs.View.{IsKeyValue, IsLawful, IsOfModule, shown_of}
+use Rattle.machine_core.specs.View.{IsKeyValue, IsLawful, IsOfModule, Shown, shown_of}
 use Rattle.machine_core.proofs.GenerationAreas.{current_kept, instance_words, kept_instance, of_module, some_of}
 use Rattle.machine_core.proofs.GenerationExports.{dispatched_is, dispatched_read, exported_is}
 use Rattle.machine_core.proofs.GenerationKeys.{key_holds, key_is}
@@ -68,13 +68,20 @@ module _ (names : List Mfa) (s : ServerState) (sound : IsSound s) (numbered : Ar
   short_by serial false h = h
 
   -- a view of the generation is lawful
-  pub generation_lawful : IsLawful (shown_in names (generation_of names s))
-  generation_lawful = record {
-    instances = λ serial h. let k = kept_instance names s sound serial h in record { m = k.m; is = of_module names s sound serial k.m k.code k.kept };
+  pub generation_lawful : (block : ℕ → ℕ) → IsLawful (shown_in names block (generation_of names s))
+  generation_lawful block = record {
+    instances = λ serial h. let k = kept_instance names s sound serial h in record { m = k.m; is = of_module names s sound block serial k.m k.code k.kept };
     exports = λ serial to i e. function_there to serial i (current_of s to.«module».0) refl (ap (option_and_then (place_within serial)) (sym (exported_is names s numbered to)) ∙ e);
-    keys = λ key. subst (λ o. IsKeyValue (shown_in names (generation_of names s)) o) (sym (key_is names s sound key)) (key_holds names s sound key);
+    keys = λ key. subst (λ o. IsKeyValue (shown_in names block (generation_of names s)) o) (sym (key_is names s sound key)) (key_holds names s sound block key);
     short = λ serial. subst (λ words. length words ≤ 1024) (sym (words_kept s names serial sound)) (short_by serial (is_serial_in s.released serial) ((is_lawful s sound).short serial));
   }
+
+  -- what the generation says, whatever the blocks are
+  abbrev shown : Shown
+  shown = shown_in names (λ serial. 0) (generation_of names s)
+
+  module_shown : (serial : ℕ) (m : Module) → code_of s serial ≡ Some m → is_serial_in s.released serial ≡ false → IsOfModule shown serial m
+  module_shown serial m code kept = of_module names s sound (λ serial. 0) serial m code kept
 
   of_state : (serial : ℕ) (m : Module) → code_of s serial ≡ Some m → IsOfModule (shown_of s) serial m
   of_state serial m code = is_of_module s serial m (some_of (λ m. IsModule m × (serial < s.next_serial)) (code_of s serial) m (sound.modules serial) code).0 code
@@ -82,7 +89,7 @@ module _ (names : List Mfa) (s : ServerState) (sound : IsSound s) (numbered : Ar
   functions_same : (e : Entry) → HasFunction (reads_in names (generation_of names s)) e → IsSameFunction (reads_in names (generation_of names s)) (reads_of s) e
   functions_same e h =
       let k = kept_instance names s sound e.serial (omega (arith, h)) in
-      same_function (shown_in names (generation_of names s)) (shown_of s) e k.m (of_module names s sound e.serial k.m k.code k.kept) (of_state e.serial k.m k.code) h (sym (traced_is e s.traced))
+      same_function shown (shown_of s) e k.m (module_shown e.serial k.m k.code k.kept) (of_state e.serial k.m k.code) h (sym (traced_is e s.traced))
 
   -- the state says what its generation says of calls, keys, what is doomed and retired, and of each function that the generation has
   pub generation_agrees : AgreesWith (reads_in names (generation_of names s)) (reads_of s)
@@ -97,18 +104,18 @@ module _ (names : List Mfa) (s : ServerState) (sound : IsSound s) (numbered : Ar
   -- so a turn does the same
   pub generation_ran : (p : PlainProcess) → ArePlaced (reads_in names (generation_of names s)) p.frames → IsTurnOfState names s p
   generation_ran p placed =
-      let same : ran_of (reads_in names (generation_of names s)) p ≡ ran_of (reads_of s) p = sym (same_ran (shown_in names (generation_of names s)) (reads_of s) p generation_lawful generation_agrees placed) in
+      let same : ran_of (reads_in names (generation_of names s)) p ≡ ran_of (reads_of s) p = sym (same_ran shown (reads_of s) p (generation_lawful (λ serial. 0)) generation_agrees placed) in
       record { turn = ap (turn_from (counted p)) same; held = ap (λ ran. ran.held) same }
 
   frame_kept : (f : PlainFrame) → IsPlaced (reads_in names (generation_of names s)) f → IsPlaced (reads_of s) f × (is_serial_in s.released f.serial ≡ false)
   frame_kept f p =
       let k = kept_instance names s sound f.serial (let known = p.known in omega (arith, known)) in
-      (placed_same (shown_in names (generation_of names s)) (shown_of s) f k.m (of_module names s sound f.serial k.m k.code k.kept) (of_state f.serial k.m k.code) (sym (traced_is (entry_at f) s.traced)) p, k.kept)
+      (placed_same shown (shown_of s) f k.m (module_shown f.serial k.m k.code k.kept) (of_state f.serial k.m k.code) (sym (traced_is (entry_at f) s.traced)) p, k.kept)
 
   frame_stands : (f : PlainFrame) (o : Option Module) → code_of s f.serial ≡ o → f.function < unwrap_or (option_map (λ m. length m.functions) o) 0 → is_serial_in s.released f.serial ≡ false →
       IsPlaced (reads_of s) f → IsPlaced (reads_in names (generation_of names s)) f
   frame_stands f None code known kept p = absurd (omega (arith, known))
-  frame_stands f (Some m) code known kept p = placed_same (shown_of s) (shown_in names (generation_of names s)) f m (of_state f.serial m code) (of_module names s sound f.serial m code kept) (traced_is (entry_at f) s.traced) p
+  frame_stands f (Some m) code known kept p = placed_same (shown_of s) shown f m (of_state f.serial m code) (module_shown f.serial m code kept) (traced_is (entry_at f) s.traced) p
 
   by_state : (frames : List PlainFrame) → ArePlaced (reads_in names (generation_of names s)) frames → ArePlaced (reads_of s) frames × AreInKept s frames
   by_state [] h = (tt, tt)

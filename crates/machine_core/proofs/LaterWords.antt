@@ -65,7 +65,7 @@ module _ (before after : ServerState) (has : HasWords before after) where
       ∙ ap (λ vs. value_shown (server_words before) value ∷ vs) (values_same values (All-tail (IsValue (shown_of before)) value values h))
 
   frame_same : (f : Frame) → HasValues (shown_of before) f → frame_of (server_words after) f ≡ frame_of (server_words before) f
-  frame_same f h = ap (λ rs. record { serial = f.code.area.serial; function = f.code.function; place = f.place; back = f.back; registers = rs }) (values_same f.registers h)
+  frame_same f h = ap (λ rs. record { serial = f.code.area.serial; function = f.code.function; place = f.place; back = f.back; registers = rs }) (values_same f.registers h.1)
 
   frames_same : (fs : List Frame) → AreValues (shown_of before) fs → map (frame_of (server_words after)) fs ≡ map (frame_of (server_words before)) fs
   frames_same [] h = refl
@@ -103,6 +103,7 @@ module _ (before after : ServerState) (has : HasAreas before after) where
 
   literal_later : (at : LitRef) → IsLiteral (shown_of before) at → IsLiteral (shown_of after) at
   literal_later at l = record {
+    stands = l.stands;
     term = l.term;
     image = subst (λ words. IsImageAt words at.at l.term) (sym (words_same before after has.words at l)) l.image;
     readable = λ i h. readable_later at.area.serial (at.at + i) (l.readable i h);
@@ -114,4 +115,4 @@ module _ (before after : ServerState) (has : HasAreas before after) where
 
   -- and its literals begin images still
   pub values_later : (fs : List Frame) → AreValues (shown_of before) fs → AreValues (shown_of after) fs
-  values_later fs h k d l j e m = value_later _ (h k d l j e m)
+  values_later fs h k d l = ((h k d l).0, λ j e m. value_later _ ((h k d l).1 j e m))

@@ -92,7 +92,7 @@ part_stands shown at h place u found =
       skip = p.skip;
       images = record { len = p.skip; is = p.behind; readable = λ i l. subst (IsReadable shown at.area.serial) (omega arith) (h.readable (1 + i) (omega arith)) };
       end = ap (λ o. at.at + 1 + unwrap_or o 0) p.behind;
-      part = record { term = u; image = p.stands; readable = λ i l. subst (IsReadable shown at.area.serial) (omega arith) (h.readable (1 + p.skip + i) (omega arith)) };
+      part = record { stands = h.stands; term = u; image = p.stands; readable = λ i l. subst (IsReadable shown at.area.serial) (omega arith) (h.readable (1 + p.skip + i) (omega arith)) };
       found = ap (λ t. slice_get (parts_of (term_of t)) place) (term_at-is words at.at h.term h.image) ∙ ap (λ ts. slice_get ts place) (parts_row h.term) ∙ found;
     }
 

@@ -23,7 +23,7 @@ use Rattle.machine_core.specs.Holds.{Holds}
 use Rattle.machine_core.specs.Process.{PlainValue, Words, frame_of, literal, no_held, owned, register_of, value_shown, values_shown}
 use Rattle.machine_core.specs.Stand.{IsReadyFrame, IsSource, IsUsable, IsValueOf}
 use Rattle.machine_core.specs.Values.{operand_term, term_of as value_term}
-use Rattle.machine_core.specs.View.{IsKeyValue, IsLawful, IsLiteral, IsTermIn, Shown}
+use Rattle.machine_core.specs.View.{IsFoundInBlock, IsInBlock, IsKeyValue, IsLawful, IsLiteral, IsTermIn, Shown}
 use Rattle.machine_core.specs.Reads.{area_of, found_of}
 
 -- ---- sources
@@ -94,18 +94,19 @@ word_read shown held key word (Some (owned term)) p is e =
     record { shows = ap (λ t. Some (owned t)) (word_back is.plain word is.immediate (sym k ∙ ap immediate_word is.is) is.fits ∙ sym is.is) ∙ sym p; usable = tt }
 
 -- the area of a complex term has its image
-term_literal : (shown : Shown) (area : AreaRef) (term : Term) → IsTermIn shown area.serial term → IsLiteral shown (record { area = area; at = 0 })
-term_literal shown area term is = record {
+term_literal : (shown : Shown) (area : AreaRef) (term : Term) → IsInBlock shown area → IsTermIn shown area.serial term → IsLiteral shown (record { area = area; at = 0 })
+term_literal shown area term stands is = record {
+  stands = stands;
   term = is.plain;
   image = subst (λ words. IsImageAt words 0 is.plain) (sym is.image) (stands_alone is.plain is.sound.fits is.sound.short);
   readable = λ i l. record { within = omega (arith, length-image is.plain, ap length is.image); no_entry = inl is.area };
 }
 
-area_read : (shown : Shown) (held : Holds) (key : ℕ) (area : AreaRef) (o : Option PlainValue) → shown.reads.key key ≡ o → IsKeyValue shown o → found_of o ≡ whole_area area.serial →
+area_read : (shown : Shown) (held : Holds) (key : ℕ) (area : AreaRef) (o : Option PlainValue) → IsInBlock shown area → shown.reads.key key ≡ o → IsKeyValue shown o → found_of o ≡ whole_area area.serial →
     IsKeyRead shown held key (Some (Literal (record { area = area; at = 0 })))
-area_read shown held key area None p is e = absurd (cc)
-area_read shown held key area (Some (owned term)) p is e = absurd (cc)
-area_read shown held key area (Some (literal serial term)) p is e =
+area_read shown held key area None stands p is e = absurd (cc)
+area_read shown held key area (Some (owned term)) stands p is e = absurd (cc)
+area_read shown held key area (Some (literal serial term)) stands p is e =
     let k : serial ≡ area.serial = cc in
     let here : IsTermIn shown area.serial term = subst (λ n. IsTermIn shown n term) k is in
     let image : IsImageAt (shown.words area.serial) 0 here.plain = subst (λ words. IsImageAt words 0 here.plain) (sym here.image) (stands_alone here.plain here.sound.fits here.sound.short) in
@@ -113,14 +114,14 @@ area_read shown held key area (Some (literal serial term)) p is e =
       shows =
           ap (λ t. Some (literal area.serial (term_of t))) (term_at-is (shown.words area.serial) 0 here.plain image)
           ∙ ap (λ t. Some (literal area.serial t)) (sym here.is) ∙ ap (λ n. Some (literal n term)) (sym k) ∙ sym p;
-      usable = (term_literal shown area term here, inr (inl (key, ap (option_and_then area_of) p ∙ ap Some k)));
+      usable = (term_literal shown area term stands here, inr (inl (key, ap (option_and_then area_of) p ∙ ap Some k)));
     }
 
 -- what the view finds under a key is read as the turn says
-pub key_read : (shown : Shown) (held : Holds) (key : ℕ) (found : Found) → IsLawful shown → found_as found ≡ found_of (shown.reads.key key) → IsKeyRead shown held key (found_value found)
-key_read shown held key Absent lawful e = absent_read shown held key (shown.reads.key key) refl (sym e)
-key_read shown held key (Word word) lawful e = word_read shown held key word (shown.reads.key key) refl (lawful.keys key) (sym e)
-key_read shown held key (Area area) lawful e = area_read shown held key area (shown.reads.key key) refl (lawful.keys key) (sym e)
+pub key_read : (shown : Shown) (held : Holds) (key : ℕ) (found : Found) → IsLawful shown → IsFoundInBlock shown found → found_as found ≡ found_of (shown.reads.key key) → IsKeyRead shown held key (found_value found)
+key_read shown held key Absent lawful stands e = absent_read shown held key (shown.reads.key key) refl (sym e)
+key_read shown held key (Word word) lawful stands e = word_read shown held key word (shown.reads.key key) refl (lawful.keys key) (sym e)
+key_read shown held key (Area area) lawful stands e = area_read shown held key area (shown.reads.key key) stands refl (lawful.keys key) (sym e)
 
 -- the answer of a look into a register
 pub register_read : (r : Result Value NoMemory) (f : Frame) (source : Source) (register : ℕ) → source ≡ Register register → IfOk r (λ value. value ≡ unwrap_or (slice_get f.registers register) no_held) →

@@ -138,7 +138,7 @@ pub top_ready : (shown seen : Shown) (held still : Holds) (top : CodeFrame) (bel
 top_ready shown seen held still top below s h ready =
     let named = ready.frames.named in
     subst (λ (v : Shown). IsReadyFrame v still top) (sym s) (subst (λ (k : Holds). IsReadyFrame shown k top) (sym h)
-    (record { standing = named.0; registers = all_held_usable shown held top.registers ready.top_values named.1 }))
+    (record { standing = named.0; stands = ready.top_values.0; registers = all_held_usable shown held top.registers ready.top_values.1 named.1 }))
 
 -- ---- local calls
 

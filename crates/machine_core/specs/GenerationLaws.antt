@@ -15,15 +15,15 @@ use Rattle.machine_core.specs.Process.{PlainFrame, PlainProcess, process_of}
 use Rattle.machine_core.specs.Reads.{dispatched, found_of}
 use Rattle.machine_core.specs.ServerReads.{key_value, reads_of}
 use Rattle.machine_core.specs.Turn.{ArePlaced, MayTurn, held_after, turn_by, turn_of}
-use Rattle.machine_core.specs.View.{IsLawful, IsLiteral, server_words, shown_of}
+use Rattle.machine_core.specs.View.{IsLawful, IsLiteral, server_words, shown_at}
 
 -- a law of each sound state with numbers of names for what its current instances export
 abbrev pub OfEachState : (List Mfa → ServerState → Type 0) → Type 0
 OfEachState law = (names : List Mfa) (s : ServerState) → IsSound s → AreNumbered names s → law names s
 
--- a view that shows the generation of a state, with the images of its areas, is lawful
+-- a view that shows the generation of a state, with the images of its areas, is lawful, whatever the blocks are
 abbrev pub IsLawfulGeneration : List Mfa → ServerState → Type 0
-IsLawfulGeneration names s = IsLawful (shown_in names (generation_of names s))
+IsLawfulGeneration names s = (block : ℕ → ℕ) → IsLawful (shown_in names block (generation_of names s))
 
 -- what a call reaches by a generation
 pub record ReachesSame (names : List Mfa) (s : ServerState) (to : Mfa) : Type 0 where
@@ -60,9 +60,10 @@ pub record IsAreaOfState (names : List Mfa) (s : ServerState) (serial : ℕ) : T
 abbrev pub AreasAgree : List Mfa → ServerState → Type 0
 AreasAgree names s = (serial : ℕ) → is_serial_in s.released serial ≡ false → IsAreaOfState names s serial
 
--- a place of an area that is not released is that of a literal by the generation exactly where it is by the state
+-- a place of an area that is not released is that of a literal by the generation exactly where it is by the state with the same blocks
 abbrev pub LiteralsAgree : List Mfa → ServerState → Type 0
-LiteralsAgree names s = (at : LitRef) → is_serial_in s.released at.area.serial ≡ false → IsLiteral (shown_in names (generation_of names s)) at ↔ IsLiteral (shown_of s) at
+LiteralsAgree names s =
+    (block : ℕ → ℕ) (at : LitRef) → is_serial_in s.released at.area.serial ≡ false → IsLiteral (shown_in names block (generation_of names s)) at ↔ IsLiteral (shown_at block s) at
 
 -- no frame stands in an instance that is released
 abbrev pub AreInKept : ServerState → List PlainFrame → Type 0
@@ -102,8 +103,8 @@ NamesKept s p = All (HasKept s) p.frames
 pub record IsProcessOfState (names : List Mfa) (s : ServerState) (p : Process) : Type 0 where
   -- it stands for the process that it is by the state
   pub process : process_of (words_in (generation_of names s)) p ≡ process_of (server_words s) p
-  -- and may have a turn exactly where it may have one by the state
-  pub ready : (held : Holds) → MayTurn (shown_in names (generation_of names s)) held p ↔ MayTurn (shown_of s) held p
+  -- and may have a turn exactly where it may have one by the state with the same blocks
+  pub ready : (block : ℕ → ℕ) (held : Holds) → MayTurn (shown_in names block (generation_of names s)) held p ↔ MayTurn (shown_at block s) held p
 
 -- so is each process that names no area which is released
 abbrev pub ProcessesAgree : List Mfa → ServerState → Type 0

@@ -2,6 +2,7 @@
 -- Source: erts internal documentation, CodeLoading, for what a call reaches; the layout of an image is this project's own.
 use Rattle.std.specs.Prelude.{ℕ, ◌+◌, ◌*◌, ◌/◌, ◌==◌, ◌&&◌, Bool, List, [], ◌∷◌, length, find, slice_get, slice_index, Option, Some, None, option_map, option_and_then, unwrap_or, if◌then◌else◌}
 use Rattle.std.specs.List.{list_any}
+use Rattle.term_core.specs.declared.area.AreaRef.{AreaRef}
 use Rattle.term_core.specs.declared.atom.Mfa.{Mfa}
 use Rattle.term_core.specs.declared.generation.AreaWords.{AreaWords}
 use Rattle.term_core.specs.declared.generation.FunctionRef.{FunctionRef}
@@ -30,6 +31,11 @@ image_among (a ∷ areas) serial = if a.serial == serial then Some a.words else 
 -- the words of the area with a serial; none where it is released
 abbrev pub words_in : Generation → ℕ → List ℕ
 words_in g serial = unwrap_or (image_among g.areas serial) []
+
+-- the block of the area with a serial among these; 0 where there is none
+abbrev pub block_among : List AreaRef → ℕ → ℕ
+block_among [] serial = 0
+block_among (a ∷ areas) serial = if a.serial == serial then a.block else block_among areas serial
 
 -- whether words are the image of a term; those of an instance never are, since 0 stands among them
 abbrev pub is_term_image : List ℕ → Bool
@@ -100,6 +106,6 @@ reads_in names g =
       retired = is_serial_in g.retired;
     }
 
--- what a view of a generation shows
-abbrev pub shown_in : List Mfa → Generation → Shown
-shown_in names g = record { reads = reads_in names g; words = words_in g }
+-- what a view of a generation shows, whose areas stand in these blocks
+abbrev pub shown_in : List Mfa → (ℕ → ℕ) → Generation → Shown
+shown_in names block g = record { reads = reads_in names g; words = words_in g; block = block }

@@ -26,7 +26,7 @@ use Rattle.machine_core.specs.Decode.{instr_shown, operand_shown}
 use Rattle.machine_core.specs.Process.{PlainFrame, PlainValue, Words, frame_of, frames_of, literal, owned, value_shown}
 use Rattle.machine_core.specs.Turn.{ArePlaced, Step, goes_on, yields, ends, executed, held_with, stored}
 use Rattle.machine_core.specs.Values.{value_of}
-use Rattle.machine_core.specs.View.{AreValues, HasValues, IsLiteral, IsReadable, Shown}
+use Rattle.machine_core.specs.View.{AreValues, HasValues, IsInBlock, IsLiteral, IsReadable, Shown}
 
 -- where a process stands, with what is held and the lines so far: it goes on, its turn ends, or it ended
 pub data Stand : Type 0 where
@@ -124,9 +124,10 @@ HasSources shown area (Elem index from to) = IsSource shown area index × IsSour
 HasSources shown area (Print value) = IsSource shown area value
 HasSources shown area op = Unit {0}
 
--- a frame that stands in an instance which is held, and whose values the machine may read
+-- a frame that stands in an instance which is held and stands in its block, and whose values the machine may read
 pub record IsReadyFrame (shown : Shown) (held : Holds) (f : CodeFrame) : Type 0 where
   pub standing : IsTrue (is_held held f.code.area.serial for_frames)
+  pub stands : IsInBlock shown f.code.area
   pub registers : All (IsUsable shown held) f.registers
 
 -- the value that a source has in a frame

@@ -264,7 +264,7 @@ abbrev pub ArePlaced : Reads → List PlainFrame → Type 0
 ArePlaced r [] = Unit {0}
 ArePlaced r (f ∷ below) = IsPlaced r f × ArePlaced r below
 
--- a process may have a turn: it has not ended, just what it names is held, each frame stands at an instruction, and the place of each literal begins the image of a term
+-- a process may have a turn: it has not ended, just what it names is held, each frame stands at an instruction, the place of each literal begins the image of a term, and each area that it names stands in its block
 pub record MayTurn (shown : Shown) (held : Holds) (p : Process) : Type 0 where
   pub going : HasNotEnded (process_of shown.words p)
   pub names : held ≡ names_of (process_of shown.words p)

@@ -2,6 +2,9 @@
 -- It is lawful where what it reads is true of sound modules and terms, and the words are their images, apart from the entry words, which breakpoints change.
 -- Source: erts internal documentation, CodeLoading, and the manual page `persistent_term`; the layout of an image is this project's own.
 use Rattle.std.specs.Prelude.{◌≡◌, ℕ, ◌+◌, ◌*◌, ◌<◌, ◌≤◌, ◌≢◌, ◌⊎◌, true, All, List, [], length, slice_get, slice_index, Option, Some, None, unwrap_or}
+use Rattle.term_core.specs.declared.area.AreaRef.{AreaRef}
+use Rattle.term_core.specs.declared.area.Found.{Found}
+use Rattle.term_core.specs.declared.area.Found.TheVariants.{Absent, Word, Area}
 use Rattle.term_core.specs.declared.atom.Mfa.{Mfa}
 use Rattle.term_core.specs.declared.term.Term.{Term}
 use Rattle.term_core.specs.Image.{IsImageAt, IsPlainTerm, image_of, is_immediate}
@@ -21,10 +24,21 @@ use Rattle.machine_core.specs.Process.{PlainValue, Words, literal, owned}
 use Rattle.machine_core.specs.Reads.{Reads}
 use Rattle.machine_core.specs.ServerReads.{module_instr, reads_of}
 
--- what a view shows: what a turn reads of its generation, and the words of the area with a serial
+-- what a view shows: what a turn reads of its generation, the words of the area with a serial, and in which block they stand
 pub record Shown : Type 0 where
   pub reads : Reads
   pub words : Words
+  pub block : ℕ → ℕ
+
+-- the area stands in its block
+abbrev pub IsInBlock : Shown → AreaRef → Type 0
+IsInBlock shown area = area.block ≡ shown.block area.serial
+
+-- what is found of a key stands in its block, if it is an area
+abbrev pub IsFoundInBlock : Shown → Found → Type 0
+IsFoundInBlock shown Absent = Unit {0}
+IsFoundInBlock shown (Word word) = Unit {0}
+IsFoundInBlock shown (Area area) = IsInBlock shown area
 
 -- a place in the image of a module that is no entry word
 pub record IsImagePlace (m : Module) (at : ℕ) : Type 0 where
@@ -97,14 +111,19 @@ pub record IsLawful (shown : Shown) : Type 0 where
 abbrev pub server_words : ServerState → ℕ → List ℕ
 server_words s serial = unwrap_or (words_of_area s serial) []
 
--- what a view shows whose words are the images of the areas, with no breakpoint set
+-- what a view shows whose words are the images of the areas, with no breakpoint set, where the areas stand in these blocks
+abbrev pub shown_at : (ℕ → ℕ) → ServerState → Shown
+shown_at block s = record { reads = reads_of s; words = server_words s; block = block }
+
+-- the same of the plain server, whose areas all stand in block 0
 abbrev pub shown_of : ServerState → Shown
-shown_of s = record { reads = reads_of s; words = server_words s }
+shown_of s = shown_at (λ serial. 0) s
 
 -- ---- literals
 
--- the place of a literal begins the image of a term, none of whose words is an entry word
+-- the area of a literal stands in its block, and its place begins the image of a term, none of whose words is an entry word
 pub record IsLiteral (shown : Shown) (at : LitRef) : Type 0 where
+  pub stands : IsInBlock shown at.area
   pub term : PlainTerm
   pub image : IsImageAt (shown.words at.area.serial) at.at term
   pub readable : (i : ℕ) → i < term_words term → IsReadable shown at.area.serial (at.at + i)
@@ -114,9 +133,9 @@ abbrev pub IsValue : Shown → Value → Type 0
 IsValue shown (Owned term) = Unit {0}
 IsValue shown (Literal at) = IsLiteral shown at
 
--- so is each value of a frame
+-- so is each value of a frame, and its instance stands in its block
 abbrev pub HasValues : Shown → Frame → Type 0
-HasValues shown f = All (IsValue shown) f.registers
+HasValues shown f = IsInBlock shown f.code.area × All (IsValue shown) f.registers
 
 -- and each of frames
 abbrev pub AreValues : Shown → List Frame → Type 0

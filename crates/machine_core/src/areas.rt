@@ -1,7 +1,8 @@
-ghost use Rattle.std.specs.Prelude.{◌≡◌, ◌==◌, ◌++◌, IfOk, OnOk};
+ghost use Rattle.std.specs.Prelude.{◌≡◌, ◌==◌, ◌++◌, All, IfOk, OnOk};
 ghost use Rattle.std.specs.List.{list_any};
 ghost use Rattle.machine_core.specs.Holds.{is_among, serials_of, with_serial};
 ghost use Rattle.machine_core.specs.Process.{area_holds, area_serials, code_names, value_area, value_areas};
+ghost use Rattle.machine_core.specs.View.{AreValues, IsInBlock, IsValue, Shown};
 
 use crate::process::{AreaList, Frame, Value};
 use std::alloc::Global;
@@ -16,7 +17,8 @@ pub struct HeldAreas {
 
 /// What the frames name, each area once for each kind.
 pub fn areas_of(alloc: Global, frames: &[Frame]) -> Result<HeldAreas, NoMemory>
-    ensures { IfOk result (λ areas. area_holds areas ≡ code_names frames.now) }
+    ensures names { IfOk result (λ areas. area_holds areas ≡ code_names frames.now) }
+    ensures stand { (shown : Shown) → AreValues shown frames.now → IfOk result (λ areas. All (IsInBlock shown) areas.literals) }
 {
     let mut areas = HeldAreas {
         frames: AreaList::new(alloc),
@@ -31,7 +33,8 @@ pub fn areas_of(alloc: Global, frames: &[Frame]) -> Result<HeldAreas, NoMemory>
 
 /// Appends the area, if it is not there.
 pub fn note(areas: &mut AreaList, area: AreaRef) -> Result<(), NoMemory>
-    ensures { OnOk result (serials_of (area_serials areas.new) ≡ with_serial (serials_of (area_serials areas.old)) area.serial) }
+    ensures named { OnOk result (serials_of (area_serials areas.new) ≡ with_serial (serials_of (area_serials areas.old)) area.serial) }
+    ensures stand { (shown : Shown) → All (IsInBlock shown) areas.old → IsInBlock shown area → OnOk result (All (IsInBlock shown) areas.new) }
 {
     if has_area(areas.as_slice(), area) {
         return Ok(());
@@ -41,7 +44,8 @@ pub fn note(areas: &mut AreaList, area: AreaRef) -> Result<(), NoMemory>
 
 /// Appends the areas of the literals that are not there.
 fn note_literals(areas: &mut AreaList, values: &[Value]) -> Result<(), NoMemory>
-    ensures { OnOk result (serials_of (area_serials areas.new) ≡ serials_of (area_serials areas.old ++ value_areas values.now)) }
+    ensures named { OnOk result (serials_of (area_serials areas.new) ≡ serials_of (area_serials areas.old ++ value_areas values.now)) }
+    ensures stand { (shown : Shown) → All (IsInBlock shown) areas.old → All (IsValue shown) values.now → OnOk result (All (IsInBlock shown) areas.new) }
 {
     for value in values {
         note_literal(areas, value)?;
@@ -51,7 +55,8 @@ fn note_literals(areas: &mut AreaList, values: &[Value]) -> Result<(), NoMemory>
 
 /// Appends the area of the value, if it is a literal and its area is not there.
 fn note_literal(areas: &mut AreaList, value: &Value) -> Result<(), NoMemory>
-    ensures { OnOk result (serials_of (area_serials areas.new) ≡ serials_of (area_serials areas.old ++ value_area value.now)) }
+    ensures named { OnOk result (serials_of (area_serials areas.new) ≡ serials_of (area_serials areas.old ++ value_area value.now)) }
+    ensures stand { (shown : Shown) → All (IsInBlock shown) areas.old → IsValue shown value.now → OnOk result (All (IsInBlock shown) areas.new) }
 {
     match value {
         Value::Owned(_) => Ok(()),

@@ -1,6 +1,6 @@
 ghost use Rattle.std.specs.Prelude.{◌≡◌};
 ghost use Rattle.server_core.specs.ServerState.{entry_of};
-ghost use Rattle.machine_core.specs.View.{IsLawful};
+ghost use Rattle.machine_core.specs.View.{IsInBlock, IsLawful};
 ghost use Rattle.machine_core.specs.Reads.{HasFunction, mfa_of};
 ghost use Rattle.machine_core.specs.Reach.{MayHold};
 
@@ -11,6 +11,7 @@ use term_core::{AtomId, CodeRef, Kind, Mfa};
 /// The name of a function of an instance, as the words of the instance say it.
 pub fn mfa_of<V: CodeView>(code: CodeRef, view: &mut V) -> Mfa
     requires lawful { IsLawful (V.shown view.old) }
+    requires stands { IsInBlock (V.shown view.old) code.area }
     requires known { HasFunction (V.shown view.old).reads (entry_of code) }
     requires reached { MayHold (V.shown view.old).reads (V.held view.old) code.area.serial Kind.Frame }
     ensures value { result ≡ mfa_of (V.shown view.old).reads (entry_of code) }
@@ -30,6 +31,7 @@ pub fn mfa_of<V: CodeView>(code: CodeRef, view: &mut V) -> Mfa
 /// The name of the module of a function's instance.
 fn module_name<V: CodeView>(code: CodeRef, view: &mut V) -> AtomId
     requires lawful { IsLawful (V.shown view.old) }
+    requires stands { IsInBlock (V.shown view.old) code.area }
     requires known { HasFunction (V.shown view.old).reads (entry_of code) }
     requires reached { MayHold (V.shown view.old).reads (V.held view.old) code.area.serial Kind.Frame }
     ensures value { result ≡ (V.shown view.old).reads.module_name code.area.serial }
@@ -42,6 +44,7 @@ fn module_name<V: CodeView>(code: CodeRef, view: &mut V) -> AtomId
 /// The name of a function of an instance, without its module.
 fn function_name<V: CodeView>(code: CodeRef, view: &mut V) -> AtomId
     requires lawful { IsLawful (V.shown view.old) }
+    requires stands { IsInBlock (V.shown view.old) code.area }
     requires known { HasFunction (V.shown view.old).reads (entry_of code) }
     requires reached { MayHold (V.shown view.old).reads (V.held view.old) code.area.serial Kind.Frame }
     ensures value { result ≡ (V.shown view.old).reads.function_name (entry_of code) }
@@ -55,6 +58,7 @@ fn function_name<V: CodeView>(code: CodeRef, view: &mut V) -> AtomId
 /// How many arguments a function of an instance takes.
 fn arity<V: CodeView>(code: CodeRef, view: &mut V) -> u32
     requires lawful { IsLawful (V.shown view.old) }
+    requires stands { IsInBlock (V.shown view.old) code.area }
     requires known { HasFunction (V.shown view.old).reads (entry_of code) }
     requires reached { MayHold (V.shown view.old).reads (V.held view.old) code.area.serial Kind.Frame }
     ensures value { result ≡ (V.shown view.old).reads.arity (entry_of code) }

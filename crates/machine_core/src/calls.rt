@@ -1,7 +1,7 @@
 ghost use Rattle.std.specs.Prelude.{◌≡◌, ◌+◌, ◌++◌, ◌∷◌, ◌≤◌, [], All, IfOk, IfSome, OnOk, is_some, if◌then◌else◌, option_map};
 ghost use Rattle.server_core.specs.ServerState.{entry_of};
 ghost use Rattle.machine_core.specs.Holds.{with_hold};
-ghost use Rattle.machine_core.specs.View.{AreValues, HasValues, IsLawful};
+ghost use Rattle.machine_core.specs.View.{AreValues, HasValues, IsInBlock, IsLawful};
 ghost use Rattle.machine_core.specs.Process.{Words, area_holds, arguments_at, frame_of, frames_of, owned_values, values_shown};
 ghost use Rattle.machine_core.specs.Turn.{called, called_out, entered, trace_of};
 ghost use Rattle.machine_core.specs.Stand.{IsUsable, stand_after, stand_entered, stand_of};
@@ -41,12 +41,14 @@ pub fn enter<V: CodeView>(
     areas: &mut HeldAreas,
 ) -> Result<Option<Frame>, NoMemory>
     requires lawful { IsLawful (V.shown view.old) }
+    requires stands { IsInBlock (V.shown view.old) code.area }
     requires known { HasFunction (V.shown view.old).reads (entry_of code) }
     requires reached { MayHold (V.shown view.old).reads (V.held view.old) code.area.serial Kind.Frame }
     requires tracked { V.held view.old ≡ area_holds areas.old }
     ensures ok { (words : Words) → IfOk result (λ f. option_map (frame_of words) f
         ≡ entered (V.shown view.old).reads standing (V.held view.old) (entry_of code) back (values_shown words registers)) }
     ensures registers { IfOk result (λ f. IfSome f (λ f. f.registers ≡ registers)) }
+    ensures code { IfOk result (λ f. IfSome f (λ f. f.code ≡ code)) }
     ensures holds { IfOk result (λ f. V.held view.new
         ≡ (if is_some f then with_hold (V.held view.old) code.area.serial Kind.Frame else V.held view.old)) }
     ensures tracked { OnOk result (V.held view.new ≡ area_holds areas.new) }
@@ -76,6 +78,7 @@ pub fn call<V: CodeView>(
 ) -> Result<Outcome, NoMemory>
     requires room { top.old.place + 1 ≤ 1024 }
     requires lawful { IsLawful (V.shown view.old) }
+    requires stands { IsInBlock (V.shown view.old) callee.code.area }
     requires known { HasFunction (V.shown view.old).reads (entry_of callee.code) }
     requires reached { MayHold (V.shown view.old).reads (V.held view.old) callee.code.area.serial Kind.Frame }
     requires tracked { V.held view.old ≡ area_holds areas.old }
@@ -115,6 +118,7 @@ fn trace_call<V: CodeView>(
     lines: &mut LineList,
 ) -> Result<(), NoMemory>
     requires lawful { IsLawful (V.shown view.old) }
+    requires stands { IsInBlock (V.shown view.old) callee.now.code.area }
     requires known { HasFunction (V.shown view.old).reads (entry_of callee.now.code) }
     requires reached { MayHold (V.shown view.old).reads (V.held view.old) callee.now.code.area.serial Kind.Frame }
     requires usable { All (IsUsable (V.shown view.old) (V.held view.old)) registers.now }
@@ -172,6 +176,7 @@ fn trace_target<V: CodeView>(
     lines: &mut LineList,
 ) -> Result<(), NoMemory>
     requires lawful { IsLawful (V.shown view.old) }
+    requires stands { IsInBlock (V.shown view.old) code.area }
     requires known { HasFunction (V.shown view.old).reads (entry_of code) }
     requires reached { MayHold (V.shown view.old).reads (V.held view.old) code.area.serial Kind.Frame }
     ensures ok { OnOk result (lines.new ≡ lines.old

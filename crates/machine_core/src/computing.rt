@@ -49,7 +49,7 @@ fn decide(top: &mut Frame, target: u32, test: Result<bool, End>) -> Outcome
     ensures ok { (words : Words) (held : Holds) (below : List PlainFrame) (made : List Line) (i : PlainInstr) → instr_len i ≡ 4 →
         stand_after held made (tested (frame_of words top.old) below held i target test)
         ≡ stand_of result (frame_of words top.new ∷ below) held made }
-    ensures registers { top.new.registers ≡ top.old.registers }
+    ensures values { (shown : Shown) → HasValues shown top.old → HasValues shown top.new }
 {
     match test {
         Ok(true) => {

@@ -4,7 +4,7 @@ ghost use Rattle.machine_core.specs.Holds.{serials_of};
 ghost use Rattle.machine_core.specs.Process.{area_holds, area_serials, frame_names, frames_of, value_shown, values_shown};
 ghost use Rattle.machine_core.specs.Stand.{AreHeld, IsValueHeld};
 ghost use Rattle.machine_core.specs.Turn.{copied, copied_value};
-ghost use Rattle.machine_core.specs.View.{AreValues, IsLawful, IsValue};
+ghost use Rattle.machine_core.specs.View.{AreValues, IsInBlock, IsLawful, IsValue};
 
 use crate::areas::{HeldAreas, areas_of};
 use crate::dropping::drop_unnamed;
@@ -27,6 +27,7 @@ pub fn copy_retired<V: CodeView>(
     requires lawful { IsLawful (V.shown view.old) }
     requires names { V.held view.old ≡ frame_names (frames_of (V.shown view.old).words frames.old) }
     requires tracked { V.held view.old ≡ area_holds areas.old }
+    requires stand { All (IsInBlock (V.shown view.old)) areas.old.literals }
     requires values { AreValues (V.shown view.old) frames.old }
     ensures copied { OnOk result (frames_of (V.shown view.old).words frames.new
         ≡ copied (V.shown view.old).reads (frames_of (V.shown view.old).words frames.old)) }
@@ -49,6 +50,7 @@ pub fn copy_retired<V: CodeView>(
 fn is_one_retired<V: CodeView>(areas: &[AreaRef], view: &mut V) -> bool
     requires lawful { IsLawful (V.shown view.old) }
     requires tracked { (V.held view.old).literals ≡ serials_of (area_serials areas.now) }
+    requires stand { All (IsInBlock (V.shown view.old)) areas.now }
     ensures value { result ≡ list_any (λ a. (V.shown view.old).reads.retired a.serial) areas.now }
     ensures same { V.shown view.new ≡ V.shown view.old }
     ensures holds { V.held view.new ≡ V.held view.old }

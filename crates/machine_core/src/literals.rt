@@ -3,7 +3,7 @@ ghost use Rattle.machine_core.specs.Process.{value_shown, values_shown};
 ghost use Rattle.machine_core.specs.Stand.{AreImages, IsUsable, images_end};
 ghost use Rattle.machine_core.specs.Turn.{terms_of};
 ghost use Rattle.machine_core.specs.Values.{term_of};
-ghost use Rattle.machine_core.specs.View.{IsLawful, IsReadable};
+ghost use Rattle.machine_core.specs.View.{IsInBlock, IsLawful, IsReadable};
 ghost use Rattle.machine_core.specs.Reach.{MayRead};
 
 use crate::process::{LitRef, Value};
@@ -65,6 +65,7 @@ fn read_literal<V: CodeView>(alloc: Global, at: LitRef, view: &mut V) -> Result<
 /// The place behind so many terms, whose images stand one behind another from a place on.
 pub fn place_behind<V: CodeView>(area: AreaRef, at: u32, count: u64, view: &mut V) -> u32
     requires lawful { IsLawful (V.shown view.old) }
+    requires stands { IsInBlock (V.shown view.old) area }
     requires images { AreImages (V.shown view.old) area.serial at count }
     requires reached { MayRead (V.shown view.old).reads (V.held view.old) area.serial }
     ensures value { result ≡ images_end ((V.shown view.old).words area.serial) at count }
@@ -90,6 +91,7 @@ fn words_between<V: CodeView>(
     view: &mut V,
 ) -> Result<WordList, NoMemory>
     requires lawful { IsLawful (V.shown view.old) }
+    requires stands { IsInBlock (V.shown view.old) area }
     requires order { from ≤ to }
     requires within { to ≤ length ((V.shown view.old).words area.serial) }
     requires readable { (at : ℕ) → from ≤ at → at < to → IsReadable (V.shown view.old) area.serial at }

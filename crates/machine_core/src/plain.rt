@@ -13,6 +13,9 @@ use std::alloc::Global;
 use std::marker::Model;
 use term_core::{AreaRef, AtomId, CodeRef, Found, Full, Kind, MOST_AREAS, Mfa, NoMemory};
 
+/// The block in which all areas of the plain server stand.
+const PLAIN_BLOCK: u32 = 0;
+
 /// The view over the plain server, whose state nothing changes meanwhile. Contracts see that state and what is held.
 #[derive(Drop)]
 pub struct PlainView<'a> {
@@ -107,13 +110,28 @@ fn other_literals(frames: &SerialList, serials: &[u64], serial: u64) -> usize
         .count()
 }
 
+/// The area in the block in which the plain server has them all.
+fn plain_area(area: AreaRef) -> AreaRef
+    ensures serial { result.serial ≡ area.serial }
+    ensures block { result.block ≡ 0 }
+{
+    AreaRef {
+        serial: area.serial,
+        block: PLAIN_BLOCK,
+    }
+}
+
 impl<'a> CodeView for PlainView<'a> {
     ghost shown = { λ view. shown_of view.state };
 
     ghost held = { λ view. view.held };
 
     fn export(&mut self, to: Mfa) -> Option<CodeRef> {
-        self.server.dispatch(to)
+        let code = self.server.dispatch(to)?;
+        Some(CodeRef {
+            area: plain_area(code.area),
+            function: code.function,
+        })
     }
 
     fn entry(&mut self, at: CodeRef) -> u32 {
@@ -134,7 +152,10 @@ impl<'a> CodeView for PlainView<'a> {
     }
 
     fn term(&mut self, key: AtomId) -> Found {
-        self.server.term(key)
+        match self.server.term(key) {
+            Found::Area(area) => Found::Area(plain_area(area)),
+            found => found,
+        }
     }
 
     fn word(&mut self, area: AreaRef, at: u32) -> u64 {

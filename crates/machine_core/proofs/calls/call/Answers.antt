@@ -48,8 +48,9 @@ pub returns-in_ok-push-in-Some-clause-values : goal.returns-in_ok-push-in-Some-c
 returns-in_ok-push-in-Some-clause-values g c =
     let shown = g.V.CodeView.shown c.args.view.now in
     values_same shown c.replace-caller.new.dest c.in-Some.frame c.replace-caller.ensures.after
-    (frame_values shown c.in-Some.frame c.in_ok-registers.registers (arguments_of c.args.top.now.registers c.args.callee.at c.args.callee.to.arity) (rw c.in-Some.is at c.in_ok-enter.ensures.registers) c.in_ok-registers.ensures
-    (all_arguments (IsValue shown) c.args.top.now.registers c.args.callee.at c.args.callee.to.arity c.requires.values))
+    (frame_values shown c.in-Some.frame c.args.callee.code c.in_ok-registers.registers (arguments_of c.args.top.now.registers c.args.callee.at c.args.callee.to.arity)
+    (rw c.in-Some.is at c.in_ok-enter.ensures.code) c.requires.stands (rw c.in-Some.is at c.in_ok-enter.ensures.registers) c.in_ok-registers.ensures
+    (all_arguments (IsValue shown) c.args.top.now.registers c.args.callee.at c.args.callee.to.arity c.requires.values.1))
 
 pub returns-in_ok-push-in-Some-clause-below : goal.returns-in_ok-push-in-Some-clause-below
 returns-in_ok-push-in-Some-clause-below g c =

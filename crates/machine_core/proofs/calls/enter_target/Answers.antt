@@ -28,5 +28,6 @@ returns-in_ok-trace_target-in-Some-2-clause-ok g c =
 
 pub returns-in_ok-trace_target-in-Some-2-clause-values : goal.returns-in_ok-trace_target-in-Some-2-clause-values
 returns-in_ok-trace_target-in-Some-2-clause-values g c =
-    frame_values (g.V.CodeView.shown c.args.view.now) c.in-Some-2.frame c.in_ok-registers.registers (owned_terms c.args.args.now) (rw c.in-Some-2.is at c.in_ok-enter.ensures.registers) c.in_ok-registers.ensures
+    frame_values (g.V.CodeView.shown c.args.view.now) c.in-Some-2.frame c.in-Some.code c.in_ok-registers.registers (owned_terms c.args.args.now)
+    (rw c.in-Some-2.is at c.in_ok-enter.ensures.code) c.in-Some.ensures.stands (rw c.in-Some-2.is at c.in_ok-enter.ensures.registers) c.in_ok-registers.ensures
     (all_owned (g.V.CodeView.shown c.args.view.now) c.args.args.now)

@@ -44,4 +44,4 @@ returns-clause-tracked g c =
     let is = subst (λ (s : Shown). frames_of s.words c.copy_frames.new.frames ≡ copied s.reads (frames_of s.words c.args.frames.now)) c.is_one_retired.ensures.same c.in_ok-copy_frames.ensures.copied in
     copied_areas shown.reads shown.words (g.V.CodeView.held c.args.view.now) c.args.frames.now c.as_slice-2.result.now c.requires.names (ap (frames_of shown.words) c.as_slice-2.ensures ∙ is)
     (g.V.CodeView.held c.copy_frames.new.view) (g.V.CodeView.held c.drop_unnamed.new.view) c.in_ok-areas.field-0 c.as_slice-3.result.now
-    (c.in_ok-copy_frames.ensures.holds ∙ c.is_one_retired.ensures.holds) c.drop_unnamed.ensures.holds c.in_ok-areas.ensures (c.as_slice-3.ensures ∙ sym c.as_slice-2.ensures)
+    (c.in_ok-copy_frames.ensures.holds ∙ c.is_one_retired.ensures.holds) c.drop_unnamed.ensures.holds c.in_ok-areas.ensures.names (c.as_slice-3.ensures ∙ sym c.as_slice-2.ensures)

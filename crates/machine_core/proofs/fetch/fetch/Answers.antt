@@ -8,11 +8,11 @@ use Rattle.machine_core.proofs.fetch.fetch.Goals as goal
 
 pub word-number-requires-clause-readable : goal.word-number-requires-clause-readable
 word-number-requires-clause-readable g c =
-    (fetched (g.V.CodeView.shown c.args.view.now) c.args.frame.now.code.area (frame_of (g.V.CodeView.shown c.args.view.now).words c.args.frame.now) refl c.requires.lawful c.requires.placed).number
+    (fetched (g.V.CodeView.shown c.args.view.now) c.args.frame.now.code.area (frame_of (g.V.CodeView.shown c.args.view.now).words c.args.frame.now) c.requires.stands refl c.requires.lawful c.requires.placed).number
 
 pub returns-clause-value : goal.returns-clause-value
 returns-clause-value g c =
-    let f = fetched (g.V.CodeView.shown c.args.view.now) c.args.frame.now.code.area (frame_of (g.V.CodeView.shown c.args.view.now).words c.args.frame.now) refl c.requires.lawful c.requires.placed in
+    let f = fetched (g.V.CodeView.shown c.args.view.now) c.args.frame.now.code.area (frame_of (g.V.CodeView.shown c.args.view.now).words c.args.frame.now) c.requires.stands refl c.requires.lawful c.requires.placed in
     ap (instr_shown ((g.V.CodeView.shown c.args.view.now).words c.args.frame.now.code.area.serial))
     (op_read (g.V.CodeView.shown c.args.view.now) (g.V.CodeView.shown c.word-number.new.self) (g.V.CodeView.shown c.operand_word-first.new.view) (g.V.CodeView.shown c.operand_word-second.new.view)
     c.args.frame.now.code.area.serial c.args.frame.now.place c.word-number.result c.operand_word-first.result c.operand_word-second.result c.operand_word-third.result c.decode.result
@@ -21,7 +21,7 @@ returns-clause-value g c =
 
 pub returns-clause-sources : goal.returns-clause-sources
 returns-clause-sources g c =
-    let f = fetched (g.V.CodeView.shown c.args.view.now) c.args.frame.now.code.area (frame_of (g.V.CodeView.shown c.args.view.now).words c.args.frame.now) refl c.requires.lawful c.requires.placed in
+    let f = fetched (g.V.CodeView.shown c.args.view.now) c.args.frame.now.code.area (frame_of (g.V.CodeView.shown c.args.view.now).words c.args.frame.now) c.requires.stands refl c.requires.lawful c.requires.placed in
     subst (HasSources (g.V.CodeView.shown c.args.view.now) c.args.frame.now.code.area)
     (sym (op_read (g.V.CodeView.shown c.args.view.now) (g.V.CodeView.shown c.word-number.new.self) (g.V.CodeView.shown c.operand_word-first.new.view) (g.V.CodeView.shown c.operand_word-second.new.view)
     c.args.frame.now.code.area.serial c.args.frame.now.place c.word-number.result c.operand_word-first.result c.operand_word-second.result c.operand_word-third.result c.decode.result
@@ -29,4 +29,4 @@ returns-clause-sources g c =
     f.back.sources
 
 pub returns-clause-within : goal.returns-clause-within
-returns-clause-within g c = (fetched (g.V.CodeView.shown c.args.view.now) c.args.frame.now.code.area (frame_of (g.V.CodeView.shown c.args.view.now).words c.args.frame.now) refl c.requires.lawful c.requires.placed).within
+returns-clause-within g c = (fetched (g.V.CodeView.shown c.args.view.now) c.args.frame.now.code.area (frame_of (g.V.CodeView.shown c.args.view.now).words c.args.frame.now) c.requires.stands refl c.requires.lawful c.requires.placed).within

@@ -1,6 +1,7 @@
 -- Below the limit, where no frame stands in doomed code, a turn is what its instructions do once literals are copied, and where it goes on the process may have another.
-use Rattle.std.proofs.Common.{◌∷◌, ◌∙◌, ap, refl, sym}
+use Rattle.std.proofs.Common.{◌∷◌, ◌∙◌, All, ap, refl, subst, sym}
 use Rattle.machine_core.specs.Process.{frame_of, frames_of, process_of}
+use Rattle.machine_core.specs.View.{AreValues, IsInBlock, Shown}
 use Rattle.machine_core.proofs.CodeNames.{process_named}
 use Rattle.machine_core.proofs.Placing.{keeps_standing}
 use Rattle.machine_core.proofs.TurnAnswers.{begun_at, begun_ready, runs_seen, values_seen}
@@ -12,9 +13,18 @@ doomed_serial-requires-clause-named g c =
     let words = (g.V.CodeView.shown c.args.view.now).words in
     held_named (g.V.CodeView.held c.args.view.now) (frames_of words c.args.process.now.frames) _ c.requires.ready.names (ap (frames_of words) c.as_slice.ensures)
 
+pub doomed_serial-requires-clause-values : goal.doomed_serial-requires-clause-values
+doomed_serial-requires-clause-values g c = subst (AreValues (g.V.CodeView.shown c.args.view.now)) (sym c.as_slice.ensures) c.requires.ready.values
+
+pub copy_retired-requires-clause-stand : goal.copy_retired-requires-clause-stand
+copy_retired-requires-clause-stand g c =
+    let shown = g.V.CodeView.shown c.args.view.now in
+    subst (λ (v : Shown). All (IsInBlock v) c.in_ok-areas.areas.literals) (sym c.in_default.ensures.same)
+    (c.in_ok-areas.ensures.stand shown (subst (AreValues shown) (sym c.as_slice-2.ensures) c.requires.ready.values))
+
 pub copy_retired-requires-clause-tracked : goal.copy_retired-requires-clause-tracked
 copy_retired-requires-clause-tracked g c =
-    c.in_default.ensures.holds ∙ c.requires.ready.names ∙ sym (process_named (g.V.CodeView.shown c.args.view.now).words c.args.process.now c.in_ok-areas.areas c.as_slice-2.result.now c.in_ok-areas.ensures c.as_slice-2.ensures)
+    c.in_default.ensures.holds ∙ c.requires.ready.names ∙ sym (process_named (g.V.CodeView.shown c.args.view.now).words c.args.process.now c.in_ok-areas.areas c.as_slice-2.result.now c.in_ok-areas.ensures.names c.as_slice-2.ensures)
 
 pub run-requires-clause-ready : goal.run-requires-clause-ready
 run-requires-clause-ready g c =
