@@ -1,5 +1,5 @@
 -- A look that was clear stays so: the writer forgets nothing.
-use Rattle.std.proofs.Common.{◌≡◌, ℕ, zero, suc, Bool, true, false, cond, List, [], ◌∷◌, ◌++◌, append_assoc, Option, Some, None, refl, ap, ◌∙◌, arith}
+use Rattle.std.proofs.Common.{ℕ, zero, suc, Bool, true, false, cond, List, [], ◌∷◌, ◌++◌, append_assoc, append-nil, Option, Some, None, refl, sym, ap, ◌∙◌, arith}
 use Rattle.std.specs.Prelude.{slice_get}
 use Rattle.term_core.specs.declared.area.AreaRef.{AreaRef}
 use Rattle.term_core.specs.declared.generation.Generation.{Generation}
@@ -19,6 +19,7 @@ use Rattle.shared_words.specs.Slots.{IsClear, word_looked, slot_looked}
 use Rattle.shared_words.proofs.ShownMembers.{still_at}
 use Rattle.shared_words.proofs.ClearLooks.{out_of_use}
 use Rattle.anchors.specs.Scans.{HasGoneOn, StaysOutOfUse, StepsGoOn, WriterGoesOn}
+use Rattle.anchors.proofs.Scanning.{among_front}
 
 -- ---- a writer that went on
 
@@ -46,13 +47,6 @@ stays_out Served opening w kind serial clear s r on = out_of_use s r kind serial
 
 -- ---- the steps
 
-among_front : {X : Type 0} (xs ys : List X) (x : X) → Among xs x → Among (xs ++ ys) x
-among_front xs ys x among = (among.0, still_at xs ys among.0 x among.1)
-
-none_behind : {X : Type 0} (xs : List X) → xs ≡ xs ++ []
-none_behind [] = refl
-none_behind (x ∷ xs) = ap (λ ys. x ∷ ys) (none_behind xs)
-
 looked_on : (wait : EndedWait) (process place found : ℕ) (k : WriterKept) (l : LookedAnchor) → Among k.anchors l → Among (word_looked wait process place found (with_wait k wait)).anchors l
 looked_on wait process zero found k l among = among
 looked_on wait process (suc place) found k l among = either (names_in wait.kind found wait.serial)
@@ -62,15 +56,15 @@ looked_on wait process (suc place) found k l among = either (names_in wait.kind 
     either false = (suc among.0, among.1)
 
 slots_on : (w : WriterView) (process place found : ℕ) (look : Option (AreaRef × Option Kind)) → HasGoneOn w (slot_looked process place look found w)
-slots_on w process place found None = record { pairs = λ pair among. among; counter = omega (arith); published = ([], none_behind w.published); anchors = λ l among. among }
-slots_on w process place found (Some look) = record { pairs = λ pair among. among; counter = omega (arith); published = ([], none_behind w.published); anchors = λ l among. looked_on _ process place found w.looks l among }
+slots_on w process place found None = record { pairs = λ pair among. among; counter = omega (arith); published = ([], sym (append-nil w.published)); anchors = λ l among. among }
+slots_on w process place found (Some look) = record { pairs = λ pair among. among; counter = omega (arith); published = ([], sym (append-nil w.published)); anchors = λ l among. looked_on _ process place found w.looks l among }
 
 steps_go_on : (w : WriterView) → StepsGoOn w
 steps_go_on w = record {
-  words = λ word value. record { pairs = λ pair among. among; counter = omega (arith); published = ([], none_behind w.published); anchors = λ l among. among };
+  words = λ word value. record { pairs = λ pair among. among; counter = omega (arith); published = ([], sym (append-nil w.published)); anchors = λ l among. among };
   roots = λ p. record { pairs = λ pair among. among; counter = omega (arith); published = (p ∷ [], refl); anchors = λ l among. among };
-  counters = λ counter later. record { pairs = λ pair among. among_front w.pairs _ pair among; counter = later; published = ([], none_behind w.published); anchors = λ l among. among };
-  notes = λ process. record { pairs = λ pair among. among; counter = omega (arith); published = ([], none_behind w.published); anchors = λ l among. among };
+  counters = λ counter later. record { pairs = λ pair among. among_front w.pairs _ pair among; counter = later; published = ([], sym (append-nil w.published)); anchors = λ l among. among };
+  notes = λ process. record { pairs = λ pair among. among; counter = omega (arith); published = ([], sym (append-nil w.published)); anchors = λ l among. among };
   slots = λ process place found look. slots_on w process place found look;
 }
 

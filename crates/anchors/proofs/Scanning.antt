@@ -1,7 +1,8 @@
 -- A look through one slot, anchor by anchor.
-use Rattle.std.proofs.Common.{◌≡◌, ℕ, zero, suc, ◌+◌, ◌-◌, ◌≤◌, ⊎_elim, Bool, true, false, cond, ◌||◌, List, [], ◌∷◌, ◌++◌, length, length-append, Some, refl, sym, ap, subst, ◌∙◌, arith}
+use Rattle.std.proofs.Common.{◌≡◌, ℕ, zero, suc, ◌+◌, ◌-◌, ◌≤◌, ⊎_elim, Bool, true, false, cond, ◌||◌, List, [], ◌∷◌, ◌++◌, length, length-append, append_assoc, Some, refl, sym, ap, subst, ◌∙◌, arith}
 use Rattle.std.specs.Prelude.{slice_get}
 use Rattle.prgr_core.proofs.Parts.{slice_get-push_at}
+use Rattle.area_core.specs.Blocks.{Among}
 use Rattle.area_core.proofs.Joined.{any_joined}
 use Rattle.marks.specs.declared.kept.LookKind.{LookKind}
 use Rattle.marks.specs.declared.kept.EndedWait.{EndedWait}
@@ -11,7 +12,8 @@ use Rattle.marks.specs.Names.{names_in, tells_kill}
 use Rattle.marks.specs.Steps.{with_wait, with_looked}
 use Rattle.shared_words.specs.declared.view.WriterView.{WriterView}
 use Rattle.shared_words.specs.Slots.{wait_for, wait_looked}
-use Rattle.anchors.specs.Scans.{tells_any, LooksMore, AreFound, IsSlotClear, IsSlotNamed}
+use Rattle.shared_words.proofs.ShownMembers.{still_at}
+use Rattle.anchors.specs.Scans.{tells_any, LooksMore, IsLoaded, AreFound, IsSlotNamed}
 
 -- ---- what the writer keeps more
 
@@ -20,17 +22,41 @@ pub same_wait : (old new : WriterView) (kind : LookKind) (serial : ℕ) → Look
 same_wait old new kind serial more = ap (λ (w : WriterView). wait_for w kind serial) more.same
 
 pub none_more : (w : WriterView) → LooksMore w w
-none_more w = record { same = refl; anchors = λ l among. among; turns = ([], refl) }
-
-pub append_again : (xs ys zs : List ReadTurn) → xs ++ (ys ++ zs) ≡ (xs ++ ys) ++ zs
-append_again [] ys zs = refl
-append_again (x ∷ xs) ys zs = ap (λ (l : List ReadTurn). x ∷ l) (append_again xs ys zs)
+none_more w = record { same = refl; anchors = ([], refl); turns = ([], refl) }
 
 pub more_again : (a b c : WriterView) → LooksMore a b → LooksMore b c → LooksMore a c
 more_again a b c first second = record {
   same = second.same ∙ ap (λ (w : WriterView). record w { looks = c.looks; named = c.named }) first.same;
-  anchors = λ l among. second.anchors l (first.anchors l among);
-  turns = (second.turns.0 ++ first.turns.0, second.turns.1 ∙ ap (λ (ts : List ReadTurn). second.turns.0 ++ ts) first.turns.1 ∙ append_again second.turns.0 first.turns.0 a.looks.turns);
+  anchors = (second.anchors.0 ++ first.anchors.0, second.anchors.1 ∙ ap (λ (ls : List LookedAnchor). second.anchors.0 ++ ls) first.anchors.1 ∙ sym (append_assoc second.anchors.0 first.anchors.0 a.looks.anchors));
+  turns = (second.turns.0 ++ first.turns.0, second.turns.1 ∙ ap (λ (ts : List ReadTurn). second.turns.0 ++ ts) first.turns.1 ∙ sym (append_assoc second.turns.0 first.turns.0 a.looks.turns));
+}
+
+-- ---- what was loaded since
+
+pub among_front : {X : Type 0} (xs ys : List X) (x : X) → Among xs x → Among (xs ++ ys) x
+among_front xs ys x among = (among.0, still_at xs ys among.0 x among.1)
+
+among_behind : {X : Type 0} (xs ys : List X) (x : X) → Among ys x → Among (xs ++ ys) x
+among_behind [] ys x among = among
+among_behind (y ∷ xs) ys x among = let behind = among_behind xs ys x among in (suc behind.0, behind.1)
+
+pub loaded_kept : (old new : WriterView) (l : LookedAnchor) → IsLoaded old new l → Among new.looks.anchors l
+loaded_kept old new l h = subst (λ (ls : List LookedAnchor). Among ls l) (sym h.kept) (among_front h.since old.looks.anchors l h.among)
+
+-- what was loaded since a later time was loaded since an earlier one
+pub loaded_since : (a b c : WriterView) (l : LookedAnchor) → LooksMore a b → IsLoaded b c l → IsLoaded a c l
+loaded_since a b c l more h = record {
+  since = h.since ++ more.anchors.0;
+  kept = h.kept ∙ ap (λ (ls : List LookedAnchor). h.since ++ ls) more.anchors.1 ∙ sym (append_assoc h.since more.anchors.0 a.looks.anchors);
+  among = among_front h.since more.anchors.0 l h.among;
+}
+
+-- and stays so
+pub loaded_still : (a b c : WriterView) (l : LookedAnchor) → LooksMore b c → IsLoaded a b l → IsLoaded a c l
+loaded_still a b c l more h = record {
+  since = more.anchors.0 ++ h.since;
+  kept = more.anchors.1 ∙ ap (λ (ls : List LookedAnchor). more.anchors.0 ++ ls) h.kept ∙ sym (append_assoc more.anchors.0 h.since a.looks.anchors);
+  among = among_behind more.anchors.0 h.since l h.among;
 }
 
 -- ---- one anchor
@@ -43,8 +69,8 @@ module _ (wait : EndedWait) (process place found : ℕ) (w : WriterView) where
   after named = record w { looks = cond named (with_wait w.looks wait) (with_looked (with_wait w.looks wait) looked); named = cond named (record { wait = wait; process = process; place = place; word = found } ∷ w.named) w.named }
 
   after_more : (named : Bool) → LooksMore w (after named)
-  after_more true = record { same = refl; anchors = λ l among. among; turns = ([], refl) }
-  after_more false = record { same = refl; anchors = λ l among. (suc among.0, among.1); turns = ([], refl) }
+  after_more true = record { same = refl; anchors = ([], refl); turns = ([], refl) }
+  after_more false = record { same = refl; anchors = (looked ∷ [], refl); turns = ([], refl) }
 
 -- ---- the anchors so far
 
@@ -53,7 +79,7 @@ pub record SlotLooked (wait : EndedWait) (process turn : ℕ) (old : WriterView)
   pub more : LooksMore old new
   pub words : List ℕ
   pub all : length words + 1 ≡ count
-  pub found : AreFound wait process words new
+  pub found : AreFound wait process words old new
   pub told : killed ≡ tells_any wait.serial words
   pub named : new.named ≡ old.named
   pub turn_read : (more : List ReadTurn) × (new.looks.turns ≡ record { wait = wait; process = process; turns = turn } ∷ (more ++ old.looks.turns))
@@ -61,10 +87,10 @@ pub record SlotLooked (wait : EndedWait) (process turn : ℕ) (old : WriterView)
 -- none at first
 pub turn_looked : (wait : EndedWait) (process turn : ℕ) (old new : WriterView) → new ≡ wait_looked wait process 0 turn old → SlotLooked wait process turn old 1 false new
 turn_looked wait process turn old new is = subst (SlotLooked wait process turn old 1 false) (sym is) (record {
-  more = record { same = refl; anchors = λ l among. among; turns = (record { wait = wait; process = process; turns = turn } ∷ [], refl) };
+  more = record { same = refl; anchors = ([], refl); turns = (record { wait = wait; process = process; turns = turn } ∷ [], refl) };
   words = [];
   all = refl;
-  found = record { clear = λ place word at. absurd (cc); kept = λ place word at. absurd (cc) };
+  found = record { clear = λ place word at. absurd (cc); loaded = λ place word at. absurd (cc) };
   told = refl;
   named = refl;
   turn_read = ([], refl);
@@ -86,8 +112,12 @@ module _ (wait : EndedWait) (process turn : ℕ) (old mid : WriterView) (place w
     all = (let long = length-append h.words (word ∷ []) in omega (arith, long, many));
     found = record {
       clear = λ p x at. ⊎_elim (λ (before : slice_get h.words p ≡ Some x). h.found.clear p x before) (λ (last : (p ≡ length h.words) × (x ≡ word)). ap (λ (y : ℕ). names_in wait.kind y wait.serial) last.1 ∙ clear) (slice_get-push_at h.words word p x at);
-      kept = λ p x at. ⊎_elim (λ (before : slice_get h.words p ≡ Some x). let among = h.found.kept p x before in (suc among.0, among.1))
-          (λ (last : (p ≡ length h.words) × (x ≡ word)). (0, (λ i. Some (record { wait = wait; process = process; place = sym (last.0 ∙ many) i; told = tells_kill (sym last.1 i) wait.serial }))))
+      loaded = λ p x at. ⊎_elim (λ (before : slice_get h.words p ≡ Some x). loaded_still old mid (after wait process place word mid false) _ (after_more wait process place word mid false) (h.found.loaded p x before))
+          (λ (last : (p ≡ length h.words) × (x ≡ word)). loaded_since old mid (after wait process place word mid false) _ h.more (record {
+            since = looked wait process place word mid ∷ [];
+            kept = refl;
+            among = (0, (λ i. Some (record { wait = wait; process = process; place = sym (last.0 ∙ many) i; told = tells_kill (sym last.1 i) wait.serial })));
+          }))
           (slice_get-push_at h.words word p x at);
     };
     told = is ∙ (λ i. h.told i || sym (or_none (tells_kill word wait.serial)) i) ∙ sym (any_joined (λ y. tells_kill y wait.serial) h.words (word ∷ []));

@@ -1,11 +1,10 @@
 -- A walk over the anchors of a slot, place by place.
-use Rattle.std.proofs.Common.{◌≡◌, ◌≢◌, ℕ, ◌+◌, ◌-◌, ◌/◌, ◌<◌, ◌≤◌, List, length, Option, Some, sym, ap, subst, ◌∙◌, arith}
+use Rattle.std.proofs.Common.{◌≡◌, ℕ, ◌+◌, ◌-◌, ◌<◌, ◌≤◌, List, length, Option, Some, sym, ap, subst, ◌∙◌, arith}
 use mathlib.Core.Logic.{dite}
 use native.Mathlib.Decide.{ℕ_discrete}
 use Rattle.std.specs.Prelude.{slice_get, unwrap_or}
 use Rattle.area_core.specs.Map.{word_at}
-use Rattle.shared_words.proofs.ShownMembers.{within_get, there_is}
-use Rattle.anchors.specs.Holds.{StandsAt, IsFreeAt}
+use Rattle.shared_words.proofs.ShownMembers.{within_get}
 
 -- a test fails at each anchor before this place, the places counted from 1
 abbrev pub NoneBefore : (ℕ → Type 0) → List ℕ → ℕ → Type 0

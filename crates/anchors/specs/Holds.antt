@@ -100,12 +100,13 @@ MayHold process kind serial m = Holds kind (anchors_of m process) serial ⊎ May
 abbrev pub AreOthers : List ℕ → ℕ → Type 0
 AreOthers anchors serial = (place word : ℕ) → slice_get anchors place ≡ Some word → (is_naming word ≡ true) × (serial_in word ≢ serial)
 
--- the view is as it was, or an anchor of the process was stored
+-- one anchor of the process was stored, and else nothing
 pub record HasStored (process : ℕ) (old new : MemberView) : Type 0 where
   pub place : ℕ
   pub word : ℕ
   pub view : new ≡ with_slot process (place + 1) word old
 
+-- the view is as it was, or one anchor of the process was stored
 abbrev pub IsStored : ℕ → MemberView → MemberView → Type 0
 IsStored process old new = (new ≡ old) ⊎ HasStored process old new
 

@@ -40,21 +40,27 @@ tells_any serial words = list_any (λ word. tells_kill word serial) words
 -- the writer keeps more of looks, and else what it knew
 pub record LooksMore (old new : WriterView) : Type 0 where
   pub same : new ≡ record old { looks = new.looks; named = new.named }
-  pub anchors : (l : LookedAnchor) → Among old.looks.anchors l → Among new.looks.anchors l
+  pub anchors : (more : List LookedAnchor) × (new.looks.anchors ≡ more ++ old.looks.anchors)
   pub turns : (more : List ReadTurn) × (new.looks.turns ≡ more ++ old.looks.turns)
 
 -- ---- one slot
 
--- the first anchors of the slot as they were found: none names the area, and each is kept
-pub record AreFound (wait : EndedWait) (process : ℕ) (words : List ℕ) (w : WriterView) : Type 0 where
+-- the anchor was loaded since then, and is kept
+pub record IsLoaded (old new : WriterView) (l : LookedAnchor) : Type 0 where
+  pub since : List LookedAnchor
+  pub kept : new.looks.anchors ≡ since ++ old.looks.anchors
+  pub among : Among since l
+
+-- the first anchors of the slot as they were found: none names the area, and each was loaded in this look
+pub record AreFound (wait : EndedWait) (process : ℕ) (words : List ℕ) (old new : WriterView) : Type 0 where
   pub clear : (place word : ℕ) → slice_get words place ≡ Some word → names_in wait.kind word wait.serial ≡ false
-  pub kept : (place word : ℕ) → slice_get words place ≡ Some word → Among w.looks.anchors (record { wait = wait; process = process; place = place; told = tells_kill word wait.serial })
+  pub loaded : (place word : ℕ) → slice_get words place ≡ Some word → IsLoaded old new (record { wait = wait; process = process; place = place; told = tells_kill word wait.serial })
 
 -- all were found so; some anchor told of a kill exactly where this is so
 pub record IsSlotClear (wait : EndedWait) (process : ℕ) (killed : Bool) (old new : WriterView) : Type 0 where
   pub words : List ℕ
   pub all : length words ≡ ANCHORS
-  pub found : AreFound wait process words new
+  pub found : AreFound wait process words old new
   pub told : killed ≡ tells_any wait.serial words
   pub named : new.named ≡ old.named
 
@@ -66,6 +72,7 @@ pub record IsSlotNamed (wait : EndedWait) (process turn place word : ℕ) (old n
   pub found : new.named ≡ record { wait = wait; process = process; place = place - 1; word = word } ∷ old.named
   pub turn_read : (more : List ReadTurn) × (new.looks.turns ≡ record { wait = wait; process = process; turns = turn } ∷ (more ++ old.looks.turns))
 
+-- why each answer comes
 abbrev pub SlotCause : EndedWait → ℕ → WriterView → WriterView → SlotScan → Type 0
 SlotCause wait process old new (slots.Named turn place word) = IsSlotNamed wait process turn place word old new
 SlotCause wait process old new (slots.Clear killed) = IsSlotClear wait process killed old new
@@ -73,17 +80,17 @@ SlotCause wait process old new (slots.Clear killed) = IsSlotClear wait process k
 -- ---- all slots
 
 -- all anchors of the first slots were found clear, and told of a kill exactly where this is so
-pub record AreClear (wait : EndedWait) (count : ℕ) (killed : Bool) (new : WriterView) : Type 0 where
+pub record AreClear (wait : EndedWait) (count : ℕ) (killed : Bool) (old new : WriterView) : Type 0 where
   pub rows : List (List ℕ)
   pub all : length rows ≡ count
   pub wide : (process : ℕ) (words : List ℕ) → slice_get rows process ≡ Some words → length words ≡ ANCHORS
-  pub found : (process : ℕ) (words : List ℕ) → slice_get rows process ≡ Some words → AreFound wait process words new
+  pub found : (process : ℕ) (words : List ℕ) → slice_get rows process ≡ Some words → AreFound wait process words old new
   pub told : killed ≡ list_any (tells_any wait.serial) rows
 
 -- why each answer comes
 abbrev pub ScanCause : EndedWait → WriterView → WriterView → Scan → Type 0
 ScanCause wait old new (scans.Named process turn place word) = (process < PROCESSES) × IsSlotNamed wait process turn place word old new
-ScanCause wait old new (scans.Clear killed) = AreClear wait PROCESSES killed new × IsClear new wait.kind wait.serial
+ScanCause wait old new (scans.Clear killed) = AreClear wait PROCESSES killed old new × IsClear new wait.kind wait.serial
 
 -- ---- what a clear look means
 

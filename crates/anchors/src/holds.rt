@@ -1,6 +1,6 @@
 //! The calls by which a process names areas, and names them no more.
 
-ghost use Rattle.std.specs.Prelude.{◌≡◌, ◌+◌, ◌-◌, ◌*◌, ◌^◌, ◌<◌, OnErr, OnOk};
+ghost use Rattle.std.specs.Prelude.{◌≡◌, ◌^◌, ◌<◌, OnErr, OnOk};
 ghost use Rattle.shared_words.specs.Processes.{AreCopied};
 ghost use Rattle.shared_words.specs.Seats.{IsMemberSeat, IsSameSeat};
 ghost use Rattle.anchors.specs.Holds.{view_of, anchors_of, MayRun, IsUnkilled, MayHold, AreOthers, HasHeld, IsNamedWord, IsPlaceFor};
@@ -33,18 +33,23 @@ fn name_at<N: Served>(
     serial: u64,
     kind: Kind,
 )
+    // the process is the member's, which may make a turn of it
     requires token { IsMemberSeat shared.now.table.shared.table_id member.old.number member.old.seat }
     requires copied { AreCopied member.old.anchors.items (view_of member.old) }
     requires run { MayRun shared.now.table.shared.key process (view_of member.old) }
+    // it goes on, and names the area or may reach it
     requires unkilled { IsUnkilled (anchors_of (view_of member.old) process) }
     requires may { MayHold process kind serial (view_of member.old) }
     requires room { serial < 2 ^ 62 }
+    // there is room for the area there
     requires place { IsPlaceFor (anchors_of (view_of member.old) process) serial place }
+    // the token is as it was
     ensures token { IsMemberSeat shared.now.table.shared.table_id member.new.number member.new.seat }
     ensures same { IsSameSeat member.old.seat member.new.seat }
     ensures number { member.new.number ≡ member.old.number }
     ensures root { member.new.root ≡ member.old.root }
     ensures copied { AreCopied member.new.anchors.items (view_of member.new) }
+    // what the process names then
     ensures held { HasHeld process kind serial (view_of member.old) (view_of member.new) }
 {
     let word = member.anchor(process, place);
@@ -68,17 +73,21 @@ pub fn hold<N: Served>(
     area: AreaRef,
     kind: Kind,
 ) -> Result<(), Full>
+    // the process is the member's, which may make a turn of it
     requires token { IsMemberSeat shared.now.table.shared.table_id member.old.number member.old.seat }
     requires copied { AreCopied member.old.anchors.items (view_of member.old) }
     requires run { MayRun shared.now.table.shared.key process (view_of member.old) }
+    // it goes on, and names the area or may reach it
     requires unkilled { IsUnkilled (anchors_of (view_of member.old) process) }
     requires may { MayHold process kind area.serial (view_of member.old) }
     requires room { area.serial < 2 ^ 62 }
+    // the token is as it was
     ensures token { IsMemberSeat shared.now.table.shared.table_id member.new.number member.new.seat }
     ensures same { IsSameSeat member.old.seat member.new.seat }
     ensures number { member.new.number ≡ member.old.number }
     ensures root { member.new.root ≡ member.old.root }
     ensures copied { AreCopied member.new.anchors.items (view_of member.new) }
+    // what the process names then
     ensures held { OnOk result (HasHeld process kind area.serial (view_of member.old) (view_of member.new)) }
     ensures room { OnOk result (AreOthers (anchors_of (view_of member.old) process) area.serial → ⊥) }
     ensures full { OnErr result (AreOthers (anchors_of (view_of member.old) process) area.serial) }

@@ -1,6 +1,6 @@
-//! The calls by which a turn of a process ends, and by which a purge kills a process.
+//! The call by which a turn of a process ends.
 
-ghost use Rattle.std.specs.Prelude.{◌≡◌, ◌+◌, ◌*◌, ◌^◌, ◌<◌, ◌≤◌};
+ghost use Rattle.std.specs.Prelude.{◌≡◌};
 ghost use Rattle.shared_words.specs.Processes.{AreCopied};
 ghost use Rattle.shared_words.specs.Seats.{IsMemberSeat, IsSameSeat};
 ghost use Rattle.shared_words.specs.Slots.{with_slot};
