@@ -26,6 +26,7 @@ use Rattle.shared_words.specs.declared.view.MemberView.{MemberView}
 use Rattle.shared_words.specs.Opening.{member_begun}
 use Rattle.shared_words.specs.Processes.{AreAtRest}
 use Rattle.shared_words.specs.declared.view.WriterView.{WriterView}
+use Rattle.shared_words.specs.Rule.{HasArea}
 use Rattle.shared_words.specs.Publishing.{MayPublish, IsRootOf, kept_next, with_next, with_word}
 use Rattle.shared_words.specs.Kinds.{MayLead}
 use Rattle.shared_words.specs.Slots.{LookMayBegin, IsClear}
@@ -45,6 +46,7 @@ use Rattle.literal_areas.specs.Owned.{AreOf, IsListed, IsPast}
 use Rattle.literal_areas.specs.Released.{MayRelease}
 use Rattle.literal_areas.proofs.Uses.{use_here, use_other}
 use Rattle.literal_areas.proofs.Serials.{use_after}
+use Rattle.literal_areas.proofs.Listed.{owned_counted}
 use Rattle.area_tests.specs.First.{first_area, first_published, HasWords}
 use Rattle.area_tests.specs.Gone.{gone_published, first_kept, IsRetiring, IsGone}
 use Rattle.area_tests.proofs.Publishing.{no_element, never, none_found, none_retired}
@@ -102,11 +104,15 @@ module _ (s : Areas) (w : WriterView) (h : IsRetiring s w) where
   kept_is = ap (λ (xs : List KeptArea). xs ++ fresh_areas xs gone_published) h.kept
 
   no_fresh : (k : KeptArea) → Among (fresh_areas w.kept gone_published) k → ⊥
-  no_fresh k among = no_element among.0 among.1
+  no_fresh k among = no_element among.0 (ap (λ (xs : List KeptArea). slice_get (fresh_areas xs gone_published) among.0) (sym h.kept) ∙ among.1)
 
   only : (x y : KeptArea) (k : ℕ) → slice_get (x ∷ []) k ≡ Some y → y ≡ x
   only x y zero at = sym (some_same x y at)
   only x y (suc k) at = absurd (no_element k at)
+
+  one_area : (a : AreaRef) → Among gone_published.areas a → a ≡ first_area
+  one_area a (zero, at) = sym (some_same first_area a at)
+  one_area a (suc i, at) = absurd (no_element i at)
 
   stands : AreaStands word first_kept 2 gone_published
   stands = record {
@@ -148,11 +154,16 @@ module _ (s : Areas) (w : WriterView) (h : IsRetiring s w) where
     served = served;
     old_stays = λ g later p q serial le at_p at_q old. absurd (none_old g p serial (here g p at_p) old);
     retired_stays = λ g later p q serial le at_p at_q retired. stays g later p q serial le (here g p at_p) (here later q at_q) retired;
+    areas_go_on = record {
+      apart = λ a c at_a at_c serial. one_area a at_a ∙ sym (one_area c at_c);
+      kept = λ k among. subst (HasArea gone_published) (sym (only first_kept k among.0 (ap (λ (xs : List KeptArea). slice_get xs among.0) (sym kept_is) ∙ among.1))) (record { listed = (0, refl); image = refl });
+      new = λ k q a among before listed serial. absurd (no_fresh k among);
+    };
     stands = record {
       root = record { code = omega (arith); bp = omega (arith); term = omega (arith) };
-      placed = λ a among instance. absurd (no_element among.0 among.1);
+      placed = λ a among instance. absurd (never instance);
       code = code;
-      breakpoints = λ a among instance function few. absurd (no_element among.0 among.1);
+      breakpoints = λ a among instance function few. absurd (never instance);
       terms = terms;
       used = λ serial used. absurd (never used);
       areas = λ k among.
@@ -175,7 +186,7 @@ module _ (s : Areas) (w : WriterView) (h : IsRetiring s w) where
   -- over these pools
   pub gone_listed : IsListed s gone_published
   gone_listed = record {
-    stand = λ area among. absurd (no_element among.0 among.1);
+    stand = λ area among. subst (Stands s) (sym (one_area area among)) (ap (option_and_then serial_of) h.used);
     used = λ serial used. absurd (never used);
     retired = λ block serial first is. ap (λ (n : ℕ). has_serial (1 ∷ []) n) (h.others block serial first is);
     past = λ serial is. subst (IsPast s) (one serial is) (record {
@@ -223,32 +234,13 @@ gone_still old new w owned used h = record { owned = owned w h.owned; used = use
 
 -- ---- the wait
 
--- each area of a generation stands in its block
-each_stands : (s : Areas) → use_of s 9 ≡ Some (Retired 1 2) → (g : ℕ) (p : Published) → slice_get (opening_published ∷ first_published ∷ gone_published ∷ []) g ≡ Some p → (area : AreaRef) → Among p.areas area → Stands s area
-each_stands s used zero p at area among = absurd (no_element among.0 (ap (λ (x : Published). slice_get x.areas among.0) (some_same opening_published p at) ∙ among.1))
-each_stands s used (suc zero) p at area among =
-    subst (Stands s) (one among.0 (ap (λ (x : Published). slice_get x.areas among.0) (some_same first_published p at) ∙ among.1)) (ap (option_and_then serial_of) used)
-  where
-    one : (k : ℕ) → slice_get (first_area ∷ []) k ≡ Some area → first_area ≡ area
-    one zero found = some_same first_area area found
-    one (suc k) found = absurd (no_element k found)
-each_stands s used (suc (suc zero)) p at area among = absurd (no_element among.0 (ap (λ (x : Published). slice_get x.areas among.0) (some_same gone_published p at) ∙ among.1))
-each_stands s used (suc (suc (suc k))) p at area among = absurd (no_element k at)
-
+-- a load of the counter leaves it as it is
 pub gone_counted : (s : Areas) (w v : WriterView) → HasLoadedCounter w v → IsGone s w → IsGone s v
-gone_counted s w v loaded h = subst (IsGone s) (sym loaded.view) (record {
-  owned = record {
-    sound = h.owned.sound;
-    all = h.owned.all;
-    kept = h.owned.kept;
-    reached = λ g p counts at area among reaches. each_stands s h.used g p (ap (λ (xs : List Published). slice_get xs g) (sym h.published) ∙ at) area among;
-    taken = h.owned.taken;
-    past = h.owned.past;
-    since = h.owned.since;
-  };
+gone_counted s w v loaded h = record {
+  owned = owned_counted s w v loaded h.owned;
   used = h.used;
-  published = h.published;
-})
+  published = ap (λ (x : WriterView). x.published) loaded.view ∙ h.published;
+}
 
 -- a value that is kept stays kept
 pub taken_still : (w v : WriterView) (need : ℕ) → HasLoadedCounter w v → HasTaken w 2 need → HasTaken v 2 need
@@ -282,17 +274,6 @@ may_release_now s w v need h taken enough more clear = subst (λ (x : WriterView
   later = omega (arith);
   reached = enough;
   clear = (let now = subst (λ (x : WriterView). IsClear x Both 1) more.same clear in now);
-})
-
-pub owned_looked : (s : Areas) (w v : WriterView) → IsGone s w → LooksMore w v → AreOf s v
-owned_looked s w v h more = subst (AreOf s) (sym more.same) (record {
-  sound = h.owned.sound;
-  all = h.owned.all;
-  kept = h.owned.kept;
-  reached = λ g p counts at area among reaches. each_stands s h.used g p (ap (λ (xs : List Published). slice_get xs g) (sym h.published) ∙ at) area among;
-  taken = h.owned.taken;
-  past = h.owned.past;
-  since = h.owned.since;
 })
 
 -- ---- the calls

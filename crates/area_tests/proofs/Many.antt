@@ -1,5 +1,5 @@
 -- The generation of seventeen instances may be published once the doom word of the sixteenth is stored.
-use Rattle.std.proofs.Common.{◌≡◌, ℕ, zero, suc, ◌+◌, ◌-◌, ◌*◌, ◌<◌, ◌≤◌, inl, inr, Bool, true, false, ◌||◌, List, [], ◌∷◌, ◌++◌, length, refl, sym, ap, subst, ◌∙◌, arith}
+use Rattle.std.proofs.Common.{◌≡◌, ℕ, zero, suc, ◌+◌, ◌-◌, ◌*◌, ◌<◌, ◌≤◌, inl, inr, Bool, true, false, cond, ◌||◌, List, [], ◌∷◌, ◌++◌, length, refl, sym, ap, subst, ◌∙◌, arith}
 use mathlib.Core.Logic.{dite}
 use native.Mathlib.Decide.{ℕ_discrete}
 use Rattle.std.specs.Prelude.{◌==◌, Some, slice_get, IsTrue}
@@ -15,7 +15,7 @@ use Rattle.area_core.specs.Generations.{has_serial, is_current, is_doomed, is_ke
 use Rattle.area_core.specs.Map.{word_at, block_place, retire_place, doom_place}
 use Rattle.area_core.specs.Blocks.{Among, AreaStands, FitsBlock, IsForInstances, KeptApart, InstancesPlaced, CodeStands, BreakpointsStand, UsedAreKept, term_words}
 use Rattle.area_core.specs.Terms.{TermsStand}
-use Rattle.area_core.specs.Roots.{fresh_areas}
+use Rattle.area_core.specs.Roots.{fresh_areas, image_of}
 use Rattle.area_core.specs.Step.{opening_published}
 use Rattle.area_core.proofs.Places.{kind_doom, word_here, word_there}
 use Rattle.shared_words.specs.declared.opening.Opening.{Opening}
@@ -28,9 +28,10 @@ use Rattle.shared_words.specs.Seats.{writer_of}
 use Rattle.shared_words.specs.Making.{IsHanding, writer_handing}
 use Rattle.shared_words.specs.Notes.{MaySplitNote}
 use Rattle.shared_words.specs.Views.{published_at}
+use Rattle.shared_words.specs.Rule.{HasArea}
 use Rattle.shared_words.specs.Publishing.{MayPublish, MayStoreWord, FitsWord, IsRootOf, kept_next, with_next, with_word}
 use Rattle.progress_words.specs.Tokens.{written_by, IsWriterOf}
-use Rattle.area_tests.specs.Many.{serials, refs, many_published, IsPrepared}
+use Rattle.area_tests.specs.Many.{serials, refs, images, many_published, IsPrepared}
 use Rattle.area_tests.specs.Work.{IsUnder}
 use Rattle.area_tests.specs.First.{IsBegun}
 use Rattle.area_tests.proofs.Begun.{begun_empty, begun_newest, long_begun}
@@ -40,6 +41,9 @@ use Rattle.area_tests.proofs.Publishing.{no_element, never, none_found}
 
 abbrev kept_one : ℕ → KeptArea
 kept_one i = record { area = record { serial = suc i; block = 9 + i }; words = [] }
+
+abbrev ref_one : ℕ → AreaRef
+ref_one i = record { serial = suc i; block = 9 + i }
 
 -- as they are kept
 abbrev kepts : ℕ → List KeptArea
@@ -55,6 +59,21 @@ each_ref : (n : ℕ) (a : AreaRef) → Among (refs n) a → (i : ℕ) × (i < n)
 each_ref zero a (j, at) = absurd (no_element j at)
 each_ref (suc n) a (zero, at) = (n, omega (arith), sym (some_same (record { serial = suc n; block = 9 + n }) a at))
 each_ref (suc n) a (suc j, at) = let there = each_ref n a (j, at) in (there.0, (let low = there.1 in omega (arith, low)), there.2)
+
+-- each instance has its block and its image
+ref_there : (n i : ℕ) → i < n → Among (refs n) (ref_one i)
+ref_there zero i low = absurd (omega (arith, low))
+ref_there (suc n) i low =
+    dite (ℕ_discrete n i)
+    (λ (same : n ≡ i). (0, ap (λ (j : ℕ). Some (ref_one j)) same))
+    (λ (differ : n ≡ i → ⊥). let there = ref_there n i (omega (arith, low, differ)) in (suc there.0, there.1))
+
+image_there : (n i : ℕ) → i < n → image_of (images n) (suc i) ≡ Some []
+image_there zero i low = absurd (omega (arith, low))
+image_there (suc n) i low =
+    dite (ℕ_discrete n i)
+    (λ (same : n ≡ i). ap (λ (b : Bool). cond b (Some []) (image_of (images n) (suc i))) (eq-eqb (suc n) (suc i) (ap suc same)))
+    (λ (differ : n ≡ i → ⊥). ap (λ (b : Bool). cond b (Some []) (image_of (images n) (suc i))) (ne_eqb (suc n) (suc i) (λ same. differ (omega (arith, same)))) ∙ image_there n i (omega (arith, low, differ)))
 
 -- where one stands in the list
 kept_place : (n i : ℕ) (k : KeptArea) → slice_get (kepts n) i ≡ Some k → (k.area.serial + i ≡ n) × (k.area.block + i ≡ n + 8)
@@ -106,6 +125,10 @@ all_used : UsedAreKept (kepts 17) many_published
 all_used s used =
     let found = serial_is 17 s (only_current (has_serial (serials 17) s) used) in
     subst (λ (n : ℕ). IsTrue (list_any (is_kept_as many_published n) (kepts 17))) (sym found.2) (each_passes (λ n. list_any (is_kept_as many_published n) (kepts 17)) 17 refl found.0 found.1)
+
+-- the generation has each of them
+has_one : (i : ℕ) → i < 17 → HasArea many_published (kept_one i)
+has_one i low = record { listed = ref_there 17 i low; image = image_there 17 i low }
 
 -- ---- what is published
 
@@ -194,6 +217,15 @@ module _ (w : WriterView) (h : IsPrepared w) where
     served = served;
     old_stays = λ g later p q serial le at_p at_q old. absurd ((none_old g p serial at_p).0 old);
     retired_stays = λ g later p q serial le at_p at_q retired. absurd ((none_old g p serial at_p).1 retired);
+    areas_go_on = record {
+      apart = λ a c at_a at_c serial.
+          let first = each_ref 17 a at_a in
+          let second = each_ref 17 c at_c in
+          let one : suc first.0 ≡ suc second.0 = ap (λ (x : AreaRef). x.serial) (sym first.2) ∙ serial ∙ ap (λ (x : AreaRef). x.serial) second.2 in
+          first.2 ∙ ap ref_one (omega (arith, one)) ∙ sym second.2;
+      kept = λ k among. (let found = one_kept k among in subst (HasArea many_published) (sym found.2) (has_one found.0 found.1));
+      new = λ k q a among before listed serial. absurd (no_element listed.0 (ap (λ (x : Published). slice_get x.areas listed.0) (sym (only_before before.0 q before.1).1) ∙ listed.1));
+    };
     stands = record {
       root = record { code = omega (arith); bp = omega (arith); term = omega (arith) };
       placed = placed;

@@ -18,6 +18,7 @@ use Rattle.area_core.specs.Terms.{looked, look_at, outcome, key_in, found_in, va
 use Rattle.area_core.specs.Roots.{fresh_areas}
 use Rattle.area_core.specs.Step.{opening_published}
 use Rattle.shared_words.specs.declared.view.WriterView.{WriterView}
+use Rattle.shared_words.specs.Rule.{HasArea}
 use Rattle.shared_words.specs.Publishing.{MayPublish, IsRootOf, kept_next, with_next}
 use Rattle.literal_areas.specs.declared.areas.Areas.{Areas}
 use Rattle.literal_areas.specs.declared.blocks.Pool.TheVariants.{Big}
@@ -54,11 +55,8 @@ words_written w v words begun same h =
     }
   where
     few : (at value : ℕ) → slice_get image at ≡ Some value → length words ≡ 4 → at < length words
-    few zero value has long = omega (arith, long)
-    few (suc zero) value has long = omega (arith, long)
-    few (suc (suc zero)) value has long = omega (arith, long)
-    few (suc (suc (suc zero))) value has long = omega (arith, long)
     few (suc (suc (suc (suc at)))) value has long = absurd (no_element at has)
+    few _ value has long = omega (arith, long)
 
 -- ---- a term table without keys
 
@@ -164,6 +162,11 @@ module _ (w : WriterView) (h : HasWords w) where
     served = served;
     old_stays = λ g later p q serial le at_p at_q old. absurd (each (λ x. has_serial x.state.old serial ≡ true → ⊥) never never g p at_p old);
     retired_stays = λ g later p q serial le at_p at_q retired. absurd (each (λ x. has_serial x.state.retired serial ≡ true → ⊥) never never g p at_p retired);
+    areas_go_on = record {
+      apart = λ a c at_a at_c serial. only first_area a at_a.0 at_a.1 ∙ sym (only first_area c at_c.0 at_c.1);
+      kept = λ k among. subst (HasArea first_published) (sym (one_kept k among)) (record { listed = (0, refl); image = refl });
+      new = λ k q a among before listed serial. absurd (no_element listed.0 (ap (λ (x : Published). slice_get x.areas listed.0) (sym (h.published q before)) ∙ listed.1));
+    };
     stands = record {
       root = record { code = omega (arith); bp = omega (arith); term = omega (arith) };
       placed = placed;

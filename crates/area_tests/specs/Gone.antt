@@ -13,7 +13,7 @@ use Rattle.area_tests.specs.First.{image, first_area, first_published}
 
 -- the generation in which it is retired
 abbrev pub gone_published : Published
-gone_published = to_publish 0 0 0 (record empty_generation { retired = 1 ∷ [] }) []
+gone_published = to_publish 0 0 0 (record empty_generation { retired = 1 ∷ []; areas = (record { serial = 1; words = image }) ∷ [] }) (first_area ∷ [])
 
 -- the instance as it is kept
 abbrev pub first_kept : KeptArea

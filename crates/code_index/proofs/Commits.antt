@@ -122,6 +122,7 @@ module _ (Served : Generation → Type 0) (x : Staging) (old : WriterView) (stat
     served = may.served;
     old_stays = may.old_stays;
     retired_stays = may.retired_stays;
+    areas_go_on = record { apart = may.areas_go_on.apart; kept = may.areas_go_on.kept; new = may.areas_go_on.new };
     stands = record {
       root = record { code = behind_fits (active_index old); bp = fits.bp; term = fits.term };
       placed = may.placed;

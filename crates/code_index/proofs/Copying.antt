@@ -60,7 +60,7 @@ may_stage x w entry value few own = subst (FitsWord w value) (sym (index_kind (s
     fits : FitsInBlock w (staging_index w) entry value
     fits = record {
       unread = λ g p may at. reads_none p (staging_index w) entry (λ same. own.free g p may at (sym same)) low;
-      images = λ k old among same has plain. absurd (let high = own.areas k among in let under = low in omega (arith, high, same, under));
+      unkept = λ k among same. absurd (let high = own.areas k among in let under = low in omega (arith, high, same, under));
       entries = λ k function among same has here none. absurd (let high = own.areas k among in let under = low in omega (arith, high, same, under));
     }
 

@@ -14,7 +14,7 @@ use Rattle.shared_words.specs.declared.view.WriterView.{WriterView}
 use Rattle.shared_words.specs.Views.{newest}
 use Rattle.shared_words.specs.Kinds.{counter_kept}
 use Rattle.shared_words.specs.Rule.{OldStays, RetiredStays}
-use Rattle.shared_words.specs.Publishing.{kept_next, with_next}
+use Rattle.shared_words.specs.Publishing.{kept_next, AreasGoOn, with_next}
 use Rattle.progress_words.specs.declared.answers.NotYet.{NotYet}
 use Rattle.progress_words.specs.Needs.{HasLoadedCounter}
 use Rattle.progress_words.specs.Roots.{newest_of}
@@ -34,6 +34,7 @@ pub record MayCommit (Served : Generation → Type 0) (x : Staging) (w : WriterV
   pub served : Served p.state
   pub old_stays : OldStays (w.published ++ p ∷ [])
   pub retired_stays : RetiredStays (w.published ++ p ∷ [])
+  pub areas_go_on : AreasGoOn w p
   pub placed : InstancesPlaced p
   pub breakpoints : BreakpointsStand (word_at w.words) p
   pub terms : TermsStand (term_words (word_at w.words) p.root) p

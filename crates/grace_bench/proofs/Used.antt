@@ -15,6 +15,7 @@ use Rattle.area_core.specs.Roots.{fresh_areas}
 use Rattle.area_core.specs.Step.{opening_published}
 use Rattle.area_core.proofs.Opened.{blocks_opened}
 use Rattle.shared_words.specs.declared.view.WriterView.{WriterView}
+use Rattle.shared_words.specs.Rule.{HasArea}
 use Rattle.shared_words.specs.Publishing.{MayPublish, IsRootOf, kept_next}
 use Rattle.progress_tests.specs.Running.{IsEmpty}
 use Rattle.progress_tests.proofs.Emptied.{never, no_element}
@@ -103,6 +104,11 @@ module _ (w : WriterView) (h : IsEmpty w) where
         served = served;
         old_stays = λ g later p q serial le at_p at_q old. absurd (each (λ x. has_serial x.state.old serial ≡ true → ⊥) never never g p at_p old);
         retired_stays = λ g later p q serial le at_p at_q retired. dropped_unused serial p q g later at_p at_q retired;
+        areas_go_on = record {
+          apart = λ a c at_a at_c serial. only used_area a at_a.0 at_a.1 ∙ sym (only used_area c at_c.0 at_c.1);
+          kept = λ k among. subst (HasArea used_published) (sym (one_kept k among)) (record { listed = (0, refl); image = refl });
+          new = λ k q a among before listed serial. absurd (no_element listed.0 (ap (λ (x : Published). slice_get x.areas listed.0) (sym (h.published q before)) ∙ listed.1));
+        };
         stands = record {
           root = record { code = omega (arith); bp = omega (arith); term = omega (arith) };
           placed = placed;

@@ -206,7 +206,7 @@ module _ (s : Areas) (w : WriterView) (own : AreOf s w) (block : ℕ) (free : us
       | inl reads ↦ absurd (nobody_reaches g p counts here reads)
       | inr not ↦ not
     ];
-    images = λ k old among same has plain. absurd (no_area k.area (own.kept k among) same);
+    unkept = λ k among same. absurd (no_area k.area (own.kept k among) same);
     entries = λ k function among same has entry none. absurd (no_area k.area (own.kept k among) same);
   }
 
@@ -214,7 +214,7 @@ module _ (s : Areas) (w : WriterView) (own : AreOf s w) (block : ℕ) (free : us
   free_unread Served opening t r is id v at room here loads =
       let kind = kind_block block at (use_within s block Free own.sound.sizes free) room in
       let may : MayStoreWord w (block_place block at) 0 = subst (FitsWord w 0) (sym kind) (fits_free at 0) in
-      not_loaded t r (block_place block at) 0 block at kind (subst (λ (x : WriterView). MayStoreWord x (block_place block at) 0) (sym is) may) id v here loads
+      (let entry = not_loaded t r (block_place block at) 0 block at kind (subst (λ (x : WriterView). MayStoreWord x (block_place block at) 0) (sym is) may) id v here loads in no_area entry.area.area (own.kept entry.area (subst (λ (x : WriterView). Among x.kept entry.area) is entry.among)) entry.here)
 
 -- ---- the call
 

@@ -96,7 +96,7 @@ module _ (s : Areas) (w : WriterView) (own : AreOf s w) (area : AreaRef) (live :
         | inl reads ↦ absurd (unreached g p (own.reached g p counts here) here reads)
         | inr not ↦ not
       ];
-      images = λ k old among same has plain. absurd (unkept k among same);
+      unkept = λ k among same. absurd (unkept k among same);
       entries = λ k function among same has entry none. absurd (unkept k among same);
     }
 

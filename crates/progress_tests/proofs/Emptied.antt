@@ -83,6 +83,11 @@ may_publish_empty Served w served h =
       served = served;
       old_stays = λ g later p q serial le at_p at_q old. absurd (never (subst (λ (x : Published). has_serial x.state.old serial ≡ true) (each_empty w h g p at_p) old));
       retired_stays = λ g later p q serial le at_p at_q old. absurd (never (subst (λ (x : Published). has_serial x.state.retired serial ≡ true) (each_empty w h g p at_p) old));
+      areas_go_on = record {
+        apart = λ a c at_a at_c serial. absurd (no_element at_a.0 at_a.1);
+        kept = λ k among. absurd (none_among k (subst (λ (xs : List KeptArea). Among xs k) kept among));
+        new = λ k q a among before listed serial. absurd (none_among k among);
+      };
       stands = record {
         root = b.roots_fit 0 opening_published tt refl;
         placed = b.instances_placed 0 opening_published tt refl;

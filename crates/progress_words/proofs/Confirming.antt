@@ -1,6 +1,6 @@
 -- What a report tells: the generation of the root that was loaded behind the counter, which the member holds.
-use Rattle.std.proofs.Common.{◌≡◌, ℕ, ◌+◌, true, ◌&&◌, refl, sym, ap, subst, ◌∙◌, arith}
-use Rattle.std.specs.Prelude.{Some}
+use Rattle.std.proofs.Common.{◌≡◌, ℕ, ◌+◌, ◌/◌, Bool, true, cond, ◌&&◌, ◌||◌, refl, sym, ap, subst, ◌∙◌, arith}
+use Rattle.std.specs.Prelude.{Some, None}
 use Rattle.std.proofs.lemmas.Bool.{lt-ltb}
 use Rattle.prgr_core.specs.declared.member.TheConstants.{ENTERING, WAITING}
 use Rattle.prgr_core.specs.Members as members
@@ -10,8 +10,9 @@ use Rattle.shared_words.specs.declared.view.MemberView.{MemberView}
 use Rattle.shared_words.specs.declared.view.View.{View}
 use Rattle.shared_words.specs.declared.view.View.TheVariants.{Member}
 use Rattle.shared_words.specs.Seats.{member_of, IsRooted}
-use Rattle.shared_words.specs.Processes.{AreAtRest}
-use Rattle.shared_words.specs.Kinds.{MayLoadRoot, counter_found, RootLoaded, value_confirmed, now_entering}
+use Rattle.shared_words.specs.Processes.{held_by_view, AreAtRest}
+use Rattle.shared_words.specs.Views.{newest, published_at, seen}
+use Rattle.shared_words.specs.Kinds.{IsSameIn, MayLoadRoot, counter_found, root_found, RootLoaded, value_confirmed, now_entering}
 use Rattle.shared_words.proofs.Rooted.{rooted_by_load}
 use Rattle.progress_words.specs.Reports.{IsAwake, Reported}
 use Rattle.progress_words.specs.Leads.{IsLeader}
@@ -43,6 +44,35 @@ rooted_now Served old v w counter found root new first loaded last same =
     let told = subst (λ (x : View). RootLoaded Served x w found) first loaded in
     let held = rooted_by_load Served (with_counter counter old) w found refl told in
     subst (λ (z : ℕ × MemberView). IsRooted z.0 z.1) (λ i. (sym same i, sym last i)) (record { learnt = held.learnt; held = held.held })
+
+-- a member whose word is the value after a counter holds the generation of its record
+holds_now : (counter generation : ℕ) (entering : Bool) → CounterInRange counter → cond (members.is_value (counter + 1) || entering) (Some generation) None ≡ Some generation
+holds_now counter generation entering range = ap (λ (b : Bool). cond (b || entering) (Some generation) None) (value_after counter range)
+
+-- what a report tells, by the counter and the root that were loaded
+pub reported_now : (Served : Generation → Type 0) (old : MemberView) (v w : View) (counter found generation : ℕ) (new : MemberView) → CounterInRange counter → v ≡ counter_found counter (Member old) → RootLoaded Served v w found → new ≡ value_confirmed (counter + 1) (member_of w)
+    → generation ≡ found / 32 → Reported Served old new generation
+reported_now Served old v w counter found generation new range first loaded last divided =
+    let told = subst (λ (x : View). RootLoaded Served x w found) first loaded in
+    let root = told.root in
+    let code = told.fits.code in
+    let bp = told.fits.bp in
+    let term = told.fits.term in
+    let here : generation ≡ newest (seen w) = omega (arith, divided, root, code, bp, term) in
+    let still : w ≡ Member (member_of w) = told.view ∙ ap (λ (x : View). Member (member_of x)) (sym told.view) in
+    let known : member_of w ≡ member_of (root_found (seen w) (Member (with_counter counter old))) = ap member_of told.view in
+    subst (λ (n : MemberView). Reported Served old n generation) (sym (last ∙ ap (value_confirmed (counter + 1)) known)) (record {
+      counter = counter;
+      range = range;
+      learnt = told.learnt;
+      some = told.some;
+      newest = here;
+      holds = holds_now counter (newest (seen w)) _ range ∙ ap (λ (g : ℕ). Some g) (sym here);
+      served = subst (λ (g : ℕ). Served (published_at (seen w) g).state) (sym here) told.served;
+      areas = told.areas;
+      named = λ a named listed. subst (λ (n : MemberView). IsSameIn (held_by_view old) (held_by_view n) a) known (told.named (with_counter counter old) (member_of w) refl still a named listed);
+      view = refl;
+    })
 
 -- between turns a member that has loaded the counter may load the root
 pub may_load_root : (old new : View) (counter : ℕ) → old ≡ Member (member_of old) → new ≡ counter_found counter old → (IsAwake (member_of old) → AreAtRest (member_of old)) → MayLoadRoot new

@@ -7,12 +7,16 @@ use Rattle.prgr_core.specs.declared.member.Loaded.TheVariants.{Nothing}
 use Rattle.prgr_core.specs.Members as members
 use Rattle.prgr_core.specs.Members.{role_knowing}
 use Rattle.prgr_core.specs.Invariant.{CounterInRange}
+use Rattle.term_core.specs.declared.area.AreaRef.{AreaRef}
 use Rattle.term_core.specs.declared.generation.Generation.{Generation}
 use Rattle.area_core.specs.declared.table.Published.{Published}
+use Rattle.area_core.specs.Blocks.{Among}
 use Rattle.shared_words.specs.declared.view.MemberView.{MemberView}
 use Rattle.shared_words.specs.declared.view.View.TheVariants.{Member}
 use Rattle.shared_words.specs.Views.{newest, published_at, held}
-use Rattle.shared_words.specs.Rule.{IsBeginning}
+use Rattle.shared_words.specs.Processes.{held_by_view, NamesArea}
+use Rattle.shared_words.specs.Kinds.{IsSameIn}
+use Rattle.shared_words.specs.Rule.{IsBeginning, HasItsAreas}
 
 -- the member is awake: its word is a value
 abbrev pub IsAwake : MemberView → Type 0
@@ -39,5 +43,9 @@ pub record Reported (Served : Generation → Type 0) (old new : MemberView) (gen
   pub holds : held (Member new) ≡ Some generation
   -- the code server has made it
   pub served : Served (published_at new.seen generation).state
+  -- it has one area of each serial that it uses
+  pub areas : HasItsAreas (held_by_view new)
+  -- and what slots named of the generation before stands in it
+  pub named : (a : AreaRef) → NamesArea old a.serial → Among (held_by_view old).areas a → IsSameIn (held_by_view old) (held_by_view new) a
   -- its word is the value after the counter, and nothing else has changed
   pub view : new ≡ having_reported counter new.seen old

@@ -131,7 +131,7 @@ module _ (words : List ℕ) (k : WriterKept) (u : Under) (process : ℕ) (p : Pr
 slot_here : (slots : List ProcessSlot) (process : ℕ) (p : ProcessView) → slot_in (slot_with process p ∷ slots) process ≡ slot_with process p
 slot_here slots process p = ap (λ (b : Bool). cond b (slot_with process p) (slot_in slots process)) (eq-eqb process process refl)
 
-slot_else : (slots : List ProcessSlot) (process other : ℕ) (p : ProcessView) → (other ≡ process → ⊥) → slot_in (slot_with process p ∷ slots) other ≡ slot_in slots other
+pub slot_else : (slots : List ProcessSlot) (process other : ℕ) (p : ProcessView) → (other ≡ process → ⊥) → slot_in (slot_with process p ∷ slots) other ≡ slot_in slots other
 slot_else slots process other p apart = ap (λ (b : Bool). cond b (slot_with process p) (slot_in slots other)) (ne_eqb process other (λ e. apart (sym e)))
 
 module _ (process place value : ℕ) (m : MemberView) where

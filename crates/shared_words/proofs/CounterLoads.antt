@@ -53,7 +53,7 @@ module _ {Served : Generation → Type 0} {opening : Opening} (s : State (Unit {
       let within = there r.seats k (Member m) at in
       member_step s r s.words k m (with_counter c m) at (record {
         rest = same_rest s.words;
-        knows = record { numbered = knows.numbered; made = knows.made; seen = knows.seen; holds = knows.holds; noted = knows.noted; words = knows.words };
+        knows = record { numbered = knows.numbered; made = knows.made; seen = knows.seen; holds = knows.holds; noted = knows.noted; own_slots = knows.own_slots; words = knows.words };
         moves = inl (prgr.LoadCounter k, loaded_event (progress_of s.words r.writer r.seats) k m.member shown awake ∙ ap (λ (p : Progress). Some p) (sym (progress_set s.words r.writer r.seats k (with_counter c m) knows.made within)));
         own = r.machine.own_words k m.member shown;
         others = λ j other. refl;
@@ -82,7 +82,7 @@ module _ {Served : Generation → Type 0} {opening : Opening} (s : State (Unit {
   -- what each seat knows stays with fewer generations that may be read
   same_knows : (c : ℕ) → r.writer.counter ≤ c → (place : ℕ) (v : View) → Knows r.writer place v → Knows (counter_kept c r.writer) place v
   same_knows c later place (Writer w) h = h
-  same_knows c later place (Member m) h = record { numbered = h.numbered; made = h.made; seen = h.seen; holds = h.holds; noted = h.noted; words = λ f among. kept_as r.writer (counter_kept c r.writer) refl refl (fewer c later) f (h.words f among) }
+  same_knows c later place (Member m) h = record { numbered = h.numbered; made = h.made; seen = h.seen; holds = h.holds; noted = h.noted; own_slots = h.own_slots; words = λ f among. kept_as r.writer (counter_kept c r.writer) refl refl (fewer c later) f (h.words f among) }
   same_knows c later place (Watcher w) h = record { numbered = h.numbered; made = h.made; seen = h.seen }
   same_knows c later place (Note n) h = record { behind = h.behind; seen = h.seen; noted = h.noted; learnt = h.learnt }
   same_knows c later place Spent h = h
@@ -95,7 +95,7 @@ module _ {Served : Generation → Type 0} {opening : Opening} (s : State (Unit {
         writer = counter_kept c r.writer;
         seats = r.seats;
         views = ap (λ (vs : List View). set vs 0 (Writer (counter_kept c r.writer))) r.views;
-        published = record { made = r.published.made; staffed = r.published.staffed; watched = r.published.watched; some = r.published.some; served = r.published.served; old_stays = r.published.old_stays; retired_stays = r.published.retired_stays; notes_fit = r.published.notes_fit };
+        published = record { made = r.published.made; staffed = r.published.staffed; watched = r.published.watched; some = r.published.some; served = r.published.served; old_stays = r.published.old_stays; retired_stays = r.published.retired_stays; areas_stay = r.published.areas_stay; notes_fit = r.published.notes_fit };
         words = record {
           all = r.words.all;
           root = r.words.root;

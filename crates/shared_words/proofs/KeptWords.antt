@@ -26,8 +26,7 @@ pub kept_as : (w w' : WriterView) → w'.published ≡ w.published → w'.words 
 kept_as w w' published words fewer f h = record {
   published = h.published;
   at = ap (λ (ps : List Published). slice_get ps f.generation) published ∙ h.at;
-  reads = h.reads;
-  stands = λ may block at is. ap (λ (ws : List ℕ). word_at ws f.word) words ∙ h.stands (fewer f.generation may) block at is;
+  stands = λ reads may block at is. ap (λ (ws : List ℕ). word_at ws f.word) words ∙ h.stands reads (fewer f.generation may) block at is;
 }
 
 -- once more is published
@@ -35,7 +34,6 @@ pub kept_with : (w : WriterView) (p : Published) (f : BlockWord) → WordKept w 
 kept_with w p f h = record {
   published = h.published;
   at = still_at w.published (p ∷ []) f.generation h.published h.at;
-  reads = h.reads;
   stands = h.stands;
 }
 
@@ -44,15 +42,14 @@ pub kept_stored : (w : WriterView) (word value : ℕ) → MayStoreWord w word va
 kept_stored w word value fits f h = record {
   published = h.published;
   at = h.at;
-  reads = h.reads;
-  stands = λ may block at is. word_there w.words word value f.word (λ same. read may block at is same) ∙ h.stands may block at is;
+  stands = λ reads may block at is. word_there w.words word value f.word (λ same. read reads may block at is same) ∙ h.stands reads may block at is;
 }
   where
-    read : MayBeRead w f.generation → (block at : ℕ) → kind_at f.word ≡ InBlock block at → f.word ≡ word → ⊥
-    read may block at is same =
+    read : IsTrue (reads_word (kind_at f.word) h.published) → MayBeRead w f.generation → (block at : ℕ) → kind_at f.word ≡ InBlock block at → f.word ≡ word → ⊥
+    read reads may block at is same =
         let here : kind_at word ≡ InBlock block at = ap kind_at (sym same) ∙ is in
         let owes : FitsInBlock w block at value = subst (FitsWord w value) here fits in
-        true≢false (sym h.reads ∙ ap (λ (kind : WordKind). reads_word kind h.published) is ∙ owes.unread f.generation h.published may h.at)
+        true≢false (sym reads ∙ ap (λ (kind : WordKind). reads_word kind h.published) is ∙ owes.unread f.generation h.published may h.at)
 
 -- ---- what a member holds
 
@@ -67,19 +64,6 @@ held_is false g h is = absurd (cc)
 
 pub member_holds : (m : machines.Member) (g : ℕ) → held_by_member m ≡ Some g → m.generation ≡ g
 member_holds m g is = held_is (reads_now m) m.generation g is
-
--- a word that it may load is one that its generation reads
-reads_its : (word : ℕ) (seen : List Published) (b : Bool) (g : ℕ) → ReadsHeld word seen (cond b (Some g) None) → IsTrue (is_read_under (kind_at word) (slice_get seen g))
-reads_its word seen true g reads = reads
-reads_its word seen false g reads = absurd reads
-
-pub member_reads : (word : ℕ) (seen : List Published) (m : machines.Member) → ReadsHeld word seen (held_by_member m) → IsTrue (is_read_under (kind_at word) (slice_get seen m.generation))
-member_reads word seen m reads = reads_its word seen (reads_now m) m.generation reads
-
--- which is published
-pub read_published : (kind : WordKind) (o : Option Published) → IsTrue (is_read_under kind o) → (p : Published) × (o ≡ Some p) × IsTrue (reads_word kind p)
-read_published kind None reads = absurd (cc)
-read_published kind (Some p) reads = (p, refl, reads)
 
 -- ---- words in front of the areas
 

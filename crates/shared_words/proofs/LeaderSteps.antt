@@ -47,6 +47,7 @@ still_knows w k m a found number generation knows = record {
   seen = knows.seen;
   holds = subst (λ (g : ℕ). g < length m.seen) (sym generation) knows.holds;
   noted = knows.noted;
+  own_slots = knows.own_slots;
   words = knows.words;
 }
 

@@ -4,6 +4,7 @@ pub mod SlotFrames
 pub mod KeptWords
 pub mod Frames
 pub mod CounterLoads
+pub mod NamedAreas
 pub mod RootLoads
 pub mod MemberStores
 pub mod LeaderSteps

@@ -82,7 +82,7 @@ module _ {Served : Generation → Type 0} {about : Opening} (s : State (Unit {0}
     writer = taken k;
     seats = set r.seats k Spent;
     views = ap (λ (vs : List View). set (set vs 0 (Writer (taken k))) (suc k) Spent) r.views;
-    published = record { made = long ∙ r.published.made; staffed = subst (λ (n : ℕ). 0 < n) (sym long) r.published.staffed; watched = r.published.watched; some = r.published.some; served = r.published.served; old_stays = r.published.old_stays; retired_stays = r.published.retired_stays; notes_fit = r.published.notes_fit };
+    published = record { made = long ∙ r.published.made; staffed = subst (λ (n : ℕ). 0 < n) (sym long) r.published.staffed; watched = r.published.watched; some = r.published.some; served = r.published.served; old_stays = r.published.old_stays; retired_stays = r.published.retired_stays; areas_stay = r.published.areas_stay; notes_fit = r.published.notes_fit };
     words = record { all = r.words.all; root = r.words.root; mirror = r.words.mirror; mirrored = r.words.mirrored; reached = r.words.reached; blocks = r.words.blocks };
     each_seat = λ place v here. ⊎_elim (λ (t : (place ≡ k) × (Spent ≡ v)). subst (λ (x : View). Knows (taken k) place x) t.1 tt)
         (λ t. knows_more r.writer (taken k) more place v (r.each_seat place v t.1))

@@ -27,15 +27,16 @@ use Rattle.area_core.specs.declared.table.Published.{Published}
 use Rattle.area_core.specs.Blocks.{Among}
 use Rattle.shared_words.specs.declared.view.BlockWord.{BlockWord}
 use Rattle.shared_words.specs.declared.view.NoteNumber.{NoteNumber}
+use Rattle.shared_words.specs.declared.view.ProcessSlot.{ProcessSlot}
 use Rattle.shared_words.specs.declared.view.MemberView.{MemberView}
 use Rattle.shared_words.specs.declared.view.View.{View}
 use Rattle.shared_words.specs.declared.view.View.TheVariants.{Writer, Member}
 use Rattle.shared_words.specs.Shown.{progress_of}
 use Rattle.shared_words.specs.Seats.{member_of}
 use Rattle.shared_words.specs.Kinds.{Sat, MayConfirm, value_confirmed, confirmed}
-use Rattle.shared_words.specs.Rule.{IsBeginning, WordKept, RunningRule}
+use Rattle.shared_words.specs.Rule.{IsBeginning, IsOwn, WordKept, RunningRule}
 use Rattle.shared_words.proofs.ShownMembers.{shown_at, shown_length, there}
-use Rattle.shared_words.specs.Processes.{process_of, under_of}
+use Rattle.shared_words.specs.Processes.{process_of, slot_in, opening_slot, under_of}
 use Rattle.shared_words.proofs.SlotFrames.{SlotsGoOn, known_awake}
 use Rattle.shared_words.proofs.Frames.{after_step, stored_front, progress_set, progress_words, member_step}
 
@@ -86,6 +87,7 @@ module _ {Served : Generation → Type 0} {opening : Opening} (s : State (Unit {
           seen = subst (λ (xs : _). IsBeginning xs r.writer.published) (sym learnt) knows.seen;
           holds = subst (λ (z : ℕ × List Published). z.0 < length z.1) (λ i. (sym generation i, sym learnt i)) knows.holds;
           noted = subst (λ (xs : List NoteNumber). (note : NoteNumber) → Among xs note → Among r.writer.notes note) (sym noted) knows.noted;
+          own_slots = subst (λ (xs : List ProcessSlot). (process : ℕ) → (IsOwn (length r.writer.members) k process → ⊥) → slot_in xs process ≡ opening_slot process) (sym slots.slots) knows.own_slots;
           words = subst (λ (xs : List BlockWord). (f : BlockWord) → Among xs f → WordKept r.writer f) (sym blocks) knows.words;
         };
         moves = inl (event, made ∙ ap (λ (p : Progress). Some (with_member p k m.member)) (sym same) ∙ ap (λ (p : Progress). Some p) (sym (progress_set words' r.writer r.seats k m knows.made (there r.seats k (Member old) at))));

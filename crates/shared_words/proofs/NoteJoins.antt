@@ -55,6 +55,7 @@ knows_joined w k j m n h note = record {
   noted = λ x among. ⊎_elim (λ (before : slice_get m.notes among.0 ≡ Some x). h.noted x (among.0, before))
       (λ (last : (among.0 ≡ length m.notes) × (x ≡ n.note)). subst (Among w.notes) (sym last.1) note.noted)
       (slice_get-push_at m.notes n.note among.0 x among.1);
+  own_slots = h.own_slots;
   words = h.words;
 }
 

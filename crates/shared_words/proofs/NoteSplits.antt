@@ -70,6 +70,7 @@ splits process s r may =
         served = r.published.served;
         old_stays = r.published.old_stays;
         retired_stays = r.published.retired_stays;
+        areas_stay = r.published.areas_stay;
         notes_fit = λ note among. ⊎_elim (λ (before : slice_get w.notes among.0 ≡ Some note). r.published.notes_fit note (among.0, before))
             (λ (last : (among.0 ≡ length w.notes) × (note ≡ note_number process w)). subst (NoteFits w.published) (sym last.1) (record { process = may.may.below; counted = omega (arith, first) }))
             (slice_get-push_at w.notes (note_number process w) among.0 note among.1);

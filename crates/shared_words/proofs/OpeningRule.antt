@@ -36,7 +36,7 @@ use Rattle.shared_words.specs.Shown.{member_shown, members_shown, watchers_shown
 use Rattle.shared_words.specs.Opening.{member_begun, members_begun, watcher_begun, watchers_begun, writer_begun, opening_view}
 use Rattle.shared_words.specs.Making.{AreBegun, HasSeatsAtHome, handed_on, handed_out}
 use Rattle.shared_words.specs.Processes.{under_of}
-use Rattle.shared_words.specs.Rule.{Knows, MemberKnows, MayBeRead, SlotKnown, RunningRule}
+use Rattle.shared_words.specs.Rule.{AreasStay, Knows, MemberKnows, MayBeRead, SlotKnown, RunningRule}
 use Rattle.shared_words.proofs.KeptWords.{kept_as}
 use Rattle.shared_words.proofs.ShownMembers.{there_is, still_at, drop_none}
 use Rattle.shared_words.proofs.ShownViews.{views_none, views_push}
@@ -143,6 +143,7 @@ member_knows members watchers k m at =
       seen = ([], refl);
       holds = omega arith;
       noted = λ note among. absurd (cc);
+      own_slots = λ process other. refl;
       words = λ f among. absurd (cc);
     })
 
@@ -178,6 +179,14 @@ only : (x p : Published) (g : ℕ) → slice_get (x ∷ []) g ≡ Some p → x �
 only x p zero at = cc
 only x p (suc g) at = absurd (cc)
 
+-- nothing is kept, and generation 0 has no area
+opening_stays : AreasStay (opening_published ∷ []) []
+opening_stays = record {
+  apart = λ p among a b at_a at_b serial. absurd (none_at at_a.0 a (ap (λ (x : Published). slice_get x.areas at_a.0) (only opening_published p among.0 among.1) ∙ at_a.1));
+  same = λ p k a at among listed serial. absurd (none_at among.0 k among.1);
+  stay = λ g later p q k le at_p at_q among has. absurd (none_at among.0 k among.1);
+}
+
 -- the rule holds of a table as it begins
 pub rule_begins : (Served : Generation → Type 0) (about : Opening) (words : List ℕ) → 1 ≤ about.members → about.members ≤ MOST_MEMBERS → about.watchers ≤ MOST_WATCHERS → Served empty_generation → AreBegun about.members words → RunningRule Served about (opening words [] (opening_view about.members about.watchers))
 rule_begins Served about words first few few_watchers served begun =
@@ -195,6 +204,7 @@ rule_begins Served about words first few few_watchers served begun =
         served = λ p among. subst (λ (q : Published). Served q.state) (only opening_published p among.0 among.1) served;
         old_stays = λ g later p q serial le at_p at_q old. absurd (never (subst (λ (x : Published). has_serial x.state.old serial ≡ true) (sym (only opening_published p g at_p)) old));
         retired_stays = λ g later p q serial le at_p at_q old. absurd (never (subst (λ (x : Published). has_serial x.state.retired serial ≡ true) (sym (only opening_published p g at_p)) old));
+        areas_stay = opening_stays;
         notes_fit = λ note among. absurd (let at = among.1 in cc);
       };
       words = record { all = begun.all; root = begun.root; mirror = ap (λ (ws : List ℕ). length ws) (sym (opened TABLE_WORDS)) ∙ length-replicate {A = ℕ} TABLE_WORDS 0; mirrored = λ place late. begun.behind place (omega arith) ∙ sym (opening_empty TABLE_WORDS place); reached = omega arith; blocks = blocks_opened (word_at (block_words words)) (blocks_empty about.members words begun) (MayBeRead w) };
@@ -241,7 +251,7 @@ at_push (z ∷ zs) y (suc k) x at = ⊎_elim (λ t. inl t) (λ (t : (k ≡ lengt
 -- what a seat knows says nothing of how many were handed out
 same_handed : (w : WriterView) (n place : ℕ) (v : View) → Knows w place v → Knows (record w { handed = n }) place v
 same_handed w n place (Writer other) h = h
-same_handed w n place (Member m) h = record { numbered = h.numbered; made = h.made; seen = h.seen; holds = h.holds; noted = h.noted; words = λ f among. kept_as w (record w { handed = n }) refl refl (λ g may. may) f (h.words f among) }
+same_handed w n place (Member m) h = record { numbered = h.numbered; made = h.made; seen = h.seen; holds = h.holds; noted = h.noted; own_slots = h.own_slots; words = λ f among. kept_as w (record w { handed = n }) refl refl (λ g may. may) f (h.words f among) }
 same_handed w n place (Watcher v) h = record { numbered = h.numbered; made = h.made; seen = h.seen }
 same_handed w n place (Note v) h = record { behind = h.behind; seen = h.seen; noted = h.noted; learnt = h.learnt }
 same_handed w n place Spent h = h
@@ -262,7 +272,7 @@ hands_out s r more =
       writer = w';
       seats = r.seats ++ Member m ∷ [];
       views = ap (λ (vs : List View). set vs 0 (Writer w') ++ Member m ∷ []) r.views;
-      published = record { made = r.published.made; staffed = r.published.staffed; watched = r.published.watched; some = r.published.some; served = r.published.served; old_stays = r.published.old_stays; retired_stays = r.published.retired_stays; notes_fit = r.published.notes_fit };
+      published = record { made = r.published.made; staffed = r.published.staffed; watched = r.published.watched; some = r.published.some; served = r.published.served; old_stays = r.published.old_stays; retired_stays = r.published.retired_stays; areas_stay = r.published.areas_stay; notes_fit = r.published.notes_fit };
       words = record { all = r.words.all; root = r.words.root; mirror = r.words.mirror; mirrored = r.words.mirrored; reached = r.words.reached; blocks = r.words.blocks };
       each_seat = λ place v at. ⊎_elim (λ (t : get_elem? r.seats place ≡ some v). same_handed w (w.handed + 1) place v (r.each_seat place v t))
           (λ (t : (place ≡ length r.seats) × (Member m ≡ v)). subst (λ (z : ℕ × View). Knows w' z.0 z.1) (λ i. (sym (t.0 ∙ long) i, t.1 i)) (same_handed w (w.handed + 1) w.handed (Member m) (r.at_home w.handed m there)))

@@ -1,12 +1,13 @@
 -- A word of a block that some seat may load is none that the writer may store.
-use Rattle.std.proofs.Common.{◌≡◌, ℕ, zero, suc, List, refl, sym, ap, subst, ◌∙◌}
+use Rattle.std.proofs.Common.{◌≡◌, ℕ, zero, suc, inl, inr, List, refl, sym, ap, subst, ◌∙◌}
 use mathlib.Core.Option.{some, some-injective}
 use lib.ListN.{get_elem?}
 use Rattle.std.specs.Prelude.{Some, None, Option, slice_get, IsTrue}
 use Rattle.std.specs.Option.{option_and_then}
-use Rattle.std.proofs.lemmas.Bool.{true≢false}
+use Rattle.std.proofs.lemmas.Bool.{eqb-true, true≢false}
 use Rattle.atomic_table.specs.Table.{State}
 use Rattle.term_core.specs.declared.generation.Generation.{Generation}
+use Rattle.term_core.specs.declared.area.AreaRef.{AreaRef}
 use Rattle.area_core.specs.declared.map.WordKind.{WordKind}
 use Rattle.area_core.specs.declared.map.WordKind.TheVariants.{InBlock}
 use Rattle.area_core.specs.declared.event.SeatName.{SeatName}
@@ -23,7 +24,9 @@ use Rattle.shared_words.specs.declared.view.View.TheVariants.{Writer, Member, Wa
 use Rattle.shared_words.specs.Views.{newest}
 use Rattle.shared_words.specs.Shown.{progress_of}
 use Rattle.shared_words.specs.Rule.{RunningRule}
-use Rattle.shared_words.specs.Publishing.{FitsInBlock, FitsWord, MayStoreWord, ReadsHeld, MayLoadWord}
+use Rattle.shared_words.specs.Publishing.{FitsInBlock, FitsWord, MayStoreWord, ReadsHeld, is_of_block, ReadsNamed, MayLoadWord}
+use Rattle.shared_words.specs.Laws.{IsEntryLoad}
+use Rattle.shared_words.proofs.NamedAreas.{named_area}
 use Rattle.shared_words.proofs.ShownMembers.{shown_at, still_at}
 use Rattle.shared_words.proofs.SoundState.{counts}
 
@@ -53,16 +56,24 @@ module _ {Served : Generation → Type 0} {opening : Opening} (s : State (Unit {
   member_unread k m here None holds reads = reads
   member_unread k m here (Some g) holds reads = member_learnt k m here g (slice_get m.seen g) refl holds reads
 
-  behind_unread : (k : ℕ) (v : View) → get_elem? r.seats k ≡ some v → MayLoadWord word v → ⊥
-  behind_unread k (Writer w) here loads = r.each_seat k (Writer w) here
-  behind_unread k (Member m) here loads = member_unread k m here (held_by_member m.member) refl loads
-  behind_unread k (Watcher w) here loads = loads
-  behind_unread k (Note n) here loads = loads
-  behind_unread k Spent here loads = loads
+  -- by a slot, it is an entry word of an area that is kept in the block
+  named_entry : (k : ℕ) (m : MemberView) → get_elem? r.seats k ≡ some (Member m) → ReadsNamed word m → IsEntryLoad r.writer.kept word block at (Member m)
+  named_entry k m here reads =
+      let kept = named_area s r k m here reads.area reads.named reads.listed in
+      let same = ap (λ (a : AreaRef). a.block) kept.is ∙ sym (eqb-true block reads.area.block (subst (λ (kind : WordKind). IsTrue (is_of_block kind reads.area.block)) is reads.of)) in
+      record { m = m; is = refl; unheld = member_unread k m here (held_by_member m.member) refl; area = kept.area; among = kept.among; here = same; entry = fits.unkept kept.area kept.among same }
 
-  pub not_loaded : (id : ℕ) (v : View) → get_elem? s.views id ≡ some v → MayLoadWord word v → ⊥
+  behind_unread : (k : ℕ) (v : View) → get_elem? r.seats k ≡ some v → MayLoadWord word v → IsEntryLoad r.writer.kept word block at v
+  behind_unread k (Writer w) here loads = absurd (r.each_seat k (Writer w) here)
+  behind_unread k (Member m) here (inl reads) = absurd (member_unread k m here (held_by_member m.member) refl reads)
+  behind_unread k (Member m) here (inr reads) = named_entry k m here reads
+  behind_unread k (Watcher w) here loads = absurd loads
+  behind_unread k (Note n) here loads = absurd loads
+  behind_unread k Spent here loads = absurd loads
+
+  pub not_loaded : (id : ℕ) (v : View) → get_elem? s.views id ≡ some v → MayLoadWord word v → IsEntryLoad r.writer.kept word block at v
   not_loaded zero v here loads =
       let same : Writer r.writer ≡ v = some-injective (Writer r.writer) v (ap (λ (vs : List View). get_elem? vs 0) (sym r.views) ∙ here) in
       let mine : MayLoadWord word (Writer r.writer) = subst (MayLoadWord word) (sym same) loads in
-      unread names.Writer (newest r.writer.published) (slice_get r.writer.published (newest r.writer.published)) refl refl mine
+      absurd (unread names.Writer (newest r.writer.published) (slice_get r.writer.published (newest r.writer.published)) refl refl mine)
   not_loaded (suc k) v here loads = behind_unread k v (ap (λ (vs : List View). get_elem? vs (suc k)) (sym r.views) ∙ here) loads

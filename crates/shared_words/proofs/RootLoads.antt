@@ -3,19 +3,22 @@ use Rattle.std.proofs.Common.{◌≡◌, ℕ, zero, suc, ◌<◌, ◌≤◌, inl
 use mathlib.Core.Option.{none, some, some-injective}
 use lib.ListN.{get_elem?}
 use lib.Seq.{set-get_or}
-use Rattle.std.specs.Prelude.{Some, None, slice_get, slice_index}
+use Rattle.std.specs.Prelude.{◌==◌, ◌&&◌, Some, None, slice_get, slice_index}
 use Rattle.std.specs.Option.{option_and_then}
-use Rattle.std.proofs.lemmas.Bool.{cases_Bool}
+use Rattle.std.proofs.lemmas.Bool.{cases_Bool, and_parts, eqb-true}
 use Rattle.atomic_table.specs.Table.{State, keeps, step, Allows}
 use Rattle.prgr_core.specs.declared.member.Member as machines
 use Rattle.prgr_core.specs.declared.progress.Progress.{Progress}
 use Rattle.prgr_core.specs.declared.event.PrgrEvent.TheVariants as prgr
 use Rattle.prgr_core.specs.Members as members
 use Rattle.prgr_core.specs.Step.{with_member, has_loaded}
+use Rattle.term_core.specs.declared.area.AreaRef.{AreaRef}
 use Rattle.term_core.specs.declared.generation.Generation.{Generation}
 use Rattle.area_core.specs.Step.{opening_published}
 use Rattle.area_core.specs.declared.table.Published.{Published}
 use Rattle.area_core.specs.Blocks.{RootFits, Among}
+use Rattle.area_core.specs.Generations.{has_area, has_image, is_kept_as, is_used}
+use Rattle.area_core.proofs.Tests.{passed_by}
 use Rattle.shared_words.specs.declared.table.TheConstants.{ROOT}
 use Rattle.shared_words.specs.declared.opening.Opening.{Opening}
 use Rattle.shared_words.specs.declared.view.NoteNumber.{NoteNumber}
@@ -25,15 +28,17 @@ use Rattle.shared_words.specs.declared.view.View.{View}
 use Rattle.shared_words.specs.declared.view.View.TheVariants.{Writer, Member, Watcher, Note, Spent}
 use Rattle.shared_words.specs.Views.{newest, newest_root, published_at, seen, notes_of}
 use Rattle.shared_words.specs.Shown.{progress_of}
-use Rattle.shared_words.specs.Kinds.{Sat, MayLoadRoot, member_with_root, root_found, RootLoaded, root_loaded}
-use Rattle.shared_words.specs.Rule.{IsBeginning, MayBeRead, RunningRule}
+use Rattle.shared_words.specs.Seats.{member_of}
+use Rattle.shared_words.specs.Kinds.{Sat, IsSameIn, NamedStay, MayLoadRoot, member_with_root, root_found, RootLoaded, root_loaded}
+use Rattle.shared_words.specs.Rule.{IsBeginning, HasItsAreas, MayBeRead, RunningRule}
 use Rattle.shared_words.proofs.ShownMembers.{shown_at, there, there_is, set_same}
 use Rattle.marks.specs.declared.kept.WriterKept.{WriterKept}
 use Rattle.marks.specs.Names.{IsAtRest}
 use Rattle.marks.specs.Kept.{IsKnown}
 use Rattle.marks.specs.Steps.{holding}
 use Rattle.marks.proofs.MemberSteps.{known_at_rest}
-use Rattle.shared_words.specs.Processes.{process_of, under_of, AreAtRest}
+use Rattle.shared_words.specs.Processes.{process_of, under_of, held_by_view, NamesArea, AreAtRest}
+use Rattle.shared_words.proofs.NamedAreas.{same_later}
 use Rattle.shared_words.proofs.SlotFrames.{published_begins, rests}
 use Rattle.shared_words.proofs.Frames.{after_step, same_rest, progress_set, Moves, member_step, behind_step}
 use Rattle.shared_words.proofs.CounterLoads.{same_step}
@@ -86,6 +91,12 @@ only_note : (mine note : NoteNumber) (i : ℕ) → slice_get (mine ∷ []) i ≡
 only_note mine note zero at = cc
 only_note mine note (suc i) at = absurd (cc)
 
+-- an area that is found is one of them
+has_listed : (areas : List AreaRef) (serial block : ℕ) → has_area areas serial block ≡ true → (a : AreaRef) × Among areas a × (a.serial ≡ serial)
+has_listed areas serial block has =
+    let found = passed_by (λ (a : AreaRef). (a.serial == serial) && (a.block == block)) areas has in
+    (found.0, (found.1, found.2), eqb-true found.0.serial serial (and_parts (found.0.serial == serial) (found.0.block == block) found.3).0)
+
 -- a beginning is no longer
 pub shorter : (few all : List Published) → IsBeginning few all → (n : ℕ) → n < length few → n < length all
 shorter few all is n below = omega (arith, ap length is.1, length-append few is.0)
@@ -107,15 +118,29 @@ module _ {Served : Generation → Type 0} {opening : Opening} (s : State (Unit {
   newest_fits : RootFits (published_at all (newest all)).root
   newest_fits = r.words.blocks.roots_fit (newest all) (published_at all (newest all)) may_be_read (there_is all (newest all) opening_published last)
 
+  -- it has the areas that it uses
+  newest_has : HasItsAreas (published_at all (newest all))
+  newest_has =
+      let p = published_at all (newest all) in
+      let at = there_is all (newest all) opening_published last in record {
+        apart = r.published.areas_stay.apart p (newest all, at);
+        listed = λ serial uses.
+            let kept = passed_by (is_kept_as p serial) r.writer.kept (r.words.blocks.used_kept (newest all) p may_be_read at serial uses) in
+            let placed = (and_parts ((kept.0.area.serial == serial) && has_area p.areas serial kept.0.area.block) (has_image p.state.areas serial kept.0.words) kept.3).0 in
+            has_listed p.areas serial kept.0.area.block (and_parts (kept.0.area.serial == serial) (has_area p.areas serial kept.0.area.block) placed).1;
+      }
+
   -- what is told of them
-  told : (v w : View) → seen w ≡ all → IsBeginning (seen v) all → ((note : NoteNumber) → Among (notes_of v) note → Among r.writer.notes note) → w ≡ root_found all v → RootLoaded Served v w (slice_index s.words ROOT)
-  told v w is learnt noted same = record {
+  told : (v w : View) → seen w ≡ all → NamedStay v w → IsBeginning (seen v) all → ((note : NoteNumber) → Among (notes_of v) note → Among r.writer.notes note) → w ≡ root_found all v → RootLoaded Served v w (slice_index s.words ROOT)
+  told v w is named learnt noted same = record {
     learnt = subst (λ (xs : List Published). IsBeginning (seen v) xs) (sym is) learnt;
     some = subst (λ (xs : List Published). 0 < length xs) (sym is) r.published.some;
     root = r.words.root ∙ ap newest_root (sym is);
     fits = subst (λ (xs : List Published). RootFits (published_at xs (newest xs)).root) (sym is) newest_fits;
     served = subst (λ (xs : List Published). Served (published_at xs (newest xs)).state) (sym is) (r.published.served (published_at all (newest all)) (newest all, there_is all (newest all) opening_published last));
     promised = λ note among. subst (λ (xs : List Published). note.published < length xs) (sym is) (r.published.notes_fit note (noted note among)).counted;
+    areas = subst (λ (xs : List Published). HasItsAreas (published_at xs (newest xs))) (sym is) newest_has;
+    named = named;
     view = same ∙ ap (λ (xs : List Published). root_found xs v) (sym is);
   }
 
@@ -136,6 +161,7 @@ module _ {Served : Generation → Type 0} {opening : Opening} (s : State (Unit {
           seen = whole all;
           holds = within b g (length all) m.member last (shorter m.seen all knows.seen m.member.generation knows.holds);
           noted = knows.noted;
+          own_slots = knows.own_slots;
           words = knows.words;
         };
         moves = subst (Moves p) (sym (progress_set s.words r.writer r.seats k m' knows.made (there r.seats k (Member m) at))) (root_moves p k m.member shown b refl);
@@ -147,6 +173,24 @@ module _ {Served : Generation → Type 0} {opening : Opening} (s : State (Unit {
           known = λ process h. root_known b all m process r.writer.looks (λ loaded. rests_then m process r.writer.looks (may loaded) h) (let learnt = shorter m.seen all knows.seen m.member.generation knows.holds in omega (arith, learnt)) knows.seen knows.holds h;
         };
       })
+
+  -- what a slot of its names stays
+  member_named : (k : ℕ) (m : MemberView) → get_elem? r.seats k ≡ some (Member m) → NamedStay (Member m) (root_found all (Member m))
+  member_named k m at x y first second a named listed =
+      let is : m ≡ x = ap member_of first in
+      let then : record m { member = member_with_root (newest all) m.member; seen = all } ≡ y = ap member_of second in
+      subst (λ (n : MemberView). IsSameIn (held_by_view x) (held_by_view n) a) then
+      (subst (λ (n : MemberView). IsSameIn (held_by_view n) (held_by_view (record m { member = member_with_root (newest all) m.member; seen = all })) a) is
+      (by_loaded (has_loaded m.member.loaded) (subst (λ (n : MemberView). NamesArea n a.serial) (sym is) named) (subst (λ (n : MemberView). Among (held_by_view n).areas a) (sym is) listed)))
+    where
+      by_loaded : (b : Bool) → NamesArea m a.serial → Among (held_by_view m).areas a → IsSameIn (held_by_view m) (published_at all (cond b (members.root_loaded (newest all) m.member) m.member).generation) a
+      by_loaded true names here =
+          let knows = r.each_seat k (Member m) at in
+          let learnt = shorter m.seen all knows.seen m.member.generation knows.holds in
+          same_later s r k m at (newest all) (published_at all (newest all)) a (omega (arith, learnt)) (there_is all (newest all) opening_published last) names here
+      by_loaded false names here =
+          let knows = r.each_seat k (Member m) at in
+          subst (λ (q : Published). IsSameIn (held_by_view m) q a) (sym (published_begins m.seen all m.member.generation knows.seen knows.holds)) (record { listed = here; image = refl })
 
   -- a note
   note_loads : (k : ℕ) (n : NoteView) → get_elem? r.seats k ≡ some (Note n) → RunningRule Served opening (after_step s s.words (suc k) (root_found all (Note n)))
@@ -160,9 +204,9 @@ module _ {Served : Generation → Type 0} {opening : Opening} (s : State (Unit {
 
   behind_loads : (k : ℕ) (v : View) → get_elem? r.seats k ≡ some v → MayLoadRoot v → Goes (suc k) v
   behind_loads k (Writer w) here may = absurd (r.each_seat k (Writer w) here)
-  behind_loads k (Member m) here may = (member_loads k m here may, told (Member m) (root_found all (Member m)) refl (r.each_seat k (Member m) here).seen (r.each_seat k (Member m) here).noted refl)
+  behind_loads k (Member m) here may = (member_loads k m here may, told (Member m) (root_found all (Member m)) refl (member_named k m here) (r.each_seat k (Member m) here).seen (r.each_seat k (Member m) here).noted refl)
   behind_loads k (Watcher w) here may = absurd may
-  behind_loads k (Note n) here may = (note_loads k n here, told (Note n) (root_found all (Note n)) refl (r.each_seat k (Note n) here).seen (λ note among. subst (Among r.writer.notes) (only_note n.note note among.0 among.1) (r.each_seat k (Note n) here).noted) refl)
+  behind_loads k (Note n) here may = (note_loads k n here, told (Note n) (root_found all (Note n)) refl (λ m x is. absurd (cc)) (r.each_seat k (Note n) here).seen (λ note among. subst (Among r.writer.notes) (only_note n.note note among.0 among.1) (r.each_seat k (Note n) here).noted) refl)
   behind_loads k Spent here may = absurd may
 
   pub root_loads : (id : ℕ) (v : View) → get_elem? s.views id ≡ some v → MayLoadRoot v → Goes id v
@@ -170,7 +214,7 @@ module _ {Served : Generation → Type 0} {opening : Opening} (s : State (Unit {
       let is : Writer r.writer ≡ v = some-injective (Writer r.writer) v (ap (λ (vs : List View). get_elem? vs 0) (sym r.views) ∙ at) in
       subst (Goes 0) is (
         same_step s r 0 (Writer r.writer) (ap (λ (vs : List View). get_elem? vs 0) r.views),
-        told (Writer r.writer) (Writer r.writer) refl (whole all) (λ note among. among) refl,
+        told (Writer r.writer) (Writer r.writer) refl (λ m x is. absurd (cc)) (whole all) (λ note among. among) refl,
       )
   root_loads (suc k) v at may = behind_loads k v (ap (λ (vs : List View). get_elem? vs (suc k)) (sym r.views) ∙ at) may
 

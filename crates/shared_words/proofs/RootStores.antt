@@ -9,6 +9,7 @@ use Rattle.prgr_core.specs.declared.event.PrgrEvent.TheVariants as prgr
 use Rattle.prgr_core.specs.Step.{IsSound}
 use Rattle.prgr_core.proofs.Parts.{slice_get-push_at}
 use Rattle.prgr_core.proofs.Sound.{keeps_sound}
+use Rattle.term_core.specs.declared.area.AreaRef.{AreaRef}
 use Rattle.term_core.specs.declared.generation.Generation.{Generation}
 use Rattle.area_core.specs.declared.map.TheConstants.{SLOTS_START, RETIRE_START}
 use Rattle.area_core.specs.declared.table.Published.{Published}
@@ -30,9 +31,9 @@ use Rattle.shared_words.specs.Views.{newest, newest_root, published_at, root_wor
 use Rattle.shared_words.specs.Shown.{block_words, progress_of}
 use Rattle.shared_words.specs.Seats.{writer_of}
 use Rattle.shared_words.specs.Kinds.{Sat}
-use Rattle.shared_words.specs.Rule.{IsBeginning, MayBeRead, RunningRule}
-use Rattle.shared_words.specs.Publishing.{kept_next, StandsFor, FreshStand, MayPublish, IsRootOf, with_next, root_stored}
-use Rattle.shared_words.proofs.ShownMembers.{drop_set}
+use Rattle.shared_words.specs.Rule.{IsBeginning, HasArea, AreApart, AreasStay, MayBeRead, RunningRule}
+use Rattle.shared_words.specs.Publishing.{kept_next, StandsFor, FreshStand, AreasGoOn, MayPublish, IsRootOf, with_next, root_stored}
+use Rattle.shared_words.proofs.ShownMembers.{drop_set, within_get}
 use Rattle.shared_words.proofs.KeptWords.{kept_with}
 use Rattle.shared_words.proofs.ShownWords.{shown_word}
 use Rattle.shared_words.proofs.SlotFrames.{ended_still}
@@ -119,6 +120,52 @@ module _ (words : List ℕ) (w : WriterView) (sound : BlockInvariant (record { w
     anchors_apart = sound.anchors_apart;
   }
 
+-- ---- the areas
+
+-- each kept area is the same in what is published next, and in what was published before
+module _ (w : WriterView) (stay : AreasStay w.published w.kept) (p : Published) (goes : AreasGoOn w p) where
+  before_or_next : (g : ℕ) (q : Published) → slice_get (w.published ++ p ∷ []) g ≡ Some q → (slice_get w.published g ≡ Some q) ⊎ ((g ≡ length w.published) × (q ≡ p))
+  before_or_next g q at = slice_get-push_at w.published p g q at
+
+  has_next : (q : Published) (k : KeptArea) → q ≡ p → Among (kept_next w p) k → HasArea q k
+  has_next q k is among = subst (λ (x : Published). HasArea x k) (sym is) (goes.kept k among)
+
+  same_next : (g : ℕ) (q : Published) (k : KeptArea) (a : AreaRef) → slice_get w.published g ≡ Some q → Among (kept_next w p) k → Among q.areas a → a.serial ≡ k.area.serial → HasArea q k
+  same_next g q k a at among listed serial =
+      elim (in_either w.kept (fresh_areas w.kept p) among.0 k among.1) as (λ _. HasArea q k) [
+        | inl was ↦ stay.same q k a (g, at) (among.0, was) listed serial
+        | inr new ↦ absurd (goes.new k q a (new.0, new.2) (g, at) listed serial)
+      ]
+
+  stay_next : (g later : ℕ) (q x : Published) (k : KeptArea) → g ≤ later → slice_get w.published g ≡ Some q → slice_get w.published later ≡ Some x → Among (kept_next w p) k → HasArea q k → HasArea x k
+  stay_next g later q x k le at_q at_x among has =
+      elim (in_either w.kept (fresh_areas w.kept p) among.0 k among.1) as (λ _. HasArea x k) [
+        | inl was ↦ stay.stay g later q x k le at_q at_x (among.0, was) has
+        | inr new ↦ absurd (goes.new k q k.area (new.0, new.2) (g, at_q) has.listed refl)
+      ]
+
+  areas_next : AreasStay (w.published ++ p ∷ []) (kept_next w p)
+  areas_next = record {
+    apart = λ q among.
+        elim (before_or_next among.0 q among.1) as (λ _. AreApart q) [
+          | inl before ↦ stay.apart q (among.0, before)
+          | inr last ↦ subst AreApart (sym last.1) goes.apart
+        ];
+    same = λ q k a published among listed serial.
+        elim (before_or_next published.0 q published.1) as (λ _. HasArea q k) [
+          | inl before ↦ same_next published.0 q k a before among listed serial
+          | inr last ↦ has_next q k last.1 among
+        ];
+    stay = λ g later q x k le at_q at_x among has.
+        elim (before_or_next later x at_x) as (λ _. HasArea x k) [
+          | inr last ↦ has_next x k last.1 among
+          | inl before ↦ elim (before_or_next g q at_q) as (λ _. HasArea x k) [
+            | inl earlier ↦ stay_next g later q x k le earlier before among has
+            | inr last ↦ absurd (let few = within_get w.published later x before in omega (arith, few, le, last.0))
+          ]
+        ];
+  }
+
 -- ---- the rule
 
 module _ {Served : Generation → Type 0} {opening : Opening} (s : State (Unit {0}) View) (r : RunningRule Served opening s) where
@@ -159,6 +206,7 @@ module _ {Served : Generation → Type 0} {opening : Opening} (s : State (Unit {
         served = all_served p may.served;
         old_stays = may.old_stays;
         retired_stays = may.retired_stays;
+        areas_stay = areas_next w r.published.areas_stay p may.areas_go_on;
         notes_fit = λ note among. (let fits = r.published.notes_fit note among in record { process = fits.process; counted = omega (arith, fits.counted, length-append w.published (p ∷ [])) });
       })
       (record {

@@ -33,7 +33,7 @@ use Rattle.shared_words.specs.Shown.{views_shown, progress_of, state_of}
 use Rattle.shared_words.specs.Seats.{member_of}
 use Rattle.shared_words.specs.Processes.{process_of, under_of}
 use Rattle.shared_words.specs.Kinds.{Sat}
-use Rattle.shared_words.specs.Rule.{MayBeRead, SlotStands, SlotKnown, WordsAgree, MemberKnows, RunningRule}
+use Rattle.shared_words.specs.Rule.{IsOwn, MayBeRead, SlotStands, SlotKnown, WordsAgree, MemberKnows, RunningRule}
 use Rattle.shared_words.specs.Slots.{process_at, place_at, FitsAnchor, FitsSlot, MayStoreSlot, process_stored, with_slot, slot_stored}
 use Rattle.shared_words.proofs.ShownMembers.{shown_at, shown_length, set_same, there, there_is, within_get}
 use Rattle.shared_words.proofs.ShownViews.{views_at}
@@ -43,7 +43,7 @@ use Rattle.shared_words.proofs.SlotFrames.{anchor_word, slot_still}
 use Rattle.shared_words.proofs.Frames.{after_step, progress_set, progress_words, member_changes}
 use Rattle.shared_words.proofs.ClearLooks.{awake_reads, awake_published, all_over}
 use Rattle.shared_words.proofs.MemberStores.{seat_of}
-use Rattle.shared_words.proofs.AnchorStores.{may_become, turns_known, anchor_known, process_here, process_else}
+use Rattle.shared_words.proofs.AnchorStores.{may_become, turns_known, anchor_known, slot_else, process_here, process_else}
 
 -- ---- the rule
 
@@ -235,7 +235,7 @@ module _ {Served : Generation → Type 0} {opening : Opening} (s : State (Unit {
       (get_or-set_other s.words (slot_place process place) (DELAYS + 1) value 0 (λ e. absurd (omega (arith, e)))) in
       member_changes s r (set s.words (slot_place process place) value) k m m' at (record {
         agree = agrees;
-        knows = record { numbered = knows.numbered; made = knows.made; seen = knows.seen; holds = knows.holds; noted = knows.noted; words = knows.words };
+        knows = record { numbered = knows.numbered; made = knows.made; seen = knows.seen; holds = knows.holds; noted = knows.noted; own_slots = λ other apart. slot_else m.slots process other (process_stored place value m.member.generation (process_of m process)) (λ same. apart (subst (λ (i : ℕ). IsOwn (length r.writer.members) k i) (sym same) (record { below = may.below; own = own }))) ∙ knows.own_slots other apart; words = knows.words };
         moves = inr (progress_set (set s.words (slot_place process place) value) r.writer r.seats k m' knows.made (there r.seats k (Member m) at) ∙ (λ i. record (front i) { members = slice_set (front i).members k m.member }) ∙ (λ i. record q { members = set_same q.members k m.member shown i }));
         own = get_or-set_other s.words (slot_place process place) (CONFIRMED + k) value 0 (λ e. absurd (omega (arith, e, few_members, many, made))) ∙ r.machine.own_words k m.member shown;
         others = λ j other few. get_or-set_other s.words (slot_place process place) (CONFIRMED + j) value 0 (λ e. elim few as (λ _. ⊥) [ inl low ↦ absurd (omega (arith, e, few_members, many, low)) | inr low ↦ absurd (omega (arith, e, low)) ]);

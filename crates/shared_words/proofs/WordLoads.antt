@@ -1,5 +1,5 @@
 -- A load of a word of a block tells of blocks that stand for the generation that is held.
-use Rattle.std.proofs.Common.{◌≡◌, ℕ, zero, suc, ◌<◌, ◌≤◌, inr, List, [], refl, sym, ap, subst, ◌∙◌, arith}
+use Rattle.std.proofs.Common.{◌≡◌, ℕ, zero, suc, ◌<◌, ◌≤◌, inl, inr, List, [], refl, sym, ap, subst, ◌∙◌, arith}
 use mathlib.Core.Option.{none, some, some-injective}
 use lib.ListN.{get_elem?}
 use lib.Seq.{set-get_or}
@@ -34,19 +34,22 @@ use Rattle.atomic_table.specs.Seated.{TableId}
 use Rattle.shared_words.specs.Seats.{Place}
 use Rattle.shared_words.specs.Kinds.{Sat}
 use Rattle.shared_words.specs.Passes.{MayLoad}
-use Rattle.shared_words.specs.Rule.{MayBeRead, blocks_shown, WordKept, RunningRule}
-use Rattle.shared_words.specs.Publishing.{ReadsHeld, MayLoadWord, IsWordUnder, IsOwnWord, WordTells, with_block_word, word_found, word_loaded}
+use Rattle.shared_words.specs.Seats.{member_of}
+use Rattle.shared_words.specs.Views.{blocks_found}
+use Rattle.shared_words.specs.Processes.{held_by_view, NamesArea}
+use Rattle.shared_words.specs.Rule.{IsKeptIn, MayBeRead, blocks_shown, WordKept, RunningRule}
+use Rattle.shared_words.specs.Publishing.{ReadsHeld, is_of_block, MayLoadWord, NamedStand, IsWordUnder, IsOwnWord, WordTells, with_block_word, word_found, word_loaded}
 use Rattle.shared_words.proofs.ShownMembers.{shown_at, still_at, there, set_same}
 use Rattle.shared_words.proofs.ShownWords.{shown_word}
 use Rattle.shared_words.proofs.SoundState.{counts}
 use Rattle.shared_words.proofs.Frames.{after_step, same_rest, progress_set, member_step}
-use Rattle.shared_words.proofs.KeptWords.{member_reads, read_published}
+use Rattle.shared_words.proofs.NamedAreas.{held_at, named_area}
 use Rattle.shared_words.proofs.WriterFrames.{writer_at}
 use Rattle.shared_words.proofs.CounterLoads.{same_step}
 
 -- ---- where such a word stands
 
-block_behind : (word block at : ℕ) → kind_at word ≡ InBlock block at → RETIRE_START ≤ word
+pub block_behind : (word block at : ℕ) → kind_at word ≡ InBlock block at → RETIRE_START ≤ word
 block_behind word block at is = grind (arith, nat_tests)
 
 word_behind : (word : ℕ) (kind : WordKind) (p : Published) → kind_at word ≡ kind → IsTrue (reads_word kind p) → (RETIRE_START ≤ word) × (word < TABLE_WORDS)
@@ -61,6 +64,15 @@ under_behind : (word : ℕ) (o : Option Published) → IsTrue (is_read_under (ki
 under_behind word None reads = absurd (cc)
 under_behind word (Some p) reads = word_behind word (kind_at word) p refl reads
 
+-- a word of a block of areas, or its retire or doom word
+area_behind : (word block : ℕ) (kind : WordKind) → kind_at word ≡ kind → IsTrue (is_of_block kind block) → (RETIRE_START ≤ word) × (word < TABLE_WORDS)
+area_behind word block (InBlock other at) is of = (block_behind word other at is, block_within word other at is)
+area_behind word block (Retire other) is of = (let at = kind_retire_place word other is in (omega (arith, at.0), omega (arith, at.0, at.1)))
+area_behind word block (Doom other) is of = (let at = kind_doom_place word other is in (omega (arith, at.0), omega (arith, at.0, at.1)))
+area_behind word block Machine is of = absurd (cc)
+area_behind word block Slot is of = absurd (cc)
+area_behind word block Nowhere is of = absurd (cc)
+
 held_behind : (word : ℕ) (published : List Published) (o : Option ℕ) → ReadsHeld word published o → (RETIRE_START ≤ word) × (word < TABLE_WORDS)
 held_behind word published None reads = absurd reads
 held_behind word published (Some g) reads = under_behind word (slice_get published g) reads
@@ -68,18 +80,23 @@ held_behind word published (Some g) reads = under_behind word (slice_get publish
 -- a word that may be loaded is one behind the slots
 pub may_behind : (word : ℕ) (v : View) → MayLoadWord word v → (RETIRE_START ≤ word) × (word < TABLE_WORDS)
 may_behind word (Writer w) may = held_behind word w.published (Some (newest w.published)) may
-may_behind word (Member m) may = held_behind word m.seen (held_by_member m.member) may
+may_behind word (Member m) (inl reads) = held_behind word m.seen (held_by_member m.member) reads
+may_behind word (Member m) (inr named) = area_behind word named.area.block (kind_at word) refl named.of
 may_behind word (Watcher w) may = absurd may
 may_behind word (Note n) may = absurd may
 may_behind word Spent may = absurd may
+
+-- what was published under a number is one
+one_only : (o : Option Published) (p q : Published) → o ≡ Some p → o ≡ Some q → p ≡ q
+one_only o p q first second = (let is : Some p ≡ Some q = sym first ∙ second in cc)
 
 -- ---- what is told
 
 module _ {Served : Generation → Type 0} {opening : Opening} (s : State (Unit {0}) View) (r : RunningRule Served opening s) (word : ℕ) (late : RETIRE_START ≤ word) where
   -- of a generation that a seat of the machine holds, with the words that the seat found
-  told : (seat : SeatName) (g : ℕ) (p : Published) (read : List BlockWord) → ((f : BlockWord) → Among read f → WordKept r.writer f) → held_by (progress_of s.words r.writer r.seats) seat ≡ Some g → slice_get r.writer.published g ≡ Some p
-      → IsWordUnder g p read word (slice_index s.words word)
-  told seat g p read kept holds at =
+  told : (v : View) (seat : SeatName) (g : ℕ) (p : Published) → NamedStand v r.writer.kept → ((f : BlockWord) → Among (blocks_found (word_found word (slice_index s.words word) v)) f → WordKept r.writer f) → held_by (progress_of s.words r.writer r.seats) seat ≡ Some g → slice_get r.writer.published g ≡ Some p
+      → IsWordUnder v g p word (slice_index s.words word)
+  told v seat g p named kept holds at =
       let q = progress_of s.words r.writer r.seats in
       let counted = counts s r g (held_readable q r.machine.progress g (seat_held q seat g holds)) in
       record {
@@ -87,38 +104,37 @@ module _ {Served : Generation → Type 0} {opening : Opening} (s : State (Unit {
         stands = fewer_count (blocks_shown s.words r.writer) (MayBeRead r.writer) (λ h. h ≡ g) r.words.blocks (λ h same. subst (MayBeRead r.writer) (sym same) counted);
         published = at;
         here = shown_word s.words word (omega (arith, late));
-        all = λ f among same steady.
+        named = named;
+        all = λ f among same reads steady.
             let behind = block_behind f.word steady.block steady.at steady.is in
+            let its = kept f among in
+            let is : its.published ≡ p = one_only (slice_get r.writer.published f.generation) its.published p its.at (ap (slice_get r.writer.published) same ∙ at) in
             shown_word s.words f.word (omega (arith, behind)) ∙ r.words.mirrored f.word behind
-            ∙ (kept f among).stands (subst (MayBeRead r.writer) (sym same) counted) steady.block steady.at steady.is;
+            ∙ its.stands (subst (λ (q : Published). IsTrue (reads_word (kind_at f.word) q)) (sym is) reads) (subst (MayBeRead r.writer) (sym same) counted) steady.block steady.at steady.is;
       }
 
   -- what a member finds stands
-  finds : (k : ℕ) (m : MemberView) → get_elem? r.seats k ≡ some (Member m) → MayLoadWord word (Member m) → (f : BlockWord) → Among (with_block_word word (slice_index s.words word) m).blocks f → WordKept r.writer f
-  finds k m at may f (zero, is) =
-      let knows = r.each_seat k (Member m) at in
-      let read = read_published (kind_at word) (slice_get m.seen m.member.generation) (member_reads word m.seen m.member may) in
-      subst (WordKept r.writer) (the_same f is) (record {
-        published = read.0;
-        at = ap (λ (xs : List Published). slice_get xs m.member.generation) knows.seen.1 ∙ still_at m.seen knows.seen.0 m.member.generation read.0 read.1;
-        reads = read.2;
-        stands = λ counted block place in_block. sym (r.words.mirrored word late);
-      })
+  finds : (k : ℕ) (m : MemberView) → get_elem? r.seats k ≡ some (Member m) → (f : BlockWord) → Among (with_block_word word (slice_index s.words word) m).blocks f → WordKept r.writer f
+  finds k m at f (zero, is) = subst (WordKept r.writer) (the_same f is) (record { published = held_by_view m; at = held_at s r k m at; stands = λ reads counted block place in_block. sym (r.words.mirrored word late) })
     where
       the_same : (f : BlockWord) → Some (record { generation = m.member.generation; word = word; value = slice_index s.words word }) ≡ Some f → record { generation = m.member.generation; word = word; value = slice_index s.words word } ≡ f
       the_same f is = cc
-  finds k m at may f (suc i, is) = (r.each_seat k (Member m) at).words f (i, is)
+  finds k m at f (suc i, is) = (r.each_seat k (Member m) at).words f (i, is)
 
-  member_told : (k : ℕ) (m : MemberView) → get_elem? r.seats k ≡ some (Member m) → MayLoadWord word (Member m) → WordTells (Member m) word (slice_index s.words word)
-  member_told k m at may g p holds here =
+  -- what slots of the member name stands
+  named_told : (k : ℕ) (m : MemberView) → get_elem? r.seats k ≡ some (Member m) → NamedStand (Member m) r.writer.kept
+  named_told k m at n is a = subst (λ (x : MemberView). NamesArea x a.serial → Among (held_by_view x).areas a → IsKeptIn r.writer.kept (held_by_view x) a) (ap member_of is) (named_area s r k m at a)
+
+  member_told : (k : ℕ) (m : MemberView) → get_elem? r.seats k ≡ some (Member m) → WordTells (Member m) word (slice_index s.words word)
+  member_told k m at g p holds here =
       let knows = r.each_seat k (Member m) at in
-      told (names.Member k) g p (with_block_word word (slice_index s.words word) m).blocks (finds k m at may)
+      told (Member m) (names.Member k) g p (named_told k m at) (finds k m at)
       (ap (option_and_then held_by_member) (shown_at r.writer.members r.seats k m knows.made at) ∙ holds)
       (ap (λ (xs : List Published). slice_get xs g) knows.seen.1 ∙ still_at m.seen knows.seen.0 g p here)
 
   behind_told : (k : ℕ) (v : View) → get_elem? r.seats k ≡ some v → MayLoadWord word v → WordTells v word (slice_index s.words word)
   behind_told k (Writer w) at may = absurd (r.each_seat k (Writer w) at)
-  behind_told k (Member m) at may = member_told k m at may
+  behind_told k (Member m) at may = member_told k m at
   behind_told k (Watcher w) at may = absurd may
   behind_told k (Note n) at may = absurd may
   behind_told k Spent at may = absurd may
@@ -126,7 +142,7 @@ module _ {Served : Generation → Type 0} {opening : Opening} (s : State (Unit {
   pub tells : (id : ℕ) (v : View) → get_elem? s.views id ≡ some v → MayLoadWord word v → WordTells v word (slice_index s.words word)
   tells zero v at may =
       let is : Writer r.writer ≡ v = some-injective (Writer r.writer) v (ap (λ (vs : List View). get_elem? vs 0) (sym r.views) ∙ at) in
-      subst (λ (x : View). WordTells x word (slice_index s.words word)) is (λ g p holds here. told names.Writer g p [] (λ f among. absurd (cc)) holds here)
+      subst (λ (x : View). WordTells x word (slice_index s.words word)) is (λ g p holds here. told (Writer r.writer) names.Writer g p (λ m same. absurd (cc)) (λ f among. absurd (cc)) holds here)
   tells (suc k) v at may = behind_told k v (ap (λ (vs : List View). get_elem? vs (suc k)) (sym r.views) ∙ at) may
 
   -- the words behind the slots are those that the writer has stored
@@ -136,15 +152,15 @@ module _ {Served : Generation → Type 0} {opening : Opening} (s : State (Unit {
   -- ---- the rule
 
   -- a load by a member, which keeps what it found
-  member_loads : (k : ℕ) (m : MemberView) → get_elem? r.seats k ≡ some (Member m) → MayLoadWord word (Member m) → RunningRule Served opening (after_step s s.words (suc k) (Member (with_block_word word (slice_index s.words word) m)))
-  member_loads k m at may =
+  member_loads : (k : ℕ) (m : MemberView) → get_elem? r.seats k ≡ some (Member m) → RunningRule Served opening (after_step s s.words (suc k) (Member (with_block_word word (slice_index s.words word) m)))
+  member_loads k m at =
       let knows = r.each_seat k (Member m) at in
       let p = progress_of s.words r.writer r.seats in
       let shown = shown_at r.writer.members r.seats k m knows.made at in
       let m' = with_block_word word (slice_index s.words word) m in
       member_step s r s.words k m m' at (record {
         rest = same_rest s.words;
-        knows = record { numbered = knows.numbered; made = knows.made; seen = knows.seen; holds = knows.holds; noted = knows.noted; words = finds k m at may };
+        knows = record { numbered = knows.numbered; made = knows.made; seen = knows.seen; holds = knows.holds; noted = knows.noted; own_slots = knows.own_slots; words = finds k m at };
         moves = inr (progress_set s.words r.writer r.seats k m' knows.made (there r.seats k (Member m) at) ∙ (λ i. record p { members = set_same p.members k m.member shown i }));
         own = r.machine.own_words k m.member shown;
         others = λ j other. refl;
@@ -154,7 +170,7 @@ module _ {Served : Generation → Type 0} {opening : Opening} (s : State (Unit {
 
   behind_loads : (k : ℕ) (v : View) → get_elem? r.seats k ≡ some v → MayLoadWord word v → RunningRule Served opening (after_step s s.words (suc k) (word_found word (slice_index s.words word) v))
   behind_loads k (Writer w) at may = absurd (r.each_seat k (Writer w) at)
-  behind_loads k (Member m) at may = member_loads k m at may
+  behind_loads k (Member m) at may = member_loads k m at
   behind_loads k (Watcher w) at may = absurd may
   behind_loads k (Note n) at may = absurd may
   behind_loads k Spent at may = absurd may

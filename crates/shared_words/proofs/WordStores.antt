@@ -32,7 +32,7 @@ use Rattle.shared_words.specs.declared.view.View.TheVariants.{Writer}
 use Rattle.shared_words.specs.Shown.{members_shown, block_words, progress_of}
 use Rattle.shared_words.specs.Seats.{writer_of}
 use Rattle.shared_words.specs.Kinds.{Sat}
-use Rattle.shared_words.specs.Rule.{MayBeRead, MachineHolds, RunningRule}
+use Rattle.shared_words.specs.Rule.{AreasStay, MayBeRead, MachineHolds, RunningRule}
 use Rattle.shared_words.specs.Publishing.{FitsInBlock, FitsRetire, FitsDoom, FitsWord, MayStoreWord, is_released, kept_left, with_word, word_stored}
 use Rattle.shared_words.proofs.ShownMembers.{within_get}
 use Rattle.shared_words.proofs.KeptWords.{kept_stored}
@@ -136,7 +136,7 @@ owes_block w block at value fits = record {
   doomed = λ g p counts here k among same unretired. absurd (cc);
   images = λ k among place old has plain same.
       let parts = same_block block at k.area.block place same in
-      fits.images k old among (sym parts.0) (ap (slice_get k.words) parts.1 ∙ has) (ap (is_entry_word k) parts.1 ∙ plain);
+      absurd (true≢false (sym (fits.unkept k among (sym parts.0)) ∙ ap (is_entry_word k) parts.1 ∙ plain));
 }
   where
     read : (g : ℕ) (p : Published) → MayBeRead w g → slice_get w.published g ≡ Some p → reads_in_block p block at ≡ true → ⊥
@@ -192,6 +192,23 @@ left_sound w words value (Retire block) clear fits sound =
     (λ k process anchor among is named. unless (k.area.block == block) (is_released w value k)
     (λ same goes. true≢false (sym named ∙ clear k.area.serial process anchor (fits.cleared k among (eqb-true k.area.block block same) goes) is)))
 left_sound w words value kind clear fits sound = sound
+
+-- fewer kept areas are as they were
+fewer_stay : (published : List Published) (kept less : List KeptArea) → ((k : KeptArea) → Among less k → Among kept k) → AreasStay published kept → AreasStay published less
+fewer_stay published kept less were stay = record {
+  apart = stay.apart;
+  same = λ p k a at among listed serial. stay.same p k a at (were k among) listed serial;
+  stay = λ g later p q k le at_p at_q among has. stay.stay g later p q k le at_p at_q (were k among) has;
+}
+
+-- so those that a store leaves
+left_stay : (w : WriterView) (value : ℕ) (kind : WordKind) → AreasStay w.published w.kept → AreasStay w.published (kept_left w value kind)
+left_stay w value (Retire block) stay = fewer_stay w.published w.kept (kept_left w value (Retire block)) (λ k among. (filter_gives (λ (x : KeptArea). not ((x.area.block == block) && is_released w value x)) w.kept among.0 k among.1).0) stay
+left_stay w value (InBlock block at) stay = stay
+left_stay w value (Doom block) stay = stay
+left_stay w value Machine stay = stay
+left_stay w value Slot stay = stay
+left_stay w value Nowhere stay = stay
 
 -- the word is one behind the slots
 pub word_placed : (w : WriterView) (word value : ℕ) (kind : WordKind) → kind_at word ≡ kind → FitsWord w value kind → (RETIRE_START ≤ word) × (word < TABLE_WORDS)
@@ -253,7 +270,7 @@ module _ {Served : Generation → Type 0} {opening : Opening} (s : State (Unit {
         ended = ended_as w w' refl refl (omega arith);
         slots = λ process place below few. get_or-set_other s.words word (slot_place process place) value 0 (λ e. absurd (omega (arith, e, late, below, few)));
       })
-      (record { made = r.published.made; staffed = r.published.staffed; watched = r.published.watched; some = r.published.some; served = r.published.served; old_stays = r.published.old_stays; retired_stays = r.published.retired_stays; notes_fit = r.published.notes_fit })
+      (record { made = r.published.made; staffed = r.published.staffed; watched = r.published.watched; some = r.published.some; served = r.published.served; old_stays = r.published.old_stays; retired_stays = r.published.retired_stays; areas_stay = left_stay w value (kind_at word) r.published.areas_stay; notes_fit = r.published.notes_fit })
       (record {
         all = length-set s.words word value ∙ r.words.all;
         root = get_or-set_other s.words word ROOT value 0 (λ e. absurd (omega arith)) ∙ r.words.root;

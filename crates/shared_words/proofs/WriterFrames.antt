@@ -1,5 +1,5 @@
 -- What a step of the writer leaves of the rule: what every seat knows, and which seats there are.
-use Rattle.std.proofs.Common.{◌≡◌, ℕ, zero, suc, ◌+◌, ◌<◌, ◌≤◌, List, length, set, refl, sym, ap, subst, ◌∙◌}
+use Rattle.std.proofs.Common.{◌≡◌, ℕ, zero, suc, ◌+◌, ◌%◌, ◌<◌, ◌≤◌, List, length, set, refl, sym, ap, subst, ◌∙◌}
 use mathlib.Core.Option.{some, some-injective}
 use lib.ListN.{get_elem?}
 use Rattle.std.specs.Prelude.{slice_get}
@@ -37,6 +37,7 @@ knows_more w w' more place (Member m) h = record {
   seen = more.learnt m.seen h.seen;
   holds = h.holds;
   noted = λ note among. more.noted note (h.noted note among);
+  own_slots = λ process other. h.own_slots process (λ is. other (record { below = is.below; own = ap (λ (n : ℕ). process % n) more.members ∙ is.own }));
   words = λ f among. more.words f (h.words f among);
 }
 knows_more w w' more place (Watcher v) h = record {

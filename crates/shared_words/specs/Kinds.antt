@@ -13,10 +13,12 @@ use Rattle.prgr_core.specs.Members as members
 use Rattle.prgr_core.specs.Watchers as watchers
 use Rattle.prgr_core.specs.Step.{has_loaded, follows, scan_of}
 use Rattle.prgr_core.specs.Invariant.{CounterInRange}
+use Rattle.term_core.specs.declared.area.AreaRef.{AreaRef}
 use Rattle.term_core.specs.declared.generation.Generation.{Generation}
 use Rattle.area_core.specs.declared.table.Published.{Published}
 use Rattle.area_core.specs.Step.{confirms}
 use Rattle.area_core.specs.Blocks.{RootFits, Among}
+use Rattle.area_core.specs.Roots.{image_of}
 use Rattle.shared_words.specs.declared.table.TheConstants.{CONFIRMED}
 use Rattle.shared_words.specs.declared.opening.Opening.{Opening}
 use Rattle.shared_words.specs.declared.view.FoundWord.TheVariants.{MemberWord, LeaderWord}
@@ -26,8 +28,8 @@ use Rattle.shared_words.specs.declared.view.WriterView.{WriterView}
 use Rattle.shared_words.specs.declared.view.View.{View}
 use Rattle.shared_words.specs.declared.view.View.TheVariants.{Writer, Member, Watcher, Note, Spent}
 use Rattle.shared_words.specs.Views.{newest, newest_root, published_at, seen, notes_of}
-use Rattle.shared_words.specs.Processes.{AreAtRest}
-use Rattle.shared_words.specs.Rule.{IsBeginning}
+use Rattle.shared_words.specs.Processes.{held_by_view, NamesArea, AreAtRest}
+use Rattle.shared_words.specs.Rule.{IsBeginning, HasItsAreas}
 use Rattle.shared_words.specs.Seats.{member_of}
 
 -- a seat of the table, which has no slots
@@ -93,6 +95,16 @@ root_found published (Watcher w) = Watcher (record w { seen = published })
 root_found published (Note n) = Note (record n { seen = published })
 root_found published Spent = Spent
 
+-- a generation has the area that another has, in the same block and with the same image
+pub record IsSameIn (p q : Published) (a : AreaRef) : Type 0 where
+  pub listed : Among q.areas a
+  pub image : image_of q.state.areas a.serial ≡ image_of p.state.areas a.serial
+
+-- what a slot of the member names, and the generation has that it held, the generation has that it holds now
+abbrev pub NamedStay : View → View → Type 0
+NamedStay old new =
+    (m n : MemberView) → old ≡ Member m → new ≡ Member n → (a : AreaRef) → NamesArea m a.serial → Among (held_by_view m).areas a → IsSameIn (held_by_view m) (held_by_view n) a
+
 -- what a load of the root tells: the generations so far are learnt, and the root found is that of the last of them,
 -- which the code server has made, and names blocks that there are; and what was published at a spawn is among them, of
 -- which the seat keeps a note
@@ -103,6 +115,8 @@ pub record RootLoaded (Served : Generation → Type 0) (old new : View) (found :
   pub fits : RootFits (published_at (seen new) (newest (seen new))).root
   pub served : Served (published_at (seen new) (newest (seen new))).state
   pub promised : (note : NoteNumber) → Among (notes_of old) note → note.published < length (seen new)
+  pub areas : HasItsAreas (published_at (seen new) (newest (seen new)))
+  pub named : NamedStay old new
   pub view : new ≡ root_found (seen new) old
 
 -- the same of a step, which moves no slot

@@ -1,13 +1,16 @@
 -- What holds of every state that meets the rule.
-use Rattle.std.specs.Prelude.{◌≡◌, ℕ, List, Some, true, false, slice_get, slice_index}
+use Rattle.std.specs.Prelude.{◌≡◌, ℕ, List, Some, true, false, slice_get, slice_index, IsTrue}
 use mathlib.Core.Option.{some}
 use lib.ListN.{get_elem?}
 use Rattle.atomic_table.specs.Table.{State}
 use Rattle.term_core.specs.declared.generation.Generation.{Generation}
 use Rattle.area_core.specs.declared.map.WordKind.TheVariants.{InBlock}
+use Rattle.area_core.specs.declared.table.KeptArea.{KeptArea}
 use Rattle.area_core.specs.declared.table.Published.{Published}
+use Rattle.area_core.specs.Generations.{is_entry_word}
 use Rattle.area_core.specs.Map.{kind_at, slot_place}
-use Rattle.area_core.specs.Blocks.{IsAnchor}
+use Rattle.area_core.specs.Blocks.{Among, IsAnchor}
+use Rattle.area_core.specs.Readers.{held_by_member}
 use Rattle.area_core.specs.Step.{IsReadable, IsSound}
 use Rattle.marks.specs.declared.kept.LookKind.{LookKind}
 use Rattle.marks.specs.Names.{names_in}
@@ -15,19 +18,31 @@ use Rattle.marks.specs.Kept.{comes_to}
 use Rattle.marks.specs.Steps.{holding}
 use Rattle.shared_words.specs.declared.opening.Opening.{Opening}
 use Rattle.shared_words.specs.declared.view.WriterView.{WriterView}
+use Rattle.shared_words.specs.declared.view.MemberView.{MemberView}
 use Rattle.shared_words.specs.declared.view.View.{View}
+use Rattle.shared_words.specs.declared.view.View.TheVariants.{Member}
 use Rattle.shared_words.specs.Shown.{state_of}
 use Rattle.shared_words.specs.Rule.{RunningRule}
-use Rattle.shared_words.specs.Publishing.{MayStoreWord, MayLoadWord}
+use Rattle.shared_words.specs.Publishing.{MayStoreWord, ReadsHeld, MayLoadWord}
 use Rattle.shared_words.specs.Slots.{IsClear}
 
 -- the state that words and views show meets the progress invariant and the block invariant
 abbrev pub ShowsSound : (Generation → Type 0) → Type 0
 ShowsSound Served = (opening : Opening) (s : State (Unit {0}) View) (r : RunningRule Served opening s) → IsSound (state_of s.words r.writer r.seats)
 
--- a word of a block that some seat may load is none that the writer may store
+-- the load is one by a slot, of an entry word of an area that is kept in the block
+pub record IsEntryLoad (kept : List KeptArea) (word block at : ℕ) (v : View) : Type 0 where
+  pub m : MemberView
+  pub is : v ≡ Member m
+  pub unheld : ReadsHeld word m.seen (held_by_member m.member) → ⊥
+  pub area : KeptArea
+  pub among : Among kept area
+  pub here : area.area.block ≡ block
+  pub entry : IsTrue (is_entry_word area at)
+
+-- a word of a block that some seat may load is none that the writer may store, but for an entry word of a kept area
 abbrev pub KeepsWhatIsRead : (Generation → Type 0) → Type 0
-KeepsWhatIsRead Served = (opening : Opening) (s : State (Unit {0}) View) (r : RunningRule Served opening s) (id word value block at : ℕ) (v : View) → get_elem? s.views id ≡ some v → kind_at word ≡ InBlock block at → MayLoadWord word v → MayStoreWord r.writer word value → ⊥
+KeepsWhatIsRead Served = (opening : Opening) (s : State (Unit {0}) View) (r : RunningRule Served opening s) (id word value block at : ℕ) (v : View) → get_elem? s.views id ≡ some v → kind_at word ≡ InBlock block at → MayLoadWord word v → MayStoreWord r.writer word value → IsEntryLoad r.writer.kept word block at v
 
 -- no slot names the area in the kind, and no turn under a generation that a thread may read comes to it
 pub record IsOutOfUse (words : List ℕ) (w : WriterView) (seats : List View) (kind : LookKind) (serial : ℕ) : Type 0 where

@@ -4,9 +4,11 @@
 use Rattle.std.specs.Prelude.{◌≡◌, ℕ, ◌+◌, ◌*◌, ◌<◌, ◌==◌, if◌then◌else◌, List, [], ◌∷◌, Option, Some, None, length}
 use Rattle.prgr_core.specs.Members as members
 use Rattle.area_core.specs.declared.map.TheConstants.{PROCESSES, ANCHORS}
+use Rattle.area_core.specs.declared.table.Published.{Published}
 use Rattle.area_core.specs.Map.{word_at}
+use Rattle.area_core.specs.Generations.{names}
 use Rattle.marks.specs.declared.mark.ProcessView.{ProcessView}
-use Rattle.marks.specs.Names.{IsAtRest}
+use Rattle.marks.specs.Names.{HasAnchor, IsAtRest}
 use Rattle.marks.specs.Kept.{Under}
 use Rattle.marks.specs.Steps.{opening_process, holding}
 use Rattle.shared_words.specs.declared.view.NoteNumber.{NoteNumber}
@@ -35,6 +37,14 @@ process_of m process = record { slot = (slot_in m.slots process).slot; marks = (
 -- what its turns are under
 abbrev pub under_of : MemberView → Under
 under_of m = holding (members.is_value m.member.word) m.member.generation (published_at m.seen m.member.generation)
+
+-- what was published that the member holds
+abbrev pub held_by_view : MemberView → Published
+held_by_view m = published_at m.seen m.member.generation
+
+-- the slot of a process of the member names the area
+abbrev pub NamesArea : MemberView → ℕ → Type 0
+NamesArea m serial = (process : ℕ) × HasAnchor names (process_of m process).slot.anchors serial
 
 -- no turn of a process is under way
 abbrev pub AreAtRest : MemberView → Type 0

@@ -2,9 +2,10 @@
 -- whoever holds a generation. What a store asks is said of what the writer knows: of the words as it has stored them,
 -- and of the generations that it does not know to have passed.
 -- Source: Erlang/OTP erts internal documentation, CodeLoading and Tracing; the words are this project's own.
-use Rattle.std.specs.Prelude.{◌≡◌, ℕ, ◌==◌, Bool, true, false, not, ◌&&◌, List, [], ◌∷◌, ◌++◌, length, slice_get, slice_set, Option, Some, None, IsTrue}
+use Rattle.std.specs.Prelude.{◌≡◌, ◌≢◌, ◌⊎◌, ℕ, ◌==◌, Bool, true, false, not, ◌&&◌, List, [], ◌∷◌, ◌++◌, length, slice_get, slice_set, Option, Some, None, IsTrue}
 use Rattle.std.specs.List.{filter}
 use Rattle.atomic_table.specs.Table.{Step}
+use Rattle.term_core.specs.declared.area.AreaRef.{AreaRef}
 use Rattle.term_core.specs.declared.generation.Generation.{Generation}
 use Rattle.area_core.specs.declared.map.WordKind.{WordKind}
 use Rattle.area_core.specs.declared.map.WordKind.TheVariants.{Machine, Slot, Retire, Doom, InBlock, Nowhere}
@@ -16,7 +17,7 @@ use Rattle.area_core.specs.Generations.{is_used, is_retired, is_doomed, is_trace
 use Rattle.area_core.specs.Stores.{is_released_at}
 use Rattle.area_core.specs.Blocks.{Blocks, BlockInvariant, EachCounted, Among, RootFits, InstancesPlaced, CodeStands, BreakpointsStand, term_words, UsedAreKept, FitsBlock, ImageStands, AreaStands, KeptApart}
 use Rattle.area_core.specs.Terms.{TermsStand}
-use Rattle.area_core.specs.Readers.{reads_in_block, held_by_member, is_read_under}
+use Rattle.area_core.specs.Readers.{reads_in_block, held_by_member, reads_word, is_read_under}
 use Rattle.area_core.specs.Roots.{fresh_areas}
 use Rattle.marks.specs.declared.kept.LookKind.TheVariants.{Both}
 use Rattle.shared_words.specs.declared.view.BlockWord.{BlockWord}
@@ -26,7 +27,8 @@ use Rattle.shared_words.specs.declared.view.View.{View}
 use Rattle.shared_words.specs.declared.view.View.TheVariants.{Writer, Member, Watcher, Note, Spent}
 use Rattle.shared_words.specs.Views.{newest, seen, held, blocks_found}
 use Rattle.shared_words.specs.Seats.{writer_of}
-use Rattle.shared_words.specs.Rule.{MayBeRead, OldStays, RetiredStays}
+use Rattle.shared_words.specs.Processes.{held_by_view, NamesArea}
+use Rattle.shared_words.specs.Rule.{MayBeRead, OldStays, RetiredStays, HasArea, IsKeptIn, AreApart}
 use Rattle.shared_words.specs.Kinds.{Sat}
 use Rattle.shared_words.specs.Slots.{IsClear}
 
@@ -40,11 +42,10 @@ EachMayBeRead w Holds = EachCounted (blocks_known w) (MayBeRead w) Holds
 
 -- ---- the store of a word of a block
 
--- a word of a block: no generation that may be read reads it, and areas that are kept in the block keep their images
+-- a word of a block: no generation that may be read reads it, and no area is kept in the block, but for entry words
 pub record FitsInBlock (w : WriterView) (block at value : ℕ) : Type 0 where
   pub unread : EachMayBeRead w (λ g p. reads_in_block p block at ≡ false)
-  -- a word of an image is what it was
-  pub images : (k : KeptArea) (old : ℕ) → Among w.kept k → k.area.block ≡ block → slice_get k.words at ≡ Some old → is_entry_word k at ≡ false → value ≡ old
+  pub unkept : (k : KeptArea) → Among w.kept k → k.area.block ≡ block → IsTrue (is_entry_word k at)
   -- an entry word is 0 only where no generation that may be read traces the function
   pub entries : (k : KeptArea) (function : ℕ) → Among w.kept k → k.area.block ≡ block → IsTrue (has_function k function) → at ≡ entry_at function → value ≡ 0 → EachMayBeRead w (λ g p. is_traced p k.area.serial function ≡ false)
 
@@ -112,11 +113,18 @@ pub record FreshStand (w : WriterView) (p : Published) : Type 0 where
   pub areas : EachMayBeRead w (λ g q. (k : KeptArea) → Among (fresh_areas w.kept p) k → AreaStands (word_at w.words) k g q)
   pub apart : KeptApart (kept_next w p)
 
+-- each area that is kept then stands in it, in its block and with its image, and no serial was that of another area
+pub record AreasGoOn (w : WriterView) (p : Published) : Type 0 where
+  pub apart : AreApart p
+  pub kept : (k : KeptArea) → Among (kept_next w p) k → HasArea p k
+  pub new : (k : KeptArea) (q : Published) (a : AreaRef) → Among (fresh_areas w.kept p) k → Among w.published q → Among q.areas a → a.serial ≢ k.area.serial
+
 -- the writer may publish this next
 pub record MayPublish (Served : Generation → Type 0) (w : WriterView) (p : Published) : Type 0 where
   pub served : Served p.state
   pub old_stays : OldStays (w.published ++ p ∷ [])
   pub retired_stays : RetiredStays (w.published ++ p ∷ [])
+  pub areas_go_on : AreasGoOn w p
   pub stands : StandsFor w p
   pub fresh : FreshStand w p
 
@@ -141,13 +149,34 @@ abbrev pub ReadsHeld : ℕ → List Published → Option ℕ → Type 0
 ReadsHeld word published None = ⊥
 ReadsHeld word published (Some g) = IsTrue (is_read_under (kind_at word) (slice_get published g))
 
--- who may load the word: the writer and a member where the generation that it holds reads it. A watcher makes no step yet
+-- the word is one of the block, or its retire or doom word
+abbrev pub is_of_block : WordKind → ℕ → Bool
+is_of_block (Retire other) block = other == block
+is_of_block (Doom other) block = other == block
+is_of_block (InBlock other at) block = other == block
+is_of_block Machine block = false
+is_of_block Slot block = false
+is_of_block Nowhere block = false
+
+-- the word is one of an area that a slot of the member names, and that stands in the generation which it holds
+pub record ReadsNamed (word : ℕ) (m : MemberView) : Type 0 where
+  pub area : AreaRef
+  pub named : NamesArea m area.serial
+  pub listed : Among (held_by_view m).areas area
+  pub of : IsTrue (is_of_block (kind_at word) area.block)
+
+-- who may load the word: the writer and a member where the generation that it holds reads it, and a member where one of its
+-- slots names the area. A watcher makes no step yet
 abbrev pub MayLoadWord : ℕ → View → Type 0
 MayLoadWord word (Writer w) = ReadsHeld word w.published (Some (newest w.published))
-MayLoadWord word (Member m) = ReadsHeld word m.seen (held_by_member m.member)
+MayLoadWord word (Member m) = ReadsHeld word m.seen (held_by_member m.member) ⊎ ReadsNamed word m
 MayLoadWord word (Watcher w) = ⊥
 MayLoadWord word (Note n) = ⊥
 MayLoadWord word Spent = ⊥
+
+-- each area that a slot of the member names, and that stands in the generation which it holds, is kept there
+abbrev pub NamedStand : View → List KeptArea → Type 0
+NamedStand v kept = (m : MemberView) → v ≡ Member m → (a : AreaRef) → NamesArea m a.serial → Among (held_by_view m).areas a → IsKeptIn kept (held_by_view m) a
 
 -- no store changes the word while a generation reads it: it is one of a block, and no entry word of an area
 pub record IsSteady (b : Blocks) (word : ℕ) : Type 0 where
@@ -155,14 +184,6 @@ pub record IsSteady (b : Blocks) (word : ℕ) : Type 0 where
   pub at : ℕ
   pub is : kind_at word ≡ InBlock block at
   pub plain : (k : KeptArea) → Among b.kept k → k.area.block ≡ block → is_entry_word k at ≡ false
-
--- the word is one of blocks that stand for this generation, and so is each word of these that was found under it
-pub record IsWordUnder (g : ℕ) (p : Published) (read : List BlockWord) (word found : ℕ) : Type 0 where
-  pub blocks : Blocks
-  pub stands : BlockInvariant blocks (λ h. h ≡ g)
-  pub published : slice_get blocks.published g ≡ Some p
-  pub here : blocks.word word ≡ found
-  pub all : (f : BlockWord) → Among read f → f.generation ≡ g → IsSteady blocks f.word → blocks.word f.word ≡ f.value
 
 -- the member has found this word under the generation that it holds
 abbrev pub with_block_word : ℕ → ℕ → MemberView → MemberView
@@ -173,9 +194,19 @@ abbrev pub word_found : ℕ → ℕ → View → View
 word_found word found (Member m) = Member (with_block_word word found m)
 word_found word found v = v
 
+-- the word is one of blocks that stand for this generation, in which the areas stand that slots name, and so is each word of
+-- these that was found under it
+pub record IsWordUnder (v : View) (g : ℕ) (p : Published) (word found : ℕ) : Type 0 where
+  pub blocks : Blocks
+  pub stands : BlockInvariant blocks (λ h. h ≡ g)
+  pub published : slice_get blocks.published g ≡ Some p
+  pub here : blocks.word word ≡ found
+  pub named : NamedStand v blocks.kept
+  pub all : (f : BlockWord) → Among (blocks_found (word_found word found v)) f → f.generation ≡ g → IsTrue (reads_word (kind_at f.word) p) → IsSteady blocks f.word → blocks.word f.word ≡ f.value
+
 -- what the load of a word tells: it is a word under the generation that is held
 abbrev pub WordTells : View → ℕ → ℕ → Type 0
-WordTells v word found = (g : ℕ) (p : Published) → held v ≡ Some g → slice_get (seen v) g ≡ Some p → IsWordUnder g p (blocks_found (word_found word found v)) word found
+WordTells v word found = (g : ℕ) (p : Published) → held v ≡ Some g → slice_get (seen v) g ≡ Some p → IsWordUnder v g p word found
 
 -- what the writer loads is what it has stored
 abbrev pub IsOwnWord : View → ℕ → ℕ → Type 0

@@ -11,13 +11,16 @@ use Rattle.prgr_core.specs.declared.member.Member as machines
 use Rattle.prgr_core.specs.declared.member.Retirement.{Retirement}
 use Rattle.prgr_core.specs.Step.{IsSound}
 use Rattle.term_core.specs.declared.generation.Generation.{Generation}
+use Rattle.term_core.specs.declared.area.AreaRef.{AreaRef}
 use Rattle.area_core.specs.declared.map.TheConstants.{TABLE_WORDS, PROCESSES, RETIRE_START}
 use Rattle.area_core.specs.declared.map.WordKind.TheVariants.{InBlock}
+use Rattle.area_core.specs.declared.table.KeptArea.{KeptArea}
 use Rattle.area_core.specs.declared.table.Published.{Published}
 use Rattle.area_core.specs.Generations.{is_current, is_used, is_retired, has_serial}
 use Rattle.area_core.specs.Map.{word_at, slot_place, kind_at}
 use Rattle.area_core.specs.Readers.{reads_word}
 use Rattle.area_core.specs.Blocks.{Blocks, BlockInvariant, Among}
+use Rattle.area_core.specs.Roots.{image_of}
 use Rattle.marks.specs.declared.kept.LookKind.{LookKind}
 use Rattle.marks.specs.declared.kept.LookKind.TheVariants.{Frame, Both}
 use Rattle.marks.specs.declared.kept.EndedWait.{EndedWait}
@@ -36,7 +39,7 @@ use Rattle.shared_words.specs.declared.view.View.{View}
 use Rattle.shared_words.specs.declared.view.View.TheVariants.{Writer, Member, Watcher, Note, Spent}
 use Rattle.shared_words.specs.Views.{newest_root}
 use Rattle.shared_words.specs.Shown.{members_shown, views_shown, progress_of, block_words}
-use Rattle.shared_words.specs.Processes.{process_of, under_of}
+use Rattle.shared_words.specs.Processes.{process_of, slot_in, opening_slot, under_of}
 
 -- ---- the writer's view alone
 
@@ -59,6 +62,36 @@ pub record NoteFits (published : List Published) (note : NoteNumber) : Type 0 wh
   pub process : note.process < PROCESSES
   pub counted : note.published < length published
 
+-- a generation has a kept area: in its block, and with its image
+pub record HasArea (p : Published) (k : KeptArea) : Type 0 where
+  pub listed : Among p.areas k.area
+  pub image : image_of p.state.areas k.area.serial ≡ Some k.words
+
+-- the area is kept as the generation has it
+pub record IsKeptIn (kept : List KeptArea) (p : Published) (a : AreaRef) : Type 0 where
+  pub area : KeptArea
+  pub among : Among kept area
+  pub is : area.area ≡ a
+  pub has : HasArea p area
+
+-- no two areas of a generation have one serial
+abbrev pub AreApart : Published → Type 0
+AreApart p = (a b : AreaRef) → Among p.areas a → Among p.areas b → a.serial ≡ b.serial → a ≡ b
+
+-- a generation has one area of each serial that it uses
+pub record HasItsAreas (p : Published) : Type 0 where
+  pub apart : AreApart p
+  pub listed : (serial : ℕ) → IsTrue (is_used p serial) → (a : AreaRef) × Among p.areas a × (a.serial ≡ serial)
+
+-- an area that is kept is the same in all generations that have one of its serial, from the first of these on
+pub record AreasStay (published : List Published) (kept : List KeptArea) : Type 0 where
+  -- no generation has two areas of one serial
+  pub apart : (p : Published) → Among published p → AreApart p
+  -- what has the serial of a kept area is that area
+  pub same : (p : Published) (k : KeptArea) (a : AreaRef) → Among published p → Among kept k → Among p.areas a → a.serial ≡ k.area.serial → HasArea p k
+  -- and later generations have it too
+  pub stay : (g later : ℕ) (p q : Published) (k : KeptArea) → g ≤ later → slice_get published g ≡ Some p → slice_get published later ≡ Some q → Among kept k → HasArea p k → HasArea q k
+
 -- what was published, and what the writer keeps beside it
 pub record PublishedKept (Served : Generation → Type 0) (opening : Opening) (w : WriterView) : Type 0 where
   -- so many members were made
@@ -75,6 +108,8 @@ pub record PublishedKept (Served : Generation → Type 0) (opening : Opening) (w
   pub old_stays : OldStays w.published
   -- retired areas are not used again
   pub retired_stays : RetiredStays w.published
+  -- kept areas stay as they are
+  pub areas_stay : AreasStay w.published w.kept
   -- notes tell of processes and of published generations
   pub notes_fit : (note : NoteNumber) → Among w.notes note → NoteFits w.published note
 
@@ -126,13 +161,17 @@ pub record WordsAgree (words : List ℕ) (w : WriterView) : Type 0 where
 
 -- ---- each view
 
--- a word of blocks that a member found: the generation that it held reads it, and while a thread may read that generation,
--- a word of a block stands as it was found
+-- the process is dealt out to the member of this number
+pub record IsOwn (members number process : ℕ) : Type 0 where
+  pub below : process < PROCESSES
+  pub own : process % members ≡ number
+
+-- a word of blocks that a member found under a generation: where that reads it, and a thread may read that, a word of a block
+-- stands as it was found
 pub record WordKept (w : WriterView) (f : BlockWord) : Type 0 where
   pub published : Published
   pub at : slice_get w.published f.generation ≡ Some published
-  pub reads : IsTrue (reads_word (kind_at f.word) published)
-  pub stands : MayBeRead w f.generation → (block at : ℕ) → kind_at f.word ≡ InBlock block at → word_at w.words f.word ≡ f.value
+  pub stands : IsTrue (reads_word (kind_at f.word) published) → MayBeRead w f.generation → (block at : ℕ) → kind_at f.word ≡ InBlock block at → word_at w.words f.word ≡ f.value
 
 -- what a member in the seat at this place, counted behind the writer's, knows
 pub record MemberKnows (w : WriterView) (place : ℕ) (m : MemberView) : Type 0 where
@@ -145,6 +184,8 @@ pub record MemberKnows (w : WriterView) (place : ℕ) (m : MemberView) : Type 0 
   pub holds : m.member.generation < length m.seen
   -- the notes that it joined are those that the writer made
   pub noted : (note : NoteNumber) → Among m.notes note → Among w.notes note
+  -- the slots that it has stored are those of its processes
+  pub own_slots : (process : ℕ) → (IsOwn (length w.members) place process → ⊥) → slot_in m.slots process ≡ opening_slot process
   -- the words of blocks that it found stand while their generations may be read
   pub words : (f : BlockWord) → Among m.blocks f → WordKept w f
 
