@@ -36,7 +36,7 @@ more_again a b c first second = record {
 pub among_front : {X : Type 0} (xs ys : List X) (x : X) → Among xs x → Among (xs ++ ys) x
 among_front xs ys x among = (among.0, still_at xs ys among.0 x among.1)
 
-among_behind : {X : Type 0} (xs ys : List X) (x : X) → Among ys x → Among (xs ++ ys) x
+pub among_behind : {X : Type 0} (xs ys : List X) (x : X) → Among ys x → Among (xs ++ ys) x
 among_behind [] ys x among = among
 among_behind (y ∷ xs) ys x among = let behind = among_behind xs ys x among in (suc behind.0, behind.1)
 

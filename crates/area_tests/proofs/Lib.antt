@@ -6,3 +6,11 @@ mod Started
 mod Work
 mod Naming
 mod Gone
+mod Turned
+mod Playing
+mod Looked
+mod Heading
+mod Three
+mod Noted
+mod Silent
+mod Ended

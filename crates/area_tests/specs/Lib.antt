@@ -2,3 +2,4 @@ pub mod First
 pub mod Gone
 pub mod Many
 pub mod Work
+pub mod Three

@@ -2,6 +2,10 @@
 #![tactic(auto)]
 
 #[cfg(test)]
+mod never;
+#[cfg(test)]
+mod players;
+#[cfg(test)]
 mod pools;
 #[cfg(test)]
 mod released;
@@ -11,5 +15,7 @@ mod retired;
 mod slots;
 #[cfg(test)]
 mod starting;
+#[cfg(test)]
+mod writing;
 #[cfg(test)]
 mod written;

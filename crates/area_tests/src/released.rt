@@ -1,7 +1,9 @@
 //! The wait for a retired area, the look through all slots, and its release.
 
-ghost use Rattle.std.specs.Prelude.{◌≡◌, ◌≤◌};
+ghost use Rattle.std.specs.Prelude.{◌≡◌, ◌≤◌, true, false};
+ghost use Rattle.marks.specs.declared.kept.LookKind.TheVariants.{Both};
 ghost use Rattle.shared_words.specs.Opening.{member_begun};
+ghost use Rattle.shared_words.specs.Slots.{IsClear};
 ghost use Rattle.progress_words.specs.Tokens.{view_of, written_by, IsMemberOf, IsWriterOf};
 ghost use Rattle.progress_words.specs.Needs.{HasTaken};
 ghost use Rattle.area_tests.specs.Gone.{IsGone};
@@ -41,13 +43,23 @@ pub fn pass_both(shared: &Shared<Any>, member: &mut Member) -> bool
 }
 
 /// Looks through all slots, and releases the area where none names it.
-#[tactic(auto, using(crate::proofs::Gone::may_look, crate::proofs::Gone::owned_looked))]
-fn release_clear(shared: &Shared<Any>, writer: &mut Writer, pools: &mut Pools, need: u64) -> bool
+#[tactic(auto, using(crate::proofs::Looked::gone_looked, crate::proofs::Looked::taken_looked, crate::proofs::Looked::enough_looked, crate::proofs::Silent::clear_released))]
+pub fn release_clear(
+    shared: &Shared<Any>,
+    writer: &mut Writer,
+    pools: &mut Pools,
+    need: u64,
+) -> bool
     requires token { IsWriterOf shared.now.table.shared.table_id shared.now.table.shared.key writer.old }
     requires gone { IsGone pools.old (written_by writer.old) }
     requires taken { HasTaken (written_by writer.old) 2 need }
     requires enough { need ≤ (written_by writer.old).counter }
+    ensures token { IsWriterOf shared.now.table.shared.table_id shared.now.table.shared.key writer.new }
     ensures next { pools.new.next ≡ pools.old.next }
+    ensures clear { result ≡ true → IsClear (written_by writer.new) Both 1 }
+    ensures gone { result ≡ false → IsGone pools.new (written_by writer.new) }
+    ensures taken { result ≡ false → HasTaken (written_by writer.new) 2 need }
+    ensures enough { result ≡ false → need ≤ (written_by writer.new).counter }
 {
     let area = AreaRef {
         serial: 1,

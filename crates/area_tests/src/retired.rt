@@ -53,17 +53,21 @@ fn publish_first(shared: &Shared<Any>, writer: &mut Writer)
 }
 
 /// Writes the first area, publishes it, and retires it.
-fn retire_first(shared: &Shared<Any>, writer: &mut Writer, pools: &mut Pools, area: AreaRef)
+pub fn retire_first(shared: &Shared<Any>, writer: &mut Writer, pools: &mut Pools, area: AreaRef)
+    // a table on which only the opening generation was published
     requires token { IsWriterOf shared.now.table.shared.table_id shared.now.table.shared.key writer.old }
     requires room { writer.old.generation + 1 < 2 ^ 59 }
     requires begun { IsBegun (written_by writer.old) }
     requires one { (written_by writer.old).published ≡ opening_published ∷ [] }
+    // an area that was taken, and is not published yet
     requires area { area ≡ first_area }
     requires taken { HasTaken pool.Big first_area opening_areas pools.old }
     requires owned { AreOf pools.old (written_by writer.old) }
     requires unpublished { IsUnpublished (written_by writer.old) first_area }
+    // the generation in which it is retired comes next
     ensures token { IsWriterOf shared.now.table.shared.table_id shared.now.table.shared.key writer.new }
     ensures next { pools.new.next ≡ pools.old.next }
+    ensures notes { (written_by writer.new).notes ≡ (written_by writer.old).notes }
     ensures retiring { IsRetiring pools.new (written_by writer.new) }
 {
     pools.write(shared, writer, area, &[7, 7, 7, 0]);
@@ -74,7 +78,7 @@ fn retire_first(shared: &Shared<Any>, writer: &mut Writer, pools: &mut Pools, ar
 
 /// Publishes the generation in which the area is retired.
 #[tactic(auto, using(crate::proofs::Gone::gone_root, crate::proofs::Gone::gone_room))]
-fn publish_gone(shared: &Shared<Any>, writer: &mut Writer, pools: &Pools)
+pub fn publish_gone(shared: &Shared<Any>, writer: &mut Writer, pools: &Pools)
     requires token { IsWriterOf shared.now.table.shared.table_id shared.now.table.shared.key writer.old }
     requires retiring { IsRetiring pools.now (written_by writer.old) }
     ensures token { IsWriterOf shared.now.table.shared.table_id shared.now.table.shared.key writer.new }

@@ -20,16 +20,21 @@ pub fn begin_work(
     member: &mut Member,
     process: u32,
 ) -> bool
+    // the writer has no note of the process away, and published one generation after the opening one
     requires writer { IsWriterOf shared.now.table.shared.table_id shared.now.table.shared.key writer.old }
     requires unnoted { MaySplitNote (written_by writer.old) process }
     requires two { length (written_by writer.old).published ≡ 2 }
+    // the member is as it began
     requires token { IsMemberOf shared.now.table.shared.table_id member.old }
     requires begun { view_of member.old ≡ member_begun process }
     requires copied { AreCopied member.old.anchors.items (view_of member.old) }
+    // the process has the member's number
     requires below { process < shared.now.table.shared.key.members }
     requires few { shared.now.table.shared.key.members ≤ 16 }
+    // the note is split off
     ensures writer { IsWriterOf shared.now.table.shared.table_id shared.now.table.shared.key writer.new }
     ensures noted { written_by writer.new ≡ with_note process (written_by writer.old) }
+    // the member is the same, and may make turns of its process where it holds generation 1
     ensures token { IsMemberOf shared.now.table.shared.table_id member.new }
     ensures number { member.new.number ≡ member.old.number }
     ensures works { result ≡ true → IsWorking shared.now.table.shared.table_id shared.now.table.shared.key process member.new }

@@ -41,6 +41,11 @@ retire-requires-clause-published c =
     (words_now (written_by c.args.writer.now) (written_by c.write.new.writer) _ c.args.area c.requires.begun refl c.requires.area c.write.ensures.written)
     c.publish_first.ensures.published c.requires.area
 
+-- no note is made
+pub returns-clause-notes : goal.returns-clause-notes
+returns-clause-notes c =
+    ap (λ (x : WriterView). x.notes) c.retire.ensures.stored ∙ ap (λ (x : WriterView). x.notes) c.publish_first.ensures.published ∙ ap (λ (x : WriterView). x.notes) c.write.ensures.written.same
+
 pub returns-clause-retiring : goal.returns-clause-retiring
 returns-clause-retiring c =
     let w = written_by c.write.new.writer in

@@ -1,0 +1,5 @@
+use Rattle.area_tests.proofs.players.names_first.Given as goal
+
+-- nothing is known of the anchors before
+abbrev pub invariant-loop-place : goal.invariant-loop-place
+invariant-loop-place l = Unit {0}

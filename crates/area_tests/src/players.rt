@@ -1,0 +1,235 @@
+//! A member whose process holds and drops the first area at random, turn by turn.
+
+ghost use Rattle.std.specs.Prelude.{◌≡◌, ◌+◌, ◌<◌, true};
+ghost use Rattle.shared_words.specs.declared.table.TheConstants.{PROCESSES};
+ghost use Rattle.shared_words.specs.Processes.{AreCopied};
+ghost use Rattle.progress_words.specs.Tokens.{view_of, IsMemberOf};
+ghost use Rattle.anchors.specs.Holds.{anchors_of, Holds, MayHold};
+ghost use Rattle.area_tests.specs.First.{first_published};
+ghost use Rattle.area_tests.specs.Work.{IsWorking, IsPlaying, IsUnder, GoesOn, HasEndedTurn, turns_done};
+ghost use Rattle.area_tests.specs.declared.players.TheConstants.{EARLY, TURNS};
+
+use crate::written::Any;
+use anchors::{drop_hold, hold, mark_turn};
+use progress_words::{report, wait};
+use shared_words::{ANCHORS, Member, Shared};
+use term_core::{AreaRef, Full, Kind};
+
+/// How many turns a process makes before its member's next report.
+pub const EARLY: u32 = 5_000;
+
+/// How many turns it makes in all, but for the last one, in which it drops all.
+pub const TURNS: u32 = 20_000;
+
+/// Whether the slot names the area for the kind.
+fn names_first(member: &Member, process: u32, kind: Kind) -> bool
+    requires copied { AreCopied member.now.anchors.items (view_of member.now) }
+    requires process { process < PROCESSES }
+    ensures { result ≡ true → Holds kind (anchors_of (view_of member.now) process) 1 }
+{
+    for place in 1..ANCHORS + 1 {
+        let word = member.anchor(process, place);
+        let named = match kind {
+            Kind::Frame => word == 5 || word == 7,
+            Kind::Literal => word == 6 || word == 7,
+        };
+        if named {
+            return true;
+        }
+    }
+    false
+}
+
+/// Holds the area.
+#[tactic(auto, using(crate::proofs::Playing::held_goes, crate::proofs::Playing::refused_goes))]
+fn hold_first(shared: &Shared<Any>, member: &mut Member, process: u32, kind: Kind)
+    requires works { IsWorking shared.now.table.shared.table_id shared.now.table.shared.key process member.old }
+    requires may { MayHold process kind 1 (view_of member.old) }
+    ensures { GoesOn shared.now.table.shared.table_id shared.now.table.shared.key process member.old member.new }
+{
+    let area = AreaRef {
+        serial: 1,
+        block: 9,
+    };
+    match hold(shared, member, process, area, kind) {
+        Ok(()) => {}
+        Err(Full) => {}
+    }
+}
+
+/// Drops the area, if the slot names it for the kind.
+#[tactic(auto, using(crate::proofs::Playing::dropped_goes, crate::proofs::Playing::none_goes))]
+fn try_drop(shared: &Shared<Any>, member: &mut Member, process: u32, kind: Kind)
+    requires works { IsWorking shared.now.table.shared.table_id shared.now.table.shared.key process member.old }
+    ensures { GoesOn shared.now.table.shared.table_id shared.now.table.shared.key process member.old member.new }
+{
+    if names_first(member, process, kind) {
+        let area = AreaRef {
+            serial: 1,
+            block: 9,
+        };
+        drop_hold(shared, member, process, area, kind);
+    }
+}
+
+/// Holds the area for a frame, where the member holds the first generation.
+#[tactic(auto, using(crate::proofs::Playing::may_first, crate::proofs::Playing::none_goes))]
+fn try_frame(shared: &Shared<Any>, member: &mut Member, process: u32, early: bool)
+    requires works { IsWorking shared.now.table.shared.table_id shared.now.table.shared.key process member.old }
+    requires under { early ≡ true → IsUnder first_published (view_of member.old) }
+    ensures { GoesOn shared.now.table.shared.table_id shared.now.table.shared.key process member.old member.new }
+{
+    if early {
+        hold_first(shared, member, process, Kind::Frame);
+    }
+}
+
+/// Holds the area for a literal, where the slot names it for a frame.
+#[tactic(auto, using(crate::proofs::Playing::may_too, crate::proofs::Playing::none_goes))]
+fn try_literal(shared: &Shared<Any>, member: &mut Member, process: u32)
+    requires works { IsWorking shared.now.table.shared.table_id shared.now.table.shared.key process member.old }
+    ensures { GoesOn shared.now.table.shared.table_id shared.now.table.shared.key process member.old member.new }
+{
+    if names_first(member, process, Kind::Frame) {
+        hold_first(shared, member, process, Kind::Literal);
+    }
+}
+
+/// One hold or drop.
+fn choose(shared: &Shared<Any>, member: &mut Member, process: u32, choice: u32, early: bool)
+    requires works { IsWorking shared.now.table.shared.table_id shared.now.table.shared.key process member.old }
+    requires under { early ≡ true → IsUnder first_published (view_of member.old) }
+    ensures { GoesOn shared.now.table.shared.table_id shared.now.table.shared.key process member.old member.new }
+{
+    match choice % 4 {
+        0 => try_frame(shared, member, process, early),
+        1 => try_literal(shared, member, process),
+        2 => try_drop(shared, member, process, Kind::Literal),
+        _ => try_drop(shared, member, process, Kind::Frame),
+    }
+}
+
+/// Ends the turn after so many.
+#[tactic(auto, using(crate::proofs::Playing::turn_ended, crate::proofs::Playing::next_turn))]
+fn end_turn(shared: &Shared<Any>, member: &mut Member, process: u32, done: u32)
+    requires works { IsWorking shared.now.table.shared.table_id shared.now.table.shared.key process member.old }
+    requires turns { turns_done process (view_of member.old) ≡ done }
+    requires few { done < 30000 }
+    ensures { HasEndedTurn shared.now.table.shared.table_id shared.now.table.shared.key process member.old member.new }
+{
+    mark_turn(shared, member, process, done + 1);
+}
+
+/// A turn with one hold or drop.
+#[tactic(auto, using(crate::proofs::Playing::turn_after))]
+fn play_turn(
+    shared: &Shared<Any>,
+    member: &mut Member,
+    process: u32,
+    choice: u32,
+    done: u32,
+    early: bool,
+)
+    requires works { IsWorking shared.now.table.shared.table_id shared.now.table.shared.key process member.old }
+    requires under { early ≡ true → IsUnder first_published (view_of member.old) }
+    requires turns { turns_done process (view_of member.old) ≡ done }
+    requires few { done < 30000 }
+    ensures { HasEndedTurn shared.now.table.shared.table_id shared.now.table.shared.key process member.old member.new }
+{
+    choose(shared, member, process, choice, early);
+    end_turn(shared, member, process, done);
+}
+
+/// A turn, and then a report.
+#[tactic(auto, using(crate::proofs::Playing::rests_now, crate::proofs::Playing::reported_works, crate::proofs::Playing::reported_turns))]
+fn play_late_turn(shared: &Shared<Any>, member: &mut Member, process: u32, choice: u32, done: u32)
+    requires works { IsWorking shared.now.table.shared.table_id shared.now.table.shared.key process member.old }
+    requires turns { turns_done process (view_of member.old) ≡ done }
+    requires few { done < 30000 }
+    ensures works { IsWorking shared.now.table.shared.table_id shared.now.table.shared.key process member.new }
+    ensures turns { turns_done process (view_of member.new) ≡ done + 1 }
+    ensures number { member.new.number ≡ member.old.number }
+{
+    play_turn(shared, member, process, choice, done, false);
+    report(shared, member);
+}
+
+/// The next of a row of numbers that look random.
+fn next_random(seed: u32) -> u32 {
+    seed.wrapping_mul(1_664_525).wrapping_add(1_013_904_223)
+}
+
+/// The turns under the first generation.
+#[tactic(auto, using(crate::proofs::Playing::one_more))]
+fn play_early(shared: &Shared<Any>, member: &mut Member, process: u32)
+    requires works { IsWorking shared.now.table.shared.table_id shared.now.table.shared.key process member.old }
+    requires under { IsUnder first_published (view_of member.old) }
+    requires turns { turns_done process (view_of member.old) ≡ 0 }
+    ensures works { IsWorking shared.now.table.shared.table_id shared.now.table.shared.key process member.new }
+    ensures turns { turns_done process (view_of member.new) ≡ EARLY }
+    ensures number { member.new.number ≡ member.old.number }
+{
+    let mut seed = process;
+    for done in 0..EARLY {
+        seed = next_random(seed);
+        play_turn(shared, member, process, seed / 65_536, done, true);
+    }
+}
+
+/// The turns of a member that reports after each.
+fn play_late(shared: &Shared<Any>, member: &mut Member, process: u32)
+    requires works { IsWorking shared.now.table.shared.table_id shared.now.table.shared.key process member.old }
+    requires turns { turns_done process (view_of member.old) ≡ EARLY }
+    ensures works { IsWorking shared.now.table.shared.table_id shared.now.table.shared.key process member.new }
+    ensures turns { turns_done process (view_of member.new) ≡ TURNS }
+    ensures number { member.new.number ≡ member.old.number }
+{
+    let mut seed = process + 17;
+    for done in EARLY..TURNS {
+        seed = next_random(seed);
+        play_late_turn(shared, member, process, seed / 65_536, done);
+    }
+}
+
+/// The last turn, in which all is dropped; the member then waits.
+#[tactic(auto, using(crate::proofs::Playing::may_rest, crate::proofs::Playing::turns_left))]
+fn play_last(shared: &Shared<Any>, member: &mut Member, process: u32)
+    requires works { IsWorking shared.now.table.shared.table_id shared.now.table.shared.key process member.old }
+    requires turns { turns_done process (view_of member.old) ≡ TURNS }
+    ensures token { IsMemberOf shared.now.table.shared.table_id member.new }
+    ensures number { member.new.number ≡ member.old.number }
+{
+    drop_all(shared, member, process);
+    end_turn(shared, member, process, TURNS);
+    wait(shared, member);
+}
+
+/// Drops the area in both kinds.
+#[tactic(auto, using(crate::proofs::Playing::goes_again))]
+fn drop_all(shared: &Shared<Any>, member: &mut Member, process: u32)
+    requires works { IsWorking shared.now.table.shared.table_id shared.now.table.shared.key process member.old }
+    ensures { GoesOn shared.now.table.shared.table_id shared.now.table.shared.key process member.old member.new }
+{
+    try_drop(shared, member, process, Kind::Literal);
+    drop_frame(shared, member, process);
+}
+
+/// Drops the area for a frame.
+fn drop_frame(shared: &Shared<Any>, member: &mut Member, process: u32)
+    requires works { IsWorking shared.now.table.shared.table_id shared.now.table.shared.key process member.old }
+    ensures { GoesOn shared.now.table.shared.table_id shared.now.table.shared.key process member.old member.new }
+{
+    try_drop(shared, member, process, Kind::Frame);
+}
+
+/// All turns of a process.
+pub fn play(shared: &Shared<Any>, mut member: Member, process: u32) -> Member
+    requires playing { IsPlaying shared.now.table.shared.table_id shared.now.table.shared.key process first_published member }
+    ensures token { IsMemberOf shared.now.table.shared.table_id result }
+    ensures number { result.number ≡ member.number }
+{
+    play_early(shared, &mut member, process);
+    play_late(shared, &mut member, process);
+    play_last(shared, &mut member, process);
+    member
+}
