@@ -2,7 +2,6 @@
 use Rattle.std.proofs.Common.{ℕ, zero, suc, Bool, true, false, cond, List, [], ◌∷◌, ◌++◌, append_assoc, append-nil, Option, Some, None, refl, sym, ap, ◌∙◌, arith}
 use Rattle.std.specs.Prelude.{slice_get}
 use Rattle.term_core.specs.declared.area.AreaRef.{AreaRef}
-use Rattle.term_core.specs.declared.generation.Generation.{Generation}
 use Rattle.term_core.specs.declared.hold.Kind.{Kind}
 use Rattle.area_core.specs.declared.table.Published.{Published}
 use Rattle.area_core.specs.Blocks.{Among}
@@ -42,7 +41,7 @@ clear_on old new kind serial on h = record {
 
 -- ---- what a clear look means
 
-pub stays_out : (Served : Generation → Type 0) (opening : Opening) (w : WriterView) (kind : LookKind) (serial : ℕ) → IsClear w kind serial → StaysOutOfUse Served opening w kind serial
+pub stays_out : (Served : Published → Type 0) (opening : Opening) (w : WriterView) (kind : LookKind) (serial : ℕ) → IsClear w kind serial → StaysOutOfUse Served opening w kind serial
 stays_out Served opening w kind serial clear s r on = out_of_use s r kind serial (clear_on w r.writer kind serial on clear)
 
 -- ---- the steps

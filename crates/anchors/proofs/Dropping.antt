@@ -22,7 +22,7 @@ use Rattle.shared_words.specs.Seats.{IsMemberSeat, IsSameSeat, member_of}
 use Rattle.shared_words.specs.Processes.{AreCopied}
 use Rattle.shared_words.specs.Slots.{FitsAnchor, MayStoreSlot, with_slot}
 use Rattle.shared_words.proofs.ShownMembers.{there_is, within_get}
-use Rattle.anchors.specs.Holds.{view_of, anchors_of, names_for, Holds, MayRun}
+use Rattle.anchors.specs.Holds.{view_of, anchors_of, names_for, Holds, MayRun, AnchorsApart}
 use Rattle.anchors.specs.Drops.{AnchorsStored, IsWordWithout, HasDroppedAt, HasDropped}
 use Rattle.anchors.proofs.Holding.{may_store, anchors_stored}
 use Rattle.anchors.proofs.Stored.{set_again, set_here, none_stored, one_stored, more_stored, run_still}
@@ -152,6 +152,14 @@ module _ (kind : Kind) (serial n : ℕ) (old new : List ℕ) (h : DroppedBefore 
     λ told. let now = became told.place told.word told.at in record { place = told.place; word = now.0; at = now.1; passes = now.2.kills s ∙ told.passes },
   )
 
+  pub dropped_apart : AnchorsApart old → AnchorsApart new
+  dropped_apart apart a b v w at there some_v some_w same =
+      let first = came_of a v at in
+      let second = came_of b w there in
+      let of_first = first.2.of some_v in
+      let of_second = second.2.of some_w in
+      apart a b first.0 second.0 first.1 second.1 of_first.0 of_second.0 (sym of_first.1 ∙ same ∙ of_second.1)
+
 -- ---- the call
 
 -- what the member's token has gone through
@@ -196,4 +204,5 @@ drop_ends table opening process kind serial old new n h wide late = record {
   stored = h.stored;
   names = dropped_names kind serial n (anchors_of (view_of old) process) (anchors_of (view_of new) process) h.dropped (omega (arith, wide, late));
   kills = dropped_kills kind serial n (anchors_of (view_of old) process) (anchors_of (view_of new) process) h.dropped (omega (arith, wide, late));
+  apart = dropped_apart kind serial n (anchors_of (view_of old) process) (anchors_of (view_of new) process) h.dropped (omega (arith, wide, late));
 }

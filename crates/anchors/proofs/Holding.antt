@@ -20,7 +20,8 @@ use Rattle.shared_words.specs.Views.{published_at}
 use Rattle.shared_words.specs.Seats.{member_of}
 use Rattle.shared_words.specs.Slots.{IsOfArea, FitsAnchor, FitsSlot, MayStoreSlot, with_slot}
 use Rattle.shared_words.proofs.AnchorStores.{process_here}
-use Rattle.anchors.specs.Holds.{anchors_of, IsPlaceFor, HasNoPlace, names_for, Holds, MayRun, IsUnkilled, MayReach, MayHold, AreOthers, HasHeld, IsNamedWord}
+use Rattle.anchors.specs.Holds.{anchors_of, IsPlaceFor, HasNoPlace, names_for, Holds, MayRun, IsUnkilled, MayReach, MayHold, AreOthers, AnchorsApart, HasHeld, IsNamedWord}
+use Rattle.anchors.proofs.Apart.{stored_apart}
 
 -- ---- the word
 
@@ -163,12 +164,14 @@ pub held_now : (old : MemberView) (v : View) (process serial place word named : 
 held_now old v process serial place word named kind unkilled may h is becomes view =
     let first = h.first in
     let next : place ≡ place - 1 + 1 = omega (arith, first) in
-    let names = stored_names (published_at old.seen old.member.generation) (anchors_of old process) serial place word named kind h is unkilled may becomes in
+    let p = published_at old.seen old.member.generation in
+    let names = stored_names p (anchors_of old process) serial place word named kind h is unkilled may becomes in
     let after : anchors_of (member_of v) process ≡ slice_set (anchors_of old process) (place - 1) named = ap (λ (x : View). anchors_of (member_of x) process) view ∙ anchors_stored old process place named first in
     record {
       stored = inr (record { place = place - 1; word = named; view = ap member_of view ∙ ap (λ (i : ℕ). with_slot process i named old) next });
       names = λ k s. subst (λ (xs : List ℕ). Holds k xs s ↔ (Holds k (anchors_of old process) s ⊎ ((k ≡ kind) × (s ≡ serial)))) (sym after) (names k s);
-      unkilled = subst IsUnkilled (sym after) (stored_unkilled (published_at old.seen old.member.generation) (anchors_of old process) serial place word named kind h is unkilled may becomes);
+      unkilled = subst IsUnkilled (sym after) (stored_unkilled p (anchors_of old process) serial place word named kind h is unkilled may becomes);
+      apart = λ apart. subst AnchorsApart (sym after) (stored_apart p (anchors_of old process) (place - 1) named word (here (anchors_of old process) serial place word h is) (hold_fits p (anchors_of old process) serial place word named kind h is unkilled may becomes) apart);
     }
 
 -- where it is named already
@@ -188,6 +191,7 @@ held_before old process serial place word named kind unkilled h is becomes same 
     ],
   );
   unkilled = unkilled;
+  apart = λ apart. apart;
 }
 
 -- ---- room

@@ -1,4 +1,5 @@
 pub mod Walks
+pub mod Apart
 pub mod Holding
 pub mod Stored
 pub mod Dropping

@@ -11,7 +11,7 @@ use Rattle.shared_words.specs.declared.view.MemberView.{MemberView}
 use Rattle.shared_words.specs.Views.{published_at}
 use Rattle.shared_words.specs.Processes.{process_of}
 use Rattle.shared_words.specs.Slots.{with_slot}
-use Rattle.anchors.specs.Holds.{anchors_of, names_for, Holds}
+use Rattle.anchors.specs.Holds.{anchors_of, names_for, Holds, AnchorsApart}
 
 -- anchors of the process were stored, and else nothing
 pub record AnchorsStored (process : ℕ) (old new : MemberView) : Type 0 where
@@ -35,11 +35,13 @@ pub record HasDroppedAt (process : ℕ) (kind : Kind) (serial place : ℕ) (old 
   pub without : IsWordWithout (word_at (anchors_of old process) (place - 1)) serial kind rest
   pub anchors : anchors_of new process ≡ slice_set (anchors_of old process) (place - 1) rest
 
--- the process names this no more, and else what it named; it is told to be killed where it was
+-- the process names this no more, and else what it named; it is told to be killed where it was; no two anchors come to be of
+-- one area
 pub record HasDropped (process : ℕ) (kind : Kind) (serial : ℕ) (old new : MemberView) : Type 0 where
   pub stored : AnchorsStored process old new
   pub names : (k : Kind) (s : ℕ) → Holds k (anchors_of new process) s ↔ (Holds k (anchors_of old process) s × ((k ≡ kind) × (s ≡ serial) → ⊥))
   pub kills : (s : ℕ) → HasAnchor tells_kill (anchors_of new process) s ↔ HasAnchor tells_kill (anchors_of old process) s
+  pub apart : AnchorsApart (anchors_of old process) → AnchorsApart (anchors_of new process)
 
 -- ---- kills
 

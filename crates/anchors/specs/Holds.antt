@@ -110,11 +110,16 @@ pub record HasStored (process : ℕ) (old new : MemberView) : Type 0 where
 abbrev pub IsStored : ℕ → MemberView → MemberView → Type 0
 IsStored process old new = (new ≡ old) ⊎ HasStored process old new
 
--- the process names this besides what it named
+-- no two anchors are of one area
+abbrev pub AnchorsApart : List ℕ → Type 0
+AnchorsApart anchors = (a b v w : ℕ) → slice_get anchors a ≡ Some v → slice_get anchors b ≡ Some w → v ≢ 0 → w ≢ 0 → serial_in v ≡ serial_in w → a ≡ b
+
+-- the process names this besides what it named; no two anchors come to be of one area
 pub record HasHeld (process : ℕ) (kind : Kind) (serial : ℕ) (old new : MemberView) : Type 0 where
   pub stored : IsStored process old new
   pub names : (k : Kind) (s : ℕ) → Holds k (anchors_of new process) s ↔ (Holds k (anchors_of old process) s ⊎ ((k ≡ kind) × (s ≡ serial)))
   pub unkilled : IsUnkilled (anchors_of new process)
+  pub apart : AnchorsApart (anchors_of old process) → AnchorsApart (anchors_of new process)
 
 -- ---- words
 

@@ -5,7 +5,6 @@ use Rattle.std.specs.List.{list_any}
 use Rattle.atomic_table.specs.Table.{State}
 use Rattle.prgr_core.specs.declared.member.Retirement.{Retirement}
 use Rattle.term_core.specs.declared.area.AreaRef.{AreaRef}
-use Rattle.term_core.specs.declared.generation.Generation.{Generation}
 use Rattle.term_core.specs.declared.hold.Kind.{Kind}
 use Rattle.area_core.specs.declared.map.TheConstants.{PROCESSES, ANCHORS}
 use Rattle.area_core.specs.declared.table.Published.{Published}
@@ -102,12 +101,12 @@ pub record HasGoneOn (old new : WriterView) : Type 0 where
   pub anchors : (l : LookedAnchor) → Among old.looks.anchors l → Among new.looks.anchors l
 
 -- now and later no slot names the area in the kind, and no turn under a generation that a thread may read comes to it
-abbrev pub StaysOutOfUse : (Generation → Type 0) → Opening → WriterView → LookKind → ℕ → Type 0
+abbrev pub StaysOutOfUse : (Published → Type 0) → Opening → WriterView → LookKind → ℕ → Type 0
 StaysOutOfUse Served opening w kind serial =
     (s : State (Unit {0}) View) (r : RunningRule Served opening s) → HasGoneOn w r.writer → IsOutOfUse s.words r.writer r.seats kind serial
 
 -- so it is where a look answers that all is clear
-abbrev pub ScanMeans : (Generation → Type 0) → Opening → WriterView → LookKind → ℕ → Scan → Type 0
+abbrev pub ScanMeans : (Published → Type 0) → Opening → WriterView → LookKind → ℕ → Scan → Type 0
 ScanMeans Served opening w kind serial (scans.Named process turn place word) = Unit {0}
 ScanMeans Served opening w kind serial (scans.Clear killed) = StaysOutOfUse Served opening w kind serial
 

@@ -7,7 +7,6 @@ use Rattle.std.proofs.lemmas.Bool.{cases_Bool, eqb-true}
 use Rattle.prgr_core.proofs.Parts.{some_same}
 use Rattle.prgr_core.specs.declared.member.Retirement.{Retirement}
 use Rattle.term_core.specs.declared.area.AreaRef.{AreaRef}
-use Rattle.term_core.specs.declared.generation.Generation.{Generation}
 use Rattle.area_core.specs.declared.map.TheConstants.{TABLE_WORDS}
 use Rattle.area_core.specs.declared.table.Published.{Published}
 use Rattle.area_core.specs.declared.table.KeptArea.{KeptArea}
@@ -19,7 +18,6 @@ use Rattle.area_core.specs.Roots.{fresh_areas}
 use Rattle.area_core.specs.Step.{opening_published}
 use Rattle.area_core.proofs.Places.{word_here, word_there}
 use Rattle.atomic_table.specs.Seated.{TableId}
-use Rattle.marks.specs.declared.kept.LookKind.TheVariants.{Both}
 use Rattle.shared_words.specs.declared.opening.Opening.{Opening}
 use Rattle.shared_words.specs.declared.seats.Writer as writers
 use Rattle.shared_words.specs.declared.view.MemberView.{MemberView}
@@ -29,10 +27,8 @@ use Rattle.shared_words.specs.declared.view.WriterView.{WriterView}
 use Rattle.shared_words.specs.Rule.{HasArea}
 use Rattle.shared_words.specs.Publishing.{MayPublish, IsRootOf, kept_next, with_next, with_word}
 use Rattle.shared_words.specs.Kinds.{MayLead}
-use Rattle.shared_words.specs.Slots.{LookMayBegin, IsClear}
 use Rattle.progress_words.specs.Tokens.{written_by, IsWriterOf}
 use Rattle.progress_words.specs.Needs.{HasTaken, HasLoadedCounter}
-use Rattle.anchors.specs.Scans.{LooksMore}
 use Rattle.literal_areas.specs.declared.areas.Areas.{Areas}
 use Rattle.literal_areas.specs.declared.blocks.Pool.{Pool}
 use Rattle.literal_areas.specs.declared.blocks.Pool.TheVariants.{Big}
@@ -43,12 +39,11 @@ use Rattle.literal_areas.specs.declared.taking.Take.TheVariants.{Area, AllLive, 
 use Rattle.literal_areas.specs.Blocks.{use_of, serial_of, Stands, opening_areas, with_retired, HasTaken as HasTakenArea, HasAnswered}
 use Rattle.literal_areas.specs.Laws.{KeptByRoots}
 use Rattle.literal_areas.specs.Owned.{AreOf, IsListed, IsPast}
-use Rattle.literal_areas.specs.Released.{MayRelease}
 use Rattle.literal_areas.proofs.Uses.{use_here, use_other}
 use Rattle.literal_areas.proofs.Serials.{use_after}
 use Rattle.literal_areas.proofs.Listed.{owned_counted}
 use Rattle.area_tests.specs.First.{first_area, first_published, HasWords}
-use Rattle.area_tests.specs.Gone.{gone_published, first_kept, IsRetiring, IsGone}
+use Rattle.area_tests.specs.Gone.{gone_published, first_kept, IsRetiring, AreGone}
 use Rattle.area_tests.proofs.Publishing.{no_element, never, none_found, none_retired}
 use Rattle.area_tests.proofs.Started.{empty_rests}
 
@@ -149,7 +144,7 @@ module _ (s : Areas) (w : WriterView) (h : IsRetiring s w) where
   here : (g : ℕ) (p : Published) → slice_get (w.published ++ gone_published ∷ []) g ≡ Some p → slice_get (opening_published ∷ first_published ∷ gone_published ∷ []) g ≡ Some p
   here g p at = ap (λ (xs : List Published). slice_get (xs ++ gone_published ∷ []) g) (sym h.published) ∙ at
 
-  pub may_publish_gone : (Served : Generation → Type 0) → Served gone_published.state → MayPublish Served w gone_published
+  pub may_publish_gone : (Served : Published → Type 0) → Served gone_published → MayPublish Served w gone_published
   may_publish_gone Served served = record {
     served = served;
     old_stays = λ g later p q serial le at_p at_q old. absurd (none_old g p serial (here g p at_p) old);
@@ -207,12 +202,16 @@ module _ (s : Areas) (w : WriterView) (h : IsRetiring s w) where
       differ : Retired 1 2 ≡ Live 1 → ⊥
       differ e = (cc)
 
-  pub gone_now : (v : WriterView) → KeptByRoots → v ≡ with_next gone_published w → IsGone s v
-  gone_now v kept is = subst (IsGone s) (sym is) (record {
+  pub gone_now : (v : WriterView) → KeptByRoots → v ≡ with_next gone_published w → AreGone 0 1 s v
+  gone_now v kept is = subst (AreGone 0 1 s) (sym is) (record {
     owned = kept s w gone_published h.owned gone_listed;
-    used = h.used;
-    published = ap (λ (xs : List Published). xs ++ gone_published ∷ []) h.published;
+    used = used;
+    published = ap (λ (xs : List Published). length (xs ++ gone_published ∷ [])) h.published;
   })
+    where
+      used : (i : ℕ) → 0 ≤ i → i < 1 → use_of s (9 + i) ≡ Some (Retired (suc i) 2)
+      used zero first low = h.used
+      used (suc i) first low = absurd (omega (arith, low))
 
 pub gone_root : IsRootOf gone_published.root 0 0 0
 gone_root = record { code_is = refl; bp_is = refl; term_is = refl }
@@ -220,26 +219,30 @@ gone_root = record { code_is = refl; bp_is = refl; term_is = refl }
 -- ---- other areas are taken
 
 -- what is retired stays so
-pub still_retired : (pool : Pool) (old new : Areas) (answer : Take) → HasAnswered pool old new answer → use_of old 9 ≡ Some (Retired 1 2) → use_of new 9 ≡ Some (Retired 1 2)
-still_retired pool old new (Area area) told used =
-    ap (λ (s : Areas). use_of s 9) told.after ∙ use_other (record old { next = old.next + 1 }) area.block 9 Free (Live area.serial) told.block.free (λ same. busy (some_same (Retired 1 2) Free (sym used ∙ ap (use_of old) same ∙ told.block.free))) ∙ used
+still_retired : (pool : Pool) (old new : Areas) (answer : Take) (block serial since : ℕ) → HasAnswered pool old new answer → use_of old block ≡ Some (Retired serial since) → use_of new block ≡ Some (Retired serial since)
+still_retired pool old new (Area area) block serial since told used =
+    ap (λ (s : Areas). use_of s block) told.after ∙ use_other (record old { next = old.next + 1 }) area.block block Free (Live area.serial) told.block.free (λ same. busy (some_same (Retired serial since) Free (sym used ∙ ap (use_of old) same ∙ told.block.free))) ∙ used
   where
-    busy : Retired 1 2 ≡ Free → ⊥
+    busy : Retired serial since ≡ Free → ⊥
     busy e = (cc)
-still_retired pool old new AllLive told used = ap (λ (s : Areas). use_of s 9) told.same ∙ used
-still_retired pool old new AwaitRelease told used = ap (λ (s : Areas). use_of s 9) told.same ∙ used
+still_retired pool old new AllLive block serial since told used = ap (λ (s : Areas). use_of s block) told.same ∙ used
+still_retired pool old new AwaitRelease block serial since told used = ap (λ (s : Areas). use_of s block) told.same ∙ used
 
-pub gone_still : (old new : Areas) (w : WriterView) → ((v : WriterView) → AreOf old v → AreOf new v) → (use_of old 9 ≡ Some (Retired 1 2) → use_of new 9 ≡ Some (Retired 1 2)) → IsGone old w → IsGone new w
-gone_still old new w owned used h = record { owned = owned w h.owned; used = used h.used; published = h.published }
+pub gone_after : (pool : Pool) (done last : ℕ) (old new : Areas) (answer : Take) → HasAnswered pool old new answer → ((v : WriterView) → AreOf old v → AreOf new v) → (w : WriterView) → AreGone done last old w → AreGone done last new w
+gone_after pool done last old new answer told owned w h = record {
+  owned = owned w h.owned;
+  used = λ i first low. still_retired pool old new answer (9 + i) (suc i) 2 told (h.used i first low);
+  published = h.published;
+}
 
 -- ---- the wait
 
 -- a load of the counter leaves it as it is
-pub gone_counted : (s : Areas) (w v : WriterView) → HasLoadedCounter w v → IsGone s w → IsGone s v
-gone_counted s w v loaded h = record {
+pub gone_counted : (done last : ℕ) (s : Areas) (w v : WriterView) → HasLoadedCounter w v → AreGone done last s w → AreGone done last s v
+gone_counted done last s w v loaded h = record {
   owned = owned_counted s w v loaded h.owned;
   used = h.used;
-  published = ap (λ (x : WriterView). x.published) loaded.view ∙ h.published;
+  published = ap (λ (x : WriterView). length x.published) loaded.view ∙ h.published;
 }
 
 -- a value that is kept stays kept
@@ -251,35 +254,10 @@ taken_still w v need loaded taken = subst (λ (x : WriterView). HasTaken x 2 nee
     more (x ∷ xs) ys zero at = at
     more (x ∷ xs) ys (suc k) at = more xs ys k at
 
-pub taken_newest : (s : Areas) (w v : WriterView) (need : ℕ) → IsGone s w → HasTaken v (length w.published - 1) need → HasTaken v 2 need
-taken_newest s w v need h taken = subst (λ (n : ℕ). HasTaken v n need) (ap (λ (xs : List Published). length xs - 1) h.published) taken
-
--- ---- the look
-
--- a look on the area in both kinds may begin once the wait is over
-pub may_look : (s : Areas) (w : WriterView) (need : ℕ) → IsGone s w → HasTaken w 2 need → need ≤ w.counter → LookMayBegin w Both 1
-may_look s w need h taken enough = record {
-  generation = 2;
-  ended = record { need = need; kept = taken; reached = enough; published = gone_published; at = ap (λ (xs : List Published). slice_get xs 2) h.published; gone = refl };
-}
-
--- the release is allowed once it was clear
-pub may_release_now : (s : Areas) (w v : WriterView) (need : ℕ) → IsGone s w → HasTaken w 2 need → need ≤ w.counter → LooksMore w v → IsClear v Both 1 → MayRelease s v first_area
-may_release_now s w v need h taken enough more clear = subst (λ (x : WriterView). MayRelease s x first_area) (sym more.same) (record {
-  since = 2;
-  retired = h.used;
-  published = (let long = ap (λ (xs : List Published). length xs) h.published in omega (arith, long));
-  pair = record { generation = 2; need = need };
-  taken = taken;
-  later = omega (arith);
-  reached = enough;
-  clear = (let now = subst (λ (x : WriterView). IsClear x Both 1) more.same clear in now);
-})
+pub taken_newest : (last : ℕ) (s : Areas) (w v : WriterView) (need : ℕ) → AreGone 0 last s w → HasTaken v (length w.published - 1) need → HasTaken v 2 need
+taken_newest last s w v need h taken = subst (λ (n : ℕ). HasTaken v n need) (ap (λ (n : ℕ). n - 1) h.published) taken
 
 -- ---- the calls
-
-pub gone_after : (pool : Pool) (old new : Areas) (answer : Take) → HasAnswered pool old new answer → ((v : WriterView) → AreOf old v → AreOf new v) → (w : WriterView) → IsGone old w → IsGone new w
-gone_after pool old new answer told owned w h = gone_still old new w owned (still_retired pool old new answer told) h
 
 -- the next root has room
 pub gone_room : (table : TableId) (opening : Opening) (s : Areas) (writer : writers.Writer) → IsWriterOf table opening writer → IsRetiring s (written_by writer) → writer.generation + 1 < 2 ^ 59

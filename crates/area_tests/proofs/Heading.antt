@@ -1,7 +1,7 @@
 -- The writer's thread: the leader that raises the counter, and looks again and again.
 use Rattle.std.proofs.Common.{◌≡◌, ℕ, refl, sym, ap, subst, ◌∙◌}
 use Rattle.atomic_table.specs.Seated.{TableId}
-use Rattle.term_core.specs.declared.generation.Generation.{Generation}
+use Rattle.area_core.specs.declared.table.Published.{Published}
 use Rattle.shared_words.specs.declared.seats.Member as tokens
 use Rattle.shared_words.specs.declared.view.MemberView.{MemberView}
 use Rattle.shared_words.specs.Opening.{member_begun}
@@ -24,5 +24,5 @@ pub heads_first : (table : TableId) (old new : tokens.Member) → view_of old �
 heads_first table old new begun of leads kept = record { of = of; leads = leads; slots = kept ∙ ap (λ (m : MemberView). m.slots) begun }
 
 -- the leader leads on after a report and a try
-pub heads_on : (Served : Generation → Type 0) (table : TableId) (generation : ℕ) (old mid new : tokens.Member) → IsHeading table old → Reported Served (view_of old) (view_of mid) generation → IsMemberOf table new → IsLeader (view_of new) → (view_of new).slots ≡ (view_of mid).slots → IsHeading table new
+pub heads_on : (Served : Published → Type 0) (table : TableId) (generation : ℕ) (old mid new : tokens.Member) → IsHeading table old → Reported Served (view_of old) (view_of mid) generation → IsMemberOf table new → IsLeader (view_of new) → (view_of new).slots ≡ (view_of mid).slots → IsHeading table new
 heads_on Served table generation old mid new h told of leads kept = record { of = of; leads = leads; slots = kept ∙ ap (λ (m : MemberView). m.slots) told.view ∙ h.slots }

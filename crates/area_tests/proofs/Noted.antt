@@ -1,4 +1,4 @@
--- The two members of a table that play are begun with a note each, while an area is retired.
+-- The two members of a table that play are begun with a note each, while areas are retired.
 use Rattle.std.proofs.Common.{◌≡◌, ℕ, zero, suc, List, [], ◌∷◌, ◌++◌, length, sym, ap, subst, ◌∙◌, arith}
 use Rattle.std.specs.Prelude.{Some, slice_get}
 use Rattle.atomic_table.specs.Seated.{TableId}
@@ -14,8 +14,7 @@ use Rattle.shared_words.specs.Seats.{writer_of}
 use Rattle.shared_words.specs.Views.{published_at}
 use Rattle.progress_words.specs.Tokens.{view_of, written_by, IsWriterOf}
 use Rattle.literal_areas.specs.declared.areas.Areas.{Areas}
-use Rattle.area_tests.specs.First.{first_published}
-use Rattle.area_tests.specs.Gone.{IsRetiring}
+use Rattle.area_tests.specs.Several.{three_published, AreRetiring}
 use Rattle.area_tests.specs.Three.{ArePrepared}
 use Rattle.area_tests.specs.Work.{IsWorking, IsUnder, turns_done}
 
@@ -49,8 +48,8 @@ second_note w v none is = record {
     apart note (suc k) at same = none_at k at
 
 -- a note changes nothing else
-pub retiring_noted : (s : Areas) (process : ℕ) (w v : WriterView) → v ≡ with_note process w → IsRetiring s w → IsRetiring s v
-retiring_noted s process w v is h = subst (IsRetiring s) (sym is) (record {
+pub retiring_noted : (s : Areas) (process : ℕ) (w v : WriterView) → v ≡ with_note process w → AreRetiring 3 s w → AreRetiring 3 s v
+retiring_noted s process w v is h = subst (AreRetiring 3 s) (sym is) (record {
   owned = record {
     sound = h.owned.sound;
     all = h.owned.all;
@@ -60,7 +59,8 @@ retiring_noted s process w v is h = subst (IsRetiring s) (sym is) (record {
     past = h.owned.past;
     since = h.owned.since;
   };
-  used = h.used;
+  retired = h.retired;
+  live = h.live;
   others = h.others;
   published = h.published;
   kept = h.kept;
@@ -69,14 +69,14 @@ retiring_noted s process w v is h = subst (IsRetiring s) (sym is) (record {
 })
 
 -- two generations are published
-pub two_retiring : (s : Areas) (w : WriterView) → IsRetiring s w → length w.published ≡ 2
+pub two_retiring : (s : Areas) (w : WriterView) → AreRetiring 3 s w → length w.published ≡ 2
 two_retiring s w h = ap (λ (ps : List Published). length ps) h.published
 
-under_first : (s : Areas) (w : WriterView) → IsRetiring s w → published_at w.published 1 ≡ first_published
+under_first : (s : Areas) (w : WriterView) → AreRetiring 3 s w → published_at w.published 1 ≡ three_published
 under_first s w h = ap (λ (ps : List Published). published_at ps 1) h.published
 
 module _ (table : TableId) (opening : Opening) (s : Areas) (old mid new : writers.Writer) (first_old first second_old second : tokens.Member) where
-  pub prepared : IsRetiring s (written_by old) → IsMemberBegun table 0 first_old → IsMemberBegun table 1 second_old → written_by mid ≡ with_note 0 (written_by old) → written_by new ≡ with_note 1 (written_by mid) → IsWriterOf table opening new
+  pub prepared : AreRetiring 3 s (written_by old) → IsMemberBegun table 0 first_old → IsMemberBegun table 1 second_old → written_by mid ≡ with_note 0 (written_by old) → written_by new ≡ with_note 1 (written_by mid) → IsWriterOf table opening new
       → IsWorking table opening 0 first → IsUnder (published_at (written_by old).published 1) (view_of first) → turns_done 0 (view_of first) ≡ 0 → first.number ≡ first_old.number
       → IsWorking table opening 1 second → IsUnder (published_at (written_by mid).published 1) (view_of second) → turns_done 1 (view_of second) ≡ 0 → second.number ≡ second_old.number → ArePrepared table opening s new first second
   prepared retiring first_begun second_begun one two token first_works first_under first_turns first_number second_works second_under second_turns second_number =

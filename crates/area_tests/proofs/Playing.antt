@@ -1,17 +1,16 @@
 -- A process that holds and drops an area, turn by turn.
-use Rattle.std.proofs.Common.{◌≡◌, ℕ, ◌+◌, ◌-◌, ◌<◌, ◌≤◌, inl, inr, true, List, length, length-append, ◌++◌, refl, sym, ap, subst, ◌∙◌, arith}
+use Rattle.std.proofs.Common.{◌≡◌, ℕ, suc, ◌+◌, ◌^◌, ◌<◌, ◌≤◌, inl, inr, true, List, length, length-append, ◌++◌, refl, sym, ap, subst, ◌∙◌, arith}
 use Rattle.std.specs.Prelude.{Option, Some, None, slice_get, IsTrue}
 use Rattle.atomic_table.specs.Seated.{TableId}
 use Rattle.prgr_core.specs.declared.member.Role.{Role}
 use Rattle.prgr_core.specs.declared.member.Role.TheVariants.{Follows, Leads}
 use Rattle.prgr_core.specs.Members.{role_knowing}
 use Rattle.prgr_core.specs.Step.{follows}
-use Rattle.term_core.specs.declared.generation.Generation.{Generation}
+use Rattle.term_core.specs.declared.area.AreaRef.{AreaRef}
 use Rattle.term_core.specs.declared.hold.Kind.{Kind}
 use Rattle.term_core.specs.declared.hold.Kind.TheVariants.{Frame, Literal}
 use Rattle.area_core.specs.declared.table.Published.{Published}
-use Rattle.area_core.specs.Map.{word_at}
-use Rattle.area_core.specs.Generations.{is_current}
+use Rattle.area_core.specs.Generations.{has_serial, is_current}
 use Rattle.marks.specs.Names.{IsAtRest}
 use Rattle.marks.specs.Kept.{Under}
 use Rattle.marks.specs.Steps.{HasNote}
@@ -24,14 +23,15 @@ use Rattle.shared_words.specs.Rule.{IsBeginning}
 use Rattle.shared_words.specs.Seats.{IsRooted}
 use Rattle.shared_words.specs.Slots.{with_slot}
 use Rattle.shared_words.specs.Kinds.{MayWait}
-use Rattle.shared_words.proofs.ShownMembers.{there_is}
 use Rattle.progress_words.specs.Tokens.{view_of, IsMemberOf, IsSameMember}
 use Rattle.progress_words.specs.Reports.{IsAwake, Reported, having_reported}
-use Rattle.anchors.specs.Holds.{anchors_of, names_for, Holds, MayHold, HasHeld}
+use Rattle.anchors.specs.Holds.{anchors_of, Holds, MayHold, HasHeld}
 use Rattle.anchors.specs.Drops.{HasDropped}
 use Rattle.anchors.specs.Turns.{MayMark}
-use Rattle.area_tests.specs.First.{first_published}
+use Rattle.area_tests.specs.Many.{serials, ref_one}
+use Rattle.area_tests.specs.Several.{three_published}
 use Rattle.area_tests.specs.Work.{IsWorking, IsUnder, GoesOn, HasEndedTurn, turns_done}
+use Rattle.area_tests.proofs.Instances.{serial_there}
 use Rattle.area_tests.proofs.Work.{held_works, held_under, held_turns, refused_works, dropped_works, dropped_under, dropped_turns}
 use Rattle.area_tests.proofs.Turned.{turn_works, turn_under, turn_rests, turn_counts, all_rest}
 
@@ -72,22 +72,20 @@ dropped_goes table opening process serial kind old new h of number copied droppe
   number = number;
 }
 
--- under the first generation its instance may be held
-pub may_first : (process : ℕ) (m : MemberView) → IsUnder first_published m → MayHold process Frame 1 m
-may_first process m under = inr (ap (λ (p : Published). is_current p 1) under)
+-- each of the three is current under the first generation, and may be held
+pub current_one : (at : ℕ) (area : AreaRef) → at < 3 → area ≡ ref_one at → is_current three_published area.serial ≡ true
+current_one at area low is = ap (λ (a : AreaRef). has_serial (serials 3) a.serial) is ∙ serial_there 3 at low
+
+-- its serial has room in an anchor
+pub room_one : (at : ℕ) (area : AreaRef) → at < 3 → area ≡ ref_one at → area.serial < 2 ^ 62
+room_one at area low is = (let same : area.serial ≡ suc at = ap (λ (a : AreaRef). a.serial) is in omega (arith, low, same))
+
+pub may_first : (process serial : ℕ) (m : MemberView) → is_current three_published serial ≡ true → IsUnder three_published m → MayHold process Frame serial m
+may_first process serial m current under = inr (ap (λ (p : Published). is_current p serial) under ∙ current)
 
 -- what is held for a frame may be held for a literal
-pub may_too : (process : ℕ) (m : MemberView) → Holds Frame (anchors_of m process) 1 → MayHold process Literal 1 m
-may_too process m held = inr (inr held)
-
--- this word of an anchor names the area
-pub names_word : (kind : Kind) (anchors : List ℕ) (place word : ℕ) → length anchors ≡ 16 → 1 ≤ place → place < 17 → word ≡ word_at anchors (place - 1) → names_for kind word 1 ≡ true → Holds kind anchors 1
-names_word kind anchors place word wide first last is names = record {
-  place = place - 1;
-  word = word;
-  at = there_is anchors (place - 1) 0 (omega (arith, wide, first, last)) ∙ ap (λ (x : ℕ). Some x) (sym is);
-  passes = names;
-}
+pub may_too : (process serial : ℕ) (m : MemberView) → Holds Frame (anchors_of m process) serial → MayHold process Literal serial m
+may_too process serial m held = inr (inr held)
 
 -- ---- turns
 
@@ -143,7 +141,7 @@ later_held counter old new is learnt low =
     let long : length new.seen ≡ length (old.seen ++ learnt.0) = ap (λ (xs : List Published). length xs) learnt.1 in
     omega (arith, now, long, low, length-append old.seen learnt.0)
 
-pub reported_works : (Served : Generation → Type 0) (table : TableId) (opening : Opening) (process generation : ℕ) (old new : tokens.Member) → IsWorking table opening process old → IsMemberOf table new → IsSameMember old new → IsAwake (view_of new) → IsRooted new.root (view_of new) → Reported Served (view_of old) (view_of new) generation → IsWorking table opening process new
+pub reported_works : (Served : Published → Type 0) (table : TableId) (opening : Opening) (process generation : ℕ) (old new : tokens.Member) → IsWorking table opening process old → IsMemberOf table new → IsSameMember old new → IsAwake (view_of new) → IsRooted new.root (view_of new) → Reported Served (view_of old) (view_of new) generation → IsWorking table opening process new
 reported_works Served table opening process generation old new h of same awake rooted told =
     let is = told.view in
     let later = later_held told.counter (view_of old) (view_of new) is told.learnt h.ends.learnt in
@@ -164,5 +162,5 @@ reported_works Served table opening process generation old new h of same awake r
       unkilled = λ place word s at told_kill. h.unkilled place word s (ap (λ (m : MemberView). slice_get (anchors_of m process) place) (sym is) ∙ at) told_kill;
     }
 
-pub reported_turns : (Served : Generation → Type 0) (process generation : ℕ) (old new : MemberView) → Reported Served old new generation → turns_done process new ≡ turns_done process old
+pub reported_turns : (Served : Published → Type 0) (process generation : ℕ) (old new : MemberView) → Reported Served old new generation → turns_done process new ≡ turns_done process old
 reported_turns Served process generation old new told = ap (λ (m : MemberView). turns_done process m) told.view

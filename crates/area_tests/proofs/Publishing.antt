@@ -7,7 +7,6 @@ use Rattle.std.proofs.lemmas.Bool.{cases_Bool, eqb-true}
 use Rattle.std.proofs.lemmas.Nat.{mod_below}
 use Rattle.prgr_core.proofs.Parts.{slice_get-push_at, some_same}
 use Rattle.term_core.specs.declared.area.AreaRef.{AreaRef}
-use Rattle.term_core.specs.declared.generation.Generation.{Generation}
 use Rattle.area_core.specs.declared.map.TheConstants.{BUCKETS}
 use Rattle.area_core.specs.declared.table.Published.{Published}
 use Rattle.area_core.specs.declared.table.KeptArea.{KeptArea}
@@ -157,7 +156,7 @@ module _ (w : WriterView) (h : HasWords w) where
       (slice_get-push_at w.published first_published g p at)
 
   -- it may be published
-  pub may_publish_first : (Served : Generation → Type 0) → Served first_published.state → MayPublish Served w first_published
+  pub may_publish_first : (Served : Published → Type 0) → Served first_published → MayPublish Served w first_published
   may_publish_first Served served = record {
     served = served;
     old_stays = λ g later p q serial le at_p at_q old. absurd (each (λ x. has_serial x.state.old serial ≡ true → ⊥) never never g p at_p old);

@@ -6,7 +6,6 @@ use Rattle.std.proofs.lemmas.Bool.Decides.{nat_tests}
 use Rattle.std.proofs.Math.Nat.{mod-eq_of_lt}
 use Rattle.atomic_table.specs.Seated.{TableId}
 use Rattle.prgr_core.specs.Step.{follows}
-use Rattle.term_core.specs.declared.generation.Generation.{Generation}
 use Rattle.area_core.specs.declared.table.Published.{Published}
 use Rattle.area_core.specs.declared.readers.Slots.TheVariants.{OfMember}
 use Rattle.area_core.specs.Readers.{is_of}
@@ -108,7 +107,7 @@ begun_follows process counter w mid new joined is two = subst (λ (m : MemberVie
 
 -- ---- the tokens
 
-pub begins : (Served : Generation → Type 0) (table : TableId) (opening : Opening) (process generation : ℕ) (w : WriterView) (note : notes.Note) (old mid new : tokens.Member) → process < opening.members → opening.members ≤ 16 → length w.published ≡ 2 → view_of old ≡ member_begun process → AreCopied old.anchors.items (view_of old) → IsSameMember old mid
+pub begins : (Served : Published → Type 0) (table : TableId) (opening : Opening) (process generation : ℕ) (w : WriterView) (note : notes.Note) (old mid new : tokens.Member) → process < opening.members → opening.members ≤ 16 → length w.published ≡ 2 → view_of old ≡ member_begun process → AreCopied old.anchors.items (view_of old) → IsSameMember old mid
     → noted_by note ≡ note_begun process w → view_of mid ≡ note_joined (noted_by note) (view_of old) → IsMemberOf table new → IsSameMember mid new → IsAwake (view_of new) → IsRooted new.root (view_of new) → Reported Served (view_of mid) (view_of new) generation → generation ≡ 1 → IsWorking table opening process new
 begins Served table opening process generation w note old mid new below few two begun copied first noted joined of second awake rooted told one =
     let joined_now : view_of mid ≡ note_joined (note_begun process w) (member_begun process) = joined ∙ (λ i. note_joined (noted i) (begun i)) in
@@ -126,11 +125,11 @@ begins Served table opening process generation w note old mid new below few two 
       unkilled = empty_unkilled (view_of new) process none;
     }
 
-pub begins_under : (Served : Generation → Type 0) (process generation : ℕ) (w : WriterView) (note : notes.Note) (old mid new : MemberView) → length w.published ≡ 2 → old ≡ member_begun process → noted_by note ≡ note_begun process w → mid ≡ note_joined (noted_by note) old → Reported Served mid new generation → generation ≡ 1 → IsUnder (published_at w.published 1) new
+pub begins_under : (Served : Published → Type 0) (process generation : ℕ) (w : WriterView) (note : notes.Note) (old mid new : MemberView) → length w.published ≡ 2 → old ≡ member_begun process → noted_by note ≡ note_begun process w → mid ≡ note_joined (noted_by note) old → Reported Served mid new generation → generation ≡ 1 → IsUnder (published_at w.published 1) new
 begins_under Served process generation w note old mid new two begun noted joined told one =
     under_first process told.counter w mid new (joined ∙ (λ i. note_joined (noted i) (begun i))) told.view two told.learnt (sym told.newest ∙ one)
 
-pub begins_turns : (Served : Generation → Type 0) (process generation : ℕ) (w : WriterView) (note : notes.Note) (old mid new : MemberView) → length w.published ≡ 2 → old ≡ member_begun process → noted_by note ≡ note_begun process w → mid ≡ note_joined (noted_by note) old → Reported Served mid new generation → turns_done process new ≡ 0
+pub begins_turns : (Served : Published → Type 0) (process generation : ℕ) (w : WriterView) (note : notes.Note) (old mid new : MemberView) → length w.published ≡ 2 → old ≡ member_begun process → noted_by note ≡ note_begun process w → mid ≡ note_joined (noted_by note) old → Reported Served mid new generation → turns_done process new ≡ 0
 begins_turns Served process generation w note old mid new two begun noted joined told =
     ap (λ (xs : List ProcessSlot). length (slot_in xs process).marks) (slots_none process told.counter w mid new (joined ∙ (λ i. note_joined (noted i) (begun i))) told.view two)
 

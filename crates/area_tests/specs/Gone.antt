@@ -1,5 +1,5 @@
 -- The one instance is retired, and then the generation is published in which it is.
-use Rattle.std.specs.Prelude.{◌≡◌, ℕ, ◌<◌, [], ◌∷◌, Some}
+use Rattle.std.specs.Prelude.{◌≡◌, ℕ, suc, ◌+◌, ◌<◌, ◌≤◌, [], ◌∷◌, length, Some}
 use Rattle.area_core.specs.declared.table.Published.{Published}
 use Rattle.area_core.specs.declared.table.KeptArea.{KeptArea}
 use Rattle.area_core.specs.Map.{word_at, retire_place}
@@ -29,8 +29,8 @@ pub record IsRetiring (s : Areas) (w : WriterView) : Type 0 where
   pub told : word_at w.words (retire_place 9) ≡ 2
   pub blank : (place : ℕ) → place < 10709 → (place ≡ retire_place 9 → ⊥) → word_at w.words place ≡ 0
 
--- generation 2 is published
-pub record IsGone (s : Areas) (w : WriterView) : Type 0 where
+-- generation 2 is published, and the areas behind so many are retired from it on, up to this number of them
+pub record AreGone (done last : ℕ) (s : Areas) (w : WriterView) : Type 0 where
   pub owned : AreOf s w
-  pub used : use_of s 9 ≡ Some (Retired 1 2)
-  pub published : w.published ≡ opening_published ∷ first_published ∷ gone_published ∷ []
+  pub used : (i : ℕ) → done ≤ i → i < last → use_of s (9 + i) ≡ Some (Retired (suc i) 2)
+  pub published : length w.published ≡ 3

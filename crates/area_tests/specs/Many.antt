@@ -1,10 +1,10 @@
--- A generation with seventeen instances of no words: they have the serials from 1 on, in the blocks from 9 on. The sixteenth is
--- doomed.
+-- Generations of instances that have no words: they have the serials from 1 on, in the blocks from 9 on. One has seventeen, of
+-- which the sixteenth is doomed.
 use Rattle.std.specs.Prelude.{◌≡◌, ℕ, zero, suc, ◌+◌, List, [], ◌∷◌}
 use Rattle.term_core.specs.declared.area.AreaRef.{AreaRef}
-use Rattle.term_core.specs.declared.generation.Generation.{Generation}
 use Rattle.term_core.specs.declared.generation.AreaWords.{AreaWords}
 use Rattle.area_core.specs.declared.table.Published.{Published}
+use Rattle.area_core.specs.declared.table.KeptArea.{KeptArea}
 use Rattle.area_core.specs.Map.{word_at, doom_place}
 use Rattle.area_core.specs.Step.{empty_generation, opening_published, to_publish}
 use Rattle.shared_words.specs.declared.view.WriterView.{WriterView}
@@ -14,23 +14,36 @@ abbrev pub serials : ℕ → List ℕ
 serials zero = []
 serials (suc n) = suc n ∷ serials n
 
--- their blocks
+-- the area behind so many
+abbrev pub ref_one : ℕ → AreaRef
+ref_one i = record { serial = suc i; block = 9 + i }
+
+-- so many areas, the last first
 abbrev pub refs : ℕ → List AreaRef
 refs zero = []
-refs (suc n) = record { serial = suc n; block = 9 + n } ∷ refs n
+refs (suc n) = ref_one n ∷ refs n
 
 -- their images
 abbrev pub images : ℕ → List AreaWords
 images zero = []
 images (suc n) = record { serial = suc n; words = [] } ∷ images n
 
--- all are current, and the sixteenth is doomed
-abbrev pub many_state : Generation
-many_state = record empty_generation { current = serials 17; doomed = 16 ∷ []; areas = images 17 }
+-- as one of them is kept
+abbrev pub kept_one : ℕ → KeptArea
+kept_one i = record { area = ref_one i; words = [] }
 
--- as it is published, over the first block of each sort
+-- as they are kept
+abbrev pub kepts : ℕ → List KeptArea
+kepts zero = []
+kepts (suc n) = kept_one n ∷ kepts n
+
+-- so many are current, and these are doomed; it is published over the first block of each sort
+abbrev pub published_of : ℕ → List ℕ → Published
+published_of n doomed = to_publish 0 0 0 (record empty_generation { current = serials n; doomed = doomed; areas = images n }) (refs n)
+
+-- seventeen are current, and the sixteenth is doomed
 abbrev pub many_published : Published
-many_published = to_publish 0 0 0 many_state (refs 17)
+many_published = published_of 17 (16 ∷ [])
 
 -- nothing but the empty generation was published, no area is kept, and each word behind the slots is 0, but the doom word of the
 -- sixteenth instance's block

@@ -1,18 +1,13 @@
 -- The members of a table that has three: two that play, and one that leads.
-use Rattle.std.specs.Prelude.{◌≡◌, ℕ, ◌+◌, ◌<◌, false, List, Some, slice_get}
+use Rattle.std.specs.Prelude.{◌≡◌}
 use Rattle.atomic_table.specs.Seated.{TableId}
-use Rattle.area_core.specs.declared.map.TheConstants.{PROCESSES, ANCHORS}
-use Rattle.area_core.specs.Map.{slot_place}
-use Rattle.marks.specs.declared.kept.LookKind.TheVariants.{Both}
-use Rattle.marks.specs.Names.{names_in}
 use Rattle.shared_words.specs.declared.opening.Opening.{Opening}
 use Rattle.shared_words.specs.declared.seats.Member as tokens
 use Rattle.shared_words.specs.declared.seats.Writer as writers
 use Rattle.shared_words.specs.Making.{IsMemberBegun}
 use Rattle.progress_words.specs.Tokens.{written_by, IsMemberOf, IsWriterOf}
 use Rattle.literal_areas.specs.declared.areas.Areas.{Areas}
-use Rattle.area_tests.specs.First.{first_published}
-use Rattle.area_tests.specs.Gone.{IsRetiring}
+use Rattle.area_tests.specs.Several.{three_published, AreRetiring}
 use Rattle.area_tests.specs.Work.{IsPlaying}
 
 -- they are as they begin
@@ -30,15 +25,11 @@ pub record AreThree (table : TableId) (first second leader : tokens.Member) : Ty
   pub leader_of : IsMemberOf table leader
   pub leader_is : leader.number ≡ 2
 
--- the area is retired from the next generation on, and two members play under the one that uses it
+-- the areas are retired from the next generation on, and two members play under the one that uses them
 pub record ArePrepared (table : TableId) (opening : Opening) (pools : Areas) (writer : writers.Writer) (first second : tokens.Member) : Type 0 where
   pub token : IsWriterOf table opening writer
-  pub retiring : IsRetiring pools (written_by writer)
-  pub first_plays : IsPlaying table opening 0 first_published first
+  pub retiring : AreRetiring 3 pools (written_by writer)
+  pub first_plays : IsPlaying table opening 0 three_published first
   pub first_is : first.number ≡ 0
-  pub second_plays : IsPlaying table opening 1 first_published second
+  pub second_plays : IsPlaying table opening 1 three_published second
   pub second_is : second.number ≡ 1
-
--- no anchor of these words names the area
-abbrev pub NamesNowhere : List ℕ → Type 0
-NamesNowhere words = (process place word : ℕ) → process < PROCESSES → place < ANCHORS → slice_get words (slot_place process (place + 1)) ≡ Some word → names_in Both word 1 ≡ false

@@ -12,9 +12,13 @@ mod released;
 #[cfg(test)]
 mod retired;
 #[cfg(test)]
+mod several;
+#[cfg(test)]
 mod slots;
 #[cfg(test)]
 mod starting;
+#[cfg(test)]
+mod three;
 #[cfg(test)]
 mod writing;
 #[cfg(test)]

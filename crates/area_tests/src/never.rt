@@ -1,107 +1,46 @@
-//! Two members hold and drop an area at random, each in a thread of its own, while the writer publishes
-//! the generation in which it is retired, waits, looks through all slots and releases it. The expected
-//! values are those of the rules: once a look was clear, no look finds the area; a process makes 20,001
-//! turns, and names nothing after the last one.
+//! Two members hold and drop three areas at random, each in a thread of its own, while the writer publishes
+//! the generation in which all are retired, waits, looks through all slots and releases one after another.
+//! The expected values are those of the rules: once a look was clear, no look finds the area; a process
+//! makes 20,001 turns, and names nothing after the last one.
 
-ghost use Rattle.std.specs.Prelude.{◌≡◌, ◌+◌, true, [], IfOk, IfSome};
-ghost use Rattle.marks.specs.declared.kept.LookKind.TheVariants.{Both};
+ghost use Rattle.std.specs.Prelude.{◌≡◌, true, [], IfOk, IfSome};
 ghost use Rattle.shared_words.specs.Making.{AreMembersBegun, IsHanding, IsMemberBegun};
-ghost use Rattle.shared_words.specs.Closing.{AreAllMembers};
-ghost use Rattle.shared_words.specs.Slots.{IsClear};
 ghost use Rattle.progress_words.specs.Tokens.{written_by, IsMemberOf, IsWriterOf};
 ghost use Rattle.literal_areas.specs.Blocks.{opening_areas};
 ghost use Rattle.literal_areas.specs.Owned.{AreOf};
-ghost use Rattle.area_tests.specs.First.{first_published};
-ghost use Rattle.area_tests.specs.Gone.{IsRetiring};
-ghost use Rattle.area_tests.specs.Three.{AreThreeBegun, AreThree, ArePrepared, NamesNowhere};
+ghost use Rattle.area_tests.specs.Several.{three_published, AreRetiring, AreClear, NamesNone};
+ghost use Rattle.area_tests.specs.Three.{AreThree, ArePrepared};
 ghost use Rattle.area_tests.specs.Work.{IsPlaying};
 
 use crate::players::{TURNS, play};
-use crate::retired::retire_first;
+use crate::several::{AREAS, retire_all, take_all};
 use crate::starting::begin_work;
+use crate::three::{Three, join_three, take_three};
 use crate::writing::{Written, write_all};
 use crate::written::Any;
-use literal_areas::{Pool, Pools, Take};
+use literal_areas::Pools;
 use shared_words::{Member, Parts, Shared, Writer, close};
 use std::alloc::Global;
 use std::test::Fail;
 use std::thread::{Threads, join};
-use term_core::{AreaRef, NoMemory, WordList};
+use term_core::{NoMemory, WordList};
 
 /// How many members the table has: two that play, and one that leads.
 const MEMBERS: u32 = 3;
 
-/// The tokens of the three members of a table.
-#[derive(Drop)]
-struct Three {
-    first: Member,
-    second: Member,
-    leader: Member,
-}
-
 /// What a run tells.
 #[derive(Drop)]
 struct Told {
-    /// Whether a look was clear, and the area was released.
-    released: bool,
-    /// How many looks found it afterwards.
+    /// How many areas were released, each after a look that was clear.
+    released: u32,
+    /// How many looks found an area after its release.
     late: u32,
     /// The words of the table at its end.
     words: WordList,
 }
 
-/// The last one of so many members and one more.
-#[tactic(auto, using(crate::proofs::Three::last_begun, crate::proofs::Three::rest_begun))]
-fn take_last(shared: &Shared<Any>, members: &mut Vec<Member>, count: u32) -> Option<Member>
-    requires begun { AreMembersBegun shared.now.table.shared.table_id (count + 1) members.old.items }
-    ensures last { IfSome result (λ token. IsMemberBegun shared.now.table.shared.table_id count token) }
-    ensures rest { IfSome result (λ token. AreMembersBegun shared.now.table.shared.table_id count members.new.items) }
-{
-    let _ = shared;
-    let _ = count;
-    match members.pop() {
-        Some(member) => Some(member),
-        None => None,
-    }
-}
-
-/// The three members of a table, as they begin.
-fn take_three(shared: &Shared<Any>, mut members: Vec<Member>) -> Option<Three>
-    requires begun { AreMembersBegun shared.now.table.shared.table_id 3 members.items }
-    ensures { IfSome result (λ three. AreThreeBegun shared.now.table.shared.table_id three.first three.second three.leader) }
-{
-    let leader = take_last(shared, &mut members, 2)?;
-    let second = take_last(shared, &mut members, 1)?;
-    let first = take_last(shared, &mut members, 0)?;
-    Some(Three {
-        first,
-        second,
-        leader,
-    })
-}
-
-/// The members in the order of their numbers.
-#[tactic(auto, using(crate::proofs::Three::all_three))]
-fn join_three(shared: &Shared<Any>, alloc: Global, three: Three) -> Result<Vec<Member>, NoMemory>
-    requires opening { shared.now.table.shared.key.members ≡ 3 }
-    requires three { AreThree shared.now.table.shared.table_id three.first three.second three.leader }
-    ensures { IfOk result (λ members. AreAllMembers shared.now.table.shared.table_id shared.now.table.shared.key.members members.items) }
-{
-    let _ = shared;
-    let Three {
-        first,
-        second,
-        leader,
-    } = three;
-    let mut members = Vec::with_capacity(alloc, 3)?;
-    members.push_reserved(first);
-    members.push_reserved(second);
-    members.push_reserved(leader);
-    Ok(members)
-}
-
-/// Both members begin; answers whether they hold the generation that uses the area.
-#[tactic(auto, using(crate::proofs::Three::of_begun, crate::proofs::Three::view_begun, crate::proofs::Three::copied_begun, crate::proofs::Noted::first_note, crate::proofs::Noted::second_note, crate::proofs::Noted::two_retiring, crate::proofs::Noted::retiring_noted, crate::proofs::Noted::prepared))]
+/// Both members begin; answers whether they hold the generation that uses the areas.
+#[tactic(auto, using(crate::proofs::Members::of_begun, crate::proofs::Members::view_begun, crate::proofs::Members::copied_begun, crate::proofs::Noted::first_note, crate::proofs::Noted::second_note, crate::proofs::Noted::two_retiring, crate::proofs::Noted::retiring_noted, crate::proofs::Noted::prepared))]
 fn begin_both(
     shared: &Shared<Any>,
     writer: &mut Writer,
@@ -112,7 +51,7 @@ fn begin_both(
     requires token { IsWriterOf shared.now.table.shared.table_id shared.now.table.shared.key writer.old }
     requires three { shared.now.table.shared.key.members ≡ 3 }
     requires unnoted { (written_by writer.old).notes ≡ [] }
-    requires retiring { IsRetiring pools.now (written_by writer.old) }
+    requires retiring { AreRetiring 3 pools.now (written_by writer.old) }
     requires first { IsMemberBegun shared.now.table.shared.table_id 0 first.old }
     requires second { IsMemberBegun shared.now.table.shared.table_id 1 second.old }
     ensures { result ≡ true → ArePrepared shared.now.table.shared.table_id shared.now.table.shared.key pools.now writer.new first.new second.new }
@@ -125,8 +64,8 @@ fn begin_both(
     }
 }
 
-/// Takes the first area, publishes it and retires it; then both members begin.
-#[tactic(auto, using(crate::proofs::Begun::begun_empty, crate::proofs::Begun::begun_newest, crate::proofs::Begun::begun_published, crate::proofs::Noted::begun_notes, crate::proofs::Serials::taken_first))]
+/// Takes the areas, publishes and retires them; then both members begin.
+#[tactic(auto, using(crate::proofs::Begun::begun_empty, crate::proofs::Begun::begun_newest, crate::proofs::Begun::begun_published, crate::proofs::Noted::begun_notes))]
 fn prepare(
     shared: &Shared<Any>,
     writer: &mut Writer,
@@ -142,16 +81,11 @@ fn prepare(
     requires second { IsMemberBegun shared.now.table.shared.table_id 1 second.old }
     requires pools { pools.old ≡ opening_areas }
     requires owned { AreOf pools.old (written_by writer.old) }
-    // the area is retired from the next generation on, and both play
+    // the areas are retired from the next generation on, and both play
     ensures { result ≡ true → ArePrepared shared.now.table.shared.table_id shared.now.table.shared.key pools.new writer.new first.new second.new }
 {
-    let area = AreaRef {
-        serial: 1,
-        block: 9,
-    };
-    let taken = pools.take(Pool::Big);
-    if taken == Take::Area(area) {
-        retire_first(shared, writer, pools, area);
+    if take_all(pools) {
+        retire_all(shared, writer, pools);
         begin_both(shared, writer, first, second, pools)
     } else {
         false
@@ -165,8 +99,8 @@ fn play_both<R: Threads + Sync>(
     first: Member,
     second: Member,
 ) -> (Member, Member)
-    requires first { IsPlaying shared.now.table.shared.table_id shared.now.table.shared.key 0 first_published first }
-    requires second { IsPlaying shared.now.table.shared.table_id shared.now.table.shared.key 1 first_published second }
+    requires first { IsPlaying shared.now.table.shared.table_id shared.now.table.shared.key 0 three_published first }
+    requires second { IsPlaying shared.now.table.shared.table_id shared.now.table.shared.key 1 three_published second }
     ensures first { IsMemberOf shared.now.table.shared.table_id result.0 }
     ensures first_number { result.0.number ≡ first.number }
     ensures second { IsMemberOf shared.now.table.shared.table_id result.1 }
@@ -180,7 +114,7 @@ fn play_both<R: Threads + Sync>(
 }
 
 /// The writer and both members do their parts, each in a thread of its own.
-#[tactic(auto, using(crate::proofs::Three::of_begun, crate::proofs::Three::view_begun, crate::proofs::Ended::three_ended))]
+#[tactic(auto, using(crate::proofs::Members::of_begun, crate::proofs::Members::view_begun, crate::proofs::Ended::three_ended))]
 fn run_beside<R: Threads + Sync>(
     rt: &R,
     shared: &Shared<Any>,
@@ -192,7 +126,7 @@ fn run_beside<R: Threads + Sync>(
     requires leader { IsMemberBegun shared.now.table.shared.table_id 2 three.leader }
     ensures writer { IsWriterOf shared.now.table.shared.table_id shared.now.table.shared.key result.0.writer }
     ensures three { AreThree shared.now.table.shared.table_id result.1.0 result.1.1 result.0.leader }
-    ensures clear { result.0.released ≡ true → IsClear (written_by result.0.writer) Both 1 }
+    ensures clear { AreClear result.0.released (written_by result.0.writer) }
 {
     let Three {
         first,
@@ -203,13 +137,13 @@ fn run_beside<R: Threads + Sync>(
         rt,
         move || write_all(shared, writer, leader, pools),
         move || -> (Member, Member)
-            requires first { IsPlaying shared.now.table.shared.table_id shared.now.table.shared.key 0 first_published first }
-            requires second { IsPlaying shared.now.table.shared.table_id shared.now.table.shared.key 1 first_published second }
+            requires first { IsPlaying shared.now.table.shared.table_id shared.now.table.shared.key 0 three_published first }
+            requires second { IsPlaying shared.now.table.shared.table_id shared.now.table.shared.key 1 three_published second }
         { play_both(rt, shared, first, second) },
     )
 }
 
-/// Ends the table. Where a look was clear, no anchor names the area.
+/// Ends the table. No anchor names an area that was released.
 #[tactic(auto, using(crate::proofs::Silent::silent_end))]
 fn end_all(
     alloc: Global,
@@ -221,8 +155,8 @@ fn end_all(
     requires opening { shared.table.shared.key.members ≡ 3 }
     requires writer { IsWriterOf shared.table.shared.table_id shared.table.shared.key written.writer }
     requires three { AreThree shared.table.shared.table_id first second written.leader }
-    requires clear { written.released ≡ true → IsClear (written_by written.writer) Both 1 }
-    ensures { IfOk result (λ told. told.released ≡ true → NamesNowhere told.words) }
+    requires clear { AreClear written.released (written_by written.writer) }
+    ensures { IfOk result (λ told. NamesNone told.words told.released) }
 {
     let Written {
         writer,
@@ -246,7 +180,7 @@ fn end_all(
 }
 
 /// Runs all threads to their ends. Nothing is told where the two that play do not come to hold the
-/// generation that uses the area.
+/// generation that uses the areas.
 fn run_parts<R: Threads + Sync>(
     rt: &R,
     alloc: Global,
@@ -260,7 +194,7 @@ fn run_parts<R: Threads + Sync>(
     requires members { AreMembersBegun shared.table.shared.table_id 3 parts.members.items }
     requires pools { pools ≡ opening_areas }
     requires owned { AreOf pools (written_by parts.writer) }
-    ensures { IfOk result (λ told. IfSome told (λ t. t.released ≡ true → NamesNowhere t.words)) }
+    ensures { IfOk result (λ told. IfSome told (λ t. NamesNone t.words t.released)) }
 {
     let Parts {
         mut writer,
@@ -286,32 +220,33 @@ fn run_parts<R: Threads + Sync>(
 /// Makes a table of three members, and pools, and runs all threads.
 #[tactic(auto, using(crate::proofs::Begun::begun_owned))]
 fn run_all<R: Threads + Sync>(rt: &R, alloc: Global) -> Result<Option<Told>, NoMemory>
-    ensures { IfOk result (λ told. IfSome told (λ t. t.released ≡ true → NamesNowhere t.words)) }
+    ensures { IfOk result (λ told. IfSome told (λ t. NamesNone t.words t.released)) }
 {
     let (shared, parts) = Shared::<Any>::new(alloc, MEMBERS, 0)?;
     let pools = Pools::new(alloc)?;
     run_parts(rt, alloc, shared, parts, pools)
 }
 
-/// Whether the word of an anchor names the area.
-fn names_first(word: Option<u64>) -> bool {
+/// Whether the word of an anchor names one of the areas.
+fn names_one(word: Option<u64>) -> bool {
     match word {
-        Some(word) => word / 4 == 1 && word % 4 != 0,
+        Some(word) => 1 <= word / 4 && word / 4 <= u64::from(AREAS) && word % 4 != 0,
         None => false,
     }
 }
 
-/// Whether a word of the slots names the area, the first word of each slot left out.
+/// Whether a word of the slots names one of the areas, the first word of each slot left out.
 fn is_named_at_end(words: &WordList) -> bool {
     for place in 0..1_088 {
-        if place % 17 != 0 && names_first(words.get(place + 21).copied()) {
+        if place % 17 != 0 && names_one(words.get(place + 21).copied()) {
             return true;
         }
     }
     false
 }
 
-/// No look after one that was clear finds the area, and none of the words of the slots names it at the end.
+/// No look after one that was clear finds its area, and none of the words of the slots names one of the
+/// areas at the end.
 #[test]
 fn never_named_after_clear(rt: HostRuntime) -> Result<(), Fail> {
     let Some(told) = run_all(&rt, rt.alloc())? else {
@@ -323,9 +258,9 @@ fn never_named_after_clear(rt: HostRuntime) -> Result<(), Fail> {
         late,
         words,
     } = told;
-    assert!(rt; released, "a look is clear");
-    assert_eq!(rt; late, 0, "no look finds the area again");
-    assert!(rt; !is_named_at_end(&words), "no anchor names the area");
+    assert_eq!(rt; released, AREAS, "each area is released");
+    assert_eq!(rt; late, 0, "no look finds an area again");
+    assert!(rt; !is_named_at_end(&words), "no anchor names an area");
     assert_eq!(rt; words.get(21).copied(), Some(u64::from(TURNS) + 1));
     assert_eq!(rt; words.get(38).copied(), Some(u64::from(TURNS) + 1));
     Ok(())

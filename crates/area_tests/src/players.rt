@@ -1,14 +1,16 @@
-//! A member whose process holds and drops the first area at random, turn by turn.
+//! A member whose process holds and drops three areas at random, turn by turn.
 
-ghost use Rattle.std.specs.Prelude.{◌≡◌, ◌+◌, ◌<◌, true};
+ghost use Rattle.std.specs.Prelude.{◌≡◌, ◌+◌, ◌<◌, ◌^◌, true};
+ghost use Rattle.area_core.specs.Generations.{is_current};
 ghost use Rattle.shared_words.specs.declared.table.TheConstants.{PROCESSES};
 ghost use Rattle.shared_words.specs.Processes.{AreCopied};
 ghost use Rattle.progress_words.specs.Tokens.{view_of, IsMemberOf};
-ghost use Rattle.anchors.specs.Holds.{anchors_of, Holds, MayHold};
-ghost use Rattle.area_tests.specs.First.{first_published};
+ghost use Rattle.anchors.specs.Holds.{anchors_of, names_for, Holds, MayHold};
+ghost use Rattle.area_tests.specs.Several.{three_published};
 ghost use Rattle.area_tests.specs.Work.{IsWorking, IsPlaying, IsUnder, GoesOn, HasEndedTurn, turns_done};
 ghost use Rattle.area_tests.specs.declared.players.TheConstants.{EARLY, TURNS};
 
+use crate::several::{AREAS, area_of};
 use crate::written::Any;
 use anchors::{drop_hold, hold, mark_turn};
 use progress_words::{report, wait};
@@ -21,19 +23,24 @@ pub const EARLY: u32 = 5_000;
 /// How many turns it makes in all, but for the last one, in which it drops all.
 pub const TURNS: u32 = 20_000;
 
+/// Whether the word of an anchor names the area for the kind.
+fn names(word: u64, serial: u64, kind: Kind) -> bool
+    ensures { result ≡ names_for kind word serial }
+{
+    match kind {
+        Kind::Frame => word % 2 == 1 && word / 4 == serial,
+        Kind::Literal => 2 <= word % 4 && word / 4 == serial,
+    }
+}
+
 /// Whether the slot names the area for the kind.
-fn names_first(member: &Member, process: u32, kind: Kind) -> bool
+fn names_area(member: &Member, process: u32, serial: u64, kind: Kind) -> bool
     requires copied { AreCopied member.now.anchors.items (view_of member.now) }
     requires process { process < PROCESSES }
-    ensures { result ≡ true → Holds kind (anchors_of (view_of member.now) process) 1 }
+    ensures { result ≡ true → Holds kind (anchors_of (view_of member.now) process) serial }
 {
     for place in 1..ANCHORS + 1 {
-        let word = member.anchor(process, place);
-        let named = match kind {
-            Kind::Frame => word == 5 || word == 7,
-            Kind::Literal => word == 6 || word == 7,
-        };
-        if named {
+        if names(member.anchor(process, place), serial, kind) {
             return true;
         }
     }
@@ -42,15 +49,12 @@ fn names_first(member: &Member, process: u32, kind: Kind) -> bool
 
 /// Holds the area.
 #[tactic(auto, using(crate::proofs::Playing::held_goes, crate::proofs::Playing::refused_goes))]
-fn hold_first(shared: &Shared<Any>, member: &mut Member, process: u32, kind: Kind)
+fn hold_one(shared: &Shared<Any>, member: &mut Member, process: u32, area: AreaRef, kind: Kind)
     requires works { IsWorking shared.now.table.shared.table_id shared.now.table.shared.key process member.old }
-    requires may { MayHold process kind 1 (view_of member.old) }
+    requires room { area.serial < 2 ^ 62 }
+    requires may { MayHold process kind area.serial (view_of member.old) }
     ensures { GoesOn shared.now.table.shared.table_id shared.now.table.shared.key process member.old member.new }
 {
-    let area = AreaRef {
-        serial: 1,
-        block: 9,
-    };
     match hold(shared, member, process, area, kind) {
         Ok(()) => {}
         Err(Full) => {}
@@ -59,53 +63,54 @@ fn hold_first(shared: &Shared<Any>, member: &mut Member, process: u32, kind: Kin
 
 /// Drops the area, if the slot names it for the kind.
 #[tactic(auto, using(crate::proofs::Playing::dropped_goes, crate::proofs::Playing::none_goes))]
-fn try_drop(shared: &Shared<Any>, member: &mut Member, process: u32, kind: Kind)
+fn try_drop(shared: &Shared<Any>, member: &mut Member, process: u32, area: AreaRef, kind: Kind)
     requires works { IsWorking shared.now.table.shared.table_id shared.now.table.shared.key process member.old }
     ensures { GoesOn shared.now.table.shared.table_id shared.now.table.shared.key process member.old member.new }
 {
-    if names_first(member, process, kind) {
-        let area = AreaRef {
-            serial: 1,
-            block: 9,
-        };
+    if names_area(member, process, area.serial, kind) {
         drop_hold(shared, member, process, area, kind);
     }
 }
 
 /// Holds the area for a frame, where the member holds the first generation.
 #[tactic(auto, using(crate::proofs::Playing::may_first, crate::proofs::Playing::none_goes))]
-fn try_frame(shared: &Shared<Any>, member: &mut Member, process: u32, early: bool)
+fn try_frame(shared: &Shared<Any>, member: &mut Member, process: u32, area: AreaRef, early: bool)
     requires works { IsWorking shared.now.table.shared.table_id shared.now.table.shared.key process member.old }
-    requires under { early ≡ true → IsUnder first_published (view_of member.old) }
+    requires room { area.serial < 2 ^ 62 }
+    requires current { is_current three_published area.serial ≡ true }
+    requires under { early ≡ true → IsUnder three_published (view_of member.old) }
     ensures { GoesOn shared.now.table.shared.table_id shared.now.table.shared.key process member.old member.new }
 {
     if early {
-        hold_first(shared, member, process, Kind::Frame);
+        hold_one(shared, member, process, area, Kind::Frame);
     }
 }
 
 /// Holds the area for a literal, where the slot names it for a frame.
 #[tactic(auto, using(crate::proofs::Playing::may_too, crate::proofs::Playing::none_goes))]
-fn try_literal(shared: &Shared<Any>, member: &mut Member, process: u32)
+fn try_literal(shared: &Shared<Any>, member: &mut Member, process: u32, area: AreaRef)
     requires works { IsWorking shared.now.table.shared.table_id shared.now.table.shared.key process member.old }
+    requires room { area.serial < 2 ^ 62 }
     ensures { GoesOn shared.now.table.shared.table_id shared.now.table.shared.key process member.old member.new }
 {
-    if names_first(member, process, Kind::Frame) {
-        hold_first(shared, member, process, Kind::Literal);
+    if names_area(member, process, area.serial, Kind::Frame) {
+        hold_one(shared, member, process, area, Kind::Literal);
     }
 }
 
-/// One hold or drop.
+/// One hold or drop of one of the areas.
+#[tactic(auto, using(crate::proofs::Playing::current_one, crate::proofs::Playing::room_one))]
 fn choose(shared: &Shared<Any>, member: &mut Member, process: u32, choice: u32, early: bool)
     requires works { IsWorking shared.now.table.shared.table_id shared.now.table.shared.key process member.old }
-    requires under { early ≡ true → IsUnder first_published (view_of member.old) }
+    requires under { early ≡ true → IsUnder three_published (view_of member.old) }
     ensures { GoesOn shared.now.table.shared.table_id shared.now.table.shared.key process member.old member.new }
 {
+    let area = area_of(choice / 4 % AREAS);
     match choice % 4 {
-        0 => try_frame(shared, member, process, early),
-        1 => try_literal(shared, member, process),
-        2 => try_drop(shared, member, process, Kind::Literal),
-        _ => try_drop(shared, member, process, Kind::Frame),
+        0 => try_frame(shared, member, process, area, early),
+        1 => try_literal(shared, member, process, area),
+        2 => try_drop(shared, member, process, area, Kind::Literal),
+        _ => try_drop(shared, member, process, area, Kind::Frame),
     }
 }
 
@@ -131,7 +136,7 @@ fn play_turn(
     early: bool,
 )
     requires works { IsWorking shared.now.table.shared.table_id shared.now.table.shared.key process member.old }
-    requires under { early ≡ true → IsUnder first_published (view_of member.old) }
+    requires under { early ≡ true → IsUnder three_published (view_of member.old) }
     requires turns { turns_done process (view_of member.old) ≡ done }
     requires few { done < 30000 }
     ensures { HasEndedTurn shared.now.table.shared.table_id shared.now.table.shared.key process member.old member.new }
@@ -163,7 +168,7 @@ fn next_random(seed: u32) -> u32 {
 #[tactic(auto, using(crate::proofs::Playing::one_more))]
 fn play_early(shared: &Shared<Any>, member: &mut Member, process: u32)
     requires works { IsWorking shared.now.table.shared.table_id shared.now.table.shared.key process member.old }
-    requires under { IsUnder first_published (view_of member.old) }
+    requires under { IsUnder three_published (view_of member.old) }
     requires turns { turns_done process (view_of member.old) ≡ 0 }
     ensures works { IsWorking shared.now.table.shared.table_id shared.now.table.shared.key process member.new }
     ensures turns { turns_done process (view_of member.new) ≡ EARLY }
@@ -204,27 +209,38 @@ fn play_last(shared: &Shared<Any>, member: &mut Member, process: u32)
     wait(shared, member);
 }
 
-/// Drops the area in both kinds.
-#[tactic(auto, using(crate::proofs::Playing::goes_again))]
+/// Drops all areas in both kinds.
+#[tactic(auto, using(crate::proofs::Playing::none_goes, crate::proofs::Playing::goes_again))]
 fn drop_all(shared: &Shared<Any>, member: &mut Member, process: u32)
     requires works { IsWorking shared.now.table.shared.table_id shared.now.table.shared.key process member.old }
     ensures { GoesOn shared.now.table.shared.table_id shared.now.table.shared.key process member.old member.new }
 {
-    try_drop(shared, member, process, Kind::Literal);
-    drop_frame(shared, member, process);
+    for at in 0..AREAS {
+        drop_both(shared, member, process, area_of(at));
+    }
 }
 
-/// Drops the area for a frame.
-fn drop_frame(shared: &Shared<Any>, member: &mut Member, process: u32)
+/// Drops the area in both kinds.
+#[tactic(auto, using(crate::proofs::Playing::goes_again))]
+fn drop_both(shared: &Shared<Any>, member: &mut Member, process: u32, area: AreaRef)
     requires works { IsWorking shared.now.table.shared.table_id shared.now.table.shared.key process member.old }
     ensures { GoesOn shared.now.table.shared.table_id shared.now.table.shared.key process member.old member.new }
 {
-    try_drop(shared, member, process, Kind::Frame);
+    try_drop(shared, member, process, area, Kind::Literal);
+    drop_frame(shared, member, process, area);
+}
+
+/// Drops the area for a frame.
+fn drop_frame(shared: &Shared<Any>, member: &mut Member, process: u32, area: AreaRef)
+    requires works { IsWorking shared.now.table.shared.table_id shared.now.table.shared.key process member.old }
+    ensures { GoesOn shared.now.table.shared.table_id shared.now.table.shared.key process member.old member.new }
+{
+    try_drop(shared, member, process, area, Kind::Frame);
 }
 
 /// All turns of a process.
 pub fn play(shared: &Shared<Any>, mut member: Member, process: u32) -> Member
-    requires playing { IsPlaying shared.now.table.shared.table_id shared.now.table.shared.key process first_published member }
+    requires playing { IsPlaying shared.now.table.shared.table_id shared.now.table.shared.key process three_published member }
     ensures token { IsMemberOf shared.now.table.shared.table_id result }
     ensures number { result.number ≡ member.number }
 {

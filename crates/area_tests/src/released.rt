@@ -1,30 +1,30 @@
 //! The wait for a retired area, the look through all slots, and its release.
 
-ghost use Rattle.std.specs.Prelude.{◌≡◌, ◌≤◌, true, false};
-ghost use Rattle.marks.specs.declared.kept.LookKind.TheVariants.{Both};
+ghost use Rattle.std.specs.Prelude.{◌≡◌, ◌+◌, ◌≤◌, ◌<◌, true, false};
 ghost use Rattle.shared_words.specs.Opening.{member_begun};
-ghost use Rattle.shared_words.specs.Slots.{IsClear};
 ghost use Rattle.progress_words.specs.Tokens.{view_of, written_by, IsMemberOf, IsWriterOf};
 ghost use Rattle.progress_words.specs.Needs.{HasTaken};
-ghost use Rattle.area_tests.specs.Gone.{IsGone};
+ghost use Rattle.area_tests.specs.Gone.{AreGone};
+ghost use Rattle.area_tests.specs.Several.{AreReleased};
 
+use crate::several::area_of;
 use crate::written::Any;
 use anchors::{Scan, scan};
 use literal_areas::Pools;
 use progress_words::{Advance, Lead, advance, later, lead, reached, report};
 use shared_words::{Member, Shared, Writer};
-use term_core::AreaRef;
 
-/// The value to wait for, once generation 2 is published.
+/// The value to wait for, once generation 2 is published, from which on so many areas are retired.
 #[tactic(auto, using(crate::proofs::Gone::gone_counted, crate::proofs::Gone::taken_newest))]
-pub fn take_need(shared: &Shared<Any>, writer: &mut Writer, pools: &Pools) -> u64
+pub fn take_need(shared: &Shared<Any>, writer: &mut Writer, pools: &Pools, areas: u32) -> u64
     requires token { IsWriterOf shared.now.table.shared.table_id shared.now.table.shared.key writer.old }
-    requires gone { IsGone pools.now (written_by writer.old) }
+    requires gone { AreGone 0 areas pools.now (written_by writer.old) }
     ensures token { IsWriterOf shared.now.table.shared.table_id shared.now.table.shared.key writer.new }
-    ensures gone { IsGone pools.now (written_by writer.new) }
+    ensures gone { AreGone 0 areas pools.now (written_by writer.new) }
     ensures taken { HasTaken (written_by writer.new) 2 result }
 {
     let _ = pools;
+    let _ = areas;
     later(shared, writer)
 }
 
@@ -42,29 +42,26 @@ pub fn pass_both(shared: &Shared<Any>, member: &mut Member) -> bool
     advance(shared, member) == Advance::Advanced(3)
 }
 
-/// Looks through all slots, and releases the area where none names it.
-#[tactic(auto, using(crate::proofs::Looked::gone_looked, crate::proofs::Looked::taken_looked, crate::proofs::Looked::enough_looked, crate::proofs::Silent::clear_released))]
+/// Looks through all slots, and releases the area behind so many where none names it.
 pub fn release_clear(
     shared: &Shared<Any>,
     writer: &mut Writer,
     pools: &mut Pools,
+    at: u32,
+    areas: u32,
     need: u64,
 ) -> bool
     requires token { IsWriterOf shared.now.table.shared.table_id shared.now.table.shared.key writer.old }
-    requires gone { IsGone pools.old (written_by writer.old) }
-    requires taken { HasTaken (written_by writer.old) 2 need }
-    requires enough { need ≤ (written_by writer.old).counter }
+    requires few { (at < areas) × (areas ≤ 55) }
+    requires released { AreReleased at areas need pools.old (written_by writer.old) }
     ensures token { IsWriterOf shared.now.table.shared.table_id shared.now.table.shared.key writer.new }
     ensures next { pools.new.next ≡ pools.old.next }
-    ensures clear { result ≡ true → IsClear (written_by writer.new) Both 1 }
-    ensures gone { result ≡ false → IsGone pools.new (written_by writer.new) }
-    ensures taken { result ≡ false → HasTaken (written_by writer.new) 2 need }
-    ensures enough { result ≡ false → need ≤ (written_by writer.new).counter }
+    ensures released { result ≡ true → AreReleased (at + 1) areas need pools.new (written_by writer.new) }
+    ensures stays { result ≡ false → AreReleased at areas need pools.new (written_by writer.new) }
 {
-    let area = AreaRef {
-        serial: 1,
-        block: 9,
-    };
+    let _ = areas;
+    let _ = need;
+    let area = area_of(at);
     match scan(shared, writer, area, None) {
         Scan::Named { .. } => false,
         Scan::Clear { .. } => {
@@ -74,8 +71,7 @@ pub fn release_clear(
     }
 }
 
-/// Releases the area once the value is reached, where no slot names it.
-#[tactic(auto, using(crate::proofs::Gone::gone_counted, crate::proofs::Gone::taken_still))]
+/// Releases the one area once the value is reached, where no slot names it.
 pub fn release_first(
     shared: &Shared<Any>,
     writer: &mut Writer,
@@ -83,12 +79,12 @@ pub fn release_first(
     need: u64,
 ) -> bool
     requires token { IsWriterOf shared.now.table.shared.table_id shared.now.table.shared.key writer.old }
-    requires gone { IsGone pools.old (written_by writer.old) }
+    requires gone { AreGone 0 1 pools.old (written_by writer.old) }
     requires taken { HasTaken (written_by writer.old) 2 need }
     ensures next { pools.new.next ≡ pools.old.next }
 {
     match reached(shared, writer, need) {
-        Ok(()) => release_clear(shared, writer, pools, need),
+        Ok(()) => release_clear(shared, writer, pools, 0, 1, need),
         Err(_) => false,
     }
 }

@@ -12,7 +12,7 @@ ghost use Rattle.literal_areas.specs.declared.blocks.Pool.TheVariants as pool;
 ghost use Rattle.literal_areas.specs.Blocks.{HasTaken, opening_areas};
 ghost use Rattle.literal_areas.specs.Owned.{AreOf, IsUnpublished};
 ghost use Rattle.area_tests.specs.First.{first_area, first_published, IsBegun, HasWords};
-ghost use Rattle.area_tests.specs.Gone.{IsRetiring, IsGone};
+ghost use Rattle.area_tests.specs.Gone.{IsRetiring, AreGone};
 
 use crate::pools::take_instances;
 use crate::released::{pass_both, release_first, take_need};
@@ -53,7 +53,7 @@ fn publish_first(shared: &Shared<Any>, writer: &mut Writer)
 }
 
 /// Writes the first area, publishes it, and retires it.
-pub fn retire_first(shared: &Shared<Any>, writer: &mut Writer, pools: &mut Pools, area: AreaRef)
+fn retire_first(shared: &Shared<Any>, writer: &mut Writer, pools: &mut Pools, area: AreaRef)
     // a table on which only the opening generation was published
     requires token { IsWriterOf shared.now.table.shared.table_id shared.now.table.shared.key writer.old }
     requires room { writer.old.generation + 1 < 2 ^ 59 }
@@ -78,11 +78,11 @@ pub fn retire_first(shared: &Shared<Any>, writer: &mut Writer, pools: &mut Pools
 
 /// Publishes the generation in which the area is retired.
 #[tactic(auto, using(crate::proofs::Gone::gone_root, crate::proofs::Gone::gone_room))]
-pub fn publish_gone(shared: &Shared<Any>, writer: &mut Writer, pools: &Pools)
+fn publish_gone(shared: &Shared<Any>, writer: &mut Writer, pools: &Pools)
     requires token { IsWriterOf shared.now.table.shared.table_id shared.now.table.shared.key writer.old }
     requires retiring { IsRetiring pools.now (written_by writer.old) }
     ensures token { IsWriterOf shared.now.table.shared.table_id shared.now.table.shared.key writer.new }
-    ensures gone { IsGone pools.now (written_by writer.new) }
+    ensures gone { AreGone 0 1 pools.now (written_by writer.new) }
 {
     let _ = pools;
     roots_keep_pools();
@@ -94,7 +94,7 @@ pub fn publish_gone(shared: &Shared<Any>, writer: &mut Writer, pools: &Pools)
 fn take_rest(pools: &mut Pools) -> (u32, Take)
     requires room { pools.old.next ≤ 2 }
     ensures next { pools.new.next ≤ 57 }
-    ensures gone { (w : WriterView) → IsGone pools.old w → IsGone pools.new w }
+    ensures gone { (w : WriterView) → AreGone 0 1 pools.old w → AreGone 0 1 pools.new w }
 {
     let taken = take_instances(pools, 1, 54);
     (taken, pools.take(Pool::Big))
@@ -123,7 +123,7 @@ fn live_and_go(
     retire_first(shared, writer, pools, area);
     publish_gone(shared, writer, pools);
     let (right, waits) = take_rest(pools);
-    let need = take_need(shared, writer, pools);
+    let need = take_need(shared, writer, pools, 1);
     let passed = pass_both(shared, member);
     let released = release_first(shared, writer, pools, need);
     (right, waits, passed, released)

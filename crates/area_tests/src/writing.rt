@@ -1,28 +1,28 @@
-//! The writer's thread: it publishes the generation in which an area is retired, waits, looks through all
-//! slots until no anchor names the area, releases it, and looks again and again.
+//! The writer's thread: it publishes the generation in which three areas are retired, and waits. Then it
+//! looks through all slots until no anchor names the first area, releases it, and looks again and again;
+//! so for each area, and again for those that were released before.
 
-ghost use Rattle.std.specs.Prelude.{◌≡◌, ◌≤◌, true};
-ghost use Rattle.marks.specs.declared.kept.LookKind.TheVariants.{Both};
+ghost use Rattle.std.specs.Prelude.{◌≡◌, ◌+◌, ◌<◌, ◌≤◌, true, false};
 ghost use Rattle.shared_words.specs.Opening.{member_begun};
-ghost use Rattle.shared_words.specs.Slots.{IsClear};
 ghost use Rattle.progress_words.specs.Tokens.{view_of, written_by, IsMemberOf, IsWriterOf};
 ghost use Rattle.progress_words.specs.Needs.{HasTaken};
-ghost use Rattle.area_tests.specs.Gone.{IsRetiring, IsGone};
+ghost use Rattle.anchors.specs.Scans.{LooksMore};
+ghost use Rattle.area_tests.specs.Gone.{AreGone};
+ghost use Rattle.area_tests.specs.Several.{AreRetiring, AreClear, AreReleased};
 ghost use Rattle.area_tests.specs.Work.{IsHeading};
 
 use crate::released::{release_clear, take_need};
-use crate::retired::publish_gone;
+use crate::several::{AREAS, area_of, publish_retired};
 use crate::written::Any;
 use anchors::{Scan, scan};
 use literal_areas::Pools;
 use progress_words::{Lead, advance, lead, reached, report};
 use shared_words::{Member, Shared, Writer};
-use term_core::AreaRef;
 
 /// How often the writer tries, at most: far more often than the members make turns.
 const TRIES: u64 = 1_000_000_000_000;
 
-/// How often the writer looks again.
+/// How often the writer looks again for each area.
 const LOOKS: u32 = 100;
 
 /// What the writer's thread gives back.
@@ -30,9 +30,9 @@ const LOOKS: u32 = 100;
 pub struct Written {
     pub writer: Writer,
     pub leader: Member,
-    /// Whether the area was released.
-    pub released: bool,
-    /// How many looks found it afterwards.
+    /// How many areas were released.
+    pub released: u32,
+    /// How many looks found an area after its release.
     pub late: u32,
 }
 
@@ -51,10 +51,10 @@ fn lead_on(shared: &Shared<Any>, leader: &mut Member)
 #[tactic(auto, using(crate::proofs::Gone::gone_counted, crate::proofs::Gone::taken_still))]
 fn is_over(shared: &Shared<Any>, writer: &mut Writer, pools: &Pools, need: u64) -> bool
     requires token { IsWriterOf shared.now.table.shared.table_id shared.now.table.shared.key writer.old }
-    requires gone { IsGone pools.now (written_by writer.old) }
+    requires gone { AreGone 0 3 pools.now (written_by writer.old) }
     requires taken { HasTaken (written_by writer.old) 2 need }
     ensures token { IsWriterOf shared.now.table.shared.table_id shared.now.table.shared.key writer.new }
-    ensures gone { IsGone pools.now (written_by writer.new) }
+    ensures gone { AreGone 0 3 pools.now (written_by writer.new) }
     ensures taken { HasTaken (written_by writer.new) 2 need }
     ensures enough { result ≡ true → need ≤ (written_by writer.new).counter }
 {
@@ -74,11 +74,11 @@ fn await_need(
     need: u64,
 ) -> bool
     requires token { IsWriterOf shared.now.table.shared.table_id shared.now.table.shared.key writer.old }
-    requires gone { IsGone pools.now (written_by writer.old) }
+    requires gone { AreGone 0 3 pools.now (written_by writer.old) }
     requires taken { HasTaken (written_by writer.old) 2 need }
     requires heads { IsHeading shared.now.table.shared.table_id leader.old }
     ensures token { IsWriterOf shared.now.table.shared.table_id shared.now.table.shared.key writer.new }
-    ensures gone { IsGone pools.now (written_by writer.new) }
+    ensures gone { AreGone 0 3 pools.now (written_by writer.new) }
     ensures taken { HasTaken (written_by writer.new) 2 need }
     ensures enough { result ≡ true → need ≤ (written_by writer.new).counter }
     ensures heads { IsHeading shared.now.table.shared.table_id leader.new }
@@ -93,58 +93,104 @@ fn await_need(
     false
 }
 
-/// Looks until no slot names the area, and releases it.
-fn release_soon(shared: &Shared<Any>, writer: &mut Writer, pools: &mut Pools, need: u64) -> bool
+/// Looks until no slot names the area behind so many, and releases it.
+fn release_soon(
+    shared: &Shared<Any>,
+    writer: &mut Writer,
+    pools: &mut Pools,
+    at: u32,
+    need: u64,
+) -> bool
     requires token { IsWriterOf shared.now.table.shared.table_id shared.now.table.shared.key writer.old }
-    requires gone { IsGone pools.old (written_by writer.old) }
-    requires taken { HasTaken (written_by writer.old) 2 need }
-    requires enough { need ≤ (written_by writer.old).counter }
+    requires few { at < 3 }
+    requires released { AreReleased at 3 need pools.old (written_by writer.old) }
     ensures token { IsWriterOf shared.now.table.shared.table_id shared.now.table.shared.key writer.new }
-    ensures clear { result ≡ true → IsClear (written_by writer.new) Both 1 }
+    ensures released { result ≡ true → AreReleased (at + 1) 3 need pools.new (written_by writer.new) }
+    ensures stays { result ≡ false → AreReleased at 3 need pools.new (written_by writer.new) }
 {
     for _ in 0..TRIES {
-        if release_clear(shared, writer, pools, need) {
+        if release_clear(shared, writer, pools, at, AREAS, need) {
             return true;
         }
     }
     false
 }
 
-/// Looks again and again; answers how often an anchor named the area.
-fn look_again(shared: &Shared<Any>, writer: &mut Writer) -> u32
+/// One look for the area behind so many, which is released: 1 where an anchor named it.
+fn look_once(shared: &Shared<Any>, writer: &mut Writer, at: u32, count: u32) -> u32
     requires token { IsWriterOf shared.now.table.shared.table_id shared.now.table.shared.key writer.old }
-    requires clear { IsClear (written_by writer.old) Both 1 }
+    requires few { (at < count) × (count ≤ 3) }
+    requires clear { AreClear count (written_by writer.old) }
     ensures token { IsWriterOf shared.now.table.shared.table_id shared.now.table.shared.key writer.new }
-    ensures clear { IsClear (written_by writer.new) Both 1 }
-{
-    let mut late = 0;
-    for _ in 0..LOOKS {
-        late += look_once(shared, writer);
-    }
-    late
-}
-
-/// One look: 1 where an anchor named the area.
-#[tactic(auto, using(crate::proofs::Silent::clear_begins, crate::proofs::Silent::clear_looked))]
-fn look_once(shared: &Shared<Any>, writer: &mut Writer) -> u32
-    requires token { IsWriterOf shared.now.table.shared.table_id shared.now.table.shared.key writer.old }
-    requires clear { IsClear (written_by writer.old) Both 1 }
-    ensures token { IsWriterOf shared.now.table.shared.table_id shared.now.table.shared.key writer.new }
-    ensures clear { IsClear (written_by writer.new) Both 1 }
+    ensures more { LooksMore (written_by writer.old) (written_by writer.new) }
     ensures few { result ≤ 1 }
 {
-    let area = AreaRef {
-        serial: 1,
-        block: 9,
-    };
+    let _ = count;
+    let area = area_of(at);
     match scan(shared, writer, area, None) {
         Scan::Named { .. } => 1,
         Scan::Clear { .. } => 0,
     }
 }
 
-/// The writer's part: publishes that the area is retired, waits, releases it once a look is clear, and
-/// looks again.
+/// One look for each of the first so many areas; answers for how many of them an anchor named it.
+#[tactic(auto, using(anchors::proofs::Scanning::none_more))]
+fn look_each(shared: &Shared<Any>, writer: &mut Writer, count: u32) -> u32
+    requires token { IsWriterOf shared.now.table.shared.table_id shared.now.table.shared.key writer.old }
+    requires few { count ≤ 3 }
+    requires clear { AreClear count (written_by writer.old) }
+    ensures token { IsWriterOf shared.now.table.shared.table_id shared.now.table.shared.key writer.new }
+    ensures more { LooksMore (written_by writer.old) (written_by writer.new) }
+    ensures few { result ≤ 3 }
+{
+    let mut late = 0;
+    for at in 0..count {
+        late += look_once(shared, writer, at, count);
+    }
+    late
+}
+
+/// Looks again and again for the first so many areas; answers how often an anchor named one.
+#[tactic(auto, using(anchors::proofs::Scanning::none_more))]
+fn look_again(shared: &Shared<Any>, writer: &mut Writer, count: u32) -> u32
+    requires token { IsWriterOf shared.now.table.shared.table_id shared.now.table.shared.key writer.old }
+    requires few { count ≤ 3 }
+    requires clear { AreClear count (written_by writer.old) }
+    ensures token { IsWriterOf shared.now.table.shared.table_id shared.now.table.shared.key writer.new }
+    ensures more { LooksMore (written_by writer.old) (written_by writer.new) }
+    ensures few { result ≤ 300 }
+{
+    let mut late = 0;
+    for _ in 0..LOOKS {
+        late += look_each(shared, writer, count);
+    }
+    late
+}
+
+/// Releases one area after another, each once a look is clear, and looks again after each. Answers how many
+/// were released, and how many looks found one that was.
+fn release_all(
+    shared: &Shared<Any>,
+    writer: &mut Writer,
+    pools: &mut Pools,
+    need: u64,
+) -> (u32, u32)
+    requires token { IsWriterOf shared.now.table.shared.table_id shared.now.table.shared.key writer.old }
+    requires released { AreReleased 0 3 need pools.old (written_by writer.old) }
+    ensures token { IsWriterOf shared.now.table.shared.table_id shared.now.table.shared.key writer.new }
+    ensures clear { AreClear result.0 (written_by writer.new) }
+{
+    let mut late = 0;
+    for at in 0..AREAS {
+        if !release_soon(shared, writer, pools, at, need) {
+            return (at, late);
+        }
+        late += look_again(shared, writer, at + 1);
+    }
+    (AREAS, late)
+}
+
+/// The writer's part: publishes that the areas are retired, waits, and releases one after another.
 pub fn write_all(
     shared: &Shared<Any>,
     mut writer: Writer,
@@ -152,16 +198,16 @@ pub fn write_all(
     mut pools: Pools,
 ) -> Written
     requires token { IsWriterOf shared.now.table.shared.table_id shared.now.table.shared.key writer }
-    requires retiring { IsRetiring pools (written_by writer) }
+    requires retiring { AreRetiring 3 pools (written_by writer) }
     requires leader { IsMemberOf shared.now.table.shared.table_id leader }
     requires begun { view_of leader ≡ member_begun 2 }
     ensures writer { IsWriterOf shared.now.table.shared.table_id shared.now.table.shared.key result.writer }
     ensures leader { IsMemberOf shared.now.table.shared.table_id result.leader }
     ensures number { result.leader.number ≡ leader.number }
-    ensures clear { result.released ≡ true → IsClear (written_by result.writer) Both 1 }
+    ensures clear { AreClear result.released (written_by result.writer) }
 {
-    publish_gone(shared, &mut writer, &pools);
-    let need = take_need(shared, &mut writer, &pools);
+    publish_retired(shared, &mut writer, &pools);
+    let need = take_need(shared, &mut writer, &pools, AREAS);
     let (released, late) = release_beside(shared, &mut writer, &mut leader, &mut pools, need);
     Written {
         writer,
@@ -171,33 +217,30 @@ pub fn write_all(
     }
 }
 
-/// Waits, releases the area once a look is clear, and looks again. The leader gives up the lead.
-#[tactic(auto, using(crate::proofs::Heading::leader_may, crate::proofs::Heading::heads_first))]
+/// Waits, and releases one area after another. The leader gives up the lead.
+#[tactic(auto, using(crate::proofs::Heading::leader_may, crate::proofs::Heading::heads_first, crate::proofs::Looked::none_clear, crate::proofs::Looked::none_released))]
 fn release_beside(
     shared: &Shared<Any>,
     writer: &mut Writer,
     leader: &mut Member,
     pools: &mut Pools,
     need: u64,
-) -> (bool, u32)
+) -> (u32, u32)
     requires token { IsWriterOf shared.now.table.shared.table_id shared.now.table.shared.key writer.old }
-    requires gone { IsGone pools.old (written_by writer.old) }
+    requires gone { AreGone 0 3 pools.old (written_by writer.old) }
     requires taken { HasTaken (written_by writer.old) 2 need }
     requires leader { IsMemberOf shared.now.table.shared.table_id leader.old }
     requires begun { view_of leader.old ≡ member_begun 2 }
     ensures writer { IsWriterOf shared.now.table.shared.table_id shared.now.table.shared.key writer.new }
     ensures leader { IsMemberOf shared.now.table.shared.table_id leader.new }
     ensures number { leader.new.number ≡ leader.old.number }
-    ensures clear { result.0 ≡ true → IsClear (written_by writer.new) Both 1 }
+    ensures clear { AreClear result.0 (written_by writer.new) }
 {
     let Lead::Led = lead(shared, leader) else {
-        return (false, 0);
+        return (0, 0);
     };
     if !await_need(shared, writer, leader, pools, need) {
-        return (false, 0);
+        return (0, 0);
     }
-    if !release_soon(shared, writer, pools, need) {
-        return (false, 0);
-    }
-    (true, look_again(shared, writer))
+    release_all(shared, writer, pools, need)
 }

@@ -100,7 +100,7 @@ stages_lead Nothing p w staged goes = absurd staged
 stages_lead (Staged block) p w staged goes = subst (λ (b : ℕ). LeadTo w.words b p) goes staged
 stages_lead (Committing block need) p w staged goes = subst (λ (b : ℕ). LeadTo w.words b p) goes.0 staged
 
-module _ (Served : Generation → Type 0) (x : Staging) (old : WriterView) (state : Generation) (areas : List AreaRef) (may : MayCommit Served x old (committed old state areas)) (own : IsIndexOf x old) (some : 0 < length old.published) (fits : RootFits (newest_of old).root) (new : WriterView) (need : ℕ) (on : LoadsOn old new need) (enough : need ≤ new.counter) where
+module _ (Served : Published → Type 0) (x : Staging) (old : WriterView) (state : Generation) (areas : List AreaRef) (may : MayCommit Served x old (committed old state areas)) (own : IsIndexOf x old) (some : 0 < length old.published) (fits : RootFits (newest_of old).root) (new : WriterView) (need : ℕ) (on : LoadsOn old new need) (enough : need ≤ new.counter) where
   abbrev p : Published
   p = committed old state areas
 
@@ -154,7 +154,7 @@ module _ (Served : Generation → Type 0) (x : Staging) (old : WriterView) (stat
 
 -- ---- the call
 
-module _ (Served : Generation → Type 0) (x y : Staging) (old : WriterView) (state : Generation) (areas : List AreaRef) (may : MayCommit Served x old (committed old state areas)) (own : IsIndexOf x old) (some : 0 < length old.published) (waited : WriterView) (need : ℕ) (asked : HasAsked x y old waited need) (enough : need ≤ waited.counter) (now : WriterView) (same : now ≡ waited) (parts : RootParts) (root : IsNewestRoot waited parts) (block : ℕ) (block_is : block ≡ block_of y) where
+module _ (Served : Published → Type 0) (x y : Staging) (old : WriterView) (state : Generation) (areas : List AreaRef) (may : MayCommit Served x old (committed old state areas)) (own : IsIndexOf x old) (some : 0 < length old.published) (waited : WriterView) (need : ℕ) (asked : HasAsked x y old waited need) (enough : need ≤ waited.counter) (now : WriterView) (same : now ≡ waited) (parts : RootParts) (root : IsNewestRoot waited parts) (block : ℕ) (block_is : block ≡ block_of y) where
   on : LoadsOn old waited need
   on = asked_on x y old waited need asked own.staged
 

@@ -1,25 +1,23 @@
 -- The code indices stay those of their writer: over stores of words, stores of the root, loads of the counter and notes.
-use Rattle.std.proofs.Common.{◌≡◌, ℕ, zero, suc, ◌+◌, ◌%◌, ◌<◌, ◌≤◌, inl, inr, ⊎_elim, not, ◌&&◌, List, [], ◌∷◌, ◌++◌, length, length-set, refl, sym, ap, subst, ◌∙◌, arith}
-use Rattle.std.specs.Prelude.{◌==◌, Some, slice_get, slice_set}
+use Rattle.std.proofs.Common.{◌≡◌, ℕ, ◌+◌, ◌%◌, ◌<◌, ◌≤◌, inl, inr, ⊎_elim, List, [], ◌∷◌, ◌++◌, length, length-set, refl, sym, ap, subst, ◌∙◌, arith}
+use Rattle.std.specs.Prelude.{Some, slice_get, slice_set}
 use Rattle.prgr_core.proofs.Parts.{slice_get-push_at}
-use Rattle.area_core.specs.declared.map.WordKind.{WordKind}
-use Rattle.area_core.specs.declared.map.WordKind.TheVariants.{Machine, Slot, Retire, Doom, InBlock, Nowhere}
 use Rattle.area_core.specs.declared.table.Published.{Published}
 use Rattle.area_core.specs.declared.table.KeptArea.{KeptArea}
 use Rattle.area_core.specs.Map.{kind_at, block_place}
 use Rattle.area_core.specs.Blocks.{Among}
 use Rattle.area_core.specs.Roots.{fresh_areas}
 use Rattle.area_core.proofs.Places.{word_there}
-use Rattle.area_core.proofs.Tests.{filter_gives}
 use Rattle.area_core.proofs.RootTests.{in_either}
 use Rattle.shared_words.specs.declared.view.WriterView.{WriterView}
 use Rattle.shared_words.specs.Views.{newest, published_at}
 use Rattle.shared_words.specs.Kinds.{counter_kept}
 use Rattle.shared_words.specs.Notes.{with_note}
 use Rattle.shared_words.specs.Rule.{MayBeRead}
-use Rattle.shared_words.specs.Publishing.{kept_left, kept_next, with_next, with_word, is_released}
+use Rattle.shared_words.specs.Publishing.{kept_next, with_next, with_word}
 use Rattle.shared_words.proofs.ShownMembers.{still_at}
 use Rattle.shared_words.proofs.RootStores.{newest_next, at_next}
+use Rattle.shared_words.proofs.WordStores.{kept_was}
 use Rattle.progress_words.specs.Needs.{HasLoadedCounter}
 use Rattle.progress_words.specs.Roots.{newest_of}
 use Rattle.code_index.specs.declared.index.Staging.{Staging}
@@ -31,15 +29,6 @@ use Rattle.code_index.proofs.Indices.{behind_fits, behind_differs}
 use Rattle.code_index.proofs.Words.{leads_kept, stages_kept}
 
 -- ---- a store of a word
-
--- an area that is kept after a store was kept before it
-kept_was : (w : WriterView) (value : ℕ) (kind : WordKind) (k : KeptArea) → Among (kept_left w value kind) k → Among w.kept k
-kept_was w value (Retire block) k among = (filter_gives (λ (x : KeptArea). not ((x.area.block == block) && is_released w value x)) w.kept among.0 k among.1).0
-kept_was w value (InBlock block at) k among = among
-kept_was w value (Doom block) k among = among
-kept_was w value Machine k among = among
-kept_was w value Slot k among = among
-kept_was w value Nowhere k among = among
 
 goes_stored : (x : Staging) (w : WriterView) (word value : ℕ) → GoesWith x w → GoesWith x (with_word word value w)
 goes_stored Nothing w word value goes = goes

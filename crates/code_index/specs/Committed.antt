@@ -29,9 +29,9 @@ abbrev pub committed : WriterView → Generation → List AreaRef → Published
 committed w state areas = to_publish (staging_index w) (newest_of w).root.bp (newest_of w).root.term state areas
 
 -- it may be published: its exports are those that are staged, and the other words and areas stand for it
-pub record MayCommit (Served : Generation → Type 0) (x : Staging) (w : WriterView) (p : Published) : Type 0 where
+pub record MayCommit (Served : Published → Type 0) (x : Staging) (w : WriterView) (p : Published) : Type 0 where
   pub exports : Stages x p w
-  pub served : Served p.state
+  pub served : Served p
   pub old_stays : OldStays (w.published ++ p ∷ [])
   pub retired_stays : RetiredStays (w.published ++ p ∷ [])
   pub areas_go_on : AreasGoOn w p

@@ -8,7 +8,7 @@ use Rattle.area_core.specs.Map.{word_at}
 use Rattle.area_core.specs.Blocks.{Among}
 use Rattle.area_core.specs.Step.{opening_published}
 use Rattle.shared_words.specs.declared.view.WriterView.{WriterView}
-use Rattle.shared_words.specs.Views.{newest, published_at}
+use Rattle.shared_words.specs.Views.{newest}
 use Rattle.shared_words.specs.Publishing.{EachMayBeRead}
 use Rattle.progress_words.specs.Needs.{HasTaken}
 use Rattle.progress_words.specs.Roots.{newest_of}

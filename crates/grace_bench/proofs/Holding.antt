@@ -3,7 +3,6 @@ use Rattle.std.proofs.Common.{◌≡◌, ℕ, zero, suc, ◌*◌, ◌%◌, true,
 use Rattle.std.specs.Prelude.{◌==◌, not, Some, slice_get, IsTrue}
 use Rattle.std.proofs.lemmas.Bool.{and_parts, eqb-true}
 use Rattle.atomic_table.specs.Seated.{TableId}
-use Rattle.term_core.specs.declared.generation.Generation.{Generation}
 use Rattle.term_core.specs.declared.hold.Kind.TheVariants.{Frame}
 use Rattle.prgr_core.proofs.Parts.{some_same}
 use Rattle.area_core.specs.declared.map.TheConstants.{ANCHORS}
@@ -89,7 +88,7 @@ begun_unkilled m none place word serial at tells =
     no_kill serial (subst (λ (n : ℕ). tells_kill n serial ≡ true) is tells)
 
 -- what it knows once it has joined the note, and reported generation 1
-module _ (Served : Generation → Type 0) (opening : Opening) (n : NoteView) (old joined new : MemberView) (begun : old ≡ member_begun 0) (tells : TellsOfUse n) (is : joined ≡ note_joined n old) (told : Reported Served joined new 1) where
+module _ (Served : Published → Type 0) (opening : Opening) (n : NoteView) (old joined new : MemberView) (begun : old ≡ member_begun 0) (tells : TellsOfUse n) (is : joined ≡ note_joined n old) (told : Reported Served joined new 1) where
   learnt : joined.seen ≡ opening_published ∷ used_published ∷ []
   learnt = ap (λ (m : MemberView). m.seen) is ∙ (λ i. longer (begun i).seen (tells.seen i))
 
@@ -126,7 +125,7 @@ copied_still xs ys old new same before after copied =
     subst (λ (z : List ℕ × List ProcessSlot). AreCopied z.0 (record new { slots = z.1 })) (λ i. (sym same i, (before ∙ sym after) i)) (record { all = copied.all; wide = copied.wide; each = copied.each })
 
 -- so its token is one of a member that may name the instance
-pub user_learnt : (Served : Generation → Type 0) (table : TableId) (opening : Opening) (n : NoteView) (old joined new : members.Member) (told : ℕ) → IsMemberBegun table 0 old → TellsOfUse n → view_of joined ≡ note_joined n (view_of old) → opening.members ≡ 1
+pub user_learnt : (Served : Published → Type 0) (table : TableId) (opening : Opening) (n : NoteView) (old joined new : members.Member) (told : ℕ) → IsMemberBegun table 0 old → TellsOfUse n → view_of joined ≡ note_joined n (view_of old) → opening.members ≡ 1
     → IsSameMember old joined → IsSameMember joined new → IsMemberOf table new → IsAwake (view_of new) → Reported Served (view_of joined) (view_of new) told → told ≡ 1 → IsUser table opening new
 user_learnt Served table opening n old joined new told begun tells is one first second of awake reported newest =
     let view : view_of old ≡ member_begun 0 = ap member_of begun.view in

@@ -5,7 +5,6 @@ use Rattle.std.specs.List.{list_any}
 use Rattle.std.proofs.lemmas.Bool.{cases_Bool, eqb-true}
 use Rattle.prgr_core.proofs.Parts.{slice_get-push_at, some_same}
 use Rattle.term_core.specs.declared.area.AreaRef.{AreaRef}
-use Rattle.term_core.specs.declared.generation.Generation.{Generation}
 use Rattle.area_core.specs.declared.table.Published.{Published}
 use Rattle.area_core.specs.declared.table.KeptArea.{KeptArea}
 use Rattle.area_core.specs.Generations.{has_serial, is_used, is_retired, is_kept_as, tells}
@@ -97,7 +96,7 @@ module _ (w : WriterView) (h : IsEmpty w) where
       later q at_q
 
   -- it may be published
-  pub may_publish_used : (Served : Generation → Type 0) → Served used_published.state → MayPublish Served w used_published
+  pub may_publish_used : (Served : Published → Type 0) → Served used_published → MayPublish Served w used_published
   may_publish_used Served served =
       let b = blocks_opened word h.words (λ g. Unit {0}) in
       let empty_terms = b.terms_stand 0 opening_published tt refl in record {

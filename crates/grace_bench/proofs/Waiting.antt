@@ -1,6 +1,6 @@
 -- What the calls of one who waits for a grace period leave of the writer, and of the member that leads.
 use Rattle.std.proofs.Common.{◌≡◌, ℕ, [], ◌∷◌, ◌+◌, ◌≤◌, refl, sym, ap, subst, ◌∙◌}
-use Rattle.term_core.specs.declared.generation.Generation.{Generation}
+use Rattle.area_core.specs.declared.table.Published.{Published}
 use Rattle.area_core.specs.Blocks.{Among}
 use Rattle.area_core.specs.Map.{word_at}
 use Rattle.shared_words.specs.declared.view.MemberView.{MemberView}
@@ -37,5 +37,5 @@ still_empty old new asked empty = record {
 -- ---- the member
 
 -- a report and a try to raise the counter leave a leader without slots
-pub still_none : (Served : Generation → Type 0) (old between new : MemberView) (generation : ℕ) → Reported Served old between generation → new.slots ≡ between.slots → old.slots ≡ [] → new.slots ≡ []
+pub still_none : (Served : Published → Type 0) (old between new : MemberView) (generation : ℕ) → Reported Served old between generation → new.slots ≡ between.slots → old.slots ≡ [] → new.slots ≡ []
 still_none Served old between new generation told kept none = kept ∙ ap (λ (m : MemberView). m.slots) told.view ∙ none

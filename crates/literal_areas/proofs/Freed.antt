@@ -4,7 +4,6 @@ use Rattle.std.specs.Prelude.{◌==◌, Option, Some, None, slice_get, nat_lt, I
 use Rattle.std.proofs.lemmas.Bool.{cases_Bool, lt-ltb, le-ltb, eqb-true, eq-eqb, and_parts, or_left, or_right, true≢false}
 use Rattle.prgr_core.proofs.Parts.{some_same}
 use Rattle.term_core.specs.declared.area.AreaRef.{AreaRef}
-use Rattle.term_core.specs.declared.generation.Generation.{Generation}
 use Rattle.area_core.specs.declared.map.TheConstants.{BLOCKS, BIG_BLOCKS}
 use Rattle.area_core.specs.declared.map.WordKind.{WordKind}
 use Rattle.area_core.specs.declared.table.Published.{Published}
@@ -210,7 +209,7 @@ module _ (s : Areas) (w : WriterView) (own : AreOf s w) (block : ℕ) (free : us
     entries = λ k function among same has entry none. absurd (no_area k.area (own.kept k among) same);
   }
 
-  pub free_unread : (Served : Generation → Type 0) (opening : Opening) → IsUnread Served opening w block
+  pub free_unread : (Served : Published → Type 0) (opening : Opening) → IsUnread Served opening w block
   free_unread Served opening t r is id v at room here loads =
       let kind = kind_block block at (use_within s block Free own.sound.sizes free) room in
       let may : MayStoreWord w (block_place block at) 0 = subst (FitsWord w 0) (sym kind) (fits_free at 0) in
@@ -218,12 +217,12 @@ module _ (s : Areas) (w : WriterView) (own : AreOf s w) (block : ℕ) (free : us
 
 -- ---- the call
 
-pub unread_now : (Served : Generation → Type 0) (opening : Opening) (s : Areas) (w last : WriterView) (area : AreaRef) → AreOf s w → MayRelease s w area → last ≡ words_cleared area.block w → IsUnread Served opening last area.block
+pub unread_now : (Served : Published → Type 0) (opening : Opening) (s : Areas) (w last : WriterView) (area : AreaRef) → AreOf s w → MayRelease s w area → last ≡ words_cleared area.block w → IsUnread Served opening last area.block
 unread_now Served opening s w last area own may stored =
     subst (λ (v : WriterView). IsUnread Served opening v area.block) (sym stored)
     (free_unread (without_area area s) (words_cleared area.block w) (owned_released s w own area may) area.block (use_here s area.block (Retired area.serial may.since) Free may.retired) Served opening)
 
-pub unnamed_now : (Served : Generation → Type 0) (opening : Opening) (s : Areas) (w last : WriterView) (area : AreaRef) → AreOf s w → MayRelease s w area → last ≡ words_cleared area.block w → IsUnnamed Served opening last area.serial
+pub unnamed_now : (Served : Published → Type 0) (opening : Opening) (s : Areas) (w last : WriterView) (area : AreaRef) → AreOf s w → MayRelease s w area → last ≡ words_cleared area.block w → IsUnnamed Served opening last area.serial
 unnamed_now Served opening s w last area own may stored t r is process anchor is_anchor =
     clear_word t r Both area.serial (subst (λ (v : WriterView). IsClear v Both area.serial) (sym (is ∙ stored)) (still_clear s w own area may)) process anchor is_anchor
 

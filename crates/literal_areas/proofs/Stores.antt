@@ -7,8 +7,7 @@ use Rattle.std.proofs.lemmas.Option.{slice_get_within}
 use Rattle.prgr_core.proofs.Parts.{some_same}
 use Rattle.term_core.specs.declared.area.AreaRef.{AreaRef}
 use Rattle.area_core.specs.declared.map.TheConstants.{BLOCKS}
-use Rattle.area_core.specs.declared.map.WordKind.{WordKind}
-use Rattle.area_core.specs.declared.map.WordKind.TheVariants.{Machine, Slot, Retire, Doom, InBlock, Nowhere}
+use Rattle.area_core.specs.declared.map.WordKind.TheVariants.{InBlock}
 use Rattle.area_core.specs.declared.table.Published.{Published}
 use Rattle.area_core.specs.declared.table.KeptArea.{KeptArea}
 use Rattle.area_core.specs.Map.{word_at, kind_at, block_place, retire_place, room_of}
@@ -16,10 +15,11 @@ use Rattle.area_core.specs.Generations.{is_reached, is_retired, tells}
 use Rattle.area_core.specs.Blocks.{Among}
 use Rattle.area_core.specs.Readers.{reads_in_block, reaches_block}
 use Rattle.area_core.proofs.Places.{kind_block, kind_retire, word_here, word_there}
-use Rattle.area_core.proofs.Tests.{passed_by, filter_gives}
+use Rattle.area_core.proofs.Tests.{passed_by}
 use Rattle.area_core.proofs.BlockStores.{block_within, same_block}
 use Rattle.shared_words.specs.declared.view.WriterView.{WriterView}
-use Rattle.shared_words.specs.Publishing.{FitsInBlock, FitsRetire, FitsWord, MayStoreWord, is_released, kept_left, with_word}
+use Rattle.shared_words.specs.Publishing.{FitsInBlock, FitsRetire, FitsWord, MayStoreWord, kept_left, with_word}
+use Rattle.shared_words.proofs.WordStores.{kept_was}
 use Rattle.literal_areas.specs.declared.blocks.BlockUse.TheVariants.{Live, Retired}
 use Rattle.literal_areas.specs.declared.areas.Areas.{Areas}
 use Rattle.literal_areas.specs.Blocks.{serial_at, IsLive, with_retired}
@@ -29,15 +29,6 @@ use Rattle.literal_areas.proofs.Uses.{use_there, use_within}
 use Rattle.literal_areas.proofs.Serials.{serial_here, use_after, retired_serial, sound_retired}
 
 -- ---- any store
-
--- an area that is kept after a store was kept before it
-kept_was : (w : WriterView) (value : ℕ) (kind : WordKind) (k : KeptArea) → Among (kept_left w value kind) k → Among w.kept k
-kept_was w value (Retire block) k among = (filter_gives (λ (x : KeptArea). not ((x.area.block == block) && is_released w value x)) w.kept among.0 k among.1).0
-kept_was w value (InBlock block at) k among = among
-kept_was w value (Doom block) k among = among
-kept_was w value Machine k among = among
-kept_was w value Slot k among = among
-kept_was w value Nowhere k among = among
 
 -- the pools stay those of the writer over each of its stores
 pub owned_stored : (s : Areas) (w : WriterView) (word value : ℕ) → AreOf s w → AreOf s (with_word word value w)

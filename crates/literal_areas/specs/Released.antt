@@ -7,7 +7,7 @@ use lib.ListN.{get_elem?}
 use Rattle.atomic_table.specs.Table.{State}
 use Rattle.prgr_core.specs.declared.member.Retirement.{Retirement}
 use Rattle.term_core.specs.declared.area.AreaRef.{AreaRef}
-use Rattle.term_core.specs.declared.generation.Generation.{Generation}
+use Rattle.area_core.specs.declared.table.Published.{Published}
 use Rattle.area_core.specs.declared.map.TheConstants.{BIG_BLOCKS}
 use Rattle.area_core.specs.Map.{block_place, retire_place, doom_place, slot_place, room_of}
 use Rattle.area_core.specs.Blocks.{Among, IsAnchor}
@@ -43,11 +43,11 @@ words_cleared block w =
     if nat_lt block BIG_BLOCKS then with_word (doom_place block) 0 (with_word (retire_place block) 0 w) else with_word (retire_place block) 0 w
 
 -- while the writer knows this, no thread may load a word of the block
-abbrev pub IsUnread : (Generation → Type 0) → Opening → WriterView → ℕ → Type 0
+abbrev pub IsUnread : (Published → Type 0) → Opening → WriterView → ℕ → Type 0
 IsUnread Served opening w block =
     (s : State (Unit {0}) View) (r : RunningRule Served opening s) → r.writer ≡ w → (id : ℕ) (v : View) (at : ℕ) → at < room_of block → get_elem? s.views id ≡ some v → MayLoadWord (block_place block at) v → ⊥
 
 -- while the writer knows this, no slot names the area
-abbrev pub IsUnnamed : (Generation → Type 0) → Opening → WriterView → ℕ → Type 0
+abbrev pub IsUnnamed : (Published → Type 0) → Opening → WriterView → ℕ → Type 0
 IsUnnamed Served opening w serial =
     (s : State (Unit {0}) View) (r : RunningRule Served opening s) → r.writer ≡ w → (process anchor : ℕ) → IsAnchor process anchor → names_in Both (slice_index s.words (slot_place process anchor)) serial ≡ false

@@ -32,7 +32,7 @@ pub record IsFresh (table : TableId) (k : ℕ) (token : tokens.Member) : Type 0 
 
 -- the root word of generation 0 is the one that the token keeps
 begun_rooted : (k : ℕ) → IsRooted OPENING_ROOT (member_begun k)
-begun_rooted k = record { learnt = omega arith; held = refl }
+begun_rooted k = record { learnt = omega arith; fits = record { code = omega arith; bp = omega arith; term = omega arith }; held = refl }
 
 pub fresh_of : (table : TableId) (k : ℕ) (token : tokens.Member) → k < MOST_MEMBERS → IsMemberBegun table k token → IsFresh table k token
 fresh_of table k token few begun =

@@ -3,7 +3,6 @@ use Rattle.std.proofs.Common.{◌≡◌, ℕ, zero, suc, ◌+◌, ⊎_elim, true
 use Rattle.std.specs.Prelude.{Some, slice_get}
 use Rattle.prgr_core.proofs.Parts.{slice_get-push_at}
 use Rattle.atomic_table.specs.Seated.{TableId}
-use Rattle.term_core.specs.declared.generation.Generation.{Generation}
 use Rattle.area_core.specs.declared.map.TheConstants.{TABLE_WORDS}
 use Rattle.area_core.specs.declared.table.Published.{Published}
 use Rattle.area_core.specs.declared.table.KeptArea.{KeptArea}
@@ -11,7 +10,7 @@ use Rattle.area_core.specs.Generations.{has_serial}
 use Rattle.area_core.specs.Map.{word_at, opening_words}
 use Rattle.area_core.specs.Blocks.{Among, UsedAreKept}
 use Rattle.area_core.specs.Roots.{fresh_areas}
-use Rattle.area_core.specs.Step.{empty_generation, opening_published}
+use Rattle.area_core.specs.Step.{opening_published}
 use Rattle.area_core.proofs.Counted.{opened}
 use Rattle.area_core.proofs.Opened.{blocks_opened}
 use Rattle.shared_words.specs.declared.opening.Opening.{Opening}
@@ -76,7 +75,7 @@ none_kept w h = ap (λ (xs : List KeptArea). xs ++ fresh_areas xs opening_publis
 pub opening_root : IsRootOf opening_published.root 0 0 0
 opening_root = record { code_is = refl; bp_is = refl; term_is = refl }
 
-pub may_publish_empty : (Served : Generation → Type 0) (w : WriterView) → Served empty_generation → IsEmpty w → MayPublish Served w opening_published
+pub may_publish_empty : (Served : Published → Type 0) (w : WriterView) → Served opening_published → IsEmpty w → MayPublish Served w opening_published
 may_publish_empty Served w served h =
     let b = blocks_opened (word_at w.words) h.words (λ g. Unit {0}) in
     let kept : kept_next w opening_published ≡ [] = none_kept w h in record {

@@ -2,7 +2,7 @@
 use Rattle.std.proofs.Common.{◌≡◌, ℕ, List, [], refl, sym, ap, subst, ◌∙◌}
 use Rattle.std.specs.Prelude.{IsTrue}
 use Rattle.atomic_table.specs.Seated.{TableId}
-use Rattle.term_core.specs.declared.generation.Generation.{Generation}
+use Rattle.area_core.specs.declared.table.Published.{Published}
 use Rattle.prgr_core.specs.declared.member.Role.{Role}
 use Rattle.prgr_core.specs.declared.member.Role.TheVariants.{Follows, Leads}
 use Rattle.prgr_core.specs.Members.{role_knowing}
@@ -53,7 +53,7 @@ follows_on counter Follows is = is
 follows_on counter (Leads scans) is = is
 
 -- who has reported may take the lead, if it might before
-pub reported_ready : (Served : Generation → Type 0) (table : TableId) (old new : tokens.Member) (generation : ℕ) → IsReady table old → IsMemberOf table new → IsAwake (view_of new) → Reported Served (view_of old) (view_of new) generation → IsReady table new
+pub reported_ready : (Served : Published → Type 0) (table : TableId) (old new : tokens.Member) (generation : ℕ) → IsReady table old → IsMemberOf table new → IsAwake (view_of new) → Reported Served (view_of old) (view_of new) generation → IsReady table new
 reported_ready Served table old new generation ready of awake told = record {
   of = of;
   may = record {

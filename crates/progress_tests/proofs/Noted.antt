@@ -6,6 +6,7 @@ use Rattle.atomic_table.specs.Seated.{TableId}
 use Rattle.prgr_core.specs.declared.member.Member as machines
 use Rattle.area_core.specs.declared.readers.Slots.TheVariants.{OfMember}
 use Rattle.area_core.specs.declared.table.Published.{Published}
+use Rattle.area_core.specs.Blocks.{RootFits}
 use Rattle.area_core.specs.Readers.{is_of}
 use Rattle.area_core.specs.Step.{opening_published}
 use Rattle.shared_words.specs.declared.opening.Opening.{Opening}
@@ -84,7 +85,8 @@ rooted_alike root old new first second same long is =
     let learnt = is.learnt in
     let before : root_held old ≡ root_word opening_published.root old.member.generation = ap (λ (p : Published). root_word p.root old.member.generation) (at_opening old.seen old.member.generation first) in
     let after : root_held new ≡ root_word opening_published.root new.member.generation = ap (λ (p : Published). root_word p.root new.member.generation) (at_opening new.seen new.member.generation second) in
-    record { learnt = omega (arith, generation, learnt, long); held = is.held ∙ before ∙ ap (λ (g : ℕ). root_word opening_published.root g) (sym generation) ∙ sym after }
+    let fits : RootFits (published_at new.seen new.member.generation).root = subst (λ (p : Published). RootFits p.root) (sym (at_opening new.seen new.member.generation second)) (record { code = omega arith; bp = omega arith; term = omega arith }) in
+    record { learnt = omega (arith, generation, learnt, long); fits = fits; held = is.held ∙ before ∙ ap (λ (g : ℕ). root_word opening_published.root g) (sym generation) ∙ sym after }
 
 joined_rooted : (root k process : ℕ) (w : WriterView) → IsEmpty w → IsRooted root (member_begun k) → IsRooted root (note_joined (note_begun process w) (member_begun k))
 joined_rooted root k process w empty is =

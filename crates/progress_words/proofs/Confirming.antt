@@ -5,7 +5,7 @@ use Rattle.std.proofs.lemmas.Bool.{lt-ltb}
 use Rattle.prgr_core.specs.declared.member.TheConstants.{ENTERING, WAITING}
 use Rattle.prgr_core.specs.Members as members
 use Rattle.prgr_core.specs.Invariant.{CounterInRange}
-use Rattle.term_core.specs.declared.generation.Generation.{Generation}
+use Rattle.area_core.specs.declared.table.Published.{Published}
 use Rattle.shared_words.specs.declared.view.MemberView.{MemberView}
 use Rattle.shared_words.specs.declared.view.View.{View}
 use Rattle.shared_words.specs.declared.view.View.TheVariants.{Member}
@@ -26,11 +26,11 @@ value_after counter range =
     λ i. above i && below i
 
 -- who has reported is awake
-pub awake_now : (Served : Generation → Type 0) (old new : MemberView) (generation : ℕ) → Reported Served old new generation → IsAwake new
+pub awake_now : (Served : Published → Type 0) (old new : MemberView) (generation : ℕ) → Reported Served old new generation → IsAwake new
 awake_now Served old new generation told = subst IsAwake (sym told.view) (value_after told.counter told.range)
 
 -- and leads where it led
-pub leads_on : (Served : Generation → Type 0) (old new : MemberView) (generation : ℕ) → Reported Served old new generation → IsLeader old → IsLeader new
+pub leads_on : (Served : Published → Type 0) (old new : MemberView) (generation : ℕ) → Reported Served old new generation → IsLeader old → IsLeader new
 leads_on Served old new generation told h = record {
   awake = awake_now Served old new generation told;
   scans = record h.scans { counter = Some told.counter };
@@ -39,18 +39,18 @@ leads_on Served old new generation told h = record {
 }
 
 -- the root word that its token keeps is that of the generation
-pub rooted_now : (Served : Generation → Type 0) (old : MemberView) (v w : View) (counter found root : ℕ) (new : MemberView) → v ≡ counter_found counter (Member old) → RootLoaded Served v w found → new ≡ value_confirmed (counter + 1) (member_of w) → root ≡ found → IsRooted root new
+pub rooted_now : (Served : Published → Type 0) (old : MemberView) (v w : View) (counter found root : ℕ) (new : MemberView) → v ≡ counter_found counter (Member old) → RootLoaded Served v w found → new ≡ value_confirmed (counter + 1) (member_of w) → root ≡ found → IsRooted root new
 rooted_now Served old v w counter found root new first loaded last same =
     let told = subst (λ (x : View). RootLoaded Served x w found) first loaded in
     let held = rooted_by_load Served (with_counter counter old) w found refl told in
-    subst (λ (z : ℕ × MemberView). IsRooted z.0 z.1) (λ i. (sym same i, sym last i)) (record { learnt = held.learnt; held = held.held })
+    subst (λ (z : ℕ × MemberView). IsRooted z.0 z.1) (λ i. (sym same i, sym last i)) (record { learnt = held.learnt; fits = held.fits; held = held.held })
 
 -- a member whose word is the value after a counter holds the generation of its record
 holds_now : (counter generation : ℕ) (entering : Bool) → CounterInRange counter → cond (members.is_value (counter + 1) || entering) (Some generation) None ≡ Some generation
 holds_now counter generation entering range = ap (λ (b : Bool). cond (b || entering) (Some generation) None) (value_after counter range)
 
 -- what a report tells, by the counter and the root that were loaded
-pub reported_now : (Served : Generation → Type 0) (old : MemberView) (v w : View) (counter found generation : ℕ) (new : MemberView) → CounterInRange counter → v ≡ counter_found counter (Member old) → RootLoaded Served v w found → new ≡ value_confirmed (counter + 1) (member_of w)
+pub reported_now : (Served : Published → Type 0) (old : MemberView) (v w : View) (counter found generation : ℕ) (new : MemberView) → CounterInRange counter → v ≡ counter_found counter (Member old) → RootLoaded Served v w found → new ≡ value_confirmed (counter + 1) (member_of w)
     → generation ≡ found / 32 → Reported Served old new generation
 reported_now Served old v w counter found generation new range first loaded last divided =
     let told = subst (λ (x : View). RootLoaded Served x w found) first loaded in
@@ -68,7 +68,7 @@ reported_now Served old v w counter found generation new range first loaded last
       some = told.some;
       newest = here;
       holds = holds_now counter (newest (seen w)) _ range ∙ ap (λ (g : ℕ). Some g) (sym here);
-      served = subst (λ (g : ℕ). Served (published_at (seen w) g).state) (sym here) told.served;
+      served = subst (λ (g : ℕ). Served (published_at (seen w) g)) (sym here) told.served;
       areas = told.areas;
       named = λ a named listed. subst (λ (n : MemberView). IsSameIn (held_by_view old) (held_by_view n) a) known (told.named (with_counter counter old) (member_of w) refl still a named listed);
       view = refl;

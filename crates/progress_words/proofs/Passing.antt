@@ -5,7 +5,7 @@ use Rattle.prgr_core.specs.declared.member.Retirement.{Retirement}
 use Rattle.prgr_core.specs.Invariant.{CounterInRange}
 use Rattle.prgr_core.specs.Machine.{machine_of}
 use Rattle.prgr_core.proofs.GraceHolds.{grace_holds}
-use Rattle.term_core.specs.declared.generation.Generation.{Generation}
+use Rattle.area_core.specs.declared.table.Published.{Published}
 use Rattle.shared_words.specs.declared.opening.Opening.{Opening}
 use Rattle.shared_words.specs.declared.view.WriterView.{WriterView}
 use Rattle.shared_words.specs.declared.view.View.{View}
@@ -22,7 +22,7 @@ use Rattle.progress_words.specs.Tokens.{IsWriterOf}
 use Rattle.progress_words.specs.Needs.{HasTaken, HasLoadedCounter, HasPassed}
 
 -- grace beneath running threads
-pub has_passed : (Served : Generation → Type 0) (opening : Opening) (w : WriterView) (generation need : ℕ) → HasTaken w generation need → need ≤ w.counter → HasPassed Served opening w generation
+pub has_passed : (Served : Published → Type 0) (opening : Opening) (w : WriterView) (generation need : ℕ) → HasTaken w generation need → need ≤ w.counter → HasPassed Served opening w generation
 has_passed Served opening w generation need taken enough s r is g readable =
     let kept : HasTaken r.writer generation need = subst (λ (x : WriterView). HasTaken x generation need) (sym is) taken in
     let known : need ≤ r.writer.counter = subst (λ (x : WriterView). need ≤ x.counter) (sym is) enough in
@@ -56,7 +56,7 @@ taken_now old new need loaded is =
     subst (λ (z : WriterView × ℕ). HasTaken z.0 (newest old.published) z.1) (λ i. (sym loaded.view i, sym same i)) (length old.pairs, got_last old.pairs last)
 
 -- where the value that was taken is reached, its generation has passed
-pub passed_now : (Served : Generation → Type 0) (opening : Opening) (counter : ℕ) (old new : WriterView) (need : ℕ) → new ≡ counter_kept counter old → need ≤ counter → (generation : ℕ) → HasTaken old generation need → HasPassed Served opening new generation
+pub passed_now : (Served : Published → Type 0) (opening : Opening) (counter : ℕ) (old new : WriterView) (need : ℕ) → new ≡ counter_kept counter old → need ≤ counter → (generation : ℕ) → HasTaken old generation need → HasPassed Served opening new generation
 passed_now Served opening counter old new need is enough generation taken =
     let kept : HasTaken (counter_kept counter old) generation need = (taken.0, still_at old.pairs _ taken.0 _ taken.1) in
     has_passed Served opening new generation need (subst (λ (w : WriterView). HasTaken w generation need) (sym is) kept) (subst (λ (w : WriterView). need ≤ w.counter) (sym is) enough)

@@ -1,6 +1,5 @@
 -- What a load of the root tells the writer: its view is as before, and the word is that of the newest generation.
 use Rattle.std.proofs.Common.{◌≡◌, ℕ, ◌+◌, ◌/◌, ◌%◌, ◌<◌, List, length, ap, subst, ◌∙◌, arith}
-use Rattle.term_core.specs.declared.generation.Generation.{Generation}
 use Rattle.area_core.specs.declared.table.Published.{Published}
 use Rattle.area_core.specs.Blocks.{RootFits}
 use Rattle.atomic_table.specs.Seated.{TableId}
@@ -18,7 +17,7 @@ use Rattle.progress_words.specs.Roots.{newest_of, IsNewestRoot}
 pub some_published : (table : TableId) (opening : Opening) (writer : writers.Writer) → IsWriterOf table opening writer → 0 < length (written_by writer).published
 some_published table opening writer token = let counted : length (written_by writer).published ≡ writer.generation + 1 = token.published in omega (arith, counted)
 
-module _ (Served : Generation → Type 0) (old new : View) (found : ℕ) (h : RootLoaded Served old new found) (is : old ≡ Writer (writer_of old)) where
+module _ (Served : Published → Type 0) (old new : View) (found : ℕ) (h : RootLoaded Served old new found) (is : old ≡ Writer (writer_of old)) where
   -- the view is as before
   pub view_same : new ≡ Writer (writer_of old)
   view_same = h.view ∙ ap (root_found (seen new)) is

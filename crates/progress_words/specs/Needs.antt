@@ -4,7 +4,7 @@
 use Rattle.std.specs.Prelude.{◌≡◌, ℕ, ◌<◌, ◌≤◌}
 use Rattle.atomic_table.specs.Table.{State}
 use Rattle.prgr_core.specs.Invariant.{CounterInRange}
-use Rattle.term_core.specs.declared.generation.Generation.{Generation}
+use Rattle.area_core.specs.declared.table.Published.{Published}
 use Rattle.area_core.specs.Blocks.{Among}
 use Rattle.area_core.specs.Step.{IsReadable}
 use Rattle.shared_words.specs.declared.opening.Opening.{Opening}
@@ -33,6 +33,6 @@ pub record IsBelow (need : ℕ) (w : WriterView) (answer : NotYet) : Type 0 wher
   pub below : answer.current < answer.need
 
 -- while the writer knows this, no thread reads a generation below this one, nor comes to by a load of the root
-abbrev pub HasPassed : (Generation → Type 0) → Opening → WriterView → ℕ → Type 0
+abbrev pub HasPassed : (Published → Type 0) → Opening → WriterView → ℕ → Type 0
 HasPassed Served opening w generation =
     (s : State (Unit {0}) View) (r : RunningRule Served opening s) → r.writer ≡ w → (g : ℕ) → IsReadable (state_of s.words r.writer r.seats) g → generation ≤ g

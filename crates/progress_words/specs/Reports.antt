@@ -8,7 +8,6 @@ use Rattle.prgr_core.specs.Members as members
 use Rattle.prgr_core.specs.Members.{role_knowing}
 use Rattle.prgr_core.specs.Invariant.{CounterInRange}
 use Rattle.term_core.specs.declared.area.AreaRef.{AreaRef}
-use Rattle.term_core.specs.declared.generation.Generation.{Generation}
 use Rattle.area_core.specs.declared.table.Published.{Published}
 use Rattle.area_core.specs.Blocks.{Among}
 use Rattle.shared_words.specs.declared.view.MemberView.{MemberView}
@@ -30,7 +29,7 @@ having_reported counter published m = record m {
 }
 
 -- the member has reported, and holds this generation
-pub record Reported (Served : Generation → Type 0) (old new : MemberView) (generation : ℕ) : Type 0 where
+pub record Reported (Served : Published → Type 0) (old new : MemberView) (generation : ℕ) : Type 0 where
   -- the counter that was loaded
   pub counter : ℕ
   pub range : CounterInRange counter
@@ -42,7 +41,7 @@ pub record Reported (Served : Generation → Type 0) (old new : MemberView) (gen
   -- it may be read from now on
   pub holds : held (Member new) ≡ Some generation
   -- the code server has made it
-  pub served : Served (published_at new.seen generation).state
+  pub served : Served (published_at new.seen generation)
   -- it has one area of each serial that it uses
   pub areas : HasItsAreas (held_by_view new)
   -- and what slots named of the generation before stands in it

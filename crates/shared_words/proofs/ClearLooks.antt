@@ -8,7 +8,6 @@ use Rattle.atomic_table.specs.Table.{State}
 use Rattle.prgr_core.specs.Members as members
 use Rattle.prgr_core.proofs.SoundMembers.{is_value_true}
 use Rattle.prgr_core.proofs.SoundParts.{is_member}
-use Rattle.term_core.specs.declared.generation.Generation.{Generation}
 use Rattle.area_core.specs.declared.map.TheConstants.{PROCESSES}
 use Rattle.area_core.specs.declared.table.Published.{Published}
 use Rattle.area_core.specs.Map.{slot_place}
@@ -69,7 +68,7 @@ module _ (published : List Published) (old_stays : OldStays published) (retired_
 pub names_neither : (word serial : ℕ) → names_in Both word serial ≡ false → names word serial ≡ false
 names_neither word serial clear = grind (arith, nat_tests)
 
-module _ {Served : Generation → Type 0} {opening : Opening} (s : State (Unit {0}) View) (r : RunningRule Served opening s) where
+module _ {Served : Published → Type 0} {opening : Opening} (s : State (Unit {0}) View) (r : RunningRule Served opening s) where
   -- each process has a member
   pub some_member : (process : ℕ) → process < PROCESSES → (m : MemberView) × SlotKnown s.words r.writer m process
   some_member process below =

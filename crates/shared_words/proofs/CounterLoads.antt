@@ -15,7 +15,7 @@ use Rattle.prgr_core.specs.Step.{after, with_member}
 use Rattle.prgr_core.proofs.Sound.{pair_sound}
 use Rattle.prgr_core.proofs.SoundParts.{is_member}
 use Rattle.prgr_core.specs.declared.member.TheConstants.{WAITING}
-use Rattle.term_core.specs.declared.generation.Generation.{Generation}
+use Rattle.area_core.specs.declared.table.Published.{Published}
 use Rattle.area_core.proofs.Fewer.{fewer_count}
 use Rattle.shared_words.specs.declared.table.TheConstants.{COUNTER}
 use Rattle.shared_words.specs.declared.opening.Opening.{Opening}
@@ -44,7 +44,7 @@ loaded_event p k a at awake =
     ap (option_and_then (λ (member : machines.Member). cond (members.is_waiting member.word) None (Some (with_member p k (members.counter_loaded p.counter member))))) at
     ∙ ap (λ (t : Bool). cond t None (Some (with_member p k (members.counter_loaded p.counter a)))) awake
 
-module _ {Served : Generation → Type 0} {opening : Opening} (s : State (Unit {0}) View) (r : RunningRule Served opening s) where
+module _ {Served : Published → Type 0} {opening : Opening} (s : State (Unit {0}) View) (r : RunningRule Served opening s) where
   member_loads : (k : ℕ) (m : MemberView) → get_elem? r.seats k ≡ some (Member m) → members.is_waiting m.member.word ≡ false → RunningRule Served opening (after_step s s.words (suc k) (Member (with_counter (slice_index s.words COUNTER) m)))
   member_loads k m at awake =
       let knows = r.each_seat k (Member m) at in
@@ -142,7 +142,7 @@ module _ {Served : Generation → Type 0} {opening : Opening} (s : State (Unit {
   rises id v at w is = subst (λ (x : WriterView). x.counter ≤ slice_index s.words COUNTER) (writer_at s r id w (at ∙ ap some is)).1 r.words.reached
 
 -- the load of the counter may be made by each seat that may make it
-pub load_counter_is_allowed : (Served : Generation → Type 0) (opening : Opening) (slots id : ℕ) (me : Sat) → MayLoadCounter me.0 → Allows (RunningRule Served opening) slots id me COUNTER (λ n. n) (counter_loaded (step slots COUNTER 0 0 none) me)
+pub load_counter_is_allowed : (Served : Published → Type 0) (opening : Opening) (slots id : ℕ) (me : Sat) → MayLoadCounter me.0 → Allows (RunningRule Served opening) slots id me COUNTER (λ n. n) (counter_loaded (step slots COUNTER 0 0 none) me)
 load_counter_is_allowed Served opening slots id me may s r wide at fits = (
   counter_found (slice_index s.words COUNTER) me.0,
   keeps,

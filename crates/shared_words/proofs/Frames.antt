@@ -14,7 +14,7 @@ use Rattle.prgr_core.specs.declared.progress.Progress.{Progress}
 use Rattle.prgr_core.specs.Step.{after, with_member, IsSound}
 use Rattle.prgr_core.proofs.Parts.{slice_get-slice_set}
 use Rattle.prgr_core.proofs.Sound.{keeps_sound}
-use Rattle.term_core.specs.declared.generation.Generation.{Generation}
+use Rattle.area_core.specs.declared.table.Published.{Published}
 use Rattle.area_core.specs.declared.map.TheConstants.{SLOTS_START, PROCESSES, ANCHORS}
 use Rattle.area_core.specs.Map.{word_at, opening_words, slot_place}
 use Rattle.area_core.specs.Blocks.{Among, BlockInvariant}
@@ -112,7 +112,7 @@ pub record MemberStep (words words' : List ℕ) (w : WriterView) (seats : List V
   pub leader : slice_index words' LEAD ≤ length w.members
   pub slots : SlotsGoOn w old m
 
-module _ {Served : Generation → Type 0} {opening : Opening} (s : State (Unit {0}) View) (r : RunningRule Served opening s) where
+module _ {Served : Published → Type 0} {opening : Opening} (s : State (Unit {0}) View) (r : RunningRule Served opening s) where
   -- the words of all members, after one has another
   own_words : (words' : List ℕ) (k : ℕ) (old m : MemberView) → k < length r.seats → MemberChange s.words words' r.writer r.seats k old m
       → (j : ℕ) (a : machines.Member) → slice_get (members_shown r.writer.members (set r.seats k (Member m))) j ≡ Some a → slice_index words' (CONFIRMED + j) ≡ a.word

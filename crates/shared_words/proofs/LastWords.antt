@@ -5,7 +5,7 @@ use lib.Seq.{set-get_or}
 use Rattle.std.specs.Prelude.{Some, slice_get, slice_index}
 use Rattle.atomic_table.specs.Table.{keeps, step, Allows}
 use Rattle.prgr_core.proofs.Parts.{slice_get-push_at}
-use Rattle.term_core.specs.declared.generation.Generation.{Generation}
+use Rattle.area_core.specs.declared.table.Published.{Published}
 use Rattle.shared_words.specs.declared.opening.Opening.{Opening}
 use Rattle.shared_words.specs.declared.view.WriterView.{WriterView}
 use Rattle.shared_words.specs.declared.view.View.TheVariants.{Writer}
@@ -19,7 +19,7 @@ use Rattle.shared_words.proofs.CounterLoads.{same_step}
 use Rattle.shared_words.proofs.WriterFrames.{writer_at}
 
 -- each word may be loaded, and is as the writer knows it
-pub see_word_is_allowed : (Served : Generation → Type 0) (about : Opening) (slots id word : ℕ) (me : Sat) → Allows (RunningRule Served about) slots id me word (λ n. n) (word_seen (step slots word 0 0 none) me)
+pub see_word_is_allowed : (Served : Published → Type 0) (about : Opening) (slots id word : ℕ) (me : Sat) → Allows (RunningRule Served about) slots id me word (λ n. n) (word_seen (step slots word 0 0 none) me)
 see_word_is_allowed Served about slots id word me s r wide at fits = (
   me.0,
   keeps,

@@ -20,7 +20,7 @@ use Rattle.prgr_core.specs.Members as members
 use Rattle.prgr_core.specs.Members.{IsLeading}
 use Rattle.prgr_core.specs.Step.{after, with_member, by_role, scan_of, scan_of_other, may_advance, advanced, opening_member}
 use Rattle.prgr_core.proofs.SoundParts.{is_member}
-use Rattle.term_core.specs.declared.generation.Generation.{Generation}
+use Rattle.area_core.specs.declared.table.Published.{Published}
 use Rattle.area_core.proofs.Tests.{all_pass}
 use Rattle.shared_words.specs.declared.table.TheConstants.{COUNTER, LEAD, CONFIRMED}
 use Rattle.shared_words.specs.declared.opening.Opening.{Opening}
@@ -58,7 +58,7 @@ advance_event p k a scans at is may =
     ∙ ap (λ (role : Role). by_role role (λ (sc : Scans). cond (may_advance p sc) (Some (advanced p k a)) None)) is
     ∙ ap (λ (t : Bool). cond t (Some (advanced p k a)) None) may
 
-module _ {Served : Generation → Type 0} {opening : Opening} (s : State (Unit {0}) View) (r : RunningRule Served opening s) where
+module _ {Served : Published → Type 0} {opening : Opening} (s : State (Unit {0}) View) (r : RunningRule Served opening s) where
   -- the state of the machine
   abbrev p : Progress
   p = progress_of s.words r.writer r.seats
@@ -143,7 +143,7 @@ module _ {Served : Generation → Type 0} {opening : Opening} (s : State (Unit {
         (event ∙ ap (λ (c : ℕ). Some (record (with_member p k (members.leading_with (members.no_scans (Some (c + 1))) m.member)) { counter = n + 1 })) (sym knows_counter))
 
 -- a leader may look at the word of each member
-pub load_confirmed_is_allowed : (Served : Generation → Type 0) (opening : Opening) (slots id other : ℕ) (me : Sat) → me.0 ≡ Member (member_of me.0) → MayScan opening other (member_of me.0)
+pub load_confirmed_is_allowed : (Served : Published → Type 0) (opening : Opening) (slots id other : ℕ) (me : Sat) → me.0 ≡ Member (member_of me.0) → MayScan opening other (member_of me.0)
     → Allows (RunningRule Served opening) slots id me (CONFIRMED + other) (λ n. n) (scanned (step slots (CONFIRMED + other) 0 0 none) me)
 load_confirmed_is_allowed Served opening slots id other me is may s r wide at fits =
     let m = member_of me.0 in
@@ -158,7 +158,7 @@ load_confirmed_is_allowed Served opening slots id other me is may s r wide at fi
     )
 
 -- a leader that has scanned all may raise the counter
-pub store_counter_is_allowed : (Served : Generation → Type 0) (opening : Opening) (slots id : ℕ) (me : Sat) → me.0 ≡ Member (member_of me.0) → MayRaise opening (member_of me.0)
+pub store_counter_is_allowed : (Served : Published → Type 0) (opening : Opening) (slots id : ℕ) (me : Sat) → me.0 ≡ Member (member_of me.0) → MayRaise opening (member_of me.0)
     → Allows (RunningRule Served opening) slots id me COUNTER (λ n. (n + 1) % 2 ^ 64) (raised (step slots COUNTER 1 0 none) me)
 store_counter_is_allowed Served opening slots id me is may s r wide at fits =
     let m = member_of me.0 in

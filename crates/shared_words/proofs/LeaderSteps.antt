@@ -17,7 +17,7 @@ use Rattle.prgr_core.specs.declared.event.PrgrEvent.TheVariants as prgr
 use Rattle.prgr_core.specs.Members as members
 use Rattle.prgr_core.specs.Members.{IsLeading}
 use Rattle.prgr_core.specs.Step.{after, with_member, by_role, led, given_up}
-use Rattle.term_core.specs.declared.generation.Generation.{Generation}
+use Rattle.area_core.specs.declared.table.Published.{Published}
 use Rattle.shared_words.specs.declared.table.TheConstants.{COUNTER, LEAD, DELAYS, CONFIRMED}
 use Rattle.shared_words.specs.declared.opening.Opening.{Opening}
 use Rattle.shared_words.specs.declared.view.FoundWord.{FoundWord}
@@ -51,7 +51,7 @@ still_knows w k m a found number generation knows = record {
   words = knows.words;
 }
 
-module _ {Served : Generation → Type 0} {opening : Opening} (s : State (Unit {0}) View) (r : RunningRule Served opening s) where
+module _ {Served : Published → Type 0} {opening : Opening} (s : State (Unit {0}) View) (r : RunningRule Served opening s) where
   -- a store of the counter or of the leader's word, which is an event of a member that keeps its word
   pub machine_store : (i x : ℕ) → 0 < i → i < DELAYS → (i ≡ COUNTER → slice_index s.words COUNTER ≤ x) → (c l : ℕ) → slice_index (set s.words i x) COUNTER ≡ c → slice_index (set s.words i x) LEAD ≡ l → l ≤ length r.writer.members
       → (k : ℕ) (m : MemberView) (a : machines.Member) (found : List FoundWord) (event : PrgrEvent) → get_elem? r.seats k ≡ some (Member m) → a.number ≡ m.member.number → a.generation ≡ m.member.generation → a.word ≡ m.member.word
@@ -114,7 +114,7 @@ give_up_event p k a at (Leads scans) is leads =
     ap (option_and_then (λ (member : machines.Member). by_role member.role (λ (sc : Scans). Some (given_up p k member)))) at
     ∙ ap (λ (role : Role). by_role role (λ (sc : Scans). Some (given_up p k a))) is
 
-module _ {Served : Generation → Type 0} {opening : Opening} (s : State (Unit {0}) View) (r : RunningRule Served opening s) where
+module _ {Served : Published → Type 0} {opening : Opening} (s : State (Unit {0}) View) (r : RunningRule Served opening s) where
   -- the exchange, by whether nobody leads
   takes_lead : (k : ℕ) (m : MemberView) → get_elem? r.seats k ≡ some (Member m) → members.is_value m.member.word ≡ true → (b : Bool) → (slice_index s.words LEAD == 0) ≡ b
       → RunningRule Served opening (after_step s (set s.words LEAD (either b (k + 1) (slice_index s.words LEAD))) (suc k) (Member (with_record m (cond b (members.leading m.member) m.member) (LeaderWord (slice_index s.words LEAD) ∷ m.found))))
@@ -142,7 +142,7 @@ module _ {Served : Generation → Type 0} {opening : Opening} (s : State (Unit {
       (give_up_event p k m.member (shown_at r.writer.members r.seats k m knows.made here) m.member.role refl leads)
 
 -- the exchange may be made by a member that is awake and follows
-pub take_lead_is_allowed : (Served : Generation → Type 0) (opening : Opening) (slots id number : ℕ) (me : Sat) → me.0 ≡ Member (member_of me.0) → (member_of me.0).member.number ≡ number → MayLead (member_of me.0)
+pub take_lead_is_allowed : (Served : Published → Type 0) (opening : Opening) (slots id number : ℕ) (me : Sat) → me.0 ≡ Member (member_of me.0) → (member_of me.0).member.number ≡ number → MayLead (member_of me.0)
     → Allows (RunningRule Served opening) slots id me LEAD (λ n. either (n == 0) (number + 1) n) (lead_taken (step slots LEAD 0 (number + 1) none) me)
 take_lead_is_allowed Served opening slots id number me is numbered may s r wide at fits =
     let m = member_of me.0 in
@@ -161,7 +161,7 @@ take_lead_is_allowed Served opening slots id number me is numbered may s r wide 
     )
 
 -- the lead may be given up by who leads
-pub drop_lead_is_allowed : (Served : Generation → Type 0) (opening : Opening) (slots id : ℕ) (me : Sat) → me.0 ≡ Member (member_of me.0) → IsLeader (member_of me.0)
+pub drop_lead_is_allowed : (Served : Published → Type 0) (opening : Opening) (slots id : ℕ) (me : Sat) → me.0 ≡ Member (member_of me.0) → IsLeader (member_of me.0)
     → Allows (RunningRule Served opening) slots id me LEAD (λ _. 0) (λ _. lead_dropped (step slots LEAD 0 0 none) me 0)
 drop_lead_is_allowed Served opening slots id me is leads s r wide at fits =
     let m = member_of me.0 in

@@ -9,7 +9,7 @@ use Rattle.atomic_table.proofs.Lists.{at_set, set_here, set_else}
 use Rattle.prgr_core.specs.declared.member.Member as machines
 use Rattle.prgr_core.specs.Step.{IsSound}
 use Rattle.prgr_core.proofs.Parts.{slice_get-slice_set}
-use Rattle.term_core.specs.declared.generation.Generation.{Generation}
+use Rattle.area_core.specs.declared.table.Published.{Published}
 use Rattle.area_core.specs.Blocks.{Among}
 use Rattle.marks.proofs.Anchors.{among_cons}
 use Rattle.shared_words.specs.declared.table.TheConstants.{ROOT}
@@ -39,7 +39,7 @@ shown_taken (kept ∷ members) [] k m few at = absurd (some-ne-none (Member m) (
 shown_taken (kept ∷ members) (seat ∷ seats) zero m few at = ap (λ (v : View). member_shown kept v ∷ members_shown members seats) (sym (some-injective seat (Member m) at))
 shown_taken (kept ∷ members) (seat ∷ seats) (suc k) m few at = ap (λ (xs : List machines.Member). member_shown kept seat ∷ xs) (shown_taken members seats k m (omega arith) at)
 
-module _ {Served : Generation → Type 0} {about : Opening} (s : State (Unit {0}) View) (r : RunningRule Served about s) (k : ℕ) (m : MemberView) (at : get_elem? r.seats k ≡ some (Member m)) where
+module _ {Served : Published → Type 0} {about : Opening} (s : State (Unit {0}) View) (r : RunningRule Served about s) (k : ℕ) (m : MemberView) (at : get_elem? r.seats k ≡ some (Member m)) where
   abbrev taken : ℕ → WriterView
   taken i = record r.writer { members = slice_set r.writer.members i m; taken = i ∷ r.writer.taken }
 
@@ -106,7 +106,7 @@ module _ {Served : Generation → Type 0} {about : Opening} (s : State (Unit {0}
   pub takes_in : RunningRule Served about record { words = s.words; homes = s.homes; views = set (set s.views 0 (Writer (with_member m r.writer))) (suc k) Spent }
   takes_in = subst (λ (i : ℕ). RunningRule Served about record { words = s.words; homes = s.homes; views = set (set s.views 0 (Writer (taken i))) (suc k) Spent }) (sym knows.numbered) takes
 
-joins : (Served : Generation → Type 0) (about : Opening) (id other : ℕ) (w : WriterView) (m : MemberView) → Joins (RunningRule Served about) id (Writer w) other (Member m) (Writer (with_member m w)) Spent
+joins : (Served : Published → Type 0) (about : Opening) (id other : ℕ) (w : WriterView) (m : MemberView) → Joins (RunningRule Served about) id (Writer w) other (Member m) (Writer (with_member m w)) Spent
 joins Served about id other w m s r at apart there =
     let seat = writer_at s r id w at in
     let here : get_elem? s.views other ≡ some (Member m) = sym (set_else s.views id other (Writer (with_member m w)) apart) ∙ there in
@@ -114,17 +114,17 @@ joins Served about id other w m s r at apart there =
     subst (λ (z : ℕ × (ℕ × WriterView)). RunningRule Served about record { words = s.words; homes = s.homes; views = set (set s.views z.0 (Writer (with_member m z.1.1))) z.1.0 Spent }) (λ i. (sym seat.0 i, (sym place.1 i, seat.1 i))) (takes_in s r place.0 m place.2)
 
 -- a member's seat may be joined to the writer's
-pub take_in_is_allowed : (Served : Generation → Type 0) (about : Opening) (id other : ℕ) (v u : View) → v ≡ Writer (writer_of v) → u ≡ Member (member_of u) → Joins (RunningRule Served about) id v other u (member_taken v u) Spent
+pub take_in_is_allowed : (Served : Published → Type 0) (about : Opening) (id other : ℕ) (v u : View) → v ≡ Writer (writer_of v) → u ≡ Member (member_of u) → Joins (RunningRule Served about) id v other u (member_taken v u) Spent
 take_in_is_allowed Served about id other v u is member =
     subst (λ (z : View × View). Joins (RunningRule Served about) id z.0 other z.1 (member_taken z.0 z.1) Spent) (λ i. (sym is i, sym member i)) (joins Served about id other (writer_of v) (member_of u))
 
 -- what is known of a process whose member came in
-pub slot_brought : {Served : Generation → Type 0} {about : Opening} (s : State (Unit {0}) View) (r : RunningRule Served about s) (process : ℕ) (m : MemberView) → HasBrought r.writer process m → SlotKnown s.words r.writer m process
+pub slot_brought : {Served : Published → Type 0} {about : Opening} (s : State (Unit {0}) View) (r : RunningRule Served about s) (process : ℕ) (m : MemberView) → HasBrought r.writer process m → SlotKnown s.words r.writer m process
 slot_brought s r process m brought =
     r.marks process (process % length r.writer.members) m brought.below refl (views_come r.writer.members r.seats (process % length r.writer.members) m brought.knew (r.come (process % length r.writer.members) brought.come).spent)
 
 -- the last load tells what the writer knows of the members that came in
-pub see_members_is_allowed : (Served : Generation → Type 0) (about : Opening) (slots id : ℕ) (me : Sat) → me.0 ≡ Writer (writer_of me.0) → Allows (RunningRule Served about) slots id me ROOT (λ n. n) (members_seen (step slots ROOT 0 0 none) me)
+pub see_members_is_allowed : (Served : Published → Type 0) (about : Opening) (slots id : ℕ) (me : Sat) → me.0 ≡ Writer (writer_of me.0) → Allows (RunningRule Served about) slots id me ROOT (λ n. n) (members_seen (step slots ROOT 0 0 none) me)
 see_members_is_allowed Served about slots id me is s r wide at fits = (
   me.0,
   keeps,

@@ -18,7 +18,6 @@ use Rattle.prgr_core.specs.Members.{HasLoaded}
 use Rattle.prgr_core.specs.Invariant.{CounterInRange, LoadedIsNear}
 use Rattle.prgr_core.specs.Step.{after, with_member, reported}
 use Rattle.prgr_core.proofs.SoundParts.{is_member}
-use Rattle.term_core.specs.declared.generation.Generation.{Generation}
 use Rattle.area_core.specs.Step.{confirms}
 use Rattle.area_core.proofs.Held.{value_is}
 use Rattle.shared_words.specs.declared.table.TheConstants.{COUNTER, LEAD, DELAYS, CONFIRMED}
@@ -40,7 +39,7 @@ use Rattle.shared_words.specs.Processes.{process_of, slot_in, opening_slot, unde
 use Rattle.shared_words.proofs.SlotFrames.{SlotsGoOn, known_awake}
 use Rattle.shared_words.proofs.Frames.{after_step, stored_front, progress_set, progress_words, member_step}
 
-module _ {Served : Generation → Type 0} {opening : Opening} (s : State (Unit {0}) View) (r : RunningRule Served opening s) where
+module _ {Served : Published → Type 0} {opening : Opening} (s : State (Unit {0}) View) (r : RunningRule Served opening s) where
   -- a seat with a member's view is that of the member at its place behind the writer
   pub seat_of : (id : ℕ) (m : MemberView) → get_elem? s.views id ≡ some (Member m) → (k : ℕ) × (id ≡ suc k) × (get_elem? r.seats k ≡ some (Member m))
   seat_of zero m at = absurd (let is : Writer r.writer ≡ Member m = some-injective (Writer r.writer) (Member m) (ap (λ (vs : List View). get_elem? vs 0) (sym r.views) ∙ at) in cc)
@@ -65,7 +64,7 @@ confirmed_event p k a value at (CounterAndRoot c) is may =
     ∙ ap (λ (l : Loaded). reported p k a l) is
     ∙ ap (λ (v : ℕ). Some (with_member p k (record a { word = v; loaded = Nothing }))) (sym value_is)
 
-module _ {Served : Generation → Type 0} {opening : Opening} (s : State (Unit {0}) View) (r : RunningRule Served opening s) where
+module _ {Served : Published → Type 0} {opening : Opening} (s : State (Unit {0}) View) (r : RunningRule Served opening s) where
   -- a store of a member's word, which is an event of that member
   pub own_store : (k value : ℕ) (old m : MemberView) (event : PrgrEvent) → get_elem? r.seats k ≡ some (Member old) → m.member.number ≡ old.member.number → m.seen ≡ old.seen → m.notes ≡ old.notes → m.blocks ≡ old.blocks → m.member.generation ≡ old.member.generation → m.member.word ≡ value → SlotsGoOn r.writer old m
       → after (progress_of s.words r.writer r.seats) event ≡ Some (with_member (progress_of s.words r.writer r.seats) k m.member) → RunningRule Served opening (after_step s (set s.words (CONFIRMED + k) value) (suc k) (Member m))
@@ -107,7 +106,7 @@ confirms_value value counter (CounterAndRoot c) range near may =
     value_is value (omega (arith, is), omega (arith, is, below, range))
 
 -- a report may store its value
-pub confirm_is_allowed : (Served : Generation → Type 0) (opening : Opening) (slots id number value : ℕ) (me : Sat) → me.0 ≡ Member (member_of me.0) → (member_of me.0).member.number ≡ number → MayConfirm value (member_of me.0)
+pub confirm_is_allowed : (Served : Published → Type 0) (opening : Opening) (slots id number value : ℕ) (me : Sat) → me.0 ≡ Member (member_of me.0) → (member_of me.0).member.number ≡ number → MayConfirm value (member_of me.0)
     → Allows (RunningRule Served opening) slots id me (CONFIRMED + number) (λ _. value) (λ _. confirmed (step slots (CONFIRMED + number) value 0 none) me value)
 confirm_is_allowed Served opening slots id number value me is numbered may s r wide at fits =
     let m = member_of me.0 in

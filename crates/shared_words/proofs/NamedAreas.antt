@@ -1,12 +1,11 @@
 -- An area that a slot of a member names is kept, and stands in the generation that the member holds as it is kept.
-use Rattle.std.proofs.Common.{◌≡◌, ℕ, ◌+◌, ◌%◌, ◌<◌, ◌≤◌, inl, inr, Bool, true, false, ◌&&◌, List, length, refl, sym, ap, subst, ◌∙◌, arith}
+use Rattle.std.proofs.Common.{◌≡◌, ℕ, ◌+◌, ◌%◌, ◌≤◌, inl, inr, true, ◌&&◌, List, length, sym, ap, subst, ◌∙◌, arith}
 use mathlib.Core.Option.{some}
 use lib.ListN.{get_elem?}
-use Rattle.std.specs.Prelude.{◌==◌, nat_lt, Option, Some, slice_get, slice_index, unwrap_or}
+use Rattle.std.specs.Prelude.{◌==◌, nat_lt, Option, Some, slice_get, unwrap_or}
 use Rattle.std.proofs.lemmas.Bool.{cases_Bool, and_parts, and_from, lt-ltb, ltb-true, eq-eqb, eqb-true, true≢false}
 use Rattle.atomic_table.specs.Table.{State}
 use Rattle.term_core.specs.declared.area.AreaRef.{AreaRef}
-use Rattle.term_core.specs.declared.generation.Generation.{Generation}
 use Rattle.area_core.specs.declared.map.TheConstants.{PROCESSES, ANCHORS}
 use Rattle.area_core.specs.declared.table.KeptArea.{KeptArea}
 use Rattle.area_core.specs.declared.table.Published.{Published}
@@ -24,7 +23,7 @@ use Rattle.shared_words.specs.declared.view.View.{View}
 use Rattle.shared_words.specs.declared.view.View.TheVariants.{Member}
 use Rattle.shared_words.specs.Processes.{process_of, held_by_view, NamesArea}
 use Rattle.shared_words.specs.Kinds.{IsSameIn}
-use Rattle.shared_words.specs.Rule.{HasArea, IsKeptIn, IsOwn, RunningRule}
+use Rattle.shared_words.specs.Rule.{IsKeptIn, IsOwn, RunningRule}
 use Rattle.shared_words.proofs.OpeningRule.{opening_empty}
 use Rattle.shared_words.proofs.ShownMembers.{there_is, still_at, within_get}
 use Rattle.shared_words.proofs.ShownViews.{views_at}
@@ -34,7 +33,7 @@ use Rattle.shared_words.proofs.ShownWords.{shown_word}
 names_none : (word serial : ℕ) → word ≡ 0 → names word serial ≡ true → ⊥
 names_none word serial none passes = true≢false (sym (and_parts (is_naming word) (serial_in word == serial) passes).0 ∙ ap is_naming none)
 
-module _ {Served : Generation → Type 0} {opening : Opening} (s : State (Unit {0}) View) (r : RunningRule Served opening s) (k : ℕ) (m : MemberView) (at : get_elem? r.seats k ≡ some (Member m)) where
+module _ {Served : Published → Type 0} {opening : Opening} (s : State (Unit {0}) View) (r : RunningRule Served opening s) (k : ℕ) (m : MemberView) (at : get_elem? r.seats k ≡ some (Member m)) where
   -- what the member holds was published
   pub held_at : slice_get r.writer.published m.member.generation ≡ Some (held_by_view m)
   held_at =

@@ -7,7 +7,6 @@ use Rattle.std.proofs.lemmas.Bool.{ltb-true}
 use Rattle.atomic_table.specs.Table.{State, Joins}
 use Rattle.atomic_table.proofs.Lists.{set_else}
 use Rattle.prgr_core.proofs.Parts.{slice_get-push_at}
-use Rattle.term_core.specs.declared.generation.Generation.{Generation}
 use Rattle.area_core.specs.declared.table.Published.{Published}
 use Rattle.area_core.specs.Blocks.{Among}
 use Rattle.shared_words.specs.declared.opening.Opening.{Opening}
@@ -101,7 +100,7 @@ module _ (w : WriterView) (m : MemberView) (n : NoteView) (seen : IsBeginning m.
         (known_with_note m n.note process w.looks h);
   }
 
-module _ {Served : Generation → Type 0} {about : Opening} (s : State (Unit {0}) View) (r : RunningRule Served about s) where
+module _ {Served : Published → Type 0} {about : Opening} (s : State (Unit {0}) View) (r : RunningRule Served about s) where
   -- the member with the note
   takes_note : (k j : ℕ) (m : MemberView) (n : NoteView) → get_elem? r.seats k ≡ some (Member m) → get_elem? r.seats j ≡ some (Note n) → RunningRule Served about (after_step s s.words (suc k) (Member (noting.note_joined n m)))
   takes_note k j m n at note =
@@ -120,10 +119,10 @@ module _ {Served : Generation → Type 0} {about : Opening} (s : State (Unit {0}
       })
 
 -- the note's seat is spent
-spends : {Served : Generation → Type 0} {about : Opening} (s : State (Unit {0}) View) (r : RunningRule Served about s) (j : ℕ) (n : NoteView) → get_elem? s.views (suc j) ≡ some (Note n) → RunningRule Served about (after_step s s.words (suc j) Spent)
+spends : {Served : Published → Type 0} {about : Opening} (s : State (Unit {0}) View) (r : RunningRule Served about s) (j : ℕ) (n : NoteView) → get_elem? s.views (suc j) ≡ some (Note n) → RunningRule Served about (after_step s s.words (suc j) Spent)
 spends s r j n at = behind_step s r j Spent (r.each_seat j (Note n) (ap (λ (vs : List View). get_elem? vs (suc j)) (sym r.views) ∙ at)).behind tt
 
-joins : (Served : Generation → Type 0) (about : Opening) (id other : ℕ) (m : MemberView) (n : NoteView) → Joins (RunningRule Served about) id (Member m) other (Note n) (Member (noting.note_joined n m)) Spent
+joins : (Served : Published → Type 0) (about : Opening) (id other : ℕ) (m : MemberView) (n : NoteView) → Joins (RunningRule Served about) id (Member m) other (Note n) (Member (noting.note_joined n m)) Spent
 joins Served about id zero m n s r at apart there =
     let here : get_elem? s.views 0 ≡ some (Note n) = sym (set_else s.views id 0 (Member (noting.note_joined n m)) apart) ∙ there in
     absurd (let is : Writer r.writer ≡ Note n = some-injective (Writer r.writer) (Note n) (ap (λ (vs : List View). get_elem? vs 0) (sym r.views) ∙ here) in cc)
@@ -135,6 +134,6 @@ joins Served about id (suc j) m n s r at apart there =
     spends (after_step s s.words id (Member (noting.note_joined n m))) taken j n there
 
 -- a note may be joined to a member
-pub join_note_is_allowed : (Served : Generation → Type 0) (about : Opening) (id other : ℕ) (v u : View) → v ≡ Member (member_of v) → u ≡ Note (note_of u) → Joins (RunningRule Served about) id v other u (note_join v u) Spent
+pub join_note_is_allowed : (Served : Published → Type 0) (about : Opening) (id other : ℕ) (v u : View) → v ≡ Member (member_of v) → u ≡ Note (note_of u) → Joins (RunningRule Served about) id v other u (note_join v u) Spent
 join_note_is_allowed Served about id other v u is note =
     subst (λ (z : View × View). Joins (RunningRule Served about) id z.0 other z.1 (note_join z.0 z.1) Spent) (λ i. (sym is i, sym note i)) (joins Served about id other (member_of v) (note_of u))

@@ -9,14 +9,14 @@ use Rattle.prgr_core.specs.declared.member.Member as machines
 use Rattle.prgr_core.specs.declared.watcher.Watcher as watching
 use Rattle.prgr_core.specs.Step.{IsSound}
 use Rattle.prgr_core.proofs.Parts.{slice_get-push_at}
-use Rattle.term_core.specs.declared.generation.Generation.{Generation}
+use Rattle.area_core.specs.declared.table.Published.{Published}
 use Rattle.shared_words.specs.declared.opening.Opening.{Opening}
 use Rattle.shared_words.specs.declared.view.NoteView.{NoteView}
 use Rattle.shared_words.specs.declared.view.MemberView.{MemberView}
 use Rattle.shared_words.specs.declared.view.WatcherView.{WatcherView}
 use Rattle.shared_words.specs.declared.view.WriterView.{WriterView}
 use Rattle.shared_words.specs.declared.view.View.{View}
-use Rattle.shared_words.specs.declared.view.View.TheVariants.{Writer, Member, Watcher, Note, Spent}
+use Rattle.shared_words.specs.declared.view.View.TheVariants.{Writer, Member, Note, Spent}
 use Rattle.shared_words.specs.Shown.{member_shown, members_shown, watcher_shown, watchers_shown, progress_of}
 use Rattle.shared_words.specs.Notes.{SplitsNote, IsSplittingNote, note_number, with_note, note_begun, note_left, note_right}
 use Rattle.shared_words.specs.Rule.{NoteFits, Knows, RunningRule}
@@ -47,7 +47,7 @@ watchers_more (suc n) watchers (seat ∷ seats) v few = watchers_more n watchers
 
 -- ---- the rule
 
-splits : {Served : Generation → Type 0} {about : Opening} (process : ℕ) (s : State (Unit {0}) View) (r : RunningRule Served about s) → SplitsNote about process r.writer
+splits : {Served : Published → Type 0} {about : Opening} (process : ℕ) (s : State (Unit {0}) View) (r : RunningRule Served about s) → SplitsNote about process r.writer
     → RunningRule Served about record { words = s.words; homes = s.homes; views = set s.views 0 (note_left process (Writer r.writer)) ++ note_right process (Writer r.writer) ∷ [] }
 splits process s r may =
     let w = r.writer in
@@ -99,7 +99,7 @@ splits process s r may =
     }
 
 -- the writer may split a note once all other seats are handed out
-pub split_note_is_allowed : (Served : Generation → Type 0) (about : Opening) (process id : ℕ) (v : View) → IsSplittingNote about process v → Splits (RunningRule Served about) id v (note_left process v) (note_right process v)
+pub split_note_is_allowed : (Served : Published → Type 0) (about : Opening) (process id : ℕ) (v : View) → IsSplittingNote about process v → Splits (RunningRule Served about) id v (note_left process v) (note_right process v)
 split_note_is_allowed Served about process zero v may s r at =
     let is : Writer r.writer ≡ v = some-injective (Writer r.writer) v (ap (λ (vs : List View). get_elem? vs 0) (sym r.views) ∙ at) in
     subst (λ (x : View). IsSplittingNote about process x → RunningRule Served about record { words = s.words; homes = s.homes; views = set s.views 0 (note_left process x) ++ note_right process x ∷ [] }) is

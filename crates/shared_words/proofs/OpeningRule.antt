@@ -15,12 +15,11 @@ use Rattle.prgr_core.specs.declared.watcher.TheConstants.{MOST_WATCHERS}
 use Rattle.prgr_core.specs.Step as starting
 use Rattle.prgr_core.proofs.Parts.{slice_get-push_at}
 use Rattle.prgr_core.proofs.Opening.{opening_sound}
-use Rattle.term_core.specs.declared.generation.Generation.{Generation}
 use Rattle.area_core.specs.declared.map.TheConstants.{TABLE_WORDS, SLOTS_START, ANCHORS}
 use Rattle.area_core.specs.declared.table.Published.{Published}
 use Rattle.area_core.specs.Generations.{has_serial}
 use Rattle.area_core.specs.Map.{word_at, opening_words, slot_place}
-use Rattle.area_core.specs.Step.{empty_generation, opening_published}
+use Rattle.area_core.specs.Step.{opening_published}
 use Rattle.area_core.proofs.Counted.{opened}
 use Rattle.area_core.proofs.Opened.{blocks_opened}
 use Rattle.marks.specs.Kept.{IsBacked}
@@ -188,7 +187,7 @@ opening_stays = record {
 }
 
 -- the rule holds of a table as it begins
-pub rule_begins : (Served : Generation → Type 0) (about : Opening) (words : List ℕ) → 1 ≤ about.members → about.members ≤ MOST_MEMBERS → about.watchers ≤ MOST_WATCHERS → Served empty_generation → AreBegun about.members words → RunningRule Served about (opening words [] (opening_view about.members about.watchers))
+pub rule_begins : (Served : Published → Type 0) (about : Opening) (words : List ℕ) → 1 ≤ about.members → about.members ≤ MOST_MEMBERS → about.watchers ≤ MOST_WATCHERS → Served opening_published → AreBegun about.members words → RunningRule Served about (opening words [] (opening_view about.members about.watchers))
 rule_begins Served about words first few few_watchers served begun =
     let w : WriterView = writer_begun about.members about.watchers in
     let watched = ap (watchers_shown (watchers_begun about.watchers)) (drop_none (length (members_begun about.members))) ∙ watchers_opened about.watchers in
@@ -201,7 +200,7 @@ rule_begins Served about words first few few_watchers served begun =
         staffed = (let n = begun_length about.members in omega arith);
         watched = watched_length about.watchers;
         some = omega arith;
-        served = λ p among. subst (λ (q : Published). Served q.state) (only opening_published p among.0 among.1) served;
+        served = λ p among. subst (λ (q : Published). Served q) (only opening_published p among.0 among.1) served;
         old_stays = λ g later p q serial le at_p at_q old. absurd (never (subst (λ (x : Published). has_serial x.state.old serial ≡ true) (sym (only opening_published p g at_p)) old));
         retired_stays = λ g later p q serial le at_p at_q old. absurd (never (subst (λ (x : Published). has_serial x.state.retired serial ≡ true) (sym (only opening_published p g at_p)) old));
         areas_stay = opening_stays;
@@ -256,7 +255,7 @@ same_handed w n place (Watcher v) h = record { numbered = h.numbered; made = h.m
 same_handed w n place (Note v) h = record { behind = h.behind; seen = h.seen; noted = h.noted; learnt = h.learnt }
 same_handed w n place Spent h = h
 
-hands_out : {Served : Generation → Type 0} {about : Opening} (s : State (Unit {0}) View) (r : RunningRule Served about s) → r.writer.handed < length r.writer.members
+hands_out : {Served : Published → Type 0} {about : Opening} (s : State (Unit {0}) View) (r : RunningRule Served about s) → r.writer.handed < length r.writer.members
     → RunningRule Served about record { words = s.words; homes = s.homes; views = set s.views 0 (handed_on (Writer r.writer)) ++ handed_out (Writer r.writer) ∷ [] }
 hands_out s r more =
     let w = r.writer in
@@ -292,7 +291,7 @@ hands_out s r more =
     }
 
 -- the writer may hand out a member's seat while one is at home
-pub hand_out_is_allowed : (Served : Generation → Type 0) (about : Opening) (id : ℕ) (v : View) → HasSeatsAtHome about v → Splits (RunningRule Served about) id v (handed_on v) (handed_out v)
+pub hand_out_is_allowed : (Served : Published → Type 0) (about : Opening) (id : ℕ) (v : View) → HasSeatsAtHome about v → Splits (RunningRule Served about) id v (handed_on v) (handed_out v)
 hand_out_is_allowed Served about zero v home s r at =
     let is : Writer r.writer ≡ v = some-injective (Writer r.writer) v (ap (λ (vs : List View). get_elem? vs 0) (sym r.views) ∙ at) in
     subst (λ (x : View). HasSeatsAtHome about x → RunningRule Served about record { words = s.words; homes = s.homes; views = set s.views 0 (handed_on x) ++ handed_out x ∷ [] }) is

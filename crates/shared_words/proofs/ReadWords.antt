@@ -6,7 +6,6 @@ use Rattle.std.specs.Prelude.{Some, None, Option, slice_get, IsTrue}
 use Rattle.std.specs.Option.{option_and_then}
 use Rattle.std.proofs.lemmas.Bool.{eqb-true, true≢false}
 use Rattle.atomic_table.specs.Table.{State}
-use Rattle.term_core.specs.declared.generation.Generation.{Generation}
 use Rattle.term_core.specs.declared.area.AreaRef.{AreaRef}
 use Rattle.area_core.specs.declared.map.WordKind.{WordKind}
 use Rattle.area_core.specs.declared.map.WordKind.TheVariants.{InBlock}
@@ -30,7 +29,7 @@ use Rattle.shared_words.proofs.NamedAreas.{named_area}
 use Rattle.shared_words.proofs.ShownMembers.{shown_at, still_at}
 use Rattle.shared_words.proofs.SoundState.{counts}
 
-module _ {Served : Generation → Type 0} {opening : Opening} (s : State (Unit {0}) View) (r : RunningRule Served opening s) (word value block at : ℕ) (is : kind_at word ≡ InBlock block at) (may : MayStoreWord r.writer word value) where
+module _ {Served : Published → Type 0} {opening : Opening} (s : State (Unit {0}) View) (r : RunningRule Served opening s) (word value block at : ℕ) (is : kind_at word ≡ InBlock block at) (may : MayStoreWord r.writer word value) where
   fits : FitsInBlock r.writer block at value
   fits = subst (FitsWord r.writer value) is may
 

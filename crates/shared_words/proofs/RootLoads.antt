@@ -13,11 +13,10 @@ use Rattle.prgr_core.specs.declared.event.PrgrEvent.TheVariants as prgr
 use Rattle.prgr_core.specs.Members as members
 use Rattle.prgr_core.specs.Step.{with_member, has_loaded}
 use Rattle.term_core.specs.declared.area.AreaRef.{AreaRef}
-use Rattle.term_core.specs.declared.generation.Generation.{Generation}
 use Rattle.area_core.specs.Step.{opening_published}
 use Rattle.area_core.specs.declared.table.Published.{Published}
 use Rattle.area_core.specs.Blocks.{RootFits, Among}
-use Rattle.area_core.specs.Generations.{has_area, has_image, is_kept_as, is_used}
+use Rattle.area_core.specs.Generations.{has_area, has_image, is_kept_as}
 use Rattle.area_core.proofs.Tests.{passed_by}
 use Rattle.shared_words.specs.declared.table.TheConstants.{ROOT}
 use Rattle.shared_words.specs.declared.opening.Opening.{Opening}
@@ -101,7 +100,7 @@ has_listed areas serial block has =
 pub shorter : (few all : List Published) → IsBeginning few all → (n : ℕ) → n < length few → n < length all
 shorter few all is n below = omega (arith, ap length is.1, length-append few is.0)
 
-module _ {Served : Generation → Type 0} {opening : Opening} (s : State (Unit {0}) View) (r : RunningRule Served opening s) where
+module _ {Served : Published → Type 0} {opening : Opening} (s : State (Unit {0}) View) (r : RunningRule Served opening s) where
   -- the generations so far
   abbrev all : List Published
   all = r.writer.published
@@ -137,7 +136,7 @@ module _ {Served : Generation → Type 0} {opening : Opening} (s : State (Unit {
     some = subst (λ (xs : List Published). 0 < length xs) (sym is) r.published.some;
     root = r.words.root ∙ ap newest_root (sym is);
     fits = subst (λ (xs : List Published). RootFits (published_at xs (newest xs)).root) (sym is) newest_fits;
-    served = subst (λ (xs : List Published). Served (published_at xs (newest xs)).state) (sym is) (r.published.served (published_at all (newest all)) (newest all, there_is all (newest all) opening_published last));
+    served = subst (λ (xs : List Published). Served (published_at xs (newest xs))) (sym is) (r.published.served (published_at all (newest all)) (newest all, there_is all (newest all) opening_published last));
     promised = λ note among. subst (λ (xs : List Published). note.published < length xs) (sym is) (r.published.notes_fit note (noted note among)).counted;
     areas = subst (λ (xs : List Published). HasItsAreas (published_at xs (newest xs))) (sym is) newest_has;
     named = named;
@@ -219,7 +218,7 @@ module _ {Served : Generation → Type 0} {opening : Opening} (s : State (Unit {
   root_loads (suc k) v at may = behind_loads k v (ap (λ (vs : List View). get_elem? vs (suc k)) (sym r.views) ∙ at) may
 
 -- the load of the root may be made by each seat that may make it
-pub load_root_is_allowed : (Served : Generation → Type 0) (opening : Opening) (slots id : ℕ) (me : Sat) → MayLoadRoot me.0 → Allows (RunningRule Served opening) slots id me ROOT (λ n. n) (root_loaded Served (step slots ROOT 0 0 none) me)
+pub load_root_is_allowed : (Served : Published → Type 0) (opening : Opening) (slots id : ℕ) (me : Sat) → MayLoadRoot me.0 → Allows (RunningRule Served opening) slots id me ROOT (λ n. n) (root_loaded Served (step slots ROOT 0 0 none) me)
 load_root_is_allowed Served opening slots id me may s r wide at fits =
     let goes = root_loads s r id me.0 at may in (
       root_found r.writer.published me.0,

@@ -10,7 +10,6 @@ use Rattle.prgr_core.specs.Step.{IsSound}
 use Rattle.prgr_core.proofs.Parts.{slice_get-push_at}
 use Rattle.prgr_core.proofs.Sound.{keeps_sound}
 use Rattle.term_core.specs.declared.area.AreaRef.{AreaRef}
-use Rattle.term_core.specs.declared.generation.Generation.{Generation}
 use Rattle.area_core.specs.declared.map.TheConstants.{SLOTS_START, RETIRE_START}
 use Rattle.area_core.specs.declared.table.Published.{Published}
 use Rattle.area_core.specs.declared.table.KeptArea.{KeptArea}
@@ -168,12 +167,12 @@ module _ (w : WriterView) (stay : AreasStay w.published w.kept) (p : Published) 
 
 -- ---- the rule
 
-module _ {Served : Generation → Type 0} {opening : Opening} (s : State (Unit {0}) View) (r : RunningRule Served opening s) where
+module _ {Served : Published → Type 0} {opening : Opening} (s : State (Unit {0}) View) (r : RunningRule Served opening s) where
   -- each is served
-  all_served : (p : Published) → Served p.state → (q : Published) → Among (r.writer.published ++ p ∷ []) q → Served q.state
+  all_served : (p : Published) → Served p → (q : Published) → Among (r.writer.published ++ p ∷ []) q → Served q
   all_served p new q among =
       ⊎_elim (λ (before : slice_get r.writer.published among.0 ≡ Some q). r.published.served q (among.0, before))
-      (λ (last : (among.0 ≡ length r.writer.published) × (q ≡ p)). subst (λ (x : Published). Served x.state) (sym last.1) new)
+      (λ (last : (among.0 ≡ length r.writer.published) × (q ≡ p)). subst (λ (x : Published). Served x) (sym last.1) new)
       (slice_get-push_at r.writer.published p among.0 q among.1)
 
   root_stores : (p : Published) (code bp term n : ℕ) → IsRootOf p.root code bp term → length r.writer.published ≡ n + 1 → MayPublish Served r.writer p → RunningRule Served opening (after_step s (set s.words ROOT (code + 4 * bp + 8 * term + 32 * (n + 1))) 0 (Writer (with_next p r.writer)))
@@ -225,7 +224,7 @@ module _ {Served : Generation → Type 0} {opening : Opening} (s : State (Unit {
       })
 
 -- the writer may publish what its words and areas stand for
-pub store_root_is_allowed : (Served : Generation → Type 0) (opening : Opening) (slots id code bp term n x : ℕ) (p : Published) (me : Sat) → x ≡ code + 4 * bp + 8 * term + 32 * (n + 1) → me.0 ≡ Writer (writer_of me.0) → IsRootOf p.root code bp term → length (writer_of me.0).published ≡ n + 1 → MayPublish Served (writer_of me.0) p
+pub store_root_is_allowed : (Served : Published → Type 0) (opening : Opening) (slots id code bp term n x : ℕ) (p : Published) (me : Sat) → x ≡ code + 4 * bp + 8 * term + 32 * (n + 1) → me.0 ≡ Writer (writer_of me.0) → IsRootOf p.root code bp term → length (writer_of me.0).published ≡ n + 1 → MayPublish Served (writer_of me.0) p
     → Allows (RunningRule Served opening) slots id me ROOT (λ _. x) (λ _. root_stored p (step slots ROOT x 0 none) me x)
 store_root_is_allowed Served opening slots id code bp term n x p me word is root number may s r wide at fits =
     let w = writer_of me.0 in

@@ -4,8 +4,8 @@ use Rattle.std.proofs.Common.{◌≡◌, ℕ, ◌<◌, List, length, Bool, true,
 use Rattle.prgr_core.specs.declared.member.Member as machines
 use Rattle.prgr_core.specs.Members as members
 use Rattle.prgr_core.specs.Step.{has_loaded}
-use Rattle.term_core.specs.declared.generation.Generation.{Generation}
 use Rattle.area_core.specs.declared.table.Published.{Published}
+use Rattle.area_core.specs.Blocks.{RootFits}
 use Rattle.shared_words.specs.declared.view.MemberView.{MemberView}
 use Rattle.shared_words.specs.declared.view.View.{View}
 use Rattle.shared_words.specs.declared.view.View.TheVariants.{Member}
@@ -19,12 +19,13 @@ generation_found true g a is = refl
 generation_found false g a is = absurd (cc)
 
 -- after a load of the root by a member that has loaded the counter
-pub rooted_by_load : (Served : Generation → Type 0) (m : MemberView) (new : View) (found : ℕ) → has_loaded m.member.loaded ≡ true → RootLoaded Served (Member m) new found → IsRooted found (member_of new)
+pub rooted_by_load : (Served : Published → Type 0) (m : MemberView) (new : View) (found : ℕ) → has_loaded m.member.loaded ≡ true → RootLoaded Served (Member m) new found → IsRooted found (member_of new)
 rooted_by_load Served m new found loaded told =
     let xs : List Published = seen new in
     let held = generation_found (has_loaded m.member.loaded) (newest xs) m.member loaded in
     let first = told.some in
     subst (λ (v : View). IsRooted found (member_of v)) (sym told.view) (record {
       learnt = subst (λ (g : ℕ). g < length xs) (sym held) (omega arith);
+      fits = subst (λ (g : ℕ). RootFits (published_at xs g).root) (sym held) told.fits;
       held = told.root ∙ ap (λ (g : ℕ). root_word (published_at xs g).root g) (sym held);
     })

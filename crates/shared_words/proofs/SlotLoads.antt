@@ -10,7 +10,6 @@ use Rattle.prgr_core.specs.declared.member.Retirement.{Retirement}
 use Rattle.prgr_core.specs.Members as members
 use Rattle.term_core.specs.declared.area.AreaRef.{AreaRef}
 use Rattle.term_core.specs.declared.hold.Kind.{Kind}
-use Rattle.term_core.specs.declared.generation.Generation.{Generation}
 use Rattle.area_core.specs.declared.map.TheConstants.{PROCESSES, ANCHORS}
 use Rattle.area_core.specs.declared.table.Published.{Published}
 use Rattle.area_core.specs.Map.{slot_place}
@@ -154,7 +153,7 @@ looked_waits wait process (suc place) found k = by_test (names_in wait.kind foun
 
 -- ---- the rule
 
-module _ {Served : Generation → Type 0} {opening : Opening} (s : State (Unit {0}) View) (r : RunningRule Served opening s) (wait : EndedWait) (over : HasEnded r.writer wait) where
+module _ {Served : Published → Type 0} {opening : Opening} (s : State (Unit {0}) View) (r : RunningRule Served opening s) (wait : EndedWait) (over : HasEnded r.writer wait) where
   -- between its turns, or the wait is over for its member
   rests_or_over : (process k : ℕ) (m : MemberView) → slice_get (views_shown r.writer.members r.seats) k ≡ Some m → SlotKnown s.words r.writer m process → IsAtRest (process_of m process) ⊎ IsOverFor (under_of m) wait
   rests_or_over process k m at h =
@@ -198,7 +197,7 @@ module _ {Served : Generation → Type 0} {opening : Opening} (s : State (Unit {
         record { turns = h.turns; anchors = h.anchors; narrow = h.narrow; known = looked_known place refl process k m at h })
 
 -- in a look, or in none
-module _ {Served : Generation → Type 0} {opening : Opening} (s : State (Unit {0}) View) (r : RunningRule Served opening s) where
+module _ {Served : Published → Type 0} {opening : Opening} (s : State (Unit {0}) View) (r : RunningRule Served opening s) where
   loads_slot : (look : Option (AreaRef × Option Kind)) (process place : ℕ) → MayLook r.writer look → RunningRule Served opening (after_step s s.words 0 (Writer (slot_looked process place look (slice_index s.words (slot_place process place)) r.writer)))
   loads_slot None process place may = same_step s r 0 (Writer r.writer) (ap (λ (vs : List View). get_elem? vs 0) r.views)
   loads_slot (Some look) process place may =
@@ -209,7 +208,7 @@ module _ {Served : Generation → Type 0} {opening : Opening} (s : State (Unit {
   narrow_turns process below = (let known = (some_member s r process below).1 in let narrow = known.narrow in omega (arith, known.turns, narrow))
 
 -- the writer may load a word of a slot, where the look that it stands in may begin
-pub load_slot_is_allowed : (Served : Generation → Type 0) (opening : Opening) (slots id process place : ℕ) (look : Option (AreaRef × Option Kind)) (me : Sat) → me.0 ≡ Writer (writer_of me.0) → process < PROCESSES → place ≤ ANCHORS → MayLook (writer_of me.0) look
+pub load_slot_is_allowed : (Served : Published → Type 0) (opening : Opening) (slots id process place : ℕ) (look : Option (AreaRef × Option Kind)) (me : Sat) → me.0 ≡ Writer (writer_of me.0) → process < PROCESSES → place ≤ ANCHORS → MayLook (writer_of me.0) look
     → Allows (RunningRule Served opening) slots id me (slot_place process place) (λ n. n) (slot_loaded look (step slots (slot_place process place) 0 0 none) me)
 load_slot_is_allowed Served opening slots id process place look me is below last may s r wide at fits =
     let w = writer_of me.0 in
@@ -229,7 +228,7 @@ load_slot_is_allowed Served opening slots id process place look me is below last
     )
 
 -- the same of a word that is known to be this one
-pub load_slot_may : (Served : Generation → Type 0) (opening : Opening) (slots id process place word : ℕ) (look : Option (AreaRef × Option Kind)) (me : Sat) → word ≡ slot_place process place → me.0 ≡ Writer (writer_of me.0) → process < PROCESSES → place ≤ ANCHORS → MayLook (writer_of me.0) look
+pub load_slot_may : (Served : Published → Type 0) (opening : Opening) (slots id process place word : ℕ) (look : Option (AreaRef × Option Kind)) (me : Sat) → word ≡ slot_place process place → me.0 ≡ Writer (writer_of me.0) → process < PROCESSES → place ≤ ANCHORS → MayLook (writer_of me.0) look
     → Allows (RunningRule Served opening) slots id me word (λ n. n) (slot_loaded look (step slots word 0 0 none) me)
 load_slot_may Served opening slots id process place word look me same is below last may =
     subst (λ (n : ℕ). Allows (RunningRule Served opening) slots id me n (λ x. x) (slot_loaded look (step slots n 0 0 none) me)) (sym same) (load_slot_is_allowed Served opening slots id process place look me is below last may)

@@ -9,7 +9,6 @@ use Rattle.std.proofs.lemmas.Bool.{cases_Bool, and_from, or_left, or_right, eq-e
 use Rattle.atomic_table.specs.Table.{State, keeps, step, Allows}
 use Rattle.prgr_core.specs.Members as members
 use Rattle.prgr_core.specs.declared.progress.Progress.{Progress}
-use Rattle.term_core.specs.declared.generation.Generation.{Generation}
 use Rattle.area_core.specs.declared.map.TheConstants.{PROCESSES}
 use Rattle.area_core.specs.declared.map.WordKind.TheVariants.{Slot}
 use Rattle.area_core.specs.declared.table.Published.{Published}
@@ -47,7 +46,7 @@ use Rattle.shared_words.proofs.AnchorStores.{may_become, turns_known, anchor_kno
 
 -- ---- the rule
 
-module _ {Served : Generation → Type 0} {opening : Opening} (s : State (Unit {0}) View) (r : RunningRule Served opening s) (k : ℕ) (m : MemberView) (at : get_elem? r.seats k ≡ some (Member m)) (process place value : ℕ) (may : MayStoreSlot opening process place value m) where
+module _ {Served : Published → Type 0} {opening : Opening} (s : State (Unit {0}) View) (r : RunningRule Served opening s) (k : ℕ) (m : MemberView) (at : get_elem? r.seats k ≡ some (Member m)) (process place value : ℕ) (may : MayStoreSlot opening process place value m) where
   knows : MemberKnows r.writer k m
   knows = r.each_seat k (Member m) at
 
@@ -245,7 +244,7 @@ module _ {Served : Generation → Type 0} {opening : Opening} (s : State (Unit {
       })
 
 -- a member may store a word of the slot of one of its processes
-pub store_slot_is_allowed : (Served : Generation → Type 0) (opening : Opening) (slots id process place value : ℕ) (me : Sat) → me.0 ≡ Member (member_of me.0) → MayStoreSlot opening process place value (member_of me.0)
+pub store_slot_is_allowed : (Served : Published → Type 0) (opening : Opening) (slots id process place value : ℕ) (me : Sat) → me.0 ≡ Member (member_of me.0) → MayStoreSlot opening process place value (member_of me.0)
     → Allows (RunningRule Served opening) slots id me (slot_place process place) (λ _. value) (λ _. slot_stored (step slots (slot_place process place) value 0 none) me value)
 store_slot_is_allowed Served opening slots id process place value me is may s r wide at fits =
     let m = member_of me.0 in
@@ -261,7 +260,7 @@ store_slot_is_allowed Served opening slots id process place value me is may s r 
     )
 
 -- the same of a word that is known to be this one
-pub store_slot_may : (Served : Generation → Type 0) (opening : Opening) (slots id process place value word : ℕ) (me : Sat) → word ≡ slot_place process place → me.0 ≡ Member (member_of me.0) → MayStoreSlot opening process place value (member_of me.0)
+pub store_slot_may : (Served : Published → Type 0) (opening : Opening) (slots id process place value word : ℕ) (me : Sat) → word ≡ slot_place process place → me.0 ≡ Member (member_of me.0) → MayStoreSlot opening process place value (member_of me.0)
     → Allows (RunningRule Served opening) slots id me word (λ _. value) (λ _. slot_stored (step slots word value 0 none) me value)
 store_slot_may Served opening slots id process place value word me same is may =
     subst (λ (n : ℕ). Allows (RunningRule Served opening) slots id me n (λ _. value) (λ _. slot_stored (step slots n value 0 none) me value)) (sym same) (store_slot_is_allowed Served opening slots id process place value me is may)

@@ -4,7 +4,7 @@ use Rattle.std.proofs.lemmas.List.{length-replicate}
 use Rattle.atomic_table.specs.Table.{State}
 use Rattle.prgr_core.proofs.GraceHolds.{grace_holds}
 use Rattle.prgr_core.specs.Machine.{machine_of}
-use Rattle.term_core.specs.declared.generation.Generation.{Generation}
+use Rattle.area_core.specs.declared.table.Published.{Published}
 use Rattle.area_core.specs.declared.map.TheConstants.{SLOTS_START}
 use Rattle.area_core.specs.Map.{opening_words}
 use Rattle.area_core.specs.Step.{IsReadable, IsSound}
@@ -19,7 +19,7 @@ use Rattle.shared_words.specs.Rule.{MayBeRead, blocks_shown, RunningRule}
 pub front_length : length (opening_words SLOTS_START) ≡ SLOTS_START
 front_length = ap (λ (ws : List ℕ). length ws) (sym (opened SLOTS_START)) ∙ length-replicate {A = ℕ} SLOTS_START 0
 
-module _ {Served : Generation → Type 0} {opening : Opening} (s : State (Unit {0}) View) (r : RunningRule Served opening s) where
+module _ {Served : Published → Type 0} {opening : Opening} (s : State (Unit {0}) View) (r : RunningRule Served opening s) where
   pub counts : (g : ℕ) → IsReadable (state_of s.words r.writer r.seats) g → MayBeRead r.writer g
   counts g readable pair among need =
       let reached = r.words.reached in

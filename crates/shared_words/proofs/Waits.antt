@@ -13,7 +13,7 @@ use Rattle.prgr_core.specs.declared.progress.Progress.{Progress}
 use Rattle.prgr_core.specs.declared.event.PrgrEvent.TheVariants as prgr
 use Rattle.prgr_core.specs.Members as members
 use Rattle.prgr_core.specs.Step.{after, with_member, follows}
-use Rattle.term_core.specs.declared.generation.Generation.{Generation}
+use Rattle.area_core.specs.declared.table.Published.{Published}
 use Rattle.shared_words.specs.declared.table.TheConstants.{CONFIRMED}
 use Rattle.shared_words.specs.declared.opening.Opening.{Opening}
 use Rattle.shared_words.specs.declared.view.MemberView.{MemberView}
@@ -64,7 +64,7 @@ waits_asleep word waits = ap members.is_value (eqb-true word WAITING waits)
 -- ---- the stores
 
 -- a member may begin to wait
-pub store_waiting_is_allowed : (Served : Generation → Type 0) (opening : Opening) (slots id number : ℕ) (me : Sat) → me.0 ≡ Member (member_of me.0) → (member_of me.0).member.number ≡ number → MayWait (member_of me.0)
+pub store_waiting_is_allowed : (Served : Published → Type 0) (opening : Opening) (slots id number : ℕ) (me : Sat) → me.0 ≡ Member (member_of me.0) → (member_of me.0).member.number ≡ number → MayWait (member_of me.0)
     → Allows (RunningRule Served opening) slots id me (CONFIRMED + number) (λ _. WAITING) (λ _. waiting_stored (step slots (CONFIRMED + number) WAITING 0 none) me WAITING)
 store_waiting_is_allowed Served opening slots id number me is numbered may s r wide at fits =
     let m = member_of me.0 in
@@ -82,7 +82,7 @@ store_waiting_is_allowed Served opening slots id number me is numbered may s r w
     )
 
 -- a member that waits may end its wait
-pub store_entering_is_allowed : (Served : Generation → Type 0) (opening : Opening) (slots id number : ℕ) (me : Sat) → me.0 ≡ Member (member_of me.0) → (member_of me.0).member.number ≡ number → MayEnter (member_of me.0)
+pub store_entering_is_allowed : (Served : Published → Type 0) (opening : Opening) (slots id number : ℕ) (me : Sat) → me.0 ≡ Member (member_of me.0) → (member_of me.0).member.number ≡ number → MayEnter (member_of me.0)
     → Allows (RunningRule Served opening) slots id me (CONFIRMED + number) (λ _. ENTERING) (λ _. entering_stored (step slots (CONFIRMED + number) ENTERING 0 none) me ENTERING)
 store_entering_is_allowed Served opening slots id number me is numbered may s r wide at fits =
     let m = member_of me.0 in

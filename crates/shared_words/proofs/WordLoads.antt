@@ -1,5 +1,5 @@
 -- A load of a word of a block tells of blocks that stand for the generation that is held.
-use Rattle.std.proofs.Common.{◌≡◌, ℕ, zero, suc, ◌<◌, ◌≤◌, inl, inr, List, [], refl, sym, ap, subst, ◌∙◌, arith}
+use Rattle.std.proofs.Common.{◌≡◌, ℕ, zero, suc, ◌<◌, ◌≤◌, inl, inr, List, refl, sym, ap, subst, ◌∙◌, arith}
 use mathlib.Core.Option.{none, some, some-injective}
 use lib.ListN.{get_elem?}
 use lib.Seq.{set-get_or}
@@ -7,7 +7,6 @@ use Rattle.std.specs.Prelude.{Some, None, Option, slice_get, slice_index, IsTrue
 use Rattle.std.specs.Option.{option_and_then}
 use Rattle.std.proofs.lemmas.Bool.Decides.{nat_tests}
 use Rattle.atomic_table.specs.Table.{State, keeps, step, Allows}
-use Rattle.term_core.specs.declared.generation.Generation.{Generation}
 use Rattle.area_core.specs.declared.map.TheConstants.{RETIRE_START, TABLE_WORDS}
 use Rattle.area_core.specs.declared.map.WordKind.{WordKind}
 use Rattle.area_core.specs.declared.map.WordKind.TheVariants.{Machine, Slot, Retire, Doom, InBlock, Nowhere}
@@ -92,7 +91,7 @@ one_only o p q first second = (let is : Some p ≡ Some q = sym first ∙ second
 
 -- ---- what is told
 
-module _ {Served : Generation → Type 0} {opening : Opening} (s : State (Unit {0}) View) (r : RunningRule Served opening s) (word : ℕ) (late : RETIRE_START ≤ word) where
+module _ {Served : Published → Type 0} {opening : Opening} (s : State (Unit {0}) View) (r : RunningRule Served opening s) (word : ℕ) (late : RETIRE_START ≤ word) where
   -- of a generation that a seat of the machine holds, with the words that the seat found
   told : (v : View) (seat : SeatName) (g : ℕ) (p : Published) → NamedStand v r.writer.kept → ((f : BlockWord) → Among (blocks_found (word_found word (slice_index s.words word) v)) f → WordKept r.writer f) → held_by (progress_of s.words r.writer r.seats) seat ≡ Some g → slice_get r.writer.published g ≡ Some p
       → IsWordUnder v g p word (slice_index s.words word)
@@ -182,7 +181,7 @@ module _ {Served : Generation → Type 0} {opening : Opening} (s : State (Unit {
   word_loads (suc k) v at may = behind_loads k v (ap (λ (vs : List View). get_elem? vs (suc k)) (sym r.views) ∙ at) may
 
 -- a word that the generation reads which a seat holds may be loaded
-pub load_word_is_allowed : (Served : Generation → Type 0) (opening : Opening) (slots id word : ℕ) (me : Sat) → MayLoadWord word me.0 → Allows (RunningRule Served opening) slots id me word (λ n. n) (word_loaded (step slots word 0 0 none) me)
+pub load_word_is_allowed : (Served : Published → Type 0) (opening : Opening) (slots id word : ℕ) (me : Sat) → MayLoadWord word me.0 → Allows (RunningRule Served opening) slots id me word (λ n. n) (word_loaded (step slots word 0 0 none) me)
 load_word_is_allowed Served opening slots id word me may s r wide at fits =
     let late = (may_behind word me.0 may).0 in (
       word_found word (slice_index s.words word) me.0,
@@ -193,7 +192,7 @@ load_word_is_allowed Served opening slots id word me may s r wide at fits =
     )
 
 -- the same as what a load by any token asks
-pub load_word_may : (Served : Generation → Type 0) (opening : Opening) (table : TableId) (seat : Place) (word : ℕ) → seat.table_id ≡ table → table.words ≡ TABLE_WORDS → MayLoadWord word seat.me.0 → MayLoad Served opening table word_loaded seat word
+pub load_word_may : (Served : Published → Type 0) (opening : Opening) (table : TableId) (seat : Place) (word : ℕ) → seat.table_id ≡ table → table.words ≡ TABLE_WORDS → MayLoadWord word seat.me.0 → MayLoad Served opening table word_loaded seat word
 load_word_may Served opening table seat word same size may = record {
   same_table = same;
   there = omega (arith, size, (may_behind word seat.me.0 may).1);

@@ -10,7 +10,6 @@ use Rattle.std.proofs.lemmas.Bool.Decides.{nat_tests}
 use Rattle.atomic_table.specs.Table.{State, keeps, step, Allows}
 use Rattle.prgr_core.specs.Step.{IsSound}
 use Rattle.term_core.specs.declared.area.AreaRef.{AreaRef}
-use Rattle.term_core.specs.declared.generation.Generation.{Generation}
 use Rattle.area_core.specs.declared.map.TheConstants.{TABLE_WORDS, SLOTS_START, RETIRE_START, BIG_WORDS, BREAKPOINTS_START, TERMS_START, EXPORT_ENTRIES, FUNCTIONS}
 use Rattle.area_core.specs.declared.map.WordKind.{WordKind}
 use Rattle.area_core.specs.declared.map.WordKind.TheVariants.{Machine, Slot, Retire, Doom, InBlock, Nowhere}
@@ -201,14 +200,10 @@ fewer_stay published kept less were stay = record {
   stay = λ g later p q k le at_p at_q among has. stay.stay g later p q k le at_p at_q (were k among) has;
 }
 
--- so those that a store leaves
-left_stay : (w : WriterView) (value : ℕ) (kind : WordKind) → AreasStay w.published w.kept → AreasStay w.published (kept_left w value kind)
-left_stay w value (Retire block) stay = fewer_stay w.published w.kept (kept_left w value (Retire block)) (λ k among. (filter_gives (λ (x : KeptArea). not ((x.area.block == block) && is_released w value x)) w.kept among.0 k among.1).0) stay
-left_stay w value (InBlock block at) stay = stay
-left_stay w value (Doom block) stay = stay
-left_stay w value Machine stay = stay
-left_stay w value Slot stay = stay
-left_stay w value Nowhere stay = stay
+-- an area that is kept after a store was kept before it
+pub kept_was : (w : WriterView) (value : ℕ) (kind : WordKind) (k : KeptArea) → Among (kept_left w value kind) k → Among w.kept k
+kept_was w value (Retire block) k among = (filter_gives (λ (x : KeptArea). not ((x.area.block == block) && is_released w value x)) w.kept among.0 k among.1).0
+kept_was w value kind k among = among
 
 -- the word is one behind the slots
 pub word_placed : (w : WriterView) (word value : ℕ) (kind : WordKind) → kind_at word ≡ kind → FitsWord w value kind → (RETIRE_START ≤ word) × (word < TABLE_WORDS)
@@ -229,7 +224,7 @@ mirrored_still mirror words word value place one other same =
     (λ (here : place ≡ word). ap (λ (i : ℕ). slice_index (set words word value) i) here ∙ get_or-set_same words word value 0 other ∙ sym (word_here mirror word value one) ∙ ap (λ (i : ℕ). word_at (set mirror word value) i) (sym here))
     (λ (apart : place ≡ word → ⊥). get_or-set_other words word place value 0 (λ e. apart e) ∙ same ∙ sym (word_there mirror word value place apart))
 
-module _ {Served : Generation → Type 0} {opening : Opening} (s : State (Unit {0}) View) (r : RunningRule Served opening s) where
+module _ {Served : Published → Type 0} {opening : Opening} (s : State (Unit {0}) View) (r : RunningRule Served opening s) where
   -- what a look in both kinds found clear no anchor that is shown names
   unnamed_shown : (serial process anchor : ℕ) → IsClear r.writer Both serial → IsAnchor process anchor → names (word_at (block_words s.words) (slot_place process anchor)) serial ≡ false
   unnamed_shown serial process anchor clear is =
@@ -270,7 +265,7 @@ module _ {Served : Generation → Type 0} {opening : Opening} (s : State (Unit {
         ended = ended_as w w' refl refl (omega arith);
         slots = λ process place below few. get_or-set_other s.words word (slot_place process place) value 0 (λ e. absurd (omega (arith, e, late, below, few)));
       })
-      (record { made = r.published.made; staffed = r.published.staffed; watched = r.published.watched; some = r.published.some; served = r.published.served; old_stays = r.published.old_stays; retired_stays = r.published.retired_stays; areas_stay = left_stay w value (kind_at word) r.published.areas_stay; notes_fit = r.published.notes_fit })
+      (record { made = r.published.made; staffed = r.published.staffed; watched = r.published.watched; some = r.published.some; served = r.published.served; old_stays = r.published.old_stays; retired_stays = r.published.retired_stays; areas_stay = fewer_stay w.published w.kept (kept_left w value (kind_at word)) (kept_was w value (kind_at word)) r.published.areas_stay; notes_fit = r.published.notes_fit })
       (record {
         all = length-set s.words word value ∙ r.words.all;
         root = get_or-set_other s.words word ROOT value 0 (λ e. absurd (omega arith)) ∙ r.words.root;
@@ -283,7 +278,7 @@ module _ {Served : Generation → Type 0} {opening : Opening} (s : State (Unit {
       (machine_kept w' word value (omega (arith, late)) refl refl)
 
 -- the writer may store a word of a block
-pub store_word_is_allowed : (Served : Generation → Type 0) (opening : Opening) (slots id word value : ℕ) (me : Sat) → me.0 ≡ Writer (writer_of me.0) → MayStoreWord (writer_of me.0) word value
+pub store_word_is_allowed : (Served : Published → Type 0) (opening : Opening) (slots id word value : ℕ) (me : Sat) → me.0 ≡ Writer (writer_of me.0) → MayStoreWord (writer_of me.0) word value
     → Allows (RunningRule Served opening) slots id me word (λ _. value) (λ _. word_stored (step slots word value 0 none) me value)
 store_word_is_allowed Served opening slots id word value me is may s r wide at fits =
     let w = writer_of me.0 in

@@ -4,7 +4,6 @@ use mathlib.Core.Option.{some, some-injective}
 use lib.ListN.{get_elem?}
 use Rattle.std.specs.Prelude.{slice_get}
 use Rattle.atomic_table.specs.Table.{State}
-use Rattle.term_core.specs.declared.generation.Generation.{Generation}
 use Rattle.area_core.specs.declared.table.Published.{Published}
 use Rattle.area_core.specs.Blocks.{Among}
 use Rattle.shared_words.specs.declared.opening.Opening.{Opening}
@@ -53,7 +52,7 @@ knows_more w w' more place (Note n) h = record {
 }
 knows_more w w' more place Spent h = h
 
-module _ {Served : Generation → Type 0} {opening : Opening} (s : State (Unit {0}) View) (r : RunningRule Served opening s) where
+module _ {Served : Published → Type 0} {opening : Opening} (s : State (Unit {0}) View) (r : RunningRule Served opening s) where
   -- the rule after a step of the writer
   pub writer_changes : (words' : List ℕ) (w' : WriterView) → WriterGrows r.writer w' → w'.members ≡ r.writer.members → w'.handed ≡ r.writer.handed → w'.taken ≡ r.writer.taken → PublishedKept Served opening w' → WordsAgree words' w' → MachineHolds words' w' r.seats → LooksKept w' → MarksKept words' w' r.seats → RunningRule Served opening (after_step s words' 0 (Writer w'))
   writer_changes words' w' more members handed taken published words machine looks marks = record {

@@ -14,7 +14,6 @@ use Rattle.prgr_core.specs.Watchers as watchers
 use Rattle.prgr_core.specs.Step.{has_loaded, follows, scan_of}
 use Rattle.prgr_core.specs.Invariant.{CounterInRange}
 use Rattle.term_core.specs.declared.area.AreaRef.{AreaRef}
-use Rattle.term_core.specs.declared.generation.Generation.{Generation}
 use Rattle.area_core.specs.declared.table.Published.{Published}
 use Rattle.area_core.specs.Step.{confirms}
 use Rattle.area_core.specs.Blocks.{RootFits, Among}
@@ -108,19 +107,19 @@ NamedStay old new =
 -- what a load of the root tells: the generations so far are learnt, and the root found is that of the last of them,
 -- which the code server has made, and names blocks that there are; and what was published at a spawn is among them, of
 -- which the seat keeps a note
-pub record RootLoaded (Served : Generation → Type 0) (old new : View) (found : ℕ) : Type 0 where
+pub record RootLoaded (Served : Published → Type 0) (old new : View) (found : ℕ) : Type 0 where
   pub learnt : IsBeginning (seen old) (seen new)
   pub some : 0 < length (seen new)
   pub root : found ≡ newest_root (seen new)
   pub fits : RootFits (published_at (seen new) (newest (seen new))).root
-  pub served : Served (published_at (seen new) (newest (seen new))).state
+  pub served : Served (published_at (seen new) (newest (seen new)))
   pub promised : (note : NoteNumber) → Among (notes_of old) note → note.published < length (seen new)
   pub areas : HasItsAreas (published_at (seen new) (newest (seen new)))
   pub named : NamedStay old new
   pub view : new ≡ root_found (seen new) old
 
 -- the same of a step, which moves no slot
-pub record root_loaded (Served : Generation → Type 0) (st : Step (Unit {0})) (me : Sat) (found : ℕ) (me' : Sat) : Type 0 where
+pub record root_loaded (Served : Published → Type 0) (st : Step (Unit {0})) (me : Sat) (found : ℕ) (me' : Sat) : Type 0 where
   pub told : RootLoaded Served me.0 me'.0 found
   pub slots : me'.1 ≡ me.1
 

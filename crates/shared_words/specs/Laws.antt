@@ -3,7 +3,6 @@ use Rattle.std.specs.Prelude.{◌≡◌, ℕ, List, Some, true, false, slice_get
 use mathlib.Core.Option.{some}
 use lib.ListN.{get_elem?}
 use Rattle.atomic_table.specs.Table.{State}
-use Rattle.term_core.specs.declared.generation.Generation.{Generation}
 use Rattle.area_core.specs.declared.map.WordKind.TheVariants.{InBlock}
 use Rattle.area_core.specs.declared.table.KeptArea.{KeptArea}
 use Rattle.area_core.specs.declared.table.Published.{Published}
@@ -27,7 +26,7 @@ use Rattle.shared_words.specs.Publishing.{MayStoreWord, ReadsHeld, MayLoadWord}
 use Rattle.shared_words.specs.Slots.{IsClear}
 
 -- the state that words and views show meets the progress invariant and the block invariant
-abbrev pub ShowsSound : (Generation → Type 0) → Type 0
+abbrev pub ShowsSound : (Published → Type 0) → Type 0
 ShowsSound Served = (opening : Opening) (s : State (Unit {0}) View) (r : RunningRule Served opening s) → IsSound (state_of s.words r.writer r.seats)
 
 -- the load is one by a slot, of an entry word of an area that is kept in the block
@@ -41,7 +40,7 @@ pub record IsEntryLoad (kept : List KeptArea) (word block at : ℕ) (v : View) :
   pub entry : IsTrue (is_entry_word area at)
 
 -- a word of a block that some seat may load is none that the writer may store, but for an entry word of a kept area
-abbrev pub KeepsWhatIsRead : (Generation → Type 0) → Type 0
+abbrev pub KeepsWhatIsRead : (Published → Type 0) → Type 0
 KeepsWhatIsRead Served = (opening : Opening) (s : State (Unit {0}) View) (r : RunningRule Served opening s) (id word value block at : ℕ) (v : View) → get_elem? s.views id ≡ some v → kind_at word ≡ InBlock block at → MayLoadWord word v → MayStoreWord r.writer word value → IsEntryLoad r.writer.kept word block at v
 
 -- no slot names the area in the kind, and no turn under a generation that a thread may read comes to it
@@ -50,5 +49,5 @@ pub record IsOutOfUse (words : List ℕ) (w : WriterView) (seats : List View) (k
   pub unreached : (g : ℕ) (p : Published) → IsReadable (state_of words w seats) g → slice_get w.published g ≡ Some p → comes_to (holding true g p) kind serial ≡ false
 
 -- so it is of each area that a look found clear, while the writer keeps the look
-abbrev pub ClearHolds : (Generation → Type 0) → Type 0
+abbrev pub ClearHolds : (Published → Type 0) → Type 0
 ClearHolds Served = (opening : Opening) (s : State (Unit {0}) View) (r : RunningRule Served opening s) (kind : LookKind) (serial : ℕ) → IsClear r.writer kind serial → IsOutOfUse s.words r.writer r.seats kind serial

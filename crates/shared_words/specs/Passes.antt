@@ -3,7 +3,7 @@ use Rattle.std.specs.Prelude.{◌≡◌, ℕ, ◌<◌}
 use mathlib.Core.Option.{none}
 use Rattle.atomic_table.specs.Table.{Step, step, Allows}
 use Rattle.atomic_table.specs.Seated.{TableId}
-use Rattle.term_core.specs.declared.generation.Generation.{Generation}
+use Rattle.area_core.specs.declared.table.Published.{Published}
 use Rattle.shared_words.specs.declared.opening.Opening.{Opening}
 use Rattle.shared_words.specs.Kinds.{Sat}
 use Rattle.shared_words.specs.Rule.{RunningRule}
@@ -18,7 +18,7 @@ abbrev pub load_of : TableId → ℕ → Step (Unit {0})
 load_of table word = step table.slots word 0 0 none
 
 -- whatever the table is then, the load of this word keeps the rule and tells what it tells
-pub record MayLoad (Served : Generation → Type 0) (opening : Opening) (table : TableId) (tells : Tells) (seat : Place) (word : ℕ) : Type 0 where
+pub record MayLoad (Served : Published → Type 0) (opening : Opening) (table : TableId) (tells : Tells) (seat : Place) (word : ℕ) : Type 0 where
   pub same_table : seat.table_id ≡ table
   pub there : word < table.words
   pub allowed : Allows (RunningRule Served opening) table.slots seat.id seat.me word (λ n. n) (tells (load_of table word) seat.me)

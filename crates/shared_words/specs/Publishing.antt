@@ -6,7 +6,6 @@ use Rattle.std.specs.Prelude.{◌≡◌, ◌≢◌, ◌⊎◌, ℕ, ◌==◌, Bo
 use Rattle.std.specs.List.{filter}
 use Rattle.atomic_table.specs.Table.{Step}
 use Rattle.term_core.specs.declared.area.AreaRef.{AreaRef}
-use Rattle.term_core.specs.declared.generation.Generation.{Generation}
 use Rattle.area_core.specs.declared.map.WordKind.{WordKind}
 use Rattle.area_core.specs.declared.map.WordKind.TheVariants.{Machine, Slot, Retire, Doom, InBlock, Nowhere}
 use Rattle.area_core.specs.declared.table.Root.{Root}
@@ -120,8 +119,8 @@ pub record AreasGoOn (w : WriterView) (p : Published) : Type 0 where
   pub new : (k : KeptArea) (q : Published) (a : AreaRef) → Among (fresh_areas w.kept p) k → Among w.published q → Among q.areas a → a.serial ≢ k.area.serial
 
 -- the writer may publish this next
-pub record MayPublish (Served : Generation → Type 0) (w : WriterView) (p : Published) : Type 0 where
-  pub served : Served p.state
+pub record MayPublish (Served : Published → Type 0) (w : WriterView) (p : Published) : Type 0 where
+  pub served : Served p
   pub old_stays : OldStays (w.published ++ p ∷ [])
   pub retired_stays : RetiredStays (w.published ++ p ∷ [])
   pub areas_go_on : AreasGoOn w p

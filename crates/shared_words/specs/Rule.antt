@@ -10,7 +10,6 @@ use Rattle.prgr_core.specs.declared.member.TheConstants.{WAITING, MOST_MEMBERS}
 use Rattle.prgr_core.specs.declared.member.Member as machines
 use Rattle.prgr_core.specs.declared.member.Retirement.{Retirement}
 use Rattle.prgr_core.specs.Step.{IsSound}
-use Rattle.term_core.specs.declared.generation.Generation.{Generation}
 use Rattle.term_core.specs.declared.area.AreaRef.{AreaRef}
 use Rattle.area_core.specs.declared.map.TheConstants.{TABLE_WORDS, PROCESSES, RETIRE_START}
 use Rattle.area_core.specs.declared.map.WordKind.TheVariants.{InBlock}
@@ -93,7 +92,7 @@ pub record AreasStay (published : List Published) (kept : List KeptArea) : Type 
   pub stay : (g later : ℕ) (p q : Published) (k : KeptArea) → g ≤ later → slice_get published g ≡ Some p → slice_get published later ≡ Some q → Among kept k → HasArea p k → HasArea q k
 
 -- what was published, and what the writer keeps beside it
-pub record PublishedKept (Served : Generation → Type 0) (opening : Opening) (w : WriterView) : Type 0 where
+pub record PublishedKept (Served : Published → Type 0) (opening : Opening) (w : WriterView) : Type 0 where
   -- so many members were made
   pub made : length w.members ≡ opening.members
   -- at least one
@@ -103,7 +102,7 @@ pub record PublishedKept (Served : Generation → Type 0) (opening : Opening) (w
   -- generation 0 is there
   pub some : 0 < length w.published
   -- each generation is one that the code server has made
-  pub served : (p : Published) → Among w.published p → Served p.state
+  pub served : (p : Published) → Among w.published p → Served p
   -- old instances do not become current again
   pub old_stays : OldStays w.published
   -- retired areas are not used again
@@ -254,7 +253,7 @@ pub record MachineHolds (words : List ℕ) (w : WriterView) (seats : List View) 
 -- ---- the whole
 
 -- the rule of a table that was made for so many members and watchers; seat 0 is the writer's
-pub record RunningRule (Served : Generation → Type 0) (opening : Opening) (s : State (Unit {0}) View) : Type 0 where
+pub record RunningRule (Served : Published → Type 0) (opening : Opening) (s : State (Unit {0}) View) : Type 0 where
   pub writer : WriterView
   pub seats : List View
   pub views : s.views ≡ Writer writer ∷ seats

@@ -3,6 +3,7 @@ use Rattle.std.specs.Prelude.{◌≡◌, ℕ, ◌+◌, ◌<◌, ◌≤◌, [], l
 use Rattle.atomic_table.specs.Seated.{TableId}
 use Rattle.atomic_table.specs.declared.shared.Seat.{Seat}
 use Rattle.prgr_core.specs.declared.member.TheConstants.{MOST_MEMBERS}
+use Rattle.area_core.specs.Blocks.{RootFits}
 use Rattle.shared_words.specs.declared.view.MemberView.{MemberView}
 use Rattle.shared_words.specs.declared.view.View.{View}
 use Rattle.shared_words.specs.declared.opening.Opening.{Opening}
@@ -67,7 +68,8 @@ pub record IsMemberSeat (table : TableId) (number : ℕ) (seat : Place) : Type 0
 abbrev pub root_held : MemberView → ℕ
 root_held m = root_word (published_at m.seen m.member.generation).root m.member.generation
 
--- this is that root word, and the member has learnt of the generation
+-- this is that root word, and the member has learnt of the generation, whose blocks there are
 pub record IsRooted (root : ℕ) (m : MemberView) : Type 0 where
   pub learnt : m.member.generation < length m.seen
+  pub fits : RootFits (published_at m.seen m.member.generation).root
   pub held : root ≡ root_held m

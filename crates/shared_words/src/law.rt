@@ -5,11 +5,12 @@ use crate::view::View;
 use atomic_table::TableRule;
 use std::marker::PhantomData;
 
-/// What the crate that knows the code server says of each generation that is published.
+/// What the crate that knows the code server says of each generation that is published, and of where its
+/// areas stand.
 pub trait Served {
-    ghost use Rattle.term_core.specs.declared.generation.Generation.{Generation};
+    ghost use Rattle.area_core.specs.declared.table.Published.{Published};
 
-    ghost served: { Generation → Type 0 };
+    ghost served: { Published → Type 0 };
 }
 
 /// The rule, for the generations that are served.

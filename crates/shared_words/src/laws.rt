@@ -10,7 +10,8 @@ pub fn rule_shows_a_sound_state<N: Served>()
     ensures { ShowsSound N.served }
 {}
 
-/// No word of a block that some token may load is one that the writer may store.
+/// No word of a block that some token may load is one that the writer may store, but for an entry word of
+/// an area that a slot of the token names.
 pub fn what_is_loaded_is_not_stored<N: Served>()
     ensures { KeepsWhatIsRead N.served }
 {}

@@ -3,7 +3,7 @@
 ghost use Rattle.std.specs.Prelude.{◌≡◌, ◌≤◌, ◌<◌, ◌*◌, IfOk, OnOk};
 ghost use Rattle.prgr_core.specs.declared.member.TheConstants.{MOST_MEMBERS, OPENING_WORD, WAITING};
 ghost use Rattle.area_core.specs.declared.map.TheConstants.{TABLE_WORDS};
-ghost use Rattle.area_core.specs.Step.{empty_generation};
+ghost use Rattle.area_core.specs.Step.{opening_published};
 ghost use Rattle.shared_words.specs.declared.table.TheConstants.{OPENING_ROOT, PROCESSES, ANCHORS};
 ghost use Rattle.shared_words.specs.Making.{AreBegun, HasSeatsAtHome, IsHanding, AreMembersBegun, handed_on, handed_out};
 ghost use Rattle.shared_words.specs.Seats.{IsSeatOf, IsSameSeat, IsWriterSeat};
@@ -103,7 +103,7 @@ impl<N: Served> Shared<N> {
     pub fn new(alloc: Global, members: u32, watchers: u32) -> Result<(Shared<N>, Parts), NoMemory>
         requires members { (1 ≤ members) × (members ≤ MOST_MEMBERS) }
         requires watchers { watchers ≡ 0 }
-        requires served { N.served empty_generation }
+        requires served { N.served opening_published }
         ensures opening { IfOk result (λ made. (made.0.table.shared.key.members ≡ members) × (made.0.table.shared.key.watchers ≡ watchers)) }
         ensures token { IfOk result (λ made. IsWriterSeat made.0.table.shared.table_id made.0.table.shared.key made.1.writer.generation made.1.writer.seat) }
         ensures writer { IfOk result (λ made. IsHanding made.0.table.shared.table_id made.0.table.shared.key members made.1.writer.seat) }

@@ -38,8 +38,8 @@ fn root_word(code: u32, bp: u32, term: u32, generation: u64) -> u64
 }
 
 impl<N: Served> Shared<N> {
-    /// Stores a word of a block that no generation reads that may still be read, or the retire or doom
-    /// word of a block.
+    /// Stores a word of a block that no generation reads that may still be read, and in which no area is
+    /// kept, but for entry words; or the retire or doom word of a block.
     pub fn store_word(&self, writer: &mut Writer, word: u32, value: u64)
         requires token { IsWriterSeat self.now.table.shared.table_id self.now.table.shared.key writer.old.generation writer.old.seat }
         requires may { MayStoreWord (writer_of writer.old.seat.me.0) word value }
@@ -53,8 +53,8 @@ impl<N: Served> Shared<N> {
             .store::<StoreWord>(&mut writer.seat, word as usize, value);
     }
 
-    /// Stores the root of the next generation, and so publishes it. Blocks and areas stand for it. The
-    /// number of a generation has room in the root word below 2^59.
+    /// Stores the root of the next generation, and so publishes it. Blocks and areas stand for it, and each
+    /// area that is kept stands in it. The number of a generation has room in the root word below 2^59.
     pub fn store_root<M: Next>(&self, writer: &mut Writer, code: u32, bp: u32, term: u32)
         requires token { IsWriterSeat self.now.table.shared.table_id self.now.table.shared.key writer.old.generation writer.old.seat }
         requires root { IsRootOf M.next.root code bp term }

@@ -1,0 +1,14 @@
+-- One look more adds to what is kept, and at most one to what is found.
+use Rattle.std.proofs.Common.{arith}
+use Rattle.progress_words.specs.Tokens.{written_by}
+use Rattle.anchors.proofs.Scanning.{more_again}
+use Rattle.area_tests.proofs.Silent.{clear_looked}
+use Rattle.area_tests.proofs.writing.look_each.Goals as goal
+
+pub loop-at-preserved : goal.loop-at-preserved
+loop-at-preserved c =
+    let looked = c.look_once-late in
+    let before = c.loop-at.invariant in
+    let few = looked.ensures.few in
+    let late = before.3 in
+    (looked.ensures.token, clear_looked c.args.count (written_by c.loop-at.writer) (written_by looked.new.writer) looked.ensures.more before.1, more_again (written_by c.args.writer.now) (written_by c.loop-at.writer) (written_by looked.new.writer) before.2 looked.ensures.more, omega (arith, few, late))
