@@ -19,6 +19,7 @@ use Rattle.shared_words.specs.Closing.{AreAllMembers}
 use Rattle.progress_words.specs.Tokens.{written_by}
 use Rattle.code_index.specs.declared.index.Staging.{Staging}
 use Rattle.code_index.specs.Staging.{IsIndexOf, IsAtFirst}
+use Rattle.term_table.specs.Tables.{Terms, IsTableOf, IsAtFirst as AreAtFirst}
 
 -- ---- the writer
 
@@ -40,6 +41,12 @@ begun_first opening handed = record { all = long_words TABLE_WORDS; published = 
 -- so a new code index is its own
 pub begun_owned : (table : TableId) (opening : Opening) (handed : ℕ) (writer : writers.Writer) (x : Staging) → IsHanding table opening handed writer.seat → ((w : WriterView) → IsAtFirst w → IsIndexOf x w) → IsIndexOf x (written_by writer)
 begun_owned table opening handed writer x is first = subst (IsIndexOf x) (sym (ap writer_of is.view)) (first (writer_handing opening handed) (begun_first opening handed))
+
+-- and so are new term tables
+pub begun_tables : (table : TableId) (opening : Opening) (handed : ℕ) (writer : writers.Writer) (t : Terms) → IsHanding table opening handed writer.seat → ((w : WriterView) → AreAtFirst w → IsTableOf t w) → IsTableOf t (written_by writer)
+begun_tables table opening handed writer t is first =
+    let begun = begun_first opening handed in
+    subst (IsTableOf t) (sym (ap writer_of is.view)) (first (writer_handing opening handed) (record { all = begun.all; published = begun.published; kept = begun.kept; words = begun.words }))
 
 -- ---- the members
 

@@ -4,4 +4,6 @@
 #[cfg(test)]
 mod exports;
 #[cfg(test)]
+mod keys;
+#[cfg(test)]
 mod staged;

@@ -1,0 +1,15 @@
+mod Alike
+mod Begun
+mod Copies
+mod Counting
+mod Filled
+mod Fullness
+mod Kept
+mod Lookups
+mod Owned
+mod Renewing
+mod Searching
+mod StageCalls
+mod Stagings
+mod TablePlaces
+mod Words
