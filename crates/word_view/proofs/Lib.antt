@@ -1,0 +1,17 @@
+pub mod Reading
+pub mod KeptHere
+pub mod Exporting
+pub mod Telling
+pub mod States
+pub mod ServedAreas
+pub mod Anchoring
+pub mod Fullness
+pub mod Coming
+pub mod Keys
+pub mod Standing
+pub mod Calls
+pub mod HoldsKept
+pub mod GoneOn
+pub mod ViewCalls
+pub mod Reporting
+pub mod GoingOn

@@ -1,0 +1,199 @@
+-- What a generation that is served says of its areas.
+use Rattle.std.proofs.Common.{◌≡◌, ℕ, zero, suc, ◌<◌, ◌≤◌, ◌^◌, ◌⊎◌, inl, inr, Bool, true, false, List, [], ◌∷◌, ◌++◌, Option, Some, None, refl, sym, ap, subst, ◌∙◌, arith}
+use Rattle.std.specs.Prelude.{◌==◌, ◌&&◌, slice_get, unwrap_or, option_map, if◌then◌else◌, IsSomeAnd}
+use Rattle.std.specs.List.{list_any}
+use Rattle.std.specs.Option.{option_to_list}
+use Rattle.std.proofs.lemmas.Bool.{and_parts, cases_lt, eq-eqb, eqb-true, false_from_ne_true, or_cases, or_left, or_right, true≢false}
+use Rattle.std.proofs.lemmas.Bool.Decides.{nat_tests}
+use Rattle.term_core.specs.declared.atom.Mfa.{Mfa}
+use Rattle.term_core.specs.declared.generation.AreaWords.{AreaWords}
+use Rattle.term_core.specs.declared.generation.FunctionRef.{FunctionRef}
+use Rattle.term_core.specs.declared.generation.Generation.{Generation}
+use Rattle.mod_core.specs.declared.code.Module.{Module}
+use Rattle.mod_core.specs.Module.{IsModule}
+use Rattle.area_core.specs.Step.{empty_generation}
+use Rattle.area_core.specs.Generations.{has_image, has_serial, same_words}
+use Rattle.area_core.specs.Roots.{image_of}
+use Rattle.server_core.specs.Generations.{generation_of, is_old_code, is_serial, kept_area, kept_areas, kept_words, serials_below}
+use Rattle.server_core.specs.ServerState.{IsInstanceOf, IsSound, ServerState, code_of, is_serial_in, old_of}
+use Rattle.machine_core.specs.GenerationReads.{function_count, image_among, reads_in, words_in}
+use Rattle.machine_core.proofs.GenerationAreas.{IsKept, instance_words, kept_instance, some_of}
+use Rattle.word_view.specs.Served.{IsOfServer, with_traced}
+use Rattle.word_view.proofs.States.{state_of}
+
+-- ---- images of areas
+
+-- the first image of a serial is found alike
+pub image_same : (areas : List AreaWords) (serial : ℕ) → image_of areas serial ≡ image_among areas serial
+image_same [] serial = refl
+image_same (a ∷ areas) serial = ap (λ (o : Option (List ℕ)). if a.serial == serial then Some a.words else o) (image_same areas serial)
+
+equal_words : (xs ys : List ℕ) → same_words xs ys ≡ true → xs ≡ ys
+equal_words [] [] e = refl
+equal_words [] (y ∷ ys) e = absurd (cc)
+equal_words (x ∷ xs) [] e = absurd (cc)
+equal_words (x ∷ xs) (y ∷ ys) e = let parts = and_parts (x == y) (same_words xs ys) e in (λ i. eqb-true x y parts.0 i ∷ equal_words xs ys parts.1 i)
+
+-- among more areas the first ones come first
+image_more : (xs ys : List AreaWords) (q : ℕ) (words : List ℕ) → image_of xs q ≡ Some words → image_of (xs ++ ys) q ≡ Some words
+image_more [] ys q words e = absurd (cc)
+image_more (a ∷ xs) ys q words e = choose (a.serial == q) e (image_more xs ys q words)
+  where
+    choose : (b : Bool) → (if b then Some a.words else image_of xs q) ≡ Some words → (image_of xs q ≡ Some words → image_of (xs ++ ys) q ≡ Some words) → (if b then Some a.words else image_of (xs ++ ys) q) ≡ Some words
+    choose true e more = e
+    choose false e more = more e
+
+image_behind : (xs ys : List AreaWords) (q : ℕ) → image_of xs q ≡ None → image_of (xs ++ ys) q ≡ image_of ys q
+image_behind [] ys q e = refl
+image_behind (a ∷ xs) ys q e = choose (a.serial == q) e (image_behind xs ys q)
+  where
+    choose : (b : Bool) → (if b then Some a.words else image_of xs q) ≡ None → (image_of xs q ≡ None → image_of (xs ++ ys) q ≡ image_of ys q) → (if b then Some a.words else image_of (xs ++ ys) q) ≡ image_of ys q
+    choose true e more = absurd (cc)
+    choose false e more = more e
+
+any_append : {X : Type 0} (test : X → Bool) (xs ys : List X) → list_any test (xs ++ ys) ≡ true → (list_any test xs ≡ true) ⊎ (list_any test ys ≡ true)
+any_append test [] ys e = inr e
+any_append test (x ∷ xs) ys e =
+    elim (or_cases (test x) (list_any test (xs ++ ys)) e) as (λ _. (list_any test (x ∷ xs) ≡ true) ⊎ (list_any test ys ≡ true)) [
+      | inl here ↦ inl (or_left (test x) (list_any test xs) here)
+      | inr behind ↦
+          elim (any_append test xs ys behind) as (λ _. (list_any test (x ∷ xs) ≡ true) ⊎ (list_any test ys ≡ true)) [
+            | inl first ↦ inl (or_right (test x) (list_any test xs) first)
+            | inr last ↦ inr last
+          ]
+    ]
+
+module _ (s : ServerState) where
+  -- one area, if it is kept
+  one_image : (n q : ℕ) (o : Option (List ℕ)) (words : List ℕ) → has_image (option_to_list (option_map (λ w. record { serial = n; words = w }) o)) q words ≡ true → (n ≡ q) × (image_of (option_to_list (option_map (λ w. record { serial = n; words = w }) o)) q ≡ Some words)
+  one_image n q None words e = absurd (cc)
+  one_image n q (Some w) words e =
+      elim (or_cases ((n == q) && same_words w words) false e) as (λ _. (n ≡ q) × ((if n == q then Some w else None) ≡ Some words)) [
+        | inl here ↦
+            let parts = and_parts (n == q) (same_words w words) here in
+            (eqb-true n q parts.0, ap (λ (b : Bool). if b then Some w else None) parts.0 ∙ ap (λ (x : List ℕ). Some x) (equal_words w words parts.1))
+        | inr none ↦ absurd (true≢false (sym none))
+      ]
+
+  apart_none : (n q : ℕ) (o : Option (List ℕ)) → n < q → image_of (option_to_list (option_map (λ w. record { serial = n; words = w }) o)) q ≡ None
+  apart_none n q None less = refl
+  apart_none n q (Some w) less = choose n q (Some w) less
+    where
+      choose : (n q : ℕ) (o : Option (List ℕ)) → n < q → (if n == q then o else None) ≡ None
+      choose n q o less = grind (arith, nat_tests)
+
+  -- no area has a serial from this one on
+  none_above : (n q : ℕ) → n ≤ q → image_of (kept_areas s n) q ≡ None
+  none_above zero q le = refl
+  none_above (suc n) q le =
+      image_behind (kept_areas s n) (option_to_list (kept_area s n)) q (none_above n q (omega arith)) ∙ apart_none n q (kept_words s n) (omega arith)
+
+  -- and each has one image
+  one_each : (n q : ℕ) (words : List ℕ) → has_image (kept_areas s n) q words ≡ true → image_of (kept_areas s n) q ≡ Some words
+  one_each zero q words e = absurd (cc)
+  one_each (suc n) q words e =
+      elim (any_append (λ (a : AreaWords). (a.serial == q) && same_words a.words words) (kept_areas s n) (option_to_list (kept_area s n)) e) as (λ _. image_of (kept_areas s (suc n)) q ≡ Some words) [
+        | inl first ↦ image_more (kept_areas s n) (option_to_list (kept_area s n)) q words (one_each n q words first)
+        | inr last ↦
+            let one = one_image n q (kept_words s n) words last in
+            let same : n ≡ q = one.0 in
+            image_behind (kept_areas s n) (option_to_list (kept_area s n)) q (none_above n q (omega (arith, same))) ∙ one.1
+      ]
+
+  known_serial : (n q : ℕ) (words : List ℕ) → image_of (kept_areas s n) q ≡ Some words → q < n
+  known_serial n q words e =
+      elim (cases_lt q n) as (λ _. q < n) [
+        | inl less ↦ less
+        | inr past ↦ absurd (let none = none_above n q (omega (arith, past)) in cc)
+      ]
+
+-- ---- serials
+
+-- a serial below the bound that passes is among those that do
+among_below : (test : ℕ → Bool) (n q : ℕ) → q < n → test q ≡ true → has_serial (serials_below test n) q ≡ true
+among_below test zero q less passes = absurd (omega (arith, less))
+among_below test (suc n) q less passes =
+    elim (cases_lt q n) as (λ _. has_serial (serials_below test (suc n)) q ≡ true) [
+      | inl before ↦ any_first (λ (x : ℕ). x == q) (serials_below test n) (if test n then n ∷ [] else []) (among_below test n q before passes)
+      | inr past ↦
+          let same : n ≡ q = omega (arith, less, past) in
+          any_last (λ (x : ℕ). x == q) (serials_below test n) (if test n then n ∷ [] else [])
+          (ap (λ (b : Bool). list_any (λ (x : ℕ). x == q) (if b then n ∷ [] else [])) (ap test same ∙ passes) ∙ or_left (n == q) false (eq-eqb n q same))
+    ]
+  where
+    any_first : (p : ℕ → Bool) (xs ys : List ℕ) → list_any p xs ≡ true → list_any p (xs ++ ys) ≡ true
+    any_first p [] ys e = absurd (cc)
+    any_first p (x ∷ xs) ys e =
+        elim (or_cases (p x) (list_any p xs) e) as (λ _. list_any p ((x ∷ xs) ++ ys) ≡ true) [
+          | inl here ↦ or_left (p x) (list_any p (xs ++ ys)) here
+          | inr behind ↦ or_right (p x) (list_any p (xs ++ ys)) (any_first p xs ys behind)
+        ]
+
+    any_last : (p : ℕ → Bool) (xs ys : List ℕ) → list_any p ys ≡ true → list_any p (xs ++ ys) ≡ true
+    any_last p [] ys e = e
+    any_last p (x ∷ xs) ys e = or_right (p x) (list_any p (xs ++ ys)) (any_last p xs ys e)
+
+module _ (s : ServerState) (sound : IsSound s) where
+  its_module : (name serial : ℕ) (o : Option Module) → code_of s serial ≡ o → IsSomeAnd o (λ m. m.name.0 ≡ name) → (m : Module) × (code_of s serial ≡ Some m) × (m.name.0 ≡ name)
+  its_module name serial None code h = absurd h
+  its_module name serial (Some m) code h = (m, code, h)
+
+  own_serial : (o : Option ℕ) (serial : ℕ) → o ≡ Some serial → is_serial o serial ≡ true
+  own_serial o serial e = ap (λ (x : Option ℕ). is_serial x serial) e ∙ eq-eqb serial serial refl
+
+  -- what is doomed is the old code of its module
+  doomed_is_old : (serial : ℕ) → is_serial_in s.doomed serial ≡ true → has_serial (serials_below (is_old_code s) s.next_serial) serial ≡ true
+  doomed_is_old serial doomed =
+      let old = sound.doomed serial doomed in
+      let its = its_module old.0 serial (code_of s serial) refl (some_of (IsInstanceOf s old.0) (old_of s old.0) serial (sound.old old.0) old.1) in
+      let known = (some_of (λ m. IsModule m × (serial < s.next_serial)) (code_of s serial) its.0 (sound.modules serial) its.1).1 in
+      let passes : is_old_code s serial ≡ true = ap (λ (o : Option Module). unwrap_or (option_map (λ m. is_serial (old_of s m.name.0) serial) o) false) its.1 ∙ own_serial (old_of s its.0.name.0) serial (ap (old_of s) its.2 ∙ old.1) in
+      among_below (is_old_code s) s.next_serial serial known passes
+
+  -- what is retired is not doomed
+  retired_is_not : (serial : ℕ) → is_serial_in s.retired serial ≡ true → is_serial_in s.doomed serial ≡ false
+  retired_is_not serial retired =
+      false_from_ne_true (is_serial_in s.doomed serial) (λ doomed. let old = sound.doomed serial doomed in (sound.retired serial retired).not_old old.0 old.1)
+
+-- ---- the generation
+
+module _ (names : List Mfa) (g : Generation) (served : IsOfServer names g) where
+  -- a fact of the empty generation and of each of a state is one of it
+  by_state : (P : Generation → Type 0) → P empty_generation → ((s : ServerState) → IsSound s → s.next_serial ≤ 2 ^ 62 → P (with_traced [] (generation_of names s))) → P g
+  by_state P first each =
+      elim served as (λ _. P g) [
+        | inl empty ↦ subst P (sym empty) first
+        | inr of ↦ subst P (sym of.is) (each of.state of.sound of.narrow)
+      ]
+
+  -- it has one image of each serial
+  pub images_once : (serial : ℕ) (image : List ℕ) → has_image g.areas serial image ≡ true → image_of g.areas serial ≡ Some image
+  images_once serial image =
+      by_state (λ (x : Generation). has_image x.areas serial image ≡ true → image_of x.areas serial ≡ Some image) (λ e. absurd (true≢false (sym e))) (λ s sound narrow. one_each s s.next_serial serial image)
+
+  -- which has room in an anchor
+  pub serial_fits : (serial : ℕ) (image : List ℕ) → image_of g.areas serial ≡ Some image → serial < 2 ^ 62
+  serial_fits serial image =
+      by_state (λ (x : Generation). image_of x.areas serial ≡ Some image → serial < 2 ^ 62) (λ e. absurd (cc))
+      (λ s sound narrow e. less serial s.next_serial (2 ^ 62) (known_serial s s.next_serial serial image e) narrow)
+    where
+      less : (a b d : ℕ) → a < b → b ≤ d → a < d
+      less a b d low high = omega (arith, low, high)
+
+  -- what is doomed is an old instance
+  pub doomed_old : (serial : ℕ) → has_serial g.doomed serial ≡ true → has_serial g.old serial ≡ true
+  doomed_old serial = by_state (λ (x : Generation). has_serial x.doomed serial ≡ true → has_serial x.old serial ≡ true) (λ e. absurd (true≢false (sym e))) (λ s sound narrow. doomed_is_old s sound serial)
+
+  -- what is retired is not doomed
+  pub retired_not_doomed : (serial : ℕ) → has_serial g.retired serial ≡ true → has_serial g.doomed serial ≡ false
+  retired_not_doomed serial = by_state (λ (x : Generation). has_serial x.retired serial ≡ true → has_serial x.doomed serial ≡ false) (λ e. refl) (λ s sound narrow. retired_is_not s sound serial)
+
+  -- the image of an instance begins with its serial
+  pub begins_with : (traced : List FunctionRef) (serial : ℕ) (image : List ℕ) → 0 < (reads_in names (with_traced traced g)).functions serial → image_of g.areas serial ≡ Some image → slice_get image 0 ≡ Some serial
+  begins_with traced serial image count there =
+      let h = state_of names traced g served in
+      let s = h.state in
+      let same : words_in (with_traced traced g) serial ≡ words_in (generation_of names s) serial = ap (λ (w : ℕ → List ℕ). w serial) h.words in
+      let kept : IsKept names s h.sound serial = kept_instance names s h.sound serial (subst (λ (w : List ℕ). 0 < function_count w) same count) in
+      let image_is : image ≡ words_in (with_traced traced g) serial = ap (λ (o : Option (List ℕ)). unwrap_or o []) (sym there ∙ image_same g.areas serial) in
+      ap (λ (w : List ℕ). slice_get w 0) (image_is ∙ same ∙ instance_words names s h.sound serial kept.m kept.code kept.kept)

@@ -1,0 +1,6 @@
+pub mod Served
+pub mod Anchored
+pub mod Views
+pub mod Loaded
+pub mod Turned
+pub mod Laws

@@ -1,0 +1,22 @@
+//! What a process sees of the code server through the words that all threads share, and what it holds there.
+#![tactic(auto)]
+
+mod began;
+mod exports;
+mod laws;
+mod naming;
+mod places;
+mod reads;
+mod tells;
+mod terms;
+mod turns;
+mod view;
+
+pub use began::Began;
+pub use laws::{
+    reports_begin_turns, served_generations_are_lawful, turns_by_served_generations_agree,
+    turns_go_on_after_reports, turns_leave_other_processes,
+};
+pub use naming::{CodeLaw, Naming};
+pub use turns::turn_of;
+pub use view::WordView;
