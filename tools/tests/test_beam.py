@@ -64,7 +64,7 @@ class BeamTest(unittest.TestCase):
             put(self.top / name, "")
             shutil.copy(TOP / name, self.top / name)
         shutil.copytree(TOP / "tools/vim", self.top / "tools/vim")
-        put(self.top / "crates.txt", "# Crates.\nlow:\nbeam_tool: low\nbeam_why: low\n")
+        put(self.top / "crates.txt", "# Crates.\nlow: std_only\nbeam_tool: low\nbeam_why: low\nlow_tests: low\n")
         put(self.top / "crates/low/src/lib.rt", "")
         put(self.top / "crates/beam_tool/src/main.rt", PROGRAM)
         put(self.top / "crates/beam_why/src/main.rt", PROGRAM.replace("$*", "the second: $*"))
@@ -156,6 +156,22 @@ class Building(BeamTest):
         put(self.top / "crates/low/src/lib.rt", "changed")
         self.is_answer(self.beam("run"), 0, b"run\n", told)
         self.assertRegex(self.calls()[3], r"^all check --jobs [1-9]\d*$")
+
+    def test_proves_what_the_programs_stand_on(self):
+        put(self.top / "crates/low/specs/Gone.antt", "")
+        put(self.top / "crates/low_tests/src/lib.rt", "")
+        self.is_answer(self.beam("run"), 0, b"run\n")
+        room = self.top / "crates/beam_tool/out/programs"
+        self.assertEqual((room / "crates.txt").read_text(), "low: std_only\nbeam_tool: low\nbeam_why: low\n")
+        self.assertEqual(sorted(it.name for it in (room / "crates").iterdir()), ["beam_tool", "beam_why", "low"])
+        put(room / "crates/low/out/kept", "")
+        (self.top / "crates/low/specs/Gone.antt").unlink()
+        time.sleep(0.05)
+        put(self.top / "crates/low/src/lib.rt", "changed")
+        self.is_answer(self.beam("run"), 0, b"run\n")
+        self.assertEqual((room / "crates/low/src/lib.rt").read_text(), "changed")
+        self.assertFalse((room / "crates/low/specs/Gone.antt").exists())
+        self.assertTrue((room / "crates/low/out/kept").exists())
 
     def test_a_build_that_fails_has_a_status_of_its_own(self):
         put(self.room / "broken", "")
