@@ -38,6 +38,7 @@ abbrev pub StagedFor : Option ℕ → Published → WriterView → Type 0
 StagedFor None p w = ⊥
 StagedFor (Some table) p w = TermsStand (words_in w.words table) p
 
+-- so does what is staged in these tables
 abbrev pub Stages : Terms → Published → WriterView → Type 0
 Stages t p w = StagedFor t.staged p w
 

@@ -31,15 +31,20 @@ impl TermTable {
         writer: &mut Writer,
         change: Change,
     ) -> Result<(), StageFault>
+        // the writer, whose the tables are
         requires token { IsWriterOf shared.now.table.shared.table_id shared.now.table.shared.key writer.old }
         requires owned { IsTableOf self.old (written_by writer.old) }
+        // the same writer
         ensures token { IsWriterOf shared.now.table.shared.table_id shared.now.table.shared.key writer.new }
         ensures same { IsSameWriter writer.old writer.new }
+        // what is staged
         ensures staged { OnOk result (HasStaged change self.old self.new (written_by writer.old) (written_by writer.new)) }
         ensures stands { OnOk result ((q : Published) → ChangesTo change (newest_of (written_by writer.old)) q → Stages self.new q (written_by writer.new)) }
+        // why nothing is
         ensures full { IsErrOf result faults.Full ↔ (IsNewKey change (newest_of (written_by writer.old)) × (length (newest_of (written_by writer.old)).state.keys ≡ MOST_KEYS)) }
         ensures full_same { IsErrOf result faults.Full → written_by writer.new ≡ written_by writer.old }
         ensures not_yet { (answer : NotYet) → IsErrOf result (faults.NotYet answer) → IsWaiting self.old (written_by writer.old) (written_by writer.new) answer }
+        // what stands then
         ensures err { OnErr result (self.new ≡ self.old) }
         ensures owned { IsTableOf self.new (written_by writer.new) }
     {
