@@ -111,7 +111,7 @@ area_of_key s key o keys k serial held e = by (nat_eq k key) refl (sym (ap (opti
     by true here e = inl (here, e)
     by false there e = inr (there, e)
 
-in_option : (o : Option ℕ) (xs : List ℕ) (k : ℕ) → is_serial_in (xs ++ option_to_list o) k ≡ true → (is_serial_in xs k ≡ true) ⊎ (o ≡ Some k)
+pub in_option : (o : Option ℕ) (xs : List ℕ) (k : ℕ) → is_serial_in (xs ++ option_to_list o) k ≡ true → (is_serial_in xs k ≡ true) ⊎ (o ≡ Some k)
 in_option None xs k h = inl (ap (λ ys. is_serial_in ys k) (sym (append-nil xs)) ∙ h)
 in_option (Some n) xs k h = by (held_later xs n k h)
   where
@@ -249,7 +249,7 @@ term_pushed P (a ∷ ts) n term k h here = by (nat_eq a.serial k) (λ rest. term
     by false rest h = rest h
 
 -- the new term stands in its area, since no term had its serial
-term_new : (ts : List TermArea) (n : ℕ) (term : PlainTerm) → term_among ts n ≡ None → term_among (ts ++ record { serial = n; term = term } ∷ []) n ≡ Some term
+pub term_new : (ts : List TermArea) (n : ℕ) (term : PlainTerm) → term_among ts n ≡ None → term_among (ts ++ record { serial = n; term = term } ∷ []) n ≡ Some term
 term_new [] n term none = let here : nat_eq n n ≡ true = grind (arith, nat_tests) in ap (λ b. cond b (Some term) None) here
 term_new (a ∷ ts) n term none = by (nat_eq a.serial n) (term_new ts n term) none
   where
@@ -258,7 +258,7 @@ term_new (a ∷ ts) n term none = by (nat_eq a.serial n) (term_new ts n term) no
     by false rest h = rest h
 
 -- nothing stands at the serial that comes next
-no_term_next : (s : ServerState) → IsSound s → term_of_area s s.next_serial ≡ None
+pub no_term_next : (s : ServerState) → IsSound s → term_of_area s s.next_serial ≡ None
 no_term_next s sound = by (term_of_area s s.next_serial) refl (sound.terms s.next_serial)
   where
     by : (o : Option PlainTerm) → term_of_area s s.next_serial ≡ o → IfSome o (IsTermArea s s.next_serial) → o ≡ None

@@ -67,7 +67,7 @@ modules_push (i ∷ is) n m k h sound = by (nat_eq i.serial k) (λ rest. modules
     by false rest h = rest h
 
 -- an instance stays the same module
-instance_kept : (is more : List Instance) (k : ℕ) (P : Module → Type 0) → IsSomeAnd (code_among is k) P → IsSomeAnd (code_among (is ++ more) k) P
+pub instance_kept : (is more : List Instance) (k : ℕ) (P : Module → Type 0) → IsSomeAnd (code_among is k) P → IsSomeAnd (code_among (is ++ more) k) P
 instance_kept [] more k P h = absurd h
 instance_kept (i ∷ is) more k P h = by (nat_eq i.serial k) (instance_kept is more k P) h
   where
@@ -116,7 +116,7 @@ sound_instance s m sound module_sound = sound_whole (with_instance s m) (record 
 }) (terms_kept s (with_instance s m) (omega arith) (λ serial known none. code_pushed s.instances s.next_serial serial m known ∙ none) (sound_terms s sound))
 
 -- an instance that came in has a serial below the next one
-some_known : (s : ServerState) (name serial : ℕ) → IsSound s → current_of s name ≡ Some serial → serial < s.next_serial
+pub some_known : (s : ServerState) (name serial : ℕ) → IsSound s → current_of s name ≡ Some serial → serial < s.next_serial
 some_known s name serial sound e = instance_known s sound name serial (at_some (IsInstanceOf s name) (current_of s name) serial e (sound.current name))
 
 -- the new instance as current code, and what was current as old
@@ -130,7 +130,7 @@ loaded_fits s m sound = record {
 }
 
 -- one load keeps a state sound
-sound_loaded : (s : ServerState) (m : Module) → IsSound s → s.doomed ≡ [] → IsModule m → live_count s.versions < MOST_INSTANCES → IsSound (with_loaded s m)
+pub sound_loaded : (s : ServerState) (m : Module) → IsSound s → s.doomed ≡ [] → IsModule m → live_count s.versions < MOST_INSTANCES → IsSound (with_loaded s m)
 sound_loaded s m sound rest module_sound place =
     let room : live_count (with_current s.versions m.name.0 s.next_serial) ≤ MOST_INSTANCES = omega (arith, live_after s.versions m.name.0 s.next_serial) in
     sound_versions (with_instance s m) (record { name = m.name.0; current = Some s.next_serial; old = current_of s m.name.0 }) (sound_instance s m sound module_sound) (loaded_fits s m sound) rest room

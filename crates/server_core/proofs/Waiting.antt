@@ -20,7 +20,7 @@ retired_fits : {Z : Type 0} (s : ServerState) (n : ℕ) (block : Vec ℕ Z) → 
 retired_fits s n block fits = record { empty = fits.empty; room = omega (arith, fits.room, fewer n s.retired) }
 
 fits_in : (s : ServerState) (n : ℕ) (modules : List Module) → FitsIn s modules → FitsIn (with_released s n) modules
-fits_in s n modules fits = record { sound = fits.sound; rest = fits.rest; places = fits.places }
+fits_in s n modules fits = record { sound = fits.sound; purged = fits.purged; once = fits.once; rest = fits.rest; places = fits.places }
 
 can_be_old : (s : ServerState) (n name : ℕ) → CanBeOld s name → CanBeOld (with_released s n) name
 can_be_old s n name can = record { current = can.current; old = can.old; rest = can.rest }

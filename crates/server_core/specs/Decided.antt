@@ -1,6 +1,7 @@
 -- A change between its decision and its making: what it makes of a state, and what it needs of that state.
 -- Source: this project's own. A loader decides, waits until nobody reads what goes, and then makes the change in one step.
-use Rattle.std.specs.Prelude.{◌≡◌, ℕ, ◌+◌, ◌≤◌, true, false, List, [], ◌∷◌, ◌++◌, length, Option, Some, None, IsSome, IsTrue, All, Vec}
+use Rattle.std.specs.Prelude.{◌≡◌, ◌≢◌, ℕ, ◌+◌, ◌≤◌, true, false, List, [], ◌∷◌, ◌++◌, length, Option, Some, None, IsSome, IsTrue, All, Vec}
+use Rattle.std.specs.List.{AllPairs}
 use Rattle.term_core.specs.Image.{is_immediate}
 use Rattle.term_core.specs.Plain.{plain}
 use Rattle.term_core.specs.PlainTerm.{PlainTerm}
@@ -37,9 +38,11 @@ made s (GiveBack serial released) = unchanged (with_released s serial) replies.O
 abbrev pub IsNext : ServerState → ℕ → Type 0
 IsNext s generation = generation ≡ s.generation + 1
 
--- modules come in where none is doomed and there are places for them
+-- modules come in where none is doomed, none of them has old code, no two have one name, and there are places for them
 pub record FitsIn (s : ServerState) (modules : List Module) : Type 0 where
   pub sound : All IsModule modules
+  pub purged : All (λ m. old_of s m.name.0 ≡ None) modules
+  pub once : AllPairs (λ m n. m.name.0 ≢ n.name.0) modules
   pub rest : s.doomed ≡ []
   pub places : live_count s.versions + length modules ≤ MOST_INSTANCES
 
