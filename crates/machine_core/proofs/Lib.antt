@@ -2,6 +2,7 @@ pub mod SerialLists
 pub mod SerialEdits
 pub mod AreaLists
 pub mod OwnedTerms
+pub mod FirstRegisters
 pub mod CodeNames
 pub mod HoldLists
 pub mod LiteralPlaces

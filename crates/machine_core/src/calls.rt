@@ -9,9 +9,10 @@ ghost use Rattle.machine_core.specs.Reads.{HasFunction};
 ghost use Rattle.machine_core.specs.Reach.{MayHold};
 
 use crate::areas::{HeldAreas, note};
+use crate::frames::FrameList;
 use crate::literals::terms_of;
 use crate::outcome::Outcome;
-use crate::process::{End, Frame, FrameList, Line, LineList, MOST_FRAMES};
+use crate::process::{End, Frame, Line, LineList, MOST_FRAMES};
 use crate::registers::ValueList;
 use crate::view::CodeView;
 use std::alloc::Global;
@@ -40,18 +41,23 @@ pub fn enter<V: CodeView>(
     view: &mut V,
     areas: &mut HeldAreas,
 ) -> Result<Option<Frame>, NoMemory>
+    // the code is that of a function of an instance that may be held for a frame
     requires lawful { IsLawful (V.shown view.old) }
     requires stands { IsInBlock (V.shown view.old) code.area }
     requires known { HasFunction (V.shown view.old).reads (entry_of code) }
     requires reached { MayHold (V.shown view.old).reads (V.held view.old) code.area.serial Kind.Frame }
+    // the areas are those that the view holds
     requires tracked { V.held view.old ≡ area_holds areas.old }
+    // the frame, or none where a limit is met
     ensures ok { (words : Words) → IfOk result (λ f. option_map (frame_of words) f
         ≡ entered (V.shown view.old).reads standing (V.held view.old) (entry_of code) back (values_shown words registers)) }
     ensures registers { IfOk result (λ f. IfSome f (λ f. f.registers ≡ registers)) }
     ensures code { IfOk result (λ f. IfSome f (λ f. f.code ≡ code)) }
+    // its area is then held for it too
     ensures holds { IfOk result (λ f. V.held view.new
         ≡ (if is_some f then with_hold (V.held view.old) code.area.serial Kind.Frame else V.held view.old)) }
     ensures tracked { OnOk result (V.held view.new ≡ area_holds areas.new) }
+    // the view shows what it showed
     ensures same { V.shown view.new ≡ V.shown view.old }
 {
     if standing >= MOST_FRAMES || view.hold(code.area, Kind::Frame).is_err() {
@@ -76,26 +82,34 @@ pub fn call<V: CodeView>(
     areas: &mut HeldAreas,
     lines: &mut LineList,
 ) -> Result<Outcome, NoMemory>
+    // the caller stands at its instruction
     requires room { top.old.place + 1 ≤ 1024 }
+    // the callee is a function of an instance that may be held for a frame
     requires lawful { IsLawful (V.shown view.old) }
     requires stands { IsInBlock (V.shown view.old) callee.code.area }
     requires known { HasFunction (V.shown view.old).reads (entry_of callee.code) }
     requires reached { MayHold (V.shown view.old).reads (V.held view.old) callee.code.area.serial Kind.Frame }
+    // the areas are those that the view holds
     requires tracked { V.held view.old ≡ area_holds areas.old }
+    // each frame's code and literals stand in their blocks, and the caller's literals may be read
     requires usable { All (IsUsable (V.shown view.old) (V.held view.old)) top.old.registers }
     requires values { HasValues (V.shown view.old) top.old }
     requires below { AreValues (V.shown view.old) below.old }
+    // the frames and lines that a call makes, or the end that it comes to
     ensures ok { IfOk result (λ outcome.
         stand_after (V.held view.old) lines.old
         (called (V.shown view.old).reads (record (frame_of (V.shown view.old).words top.old) { place = top.old.place + 3 } ∷ frames_of (V.shown view.old).words below.old) (V.held view.old)
         (entry_of callee.code) callee.to callee.at (arguments_at (values_shown (V.shown view.old).words top.old.registers) callee.at callee.to.arity))
         ≡ stand_of outcome (frame_of (V.shown view.old).words top.new ∷ frames_of (V.shown view.old).words below.new) (V.held view.new) lines.new) }
+    // each frame's code and literals still do
     ensures values { OnOk result (HasValues (V.shown view.old) top.new) }
     ensures below { OnOk result (AreValues (V.shown view.old) below.new) }
+    // the areas are those that the view then holds, and it shows what it showed
     ensures tracked { OnOk result (V.held view.new ≡ area_holds areas.new) }
     ensures same { V.shown view.new ≡ V.shown view.old }
 {
-    let registers = top.registers.passed(alloc, callee.at, callee.to.arity)?;
+    let others = below.spare_registers(alloc)?;
+    let registers = top.registers.passed(others, callee.at, callee.to.arity)?;
     let standing = below.as_slice().len() + 1;
     top.place += CALL_LEN;
     match enter(callee.code, callee.at, registers, standing, view, areas)? {

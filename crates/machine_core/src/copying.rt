@@ -8,8 +8,9 @@ ghost use Rattle.machine_core.specs.View.{AreValues, IsInBlock, IsLawful, IsValu
 
 use crate::areas::{HeldAreas, areas_of};
 use crate::dropping::drop_unnamed;
+use crate::frames::FrameList;
 use crate::literals::term_of;
-use crate::process::{FrameList, Value};
+use crate::process::Value;
 use crate::registers::ValueList;
 use crate::view::CodeView;
 use std::alloc::Global;

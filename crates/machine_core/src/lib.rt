@@ -11,6 +11,7 @@ mod doom;
 mod dropping;
 mod elements;
 mod fetch;
+mod frames;
 mod integers;
 mod laws;
 mod layout;
@@ -28,6 +29,7 @@ mod step;
 mod storing;
 mod view;
 
+pub use frames::FrameList;
 pub use laws::{
     generations_are_lawful, generations_have_the_areas, generations_hold_the_same,
     generations_reach_the_same, literals_are_those_of_states, places_are_those_of_states,
@@ -35,7 +37,7 @@ pub use laws::{
 };
 pub use machine::turn;
 pub use plain::PlainView;
-pub use process::{End, Frame, FrameList, Line, LineList, LitRef, Process, TurnEnd, Value};
+pub use process::{End, Frame, Line, LineList, LitRef, Process, TurnEnd, Value};
 pub use registers::ValueList;
 pub use term_core::{Found, Full, Kind};
 pub use view::CodeView;

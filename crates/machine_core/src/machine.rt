@@ -8,11 +8,10 @@ use crate::areas::{HeldAreas, areas_of};
 use crate::calls::enter_target;
 use crate::copying::copy_retired;
 use crate::doom::doomed_serial;
+use crate::frames::FrameList;
 use crate::outcome::Outcome;
 use crate::pause::pause;
-use crate::process::{
-    End, Frame, FrameList, LineList, MOST_TURNS, Process, TURN_INSTRUCTIONS, TurnEnd,
-};
+use crate::process::{End, Frame, LineList, MOST_TURNS, Process, TURN_INSTRUCTIONS, TurnEnd};
 use crate::step::step;
 use crate::view::CodeView;
 use std::alloc::Global;
@@ -42,12 +41,12 @@ pub fn turn<V: CodeView>(
     ensures same { V.shown view.new ≡ V.shown view.old }
 {
     if process.turns == MOST_TURNS {
-        process.frames.truncate(0);
+        process.frames.clear();
         return Ok(TurnEnd::Ended(End::SystemLimit));
     }
     process.turns += 1;
     if let Some(serial) = doomed_serial(process.frames.as_slice(), view) {
-        process.frames.truncate(0);
+        process.frames.clear();
         return Ok(TurnEnd::Ended(End::Killed(serial)));
     }
     let mut areas = areas_of(alloc, process.frames.as_slice())?;
@@ -64,7 +63,7 @@ pub fn turn<V: CodeView>(
     match top {
         Ok(top) => run(alloc, top, &mut process.frames, view, &mut areas, lines),
         Err(end) => {
-            process.frames.truncate(0);
+            process.frames.clear();
             Ok(TurnEnd::Ended(end))
         }
     }
@@ -120,7 +119,7 @@ fn run<V: CodeView>(
             Outcome::GoesOn => {}
             Outcome::Yields => return pause(top, frames, view, areas),
             Outcome::Ends(end) => {
-                frames.truncate(0);
+                frames.clear();
                 return Ok(TurnEnd::Ended(end));
             }
         }

@@ -6,7 +6,8 @@ ghost use Rattle.machine_core.specs.Stand.{AreHeld};
 
 use crate::areas::HeldAreas;
 use crate::dropping::drop_unnamed;
-use crate::process::{Frame, FrameList, Line, TurnEnd};
+use crate::frames::FrameList;
+use crate::process::{Frame, Line, TurnEnd};
 use crate::view::CodeView;
 use term_core::{Kind, NoMemory};
 

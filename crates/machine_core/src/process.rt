@@ -1,6 +1,7 @@
 ghost use Rattle.std.specs.Prelude.{◌≡◌, length, IfOk};
 ghost use Rattle.machine_core.specs.Process.{Words, process_of, new_process};
 
+use crate::frames::FrameList;
 use crate::registers::ValueList;
 use std::alloc::Global;
 use term_core::{AreaRef, CodeRef, Items, Mfa, NoMemory, Term, TermList};
@@ -40,9 +41,6 @@ pub struct Frame {
     pub back: u32,
     pub registers: ValueList,
 }
-
-/// The frames of a process, the topmost last.
-pub type FrameList = Items<Frame>;
 
 /// Areas in a row, as those that a turn holds.
 pub type AreaList = Items<AreaRef>;
@@ -106,7 +104,7 @@ impl Process {
             target,
             args,
             turns: 0,
-            frames: Items::new(alloc),
+            frames: FrameList::new(alloc),
         })
     }
 }

@@ -1,4 +1,4 @@
-ghost use Rattle.std.specs.Prelude.{◌≡◌, ◌++◌, IfOk, OnOk, drop, map, replicate, slice_get, slice_set, take, unwrap_or};
+ghost use Rattle.std.specs.Prelude.{◌≡◌, ◌++◌, [], IfOk, IsTrue, OnOk, drop, map, replicate, slice_get, slice_set, take, unwrap_or};
 ghost use Rattle.term_core.specs.Plain.{plain};
 ghost use Rattle.machine_core.specs.Process.{arguments_of, entered_values, no_held, owned_terms};
 
@@ -30,18 +30,33 @@ impl Model for ValueList {
 }
 
 impl ValueList {
+    /// Room for registers, which holds no values yet.
+    pub fn room(alloc: Global) -> Result<ValueList, NoMemory>
+        ensures { IfOk result (λ room. room ≡ []) }
+    {
+        let values = Vec::with_capacity(alloc, REGISTERS)?;
+        Ok(ValueList { values })
+    }
+
     /// The registers of a process's first function: its arguments, and 0 in the others.
     pub fn entered(alloc: Global, args: &TermList) -> Result<ValueList, NoMemory>
         ensures { IfOk result (λ registers. registers ≡ entered_values (owned_terms args.now)) }
     {
-        filled(owned_values(alloc, args.as_slice())?)
+        let mut registers = ValueList::room(alloc)?;
+        push_terms(&mut registers.values, args.as_slice())?;
+        fill(&mut registers.values)?;
+        Ok(registers)
     }
 
     /// The registers of a function that is called with so many arguments, which stand here from a register on.
-    pub fn passed(&self, alloc: Global, at: u32, count: u32) -> Result<ValueList, NoMemory>
+    /// They stand where others stood, which are dropped.
+    pub fn passed(&self, others: ValueList, at: u32, count: u32) -> Result<ValueList, NoMemory>
         ensures { IfOk result (λ registers. registers ≡ entered_values (arguments_of self.now at count)) }
     {
-        filled(copies(alloc, self.arguments(at, count))?)
+        let mut registers = others;
+        registers.empty()?;
+        set_first(&mut registers, self.arguments(at, count))?;
+        Ok(registers)
     }
 
     /// So many values, which stand in the registers from this one on.
@@ -69,7 +84,7 @@ impl ValueList {
         ensures { IfOk result (λ value. value ≡ unwrap_or (slice_get self.now register) no_held) }
     {
         match self.values.get(register as usize) {
-            Some(value) => Ok(value.clone()?),
+            Some(value) => copy(value),
             None => Ok(Value::Owned(Term::Int(0))),
         }
     }
@@ -78,9 +93,30 @@ impl ValueList {
     pub fn set(&mut self, register: u32, value: Value)
         ensures { self.new ≡ slice_set self.old register value }
     {
-        if let Some(held) = self.values.get_mut(register as usize) {
+        self.set_at(register as usize, value);
+    }
+
+    fn set_at(&mut self, at: usize, value: Value)
+        ensures { self.new ≡ slice_set self.old at value }
+    {
+        if let Some(held) = self.values.get_mut(at) {
             *held = value;
         }
+    }
+
+    /// Gives each of the registers 0, whatever they hold and however many they are.
+    fn empty(&mut self) -> Result<(), NoMemory>
+        ensures { OnOk result (self.new ≡ entered_values []) }
+    {
+        self.set_zeros();
+        fill(&mut self.values)?;
+        Ok(())
+    }
+
+    fn set_zeros(&mut self)
+        ensures { self.new ≡ map (λ _. no_held) self.old }
+    {
+        set_zeros(&mut self.values);
     }
 }
 
@@ -93,43 +129,79 @@ fn arguments(values: &[Value], first: usize, count: usize) -> &[Value]
     &rest[..rest.len().min(count)]
 }
 
-/// The values and then zeros, as many as a frame has registers.
-fn filled(mut values: Vec<Value>) -> Result<ValueList, NoMemory>
-    ensures { IfOk result (λ registers. registers ≡ entered_values values.items) }
+/// Appends the terms as values of a process's own.
+fn push_terms(values: &mut Vec<Value>, terms: &[Term]) -> Result<(), NoMemory>
+    ensures { OnOk result (values.new.items ≡ values.old.items ++ owned_terms (map plain terms.now)) }
 {
-    push_zeros(&mut values)?;
-    values.truncate(REGISTERS);
-    Ok(ValueList { values })
-}
-
-/// The terms as values of a process's own.
-fn owned_values(alloc: Global, terms: &[Term]) -> Result<Vec<Value>, NoMemory>
-    ensures { IfOk result (λ values. values.items ≡ owned_terms (map plain terms.now)) }
-{
-    let mut values = Vec::new(alloc);
     for term in terms {
         values.push(Value::Owned(term.clone()?))?;
     }
-    Ok(values)
+    Ok(())
 }
 
-/// Equal values.
-fn copies(alloc: Global, values: &[Value]) -> Result<Vec<Value>, NoMemory>
-    ensures { IfOk result (λ copies. copies.items ≡ values.now) }
+/// Gives the registers behind these values 0.
+fn fill(values: &mut Vec<Value>) -> Result<(), NoMemory>
+    ensures { OnOk result (values.new.items ≡ entered_values values.old.items) }
 {
-    let mut copies = Vec::new(alloc);
-    for value in values {
-        copies.push(value.clone()?)?;
+    let missing = REGISTERS.saturating_sub(values.len());
+    push_zeros(values, missing)?;
+    values.truncate(REGISTERS);
+    Ok(())
+}
+
+/// Appends so many zeros.
+fn push_zeros(values: &mut Vec<Value>, count: usize) -> Result<(), NoMemory>
+    ensures { OnOk result (values.new.items ≡ values.old.items ++ replicate count no_held) }
+{
+    values.reserve(count)?;
+    for _ in 0..count {
+        values.push_reserved(Value::Owned(Term::Int(0)));
     }
-    Ok(copies)
+    Ok(())
 }
 
-/// Appends as many zeros as a frame has registers.
-fn push_zeros(values: &mut Vec<Value>) -> Result<(), NoMemory>
-    ensures { OnOk result (values.new.items ≡ values.old.items ++ replicate 16 no_held) }
+/// An equal value.
+fn copy(value: &Value) -> Result<Value, NoMemory>
+    ensures { IfOk result (λ copy. copy ≡ value.now) }
 {
-    for _ in 0..REGISTERS {
-        values.push(Value::Owned(Term::Int(0)))?;
+    Ok(value.clone()?)
+}
+
+/// Makes each of the values 0.
+fn set_zeros(values: &mut [Value])
+    ensures { values.new ≡ map (λ _. no_held) values.old }
+{
+    for value in values.iter_mut() {
+        set_zero(value);
+    }
+}
+
+/// Makes the value 0. Most registers of a frame are never set, and such a one is left as it is.
+fn set_zero(value: &mut Value)
+    ensures { value.new ≡ no_held }
+{
+    if !is_zero(value) {
+        *value = Value::Owned(Term::Int(0));
+    }
+}
+
+/// Whether the value is known to be 0.
+fn is_zero(value: &Value) -> bool
+    ensures { IsTrue result → value.now ≡ no_held }
+{
+    match value {
+        Value::Owned(Term::Int(number)) => *number == 0,
+        _ => false,
+    }
+}
+
+/// Gives the first registers equal values, where each holds 0.
+fn set_first(registers: &mut ValueList, values: &[Value]) -> Result<(), NoMemory>
+    requires { registers.old ≡ entered_values [] }
+    ensures { OnOk result (registers.new ≡ entered_values values.now) }
+{
+    for (at, value) in values.iter().enumerate() {
+        registers.set_at(at, copy(value)?);
     }
     Ok(())
 }

@@ -10,13 +10,15 @@ use crate::called_name::mfa_of;
 use crate::calls::{Callee, call};
 use crate::computing::{add, print, subtract, test_equal, test_less};
 use crate::fetch::fetch;
+use crate::frames::FrameList;
 use crate::op::{Op, Source};
 use crate::outcome::Outcome;
-use crate::process::{End, Frame, FrameList, Line, LineList, Value};
+use crate::process::{End, Frame, Line, LineList, Value};
 use crate::sources::value_of;
 use crate::storing::{get_element, get_key, get_key_or, keep, move_value};
 use crate::view::CodeView;
 use std::alloc::Global;
+use std::mem;
 use term_core::{CodeRef, Mfa, NoMemory};
 
 /// How many words `yield` has.
@@ -206,14 +208,15 @@ fn leave<V: CodeView>(
     let value = value_of(top, value)?;
     match below.pop() {
         None => Ok(Outcome::Ends(End::Normal)),
-        Some(caller) => return_to(caller, top, value, view, areas),
+        Some(caller) => return_to(caller, top, below, value, view, areas),
     }
 }
 
-/// Gives the caller the value, and makes its frame the topmost.
+/// Gives the caller the value, and makes its frame the topmost. The registers of the frame that is left stay beside the frames.
 fn return_to<V: CodeView>(
     mut caller: Frame,
     top: &mut Frame,
+    frames: &mut FrameList,
     value: Value,
     view: &mut V,
     areas: &mut HeldAreas,
@@ -223,6 +226,7 @@ fn return_to<V: CodeView>(
     requires values { HasValues (V.shown view.old) top.old }
     requires caller { HasValues (V.shown view.old) caller }
     requires tracked { V.held view.old ≡ area_holds areas.old }
+    ensures frames { frames.new ≡ frames.old }
     ensures ok { (below : List PlainFrame) (made : List Line) → IfOk result (λ outcome.
         stand_after (V.held view.old) made (stored (record (frame_of (V.shown view.old).words caller) { registers = slice_set (values_shown (V.shown view.old).words caller.registers) top.old.back (value_shown (V.shown view.old).words value) })
         below (held_with (V.held view.old) (value_shown (V.shown view.old).words value)))
@@ -235,6 +239,7 @@ fn return_to<V: CodeView>(
         return Ok(Outcome::Ends(End::SystemLimit));
     }
     caller.registers.set(top.back, value);
-    *top = caller;
+    let Frame { registers, .. } = mem::replace(top, caller);
+    frames.keep_registers(registers);
     Ok(Outcome::GoesOn)
 }

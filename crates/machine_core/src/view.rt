@@ -11,7 +11,8 @@ use term_core::{AreaRef, AtomId, CodeRef, Found, Full, Kind, Mfa};
 ///
 /// Contracts see the state of the generation, the words of each area and in which block it stands, and what is held.
 /// It is lawful where these words are, apart from entry words, the images of the instances and of the persistent terms.
-/// Each area that it answers stands in its block, and so must each that it is asked for.
+/// Each area that it answers is referred to by the block in which it stands, and so must each be that it is asked for,
+/// but to drop a hold.
 pub trait CodeView {
     /// What the view shows. No call changes it.
     ghost shown: { Self → Shown };

@@ -14,6 +14,7 @@ use Rattle.machine_core.specs.contracts.process.Value as Value
 use Rattle.machine_core.specs.contracts.process.Frame as Frame
 use Rattle.machine_core.specs.contracts.process.Process as Process
 use Rattle.machine_core.specs.contracts.process.Line as Line
+use Rattle.machine_core.specs.contracts.frames.FrameList as FrameList
 use Rattle.machine_core.specs.contracts.registers.ValueList as ValueList
 use Rattle.run_log.specs.contracts.logs.Span as Span
 use Rattle.server_core.specs.contracts.instance.LoadedModule as LoadedModule
@@ -58,8 +59,11 @@ values_send = let v = value_send in search (sendable, crosses) depth 20
 frame_send : IsSend (Frame.the_field).row
 frame_send = let v = values_send in search sendable depth 20
 
+frames_send : IsSend FrameList.the_row
+frames_send = let f = frame_send in let v = values_send in search (sendable, crosses) depth 20
+
 process_send : IsSend (Process.the_field).row
-process_send = let f = frame_send in let t = terms_send in search (sendable, crosses) depth 20
+process_send = let f = frames_send in let t = terms_send in search (sendable, crosses) depth 20
 
 line_send : IsSend (Line.the_field).row
 line_send = let t = term_send in let l = terms_send in search sendable depth 20

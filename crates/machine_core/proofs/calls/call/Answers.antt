@@ -1,5 +1,5 @@
 -- The new frame stands on the caller's, and the line says the call.
-use Rattle.std.proofs.Common.{◌∙◌, ◌++◌, ◌≡◌, ◌+◌, Some, ap, length, subst, refl}
+use Rattle.std.proofs.Common.{◌∙◌, ◌++◌, ◌∷◌, [], ◌≡◌, ◌+◌, Some, ap, length, subst, refl}
 use Rattle.server_core.specs.ServerState.{entry_of}
 use Rattle.machine_core.specs.Process.{arguments_at, arguments_of, first_registers, frame_of, values_shown}
 use Rattle.machine_core.specs.Turn.{trace_of}
@@ -24,7 +24,7 @@ returns-in-None-clause-ok g c =
     let words = (g.V.CodeView.shown c.args.view.now).words in
     let args = arguments_at (values_shown words c.args.top.now.registers) c.args.callee.at c.args.callee.to.arity in
     call_refused words (g.V.CodeView.shown c.args.view.now).reads _ c.args.below.now (g.V.CodeView.held c.args.view.now) (g.V.CodeView.held c.enter.new.view) (entry_of c.args.callee.code) c.args.callee.to c.args.callee.at
-    (length c.as_slice.result.now + 1) args (values_shown words c.in_ok-registers.registers) c.args.lines.now (ap (λ fs. length fs + 1) c.as_slice.ensures)
+    (length c.as_slice.result.now + 1) args (values_shown words c.in_ok-registers.registers) c.args.lines.now (ap (λ fs. length fs + 1) (c.as_slice.ensures ∙ c.in_ok-others.ensures))
     (ap (values_shown words) c.in_ok-registers.ensures ∙ entered_shown words (arguments_of c.args.top.now.registers c.args.callee.at c.args.callee.to.arity)
     ∙ ap first_registers (arguments_shown words c.args.top.now.registers c.args.callee.at c.args.callee.to.arity))
     (rw c.in-None.is at (c.in_ok-enter.ensures.ok words)) (rw c.in-None.is at c.in_ok-enter.ensures.holds)
@@ -37,7 +37,7 @@ returns-in_ok-push-in-Some-clause-ok g c =
     call_gives words (g.V.CodeView.shown c.args.view.now).reads _ (frame_of words c.replace-caller.new.dest) c.args.below.now c.push.new.self c.replace-caller.result
     (g.V.CodeView.held c.args.view.now) (g.V.CodeView.held c.trace_call.new.view) e c.args.callee.to c.args.callee.at (length c.as_slice.result.now + 1)
     args (values_shown words c.in_ok-registers.registers) c.args.lines.now c.trace_call.new.lines
-    (ap (frame_of words) c.replace-caller.ensures.value) c.in_ok-push-in-Some.ensures.ok (ap (λ fs. length fs + 1) c.as_slice.ensures)
+    (ap (frame_of words) c.replace-caller.ensures.value) (c.in_ok-push-in-Some.ensures.ok ∙ ap (λ fs. fs ++ c.replace-caller.result ∷ []) c.in_ok-others.ensures) (ap (λ fs. length fs + 1) (c.as_slice.ensures ∙ c.in_ok-others.ensures))
     (ap (values_shown words) c.in_ok-registers.ensures ∙ entered_shown words (arguments_of c.args.top.now.registers c.args.callee.at c.args.callee.to.arity)
     ∙ ap first_registers (arguments_shown words c.args.top.now.registers c.args.callee.at c.args.callee.to.arity))
     (ap (λ f. Some (frame_of words f)) c.replace-caller.ensures.after ∙ (rw c.in-Some.is at (c.in_ok-enter.ensures.ok words)))
@@ -55,5 +55,5 @@ returns-in_ok-push-in-Some-clause-values g c =
 pub returns-in_ok-push-in-Some-clause-below : goal.returns-in_ok-push-in-Some-clause-below
 returns-in_ok-push-in-Some-clause-below g c =
     let shown = g.V.CodeView.shown c.args.view.now in
-    values_pushed shown c.args.below.now c.push.new.self c.replace-caller.result c.in_ok-push-in-Some.ensures.ok c.requires.below
+    values_pushed shown c.args.below.now c.push.new.self c.replace-caller.result (c.in_ok-push-in-Some.ensures.ok ∙ ap (λ fs. fs ++ c.replace-caller.result ∷ []) c.in_ok-others.ensures) c.requires.below
     (values_same shown c.replace-caller.result _ c.replace-caller.ensures.value c.requires.values)

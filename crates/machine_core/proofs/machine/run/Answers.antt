@@ -50,7 +50,7 @@ returns-in-Ends-clause-ok g c =
     let held = g.V.CodeView.held c.loop.view in
     let now = g.V.CodeView.held c.step.new.view in
     let e = rw c.in-Ends.is at (step_seen shown seen c.loop.top c.step.new.top c.loop.frames c.step.new.below held now c.loop.lines c.step.new.lines c.in_ok-step.field-0 c.loop.invariant.shown c.in_ok-step.ensures.ok) in
-    rw c.truncate.ensures (left_over shown.reads c.loop.counter before c.in-Ends.end held now c.loop.lines c.step.new.lines _ c.loop.invariant.left c.loop-test.true e)
+    rw c.clear.ensures (left_over shown.reads c.loop.counter before c.in-Ends.end held now c.loop.lines c.step.new.lines _ c.loop.invariant.left c.loop-test.true e)
 
 pub loop-preserved : goal.loop-preserved
 loop-preserved g c =
