@@ -1,0 +1,13 @@
+pub mod SoundChanges
+pub mod GivenSerials
+pub mod LoadedCode
+pub mod Reached
+pub mod KeptImages
+pub mod VersionUses
+pub mod AreaUses
+pub mod NotForgotten
+pub mod AfterRelease
+pub mod KeptCases
+pub mod NumberedNames
+pub mod Counted
+pub mod Dropped
