@@ -4,7 +4,7 @@ use Rattle.std.specs.Prelude.{Some, slice_get, slice_set}
 use Rattle.prgr_core.proofs.Parts.{slice_get-push_at}
 use Rattle.area_core.specs.declared.table.Published.{Published}
 use Rattle.area_core.specs.declared.table.KeptArea.{KeptArea}
-use Rattle.area_core.specs.Map.{kind_at, block_place}
+use Rattle.area_core.specs.Map.{kind_at, block_place, word_at}
 use Rattle.area_core.specs.Blocks.{Among}
 use Rattle.area_core.specs.Roots.{fresh_areas}
 use Rattle.area_core.proofs.Places.{word_there}
@@ -24,7 +24,7 @@ use Rattle.code_index.specs.declared.index.Staging.{Staging}
 use Rattle.code_index.specs.declared.index.Staging.TheVariants.{Nothing, Staged, Committing}
 use Rattle.code_index.specs.Exports.{LeadTo}
 use Rattle.code_index.specs.Staging.{active_index, staging_index, block_of, GoesWith, IsIndexOf}
-use Rattle.code_index.specs.Laws.{IsElsewhere, KeepsIndex}
+use Rattle.code_index.specs.Laws.{HasStoredElsewhere, IsElsewhere, KeepsIndex}
 use Rattle.code_index.proofs.Indices.{behind_fits, behind_differs}
 use Rattle.code_index.proofs.Words.{leads_kept, stages_kept}
 
@@ -58,6 +58,37 @@ stored_elsewhere x w word value off own = record {
   staged = λ p staged. stages_kept x w (with_word word value w) p
       (λ entry few. word_there w.words word value (block_place (block_of x) entry) (λ same. off (block_of x) entry (goes_fits x w own.staged) few (sym same))) staged;
 }
+
+-- ---- stores of many words
+
+module _ (v : WriterView) (words : List ℕ) (long : length words ≡ length v.words) (others : (block entry : ℕ) → block < 3 → entry < 1024 → word_at words (block_place block entry) ≡ word_at v.words (block_place block entry)) where
+  abbrev written : WriterView
+  written = record v { words = words }
+
+  goes_written : (x : Staging) → GoesWith x v → GoesWith x written
+  goes_written Nothing goes = goes
+  goes_written (Staged block) goes = goes
+  goes_written (Committing block need) goes = goes
+
+  owned_written : (x : Staging) → IsIndexOf x v → IsIndexOf x written
+  owned_written x own = record {
+    all = long ∙ own.all;
+    areas = own.areas;
+    fits = own.fits;
+    active = leads_kept v.words words (active_index v) (newest_of v) (λ entry few. others (active_index v) entry own.fits few) own.active;
+    free = own.free;
+    staged = goes_written x own.staged;
+  }
+
+  keeps_written : (x : Staging) → IsIndexOf x v → KeepsIndex x v written
+  keeps_written x own = record {
+    owned = owned_written x;
+    staged = λ p staged. stages_kept x v written p (λ entry few. others (block_of x) entry (goes_fits x v own.staged) few) staged;
+  }
+
+-- stores elsewhere
+pub written_elsewhere : (x : Staging) (old new : WriterView) → HasStoredElsewhere old new → IsIndexOf x old → KeepsIndex x old new
+written_elsewhere x old new stored own = subst (KeepsIndex x old) (sym stored.same) (keeps_written old new.words stored.long stored.others x own)
 
 -- ---- a store of the root
 

@@ -1,9 +1,9 @@
 -- What keeps the code indices those of their writer besides the calls on them, and what is staged in them.
-use Rattle.std.specs.Prelude.{◌≡◌, ◌≢◌, ℕ, ◌<◌, ◌≤◌}
+use Rattle.std.specs.Prelude.{◌≡◌, ◌≢◌, ℕ, ◌<◌, ◌≤◌, length}
 use Rattle.area_core.specs.declared.map.TheConstants.{CODE_INDICES, EXPORT_ENTRIES, AREAS_START}
 use Rattle.area_core.specs.declared.table.Published.{Published}
 use Rattle.area_core.specs.declared.table.KeptArea.{KeptArea}
-use Rattle.area_core.specs.Map.{block_place}
+use Rattle.area_core.specs.Map.{block_place, word_at}
 use Rattle.area_core.specs.Blocks.{Among}
 use Rattle.area_core.specs.Roots.{fresh_areas}
 use Rattle.shared_words.specs.declared.view.WriterView.{WriterView}
@@ -27,6 +27,16 @@ pub record KeepsIndex (x : Staging) (old new : WriterView) : Type 0 where
 -- a store of a word elsewhere
 abbrev pub KeptByStores : Type 0
 KeptByStores = (x : Staging) (w : WriterView) (word value : ℕ) → IsElsewhere word → IsIndexOf x w → KeepsIndex x w (with_word word value w)
+
+-- words were stored that are none of a code index, and nothing else of what the writer knows has changed
+pub record HasStoredElsewhere (old new : WriterView) : Type 0 where
+  pub long : length new.words ≡ length old.words
+  pub others : (block entry : ℕ) → block < CODE_INDICES → entry < EXPORT_ENTRIES → word_at new.words (block_place block entry) ≡ word_at old.words (block_place block entry)
+  pub same : new ≡ record old { words = new.words }
+
+-- stores of any number of words elsewhere
+abbrev pub KeptByWrites : Type 0
+KeptByWrites = (x : Staging) (old new : WriterView) → HasStoredElsewhere old new → IsIndexOf x old → KeepsIndex x old new
 
 -- the store of the root of a generation with the same code index, which leads each name to what it exports
 abbrev pub KeptByRoots : Type 0

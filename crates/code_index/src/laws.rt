@@ -1,11 +1,17 @@
 //! What keeps a code index that of its writer besides the calls on it, and what is staged in it.
 
-ghost use Rattle.code_index.specs.Laws.{KeptByStores, KeptByRoots, KeptByCounters, KeptByNotes, KeptByExports};
+ghost use Rattle.code_index.specs.Laws.{KeptByStores, KeptByWrites, KeptByRoots, KeptByCounters, KeptByNotes, KeptByExports};
 
 /// A store of a word that is none of the code indices.
 #[tactic(auto, using(crate::proofs::Owned::stored_elsewhere))]
 pub fn stores_keep_index()
     ensures { KeptByStores }
+{}
+
+/// Stores of any number of words that are none of the code indices.
+#[tactic(auto, using(crate::proofs::Owned::written_elsewhere))]
+pub fn writes_keep_index()
+    ensures { KeptByWrites }
 {}
 
 /// The store of the root of a generation that has the same code index, while nothing is staged.

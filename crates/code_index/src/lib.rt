@@ -12,5 +12,5 @@ mod starting;
 pub use index::{CodeIndex, Staging};
 pub use laws::{
     counters_keep_index, exports_that_stay_are_staged, notes_keep_index, roots_keep_index,
-    stores_keep_index,
+    stores_keep_index, writes_keep_index,
 };

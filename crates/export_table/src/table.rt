@@ -1,10 +1,10 @@
-ghost use Rattle.std.specs.Prelude.{◌≡◌, ◌↔◌, ◌<◌, ℕ, [], length, IfOk, IsErrOf, None, OnErr, Ok, Some};
+ghost use Rattle.std.specs.Prelude.{◌≡◌, ◌↔◌, ◌<◌, ℕ, [], length, slice_get, IfOk, IsErrOf, None, OnErr, Ok, Some};
 ghost use Rattle.std.specs.Option.{IfSome};
 ghost use Rattle.term_core.specs.declared.atom.Mfa.{Mfa};
 ghost use Rattle.export_table.specs.Exports.{HasEntry, entry_of};
 
 use crate::fault::AddFault;
-use crate::names::{FunctionKey, function_key};
+use crate::names::{FunctionKey, function_key, name_of_key};
 use indexmap::IndexSet;
 use std::alloc::Global;
 use std::marker::Model;
@@ -75,5 +75,13 @@ impl ExportTable {
     {
         let number = self.keys.get_index_of(&function_key(to))?;
         Some(number as u32)
+    }
+
+    /// The name of a number, if one has it.
+    pub fn name(&self, number: u32) -> Option<Mfa>
+        ensures { result ≡ slice_get self.now number }
+    {
+        let key = self.keys.get_index(number as usize)?;
+        Some(name_of_key(*key))
     }
 }

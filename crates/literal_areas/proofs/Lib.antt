@@ -6,5 +6,7 @@ pub mod AtFirst
 mod Stores
 mod WordByWord
 mod Retired
+mod Doomed
 pub mod Listed
 mod Freed
+mod Finding

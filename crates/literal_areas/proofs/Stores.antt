@@ -6,25 +6,25 @@ use Rattle.std.proofs.lemmas.Bool.Decides.{nat_tests}
 use Rattle.std.proofs.lemmas.Option.{slice_get_within}
 use Rattle.prgr_core.proofs.Parts.{some_same}
 use Rattle.term_core.specs.declared.area.AreaRef.{AreaRef}
-use Rattle.area_core.specs.declared.map.TheConstants.{BLOCKS}
+use Rattle.area_core.specs.declared.map.TheConstants.{BLOCKS, BIG_BLOCKS}
 use Rattle.area_core.specs.declared.map.WordKind.TheVariants.{InBlock}
 use Rattle.area_core.specs.declared.table.Published.{Published}
 use Rattle.area_core.specs.declared.table.KeptArea.{KeptArea}
-use Rattle.area_core.specs.Map.{word_at, kind_at, block_place, retire_place, room_of}
-use Rattle.area_core.specs.Generations.{is_reached, is_retired, tells}
+use Rattle.area_core.specs.Map.{word_at, kind_at, block_place, retire_place, doom_place, room_of}
+use Rattle.area_core.specs.Generations.{is_doomed, is_reached, is_retired, tells}
 use Rattle.area_core.specs.Blocks.{Among}
 use Rattle.area_core.specs.Readers.{reads_in_block, reaches_block}
-use Rattle.area_core.proofs.Places.{kind_block, kind_retire, word_here, word_there}
+use Rattle.area_core.proofs.Places.{kind_block, kind_retire, kind_doom, word_here, word_there}
 use Rattle.area_core.proofs.Tests.{passed_by}
 use Rattle.area_core.proofs.BlockStores.{block_within, same_block}
 use Rattle.shared_words.specs.declared.view.WriterView.{WriterView}
-use Rattle.shared_words.specs.Publishing.{FitsInBlock, FitsRetire, FitsWord, MayStoreWord, kept_left, with_word}
+use Rattle.shared_words.specs.Publishing.{FitsInBlock, FitsRetire, FitsDoom, FitsWord, MayStoreWord, kept_left, with_word}
 use Rattle.shared_words.proofs.WordStores.{kept_was}
 use Rattle.literal_areas.specs.declared.blocks.BlockUse.TheVariants.{Live, Retired}
 use Rattle.literal_areas.specs.declared.areas.Areas.{Areas}
 use Rattle.literal_areas.specs.Blocks.{serial_at, IsLive, with_retired}
 use Rattle.literal_areas.specs.Owned.{AreOf, IsPast, HasRetired, IsUnpublished}
-use Rattle.literal_areas.specs.Written.{HasWritten, KeepsOtherBlocks}
+use Rattle.literal_areas.specs.Written.{HasWritten, IsUndoomed, KeepsOtherBlocks}
 use Rattle.literal_areas.proofs.Uses.{use_there, use_within}
 use Rattle.literal_areas.proofs.Serials.{serial_here, use_after, retired_serial, sound_retired}
 
@@ -233,3 +233,13 @@ module _ (s : Areas) (w : WriterView) (own : AreOf s w) (area : AreaRef) (live :
       | inr other ↦ own.since b n first g p other.1 le here
     ];
   }
+
+-- ---- the store into a doom word
+
+module _ (s : Areas) (w : WriterView) (own : AreOf s w) (area : AreaRef) (live : IsLive s area) (undoomed : IsUndoomed w area) where
+  fits_doomed : FitsDoom w area.block (length w.published)
+  fits_doomed = λ g p counts here k among same unretired. late (length w.published) g (slice_get_within w.published g p here) ∙ sym (ap (is_doomed p) (same_area s w own area live k.area (own.kept k among) same) ∙ undoomed g p counts here)
+
+  -- it may be stored
+  pub may_doom : area.block < BIG_BLOCKS → MayStoreWord w (doom_place area.block) (length w.published)
+  may_doom big = subst (FitsWord w (length w.published)) (sym (kind_doom area.block big)) fits_doomed

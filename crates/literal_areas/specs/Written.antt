@@ -1,12 +1,14 @@
 -- What a write leaves of the words: the block of the area begins with the words that were given, and no other word changed.
 -- Source: this project's own map of the shared table.
-use Rattle.std.specs.Prelude.{◌≡◌, ◌≢◌, ℕ, ◌<◌, List, Some, slice_get}
+use Rattle.std.specs.Prelude.{◌≡◌, ◌≢◌, ℕ, ◌<◌, false, List, Some, slice_get}
 use Rattle.term_core.specs.declared.area.AreaRef.{AreaRef}
 use Rattle.area_core.specs.declared.map.TheConstants.{BLOCKS}
 use Rattle.area_core.specs.declared.table.KeptArea.{KeptArea}
 use Rattle.area_core.specs.Map.{word_at, block_place, room_of}
+use Rattle.area_core.specs.Generations.{is_doomed}
 use Rattle.area_core.specs.Blocks.{Among}
 use Rattle.shared_words.specs.declared.view.WriterView.{WriterView}
+use Rattle.shared_words.specs.Publishing.{EachMayBeRead}
 
 -- the first so many words of the block are those of the list, all other words of the table are as before, and so is what else
 -- the writer knows
@@ -23,3 +25,7 @@ KeepsOtherBlocks block old new =
 -- the area was published, and is not released yet
 abbrev pub IsPublished : WriterView → AreaRef → Type 0
 IsPublished w area = (k : KeptArea) × Among w.kept k × (k.area ≡ area)
+
+-- no generation that may be read has doomed the area
+abbrev pub IsUndoomed : WriterView → AreaRef → Type 0
+IsUndoomed w area = EachMayBeRead w (λ g p. is_doomed p area.serial ≡ false)

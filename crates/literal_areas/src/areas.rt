@@ -3,7 +3,7 @@
 ghost use Rattle.std.specs.Prelude.{◌≡◌, false, None, IsTrue, is_some};
 ghost use Rattle.std.specs.Option.{IfSome};
 ghost use Rattle.std.specs.List.{list_any};
-ghost use Rattle.literal_areas.specs.Blocks.{is_free, HasSizes, IsFreeIn, blocks_of, first_of, use_of, with_use};
+ghost use Rattle.literal_areas.specs.Blocks.{is_free, HasSizes, IsFreeIn, blocks_of, first_of, serial_at, use_of, with_use};
 
 use crate::blocks::{BlockList, BlockUse, Pool};
 use crate::places::{FIRST_INSTANCE_BLOCK, FIRST_TERM_BLOCK};
@@ -40,6 +40,19 @@ impl Areas {
             return None;
         };
         Some(first_block(pool) + place as u32)
+    }
+
+    /// The serial of the area in a block, if it has one.
+    pub fn serial_at(&self, block: u32) -> Option<u64>
+        ensures { result ≡ serial_at self.now block }
+    {
+        if block < FIRST_INSTANCE_BLOCK {
+            None
+        } else if block < FIRST_TERM_BLOCK {
+            self.big.serial((block - FIRST_INSTANCE_BLOCK) as usize)
+        } else {
+            self.small.serial((block - FIRST_TERM_BLOCK) as usize)
+        }
     }
 
     /// Gives a block another use.

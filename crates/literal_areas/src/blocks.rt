@@ -1,8 +1,9 @@
 //! What each block for areas is used for.
 
-ghost use Rattle.std.specs.Prelude.{◌≡◌, ◌<◌, length, replicate, slice_set, IfOk};
+ghost use Rattle.std.specs.Prelude.{◌≡◌, ◌<◌, length, replicate, slice_get, slice_set, IfOk};
 ghost use Rattle.std.specs.List.{list_any, position};
-ghost use Rattle.literal_areas.specs.Blocks.{is_free, is_retired};
+ghost use Rattle.std.specs.Option.{option_and_then};
+ghost use Rattle.literal_areas.specs.Blocks.{is_free, is_retired, serial_of};
 
 use std::alloc::Global;
 use std::marker::Model;
@@ -72,6 +73,13 @@ impl BlockList {
         self.uses.iter().any(|used| is_retired(*used))
     }
 
+    /// The serial of the area in the block at a place, if it has one.
+    pub fn serial(&self, place: usize) -> Option<u64>
+        ensures { result ≡ option_and_then serial_of (slice_get self.now place) }
+    {
+        serial_of(*self.uses.get(place)?)
+    }
+
     /// Gives the block at a place another use.
     pub fn set(&mut self, place: usize, used: BlockUse)
         requires { place < length self.old }
@@ -100,5 +108,16 @@ fn is_retired(used: BlockUse) -> bool
         BlockUse::Free => false,
         BlockUse::Live { .. } => false,
         BlockUse::Retired { .. } => true,
+    }
+}
+
+/// The serial of the area in the block, if it has one.
+fn serial_of(used: BlockUse) -> Option<u64>
+    ensures { result ≡ serial_of used }
+{
+    match used {
+        BlockUse::Free => None,
+        BlockUse::Live { serial } => Some(serial),
+        BlockUse::Retired { serial, .. } => Some(serial),
     }
 }

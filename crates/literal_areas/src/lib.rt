@@ -1,9 +1,10 @@
 //! The blocks of the shared table in which instances and persistent terms stand, dealt out as areas:
-//! which are free, live and retired, and the stores by which an area is written and retired.
+//! which are free, live and retired, and the stores by which an area is written, doomed and retired.
 #![tactic(auto)]
 
 mod areas;
 mod blocks;
+mod dooming;
 mod laws;
 mod places;
 mod pools;

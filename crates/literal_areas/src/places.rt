@@ -11,6 +11,9 @@ pub const FIRST_INSTANCE_BLOCK: u32 = 9;
 /// The first block for complex persistent terms.
 pub const FIRST_TERM_BLOCK: u32 = 64;
 
+/// How many blocks there are, those that have no areas too.
+pub const AREA_BLOCKS: u32 = 320;
+
 /// The first word of the blocks for instances and of those before them.
 const BLOCKS_START: u32 = 1493;
 

@@ -19,7 +19,7 @@ use term_core::AreaRef;
 const GENERATION_UNIT: u64 = 32;
 
 /// The number of the generation that is published next.
-fn next_generation<N: Served>(shared: &Shared<N>, writer: &mut Writer) -> u64
+pub(crate) fn next_generation<N: Served>(shared: &Shared<N>, writer: &mut Writer) -> u64
     requires token { IsWriterOf shared.now.table.shared.table_id shared.now.table.shared.key writer.old }
     ensures token { IsWriterOf shared.now.table.shared.table_id shared.now.table.shared.key writer.new }
     ensures same { IsSameWriter writer.old writer.new }

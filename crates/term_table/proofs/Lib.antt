@@ -13,3 +13,4 @@ mod StageCalls
 mod Stagings
 mod TablePlaces
 mod Words
+mod Written

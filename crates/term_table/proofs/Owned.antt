@@ -25,8 +25,9 @@ use Rattle.area_core.specs.declared.map.TheConstants.{BUCKETS}
 use Rattle.term_table.specs.Built.{IsTable, held_in}
 use Rattle.term_table.specs.Tables.{Terms, active_table, staging_table, words_in, StagedFor, GoesWith, IsPast, IsTableOf}
 use Rattle.progress_words.specs.declared.roots.RootParts.{RootParts}
+use Rattle.progress_words.specs.Needs.{HasLoadedCounter}
 use Rattle.progress_words.specs.Roots.{newest_of, IsNewestRoot}
-use Rattle.term_table.specs.Published.{MayPublishTerms, restaged}
+use Rattle.term_table.specs.Published.{HasPublished, MayPublishTerms, restaged}
 use Rattle.term_table.proofs.TablePlaces.{behind_fits, behind_differs}
 
 staged_stand : (o : Option ℕ) (w : WriterView) (p : Published) → GoesWith o w → StagedFor o p w → TermsStand (words_in w.words (staging_table w)) p
@@ -159,3 +160,18 @@ module _ (Served : Published → Type 0) (t : Terms) (w : WriterView) (state : G
     where
       needs_is : value ≡ counter + 2 → slice_set needs parts.term value ≡ slice_set t.needs (active_table w) (counter + 2)
       needs_is is i = slice_set (kept i) (root.term i) (is i)
+
+  -- and what is published is told
+  pub published_now : (needs : List ℕ) (value : ℕ) (first last : WriterView) → needs ≡ t.needs → first ≡ with_next (to_publish parts.code parts.bp ((parts.term + 1) % 4) state areas) now → HasLoadedCounter first last → value ≡ last.counter + 2
+      → HasPublished t (record { staged = None; needs = slice_set needs parts.term value }) (restaged w state areas) w last (parts.generation + 1)
+  published_now needs value first last kept published loaded ahead = record {
+    counter = loaded.counter;
+    range = loaded.range;
+    rising = (let from = ap (λ (v : WriterView). v.counter) (published ∙ (λ i. with_next (next_is i) (same i))) in let rises = loaded.rising in omega (arith, from, rises));
+    view = loaded.view ∙ ap (counter_kept loaded.counter) (published ∙ (λ i. with_next (next_is i) (same i)));
+    tables = λ i. record { staged = None; needs = slice_set (kept i) (root.term i) (value_is i) };
+    number = sym root.number;
+  }
+    where
+      value_is : value ≡ loaded.counter + 2
+      value_is = ahead ∙ ap (λ (v : WriterView). v.counter + 2) loaded.view

@@ -30,6 +30,16 @@ pub record KeepsTable (t : Terms) (old new : WriterView) : Type 0 where
 abbrev pub KeptByStores : Type 0
 KeptByStores = (t : Terms) (w : WriterView) (word value : ℕ) → IsElsewhere word → IsTableOf t w → KeepsTable t w (with_word word value w)
 
+-- words were stored that are none of a term table, and nothing else of what the writer knows has changed
+pub record HasStoredElsewhere (old new : WriterView) : Type 0 where
+  pub long : length new.words ≡ length old.words
+  pub others : (table at : ℕ) → table < TERM_TABLES → at < BIG_WORDS → words_in new.words table at ≡ words_in old.words table at
+  pub same : new ≡ record old { words = new.words }
+
+-- stores of any number of words elsewhere
+abbrev pub KeptByWrites : Type 0
+KeptByWrites = (t : Terms) (old new : WriterView) → HasStoredElsewhere old new → IsTableOf t old → KeepsTable t old new
+
 -- a generation over the same term table has just its keys
 pub record KeepsKeys (w : WriterView) (p : Published) : Type 0 where
   pub table : p.root.term ≡ active_table w

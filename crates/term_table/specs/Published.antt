@@ -1,6 +1,7 @@
 -- When what is staged may be published, and what that leaves.
 -- Source: Erlang/OTP erts internal documentation, ThreadProgress; the words are this project's own.
-use Rattle.std.specs.Prelude.{◌≡◌, ℕ, ◌+◌, List, [], ◌∷◌, ◌++◌, length, None, slice_set}
+use Rattle.std.specs.Prelude.{◌≡◌, ℕ, ◌+◌, ◌≤◌, List, [], ◌∷◌, ◌++◌, length, None, slice_set}
+use Rattle.prgr_core.specs.Invariant.{CounterInRange}
 use Rattle.term_core.specs.declared.area.AreaRef.{AreaRef}
 use Rattle.term_core.specs.declared.generation.Generation.{Generation}
 use Rattle.area_core.specs.declared.map.TheConstants.{BUCKETS}
@@ -40,6 +41,9 @@ pub record MayPublishTerms (Served : Published → Type 0) (t : Terms) (w : Writ
 -- was active
 pub record HasPublished (t u : Terms) (p : Published) (old new : WriterView) (generation : ℕ) : Type 0 where
   pub counter : ℕ
+  -- a counter, which never falls
+  pub range : CounterInRange counter
+  pub rising : old.counter ≤ counter
   pub view : new ≡ counter_kept counter (with_next p old)
   pub tables : u ≡ record { staged = None; needs = slice_set t.needs (active_table old) (counter + 2) }
   pub number : generation ≡ length old.published

@@ -1,11 +1,17 @@
 //! What keeps term tables those of their writer besides the calls on them, and what is staged in them.
 
-ghost use Rattle.term_table.specs.Laws.{KeptByStores, KeptByRoots, KeptByCounters, KeptByNotes, KeptByKeys};
+ghost use Rattle.term_table.specs.Laws.{KeptByStores, KeptByWrites, KeptByRoots, KeptByCounters, KeptByNotes, KeptByKeys};
 
 /// A store of a word that is none of the term tables.
 #[tactic(auto, using(crate::proofs::Kept::stored_elsewhere))]
 pub fn stores_keep_tables()
     ensures { KeptByStores }
+{}
+
+/// Stores of any number of words that are none of the term tables.
+#[tactic(auto, using(crate::proofs::Written::written_elsewhere))]
+pub fn writes_keep_tables()
+    ensures { KeptByWrites }
 {}
 
 /// The store of the root of a generation that has the same term table and just its keys.

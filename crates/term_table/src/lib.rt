@@ -19,7 +19,7 @@ pub use answers::StageFault;
 pub use change::Change;
 pub use laws::{
     counters_keep_tables, keys_that_stay_are_staged, notes_keep_tables, roots_keep_tables,
-    stores_keep_tables,
+    stores_keep_tables, writes_keep_tables,
 };
 pub use looking::lookup;
 pub use table::TermTable;
