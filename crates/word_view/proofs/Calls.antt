@@ -19,10 +19,10 @@ use Rattle.machine_core.proofs.Viewing.{is_entry}
 use Rattle.word_view.specs.Loaded.{IsCallable, IsCodeOf, LeadsOn, export_at}
 use Rattle.word_view.specs.Views.{IsReader, shown_by}
 use Rattle.word_view.proofs.Coming.{block_listed, current_there, once}
-use Rattle.word_view.proofs.Exporting.{code_entry, code_listed, entry_ref}
+use Rattle.word_view.proofs.Exporting.{code_entry, code_listed}
 use Rattle.word_view.proofs.KeptHere.{used_current}
-use Rattle.word_view.proofs.ServedAreas.{begins_with}
-use Rattle.word_view.proofs.States.{served_calls, served_lawful}
+use Rattle.code_law.proofs.ServedAreas.{begins_with}
+use Rattle.code_law.proofs.States.{entry_ref, served_calls, served_lawful}
 
 module _ (names : List Mfa) (opening : Opening) (process : ℕ) (m : MemberView) (h : IsReader names opening process m) (to : Mfa) where
   abbrev p : Published

@@ -30,11 +30,11 @@ use Rattle.machine_core.specs.Reads.{IsCurrent, area_of}
 use Rattle.machine_core.specs.View.{IsInBlock, IsReadable}
 use Rattle.word_view.specs.Anchored.{holds_by}
 use Rattle.word_view.specs.Loaded.{IsNamedAt, IsReadAt, IsWordThere, MayCome}
-use Rattle.word_view.specs.Served.{with_traced}
+use Rattle.code_law.specs.Served.{with_traced}
 use Rattle.word_view.specs.Views.{AreOnce, IsAreaOf, IsReader, StandsIn, shown_by}
 use Rattle.word_view.proofs.Anchoring.{held_names, named_any}
 use Rattle.word_view.proofs.KeptHere.{reached_current, used_reached}
-use Rattle.word_view.proofs.ServedAreas.{image_same, images_once}
+use Rattle.code_law.proofs.ServedAreas.{image_same, images_once}
 
 -- ---- blocks
 

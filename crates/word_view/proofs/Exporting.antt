@@ -12,7 +12,8 @@ use Rattle.area_core.specs.Map.{block_place}
 use Rattle.area_core.proofs.Tests.{passed_by}
 use Rattle.shared_words.specs.declared.view.MemberView.{MemberView}
 use Rattle.shared_words.specs.Processes.{held_by_view}
-use Rattle.server_core.specs.ServerState.{Entry, entry_of}
+use Rattle.server_core.specs.ServerState.{entry_of}
+use Rattle.code_law.proofs.States.{entry_ref}
 use Rattle.word_view.specs.Loaded.{IsCallable, IsCodeOf, IsFound, IsReadAt, IsWordThere, LeadsOn}
 use Rattle.word_view.proofs.KeptHere.{reached_current}
 
@@ -94,10 +95,7 @@ code_reached m o word serial led there =
     subst (λ (x : Option FunctionRef). IsCodeOf (held_by_view m) x (Some code)) (sym led.is)
     (serial_is, led.function_is, subst (Among (held_by_view m).areas) (λ i. record { serial = (led.callable.is ∙ sym serial_is) i; block = sym led.block_is i }) led.callable.stands.listed)
 
--- what was found, as an entry
-abbrev pub entry_ref : FunctionRef → Entry
-entry_ref f = record { serial = f.serial; function = f.function }
-
+-- it is the entry that was found
 pub code_entry : (p : Published) (o : Option FunctionRef) (r : Option CodeRef) → IsCodeOf p o r → option_map entry_of r ≡ option_map entry_ref o
 code_entry p None None h = refl
 code_entry p None (Some code) h = absurd h

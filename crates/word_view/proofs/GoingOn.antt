@@ -34,10 +34,10 @@ use Rattle.machine_core.proofs.CodeNames.{code_names-shown}
 use Rattle.machine_core.proofs.NamedAreas.{among_append, names_held as all_held}
 use Rattle.machine_core.proofs.SerialLists.{among-serials_of}
 use Rattle.word_view.specs.Anchored.{holds_by}
-use Rattle.word_view.specs.Served.{IsServed}
+use Rattle.code_law.specs.Served.{IsServed}
 use Rattle.word_view.specs.Views.{IsView, StandsIn, Viewed, held_of_view, shown_by, shown_of_view}
 use Rattle.word_view.proofs.Coming.{block_listed, names_held}
-use Rattle.word_view.proofs.ServedAreas.{image_same}
+use Rattle.code_law.proofs.ServedAreas.{image_same}
 
 module _ (names : List Mfa) (traced seen : List FunctionRef) (p q : Published) where
   -- the area has the words and the block still

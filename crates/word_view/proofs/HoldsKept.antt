@@ -16,7 +16,7 @@ use Rattle.anchors.specs.Drops.{AnchorsStored, HasDropped}
 use Rattle.anchors.specs.Holds as slots
 use Rattle.anchors.specs.Holds.{AnchorsApart, HasHeld, IsUnkilled, anchors_of, view_of}
 use Rattle.anchors.proofs.Stored.{hold_stored, run_still}
-use Rattle.word_view.specs.Served.{IsServed}
+use Rattle.code_law.specs.Served.{IsServed}
 use Rattle.word_view.specs.Views.{IsReader, IsReading, IsView, StandsIn, Viewed}
 use Rattle.word_view.proofs.Anchoring.{named_any, names_either, unkilled_still}
 

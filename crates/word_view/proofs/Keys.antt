@@ -20,8 +20,8 @@ use Rattle.server_core.specs.Generations.{holding_of, key_term}
 use Rattle.server_core.specs.ServerState.{Persistent, found_as}
 use Rattle.machine_core.specs.GenerationReads.{found_held, holding_among}
 use Rattle.word_view.specs.Loaded.{IsFoundIn}
-use Rattle.word_view.specs.Served.{IsOfServer}
-use Rattle.word_view.proofs.States.{state_of}
+use Rattle.code_law.specs.Served.{IsOfServer}
+use Rattle.code_law.proofs.States.{state_of}
 
 -- ---- words
 

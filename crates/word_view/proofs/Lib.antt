@@ -2,8 +2,6 @@ pub mod Reading
 pub mod KeptHere
 pub mod Exporting
 pub mod Telling
-pub mod States
-pub mod ServedAreas
 pub mod Anchoring
 pub mod Fullness
 pub mod Coming

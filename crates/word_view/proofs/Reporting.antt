@@ -16,7 +16,7 @@ use Rattle.shared_words.specs.Views.{newest, published_at}
 use Rattle.shared_words.proofs.RootLoads.{shorter}
 use Rattle.progress_words.specs.Reports.{IsAwake, Reported}
 use Rattle.anchors.specs.Holds.{AnchorsApart, IsUnkilled, MayRun, anchors_of, view_of}
-use Rattle.word_view.specs.Served.{IsServed}
+use Rattle.code_law.specs.Served.{IsServed}
 use Rattle.word_view.specs.Views.{HasGoneOn, IsReader, MayBegin, NamedListed, StandsIn, Viewed}
 
 -- ---- a report

@@ -24,8 +24,8 @@ use Rattle.machine_core.specs.View.{IsLawful}
 use Rattle.word_view.specs.Loaded.{HasRead, IsFound}
 use Rattle.word_view.specs.Views.{IsReader, IsReading, IsView, MayBegin, StandsIn, Viewed, shown_by, shown_of_view}
 use Rattle.word_view.proofs.Reading.{held_still, view_still}
-use Rattle.word_view.proofs.ServedAreas.{images_once}
-use Rattle.word_view.proofs.States.{served_lawful}
+use Rattle.code_law.proofs.ServedAreas.{images_once}
+use Rattle.code_law.proofs.States.{served_lawful}
 
 -- an area that is kept as the generation has it
 stands_kept : (p : Published) (kept : List KeptArea) (serial : ℕ) → ((image : List ℕ) → has_image p.state.areas serial image ≡ true → image_of p.state.areas serial ≡ Some image) → ((k : KeptArea) → Among kept k → FitsBlock k) → list_any (is_kept_as p serial) kept ≡ true → StandsIn p serial

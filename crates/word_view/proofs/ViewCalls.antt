@@ -43,8 +43,8 @@ use Rattle.word_view.proofs.Fullness.{full_iff}
 use Rattle.word_view.proofs.Keys.{served_plain}
 use Rattle.word_view.proofs.HoldsKept.{hold_kept, refused_kept}
 use Rattle.word_view.proofs.Reading.{held_still}
-use Rattle.word_view.proofs.ServedAreas.{doomed_old, retired_not_doomed, serial_fits}
-use Rattle.word_view.proofs.States.{served_keys}
+use Rattle.code_law.proofs.ServedAreas.{doomed_old, retired_not_doomed, serial_fits}
+use Rattle.code_law.proofs.States.{served_keys}
 
 -- the place of a function's first instruction stands at a place that may be asked for
 row_readable : (shown : Shown) (e : Entry) → IsLawful shown → HasFunction shown.reads e → IsReadable shown e.serial (4 + 4 * e.function + 3)

@@ -1,4 +1,3 @@
-pub mod Served
 pub mod Anchored
 pub mod Views
 pub mod Loaded

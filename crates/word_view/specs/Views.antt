@@ -24,7 +24,7 @@ use Rattle.machine_core.specs.GenerationReads.{block_among, shown_in}
 use Rattle.machine_core.specs.Holds.{Holds}
 use Rattle.machine_core.specs.View.{Shown}
 use Rattle.word_view.specs.Anchored.{holds_by}
-use Rattle.word_view.specs.Served.{IsServed, with_traced}
+use Rattle.code_law.specs.Served.{IsServed, with_traced}
 
 -- what contracts see of a view: the token of its member, of which table that is, and what the view was given
 pub record Viewed : Type 0 where

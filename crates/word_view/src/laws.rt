@@ -1,20 +1,6 @@
 //! What holds of the generations that the shared words show.
 
-ghost use Rattle.word_view.specs.Laws.{OthersStay, ReportsBegin, ServedAreLawful, ServedTurnsAgree, TurnsGoOn};
-
-/// A view of a generation that is served is lawful, whatever the blocks of its areas are and which functions
-/// are traced.
-pub fn served_generations_are_lawful()
-    ensures { ServedAreLawful }
-{}
-
-/// A turn by a generation that is served is the turn under a sound state of the server, for every process that
-/// stands at places of the generation.
-///
-/// Rule: Erlang/OTP erts internal documentation, CodeLoading; a turn sees one generation.
-pub fn turns_by_served_generations_agree()
-    ensures { ServedTurnsAgree }
-{}
+ghost use Rattle.word_view.specs.Laws.{OthersStay, ReportsBegin, TurnsGoOn};
 
 /// What a view is made from is there again once its member has reported: what the slot names, the new generation
 /// lists too.

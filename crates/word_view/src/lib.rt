@@ -4,7 +4,6 @@
 mod began;
 mod exports;
 mod laws;
-mod naming;
 mod places;
 mod reads;
 mod tells;
@@ -13,10 +12,6 @@ mod turns;
 mod view;
 
 pub use began::Began;
-pub use laws::{
-    reports_begin_turns, served_generations_are_lawful, turns_by_served_generations_agree,
-    turns_go_on_after_reports, turns_leave_other_processes,
-};
-pub use naming::{CodeLaw, Naming};
+pub use laws::{reports_begin_turns, turns_go_on_after_reports, turns_leave_other_processes};
 pub use turns::turn_of;
 pub use view::WordView;

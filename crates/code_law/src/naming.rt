@@ -23,7 +23,7 @@ pub struct CodeLaw<K> {
 }
 
 impl<K: Naming> Served for CodeLaw<K> {
-    ghost use Rattle.word_view.specs.Served.{IsServed};
+    ghost use Rattle.code_law.specs.Served.{IsServed};
 
     ghost served = { λ p. IsServed K.names p };
 }

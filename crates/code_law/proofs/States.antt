@@ -19,9 +19,12 @@ use Rattle.machine_core.specs.View.{IsLawful}
 use Rattle.machine_core.proofs.GenerationExports.{dispatched_is, exported_is}
 use Rattle.machine_core.proofs.GenerationKeys.{key_found-is}
 use Rattle.machine_core.proofs.GenerationTurns.{generation_lawful, generation_ran}
-use Rattle.word_view.specs.Laws.{IsTurnOfServer}
-use Rattle.word_view.specs.Served.{IsOfServer, IsOfState, with_traced}
-use Rattle.word_view.proofs.Exporting.{entry_ref}
+use Rattle.code_law.specs.Laws.{IsTurnOfServer}
+use Rattle.code_law.specs.Served.{IsOfServer, IsOfState, with_traced}
+
+-- the entry of a function
+abbrev pub entry_ref : FunctionRef → Entry
+entry_ref f = record { serial = f.serial; function = f.function }
 
 -- ---- what is traced is no matter to what is sound
 

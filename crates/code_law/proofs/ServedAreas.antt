@@ -18,8 +18,8 @@ use Rattle.server_core.specs.Generations.{generation_of, is_old_code, is_serial,
 use Rattle.server_core.specs.ServerState.{IsInstanceOf, IsSound, ServerState, code_of, is_serial_in, old_of}
 use Rattle.machine_core.specs.GenerationReads.{function_count, image_among, reads_in, words_in}
 use Rattle.machine_core.proofs.GenerationAreas.{IsKept, instance_words, kept_instance, some_of}
-use Rattle.word_view.specs.Served.{IsOfServer, with_traced}
-use Rattle.word_view.proofs.States.{state_of}
+use Rattle.code_law.specs.Served.{IsOfServer, with_traced}
+use Rattle.code_law.proofs.States.{state_of}
 
 -- ---- images of areas
 

@@ -1,5 +1,0 @@
-use Rattle.word_view.proofs.States.{served_turn}
-use Rattle.word_view.proofs.laws.turns_by_served_generations_agree.Goals as goal
-
-pub returns : goal.returns
-returns c = λ names g served traced p placed. served_turn names g served traced p placed
