@@ -1,0 +1,71 @@
+-- What an answer of a commit leaves, whichever it is.
+use Rattle.std.proofs.Common.{◌≡◌, ℕ, List, Result, Ok, Err, IfOk, IfErr, sym, subst}
+use Rattle.atomic_table.specs.Seated.{TableId}
+use Rattle.term_core.specs.declared.area.AreaRef.{AreaRef}
+use Rattle.term_core.specs.declared.atom.Mfa.{Mfa}
+use Rattle.shared_words.specs.declared.opening.Opening.{Opening}
+use Rattle.progress_words.specs.declared.answers.NotYet.{NotYet}
+use Rattle.progress_words.specs.Tokens.{IsWriterOf, written_by}
+use Rattle.server_core.specs.declared.change.Change.{Change}
+use Rattle.server_core.specs.Decided.{Fits}
+use Rattle.server_core.specs.Generations.{AreNumbered}
+use Rattle.server_core.specs.ServerState.{IsSound, ServerState}
+use Rattle.change_laws.specs.Changes.{state_after}
+use Rattle.code_index.specs.Committed.{HasCommitted, IsWaiting, committed}
+use Rattle.code_index.specs.Staging.{IsIndexOf}
+use Rattle.literal_areas.specs.Owned.{AreOf}
+use Rattle.term_table.specs.Laws.{KeptByRoots}
+use Rattle.term_table.specs.Tables.{IsTableOf}
+use Rattle.staging.specs.declared.tables.Tables.{Tables}
+use Rattle.staging.specs.Stages.{HasPublished, HaveExported}
+use Rattle.staging.specs.Upcoming.{areas_in, generation_shown}
+use Rattle.staging.specs.Whose.{AreTablesOf}
+use Rattle.staging.proofs.Committed.{AreCommitted, AreWaiting, are_committed, are_waiting}
+
+pub if_err : {A E : Type 0} (P Q : E → Type 0) (r : Result A E) → ((e : E) → P e → Q e) → IfErr r P → IfErr r Q
+if_err P Q (Ok x) f h = h
+if_err P Q (Err e) f h = f e h
+
+module _ (names : List Mfa) (s : ServerState) (change : Change) (table : TableId) (opening : Opening) (t : Tables) (taken : List AreaRef) (own : AreTablesOf table opening t) (sound : IsSound s) (fits : Fits s change) (had : HaveExported names s change t taken) (numbered : AreNumbered names (state_after s change)) where
+  -- what the call says of an answer
+  pub record Answers (exports : List Mfa) (new : Tables) (r : Result ℕ NotYet) : Type 0 where
+    pub named : exports ≡ names
+    pub by_roots : KeptByRoots
+    pub terms : new.terms ≡ t.terms
+    pub pools : new.pools ≡ t.pools
+    pub committed : IfOk r (λ generation. HasCommitted t.index new.index (committed (written_by t.writer) (generation_shown exports (state_after s change)) (areas_in t.pools)) (written_by t.writer) (written_by new.writer) generation)
+    pub waits : IfErr r (λ answer. IsWaiting t.index new.index (written_by t.writer) (written_by new.writer) answer)
+
+  by_commit : (exports : List Mfa) (new : Tables) (generation : ℕ) → Answers exports new (Ok generation) → AreCommitted names s change table opening t taken own sound fits had numbered new generation
+  by_commit exports new generation said =
+      are_committed names s change table opening t taken own sound fits had numbered new generation said.by_roots said.terms said.pools
+      (subst (λ (ns : List Mfa). HasCommitted t.index new.index (committed (written_by t.writer) (generation_shown ns (state_after s change)) (areas_in t.pools)) (written_by t.writer) (written_by new.writer) generation) said.named said.committed)
+
+  by_wait : (exports : List Mfa) (new : Tables) (answer : NotYet) → Answers exports new (Err answer) → AreWaiting names s change table opening t taken own sound fits had numbered new answer
+  by_wait exports new answer said = are_waiting names s change table opening t taken own sound fits had numbered new answer said.terms said.pools said.waits
+
+  pub published_after : (exports : List Mfa) (new : Tables) (r : Result ℕ NotYet) → Answers exports new r → IfOk r (λ generation. HasPublished names (state_after s change) t new generation)
+  published_after exports new (Ok generation) said = (by_commit exports new generation said).published
+  published_after exports new (Err answer) said = said.committed
+
+  pub waits_after : (exports : List Mfa) (new : Tables) (r : Result ℕ NotYet) → Answers exports new r → IfErr r (λ answer. AreWaiting names s change table opening t taken own sound fits had numbered new answer)
+  waits_after exports new (Ok generation) said = said.waits
+  waits_after exports new (Err answer) said = by_wait exports new answer said
+
+  pub tables_after : (exports : List Mfa) (new : Tables) (r : Result ℕ NotYet) → Answers exports new r → IsWriterOf table opening new.writer → IsIndexOf new.index (written_by new.writer) → AreTablesOf table opening new
+  tables_after exports new (Ok generation) said token index =
+      let after = by_commit exports new generation said in
+      record {
+        token = token;
+        index = index;
+        terms = subst (λ t. IsTableOf t (written_by new.writer)) (sym said.terms) after.terms;
+        pools = subst (λ s. AreOf s (written_by new.writer)) (sym said.pools) after.pools;
+      }
+  tables_after exports new (Err answer) said token index =
+      let after = by_wait exports new answer said in
+      record {
+        token = token;
+        index = index;
+        terms = subst (λ t. IsTableOf t (written_by new.writer)) (sym said.terms) after.terms;
+        pools = subst (λ s. AreOf s (written_by new.writer)) (sym said.pools) after.pools;
+      }

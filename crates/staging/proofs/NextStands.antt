@@ -1,0 +1,89 @@
+-- Once the root is stored, the words stand for the state that is published.
+use Rattle.std.proofs.Common.{◌≡◌, ℕ, ◌+◌, ◌<◌, ◌≤◌, inl, List, [], ◌∷◌, ◌++◌, length, Option, refl, sym, ap, subst, ◌∙◌, arith}
+use Rattle.std.specs.Prelude.{unwrap_or}
+use Rattle.std.proofs.lemmas.List.{length-append}
+use Rattle.term_core.specs.declared.atom.Mfa.{Mfa}
+use Rattle.area_core.specs.declared.table.Published.{Published}
+use Rattle.area_core.specs.Map.{doom_place, word_at}
+use Rattle.area_core.specs.Blocks.{Among}
+use Rattle.area_core.specs.Step.{opening_published}
+use Rattle.shared_words.specs.declared.view.WriterView.{WriterView}
+use Rattle.shared_words.specs.Publishing.{kept_next, with_next}
+use Rattle.shared_words.specs.Views.{newest, published_at}
+use Rattle.shared_words.proofs.OpeningRule.{last_get}
+use Rattle.progress_words.specs.Roots.{newest_of}
+use Rattle.server_core.specs.ServerState.{ServerState}
+use Rattle.literal_areas.specs.declared.areas.Areas.{Areas}
+use Rattle.literal_areas.specs.Owned.{IsListed}
+use Rattle.staging.specs.Standing.{DoomStands, ImagesKept, StandFor, WordsTell}
+use Rattle.staging.specs.Upcoming.{IsUpcoming}
+use Rattle.staging.proofs.Coming.{ComesNext}
+use Rattle.staging.proofs.NextAreas.{apart_next, is_kept_next, kept_is, listed_next}
+use Rattle.staging.proofs.NextReads.{dropped_unused, shown_retired, shown_used}
+use Rattle.staging.proofs.NextStays.{dropped_next}
+
+newest_pushed : (xs : List Published) (p : Published) → newest (xs ++ p ∷ []) ≡ length xs
+newest_pushed xs p = let long = length-append xs (p ∷ []) in omega (arith, long)
+
+pub newest_next : (w : WriterView) (p : Published) → newest_of (with_next p w) ≡ p
+newest_next w p =
+    ap (λ (g : ℕ). published_at (w.published ++ p ∷ []) g) (newest_pushed w.published p) ∙ ap (λ (o : Option Published). unwrap_or o opening_published) (last_get w.published p)
+
+doom_later : (s : ServerState) (serial newest later word : ℕ) → newest ≤ later → DoomStands s serial newest word → DoomStands s serial later word
+doom_later s serial newest later word le stands = record { clear = stands.clear; set = λ doomed. let set = stands.set doomed in let reached = set.1 in (set.0, omega (arith, le, reached)) }
+
+module _ (names : List Mfa) (s : ServerState) (pools : Areas) (w : WriterView) (p : Published) (next : ComesNext names s pools w) (up : IsUpcoming names s pools p) where
+  -- the pools are those of the generation
+  pub is_listed : IsListed pools p
+  is_listed = record {
+    stand = listed_next names s pools w p next up;
+    used = λ serial used. next.blocks.used serial (shown_used names s p up.state next.keys_once serial used);
+    retired = λ block serial since is. shown_retired names s p up.state serial ∙ next.blocks.retired block serial since is;
+    past = λ serial retired.
+        let dropped = next.sound.retired serial (sym (shown_retired names s p up.state serial) ∙ retired) in
+        let known = dropped.known in
+        let same = next.blocks.next in
+        record { below = omega (arith, known, same); dead = λ block live. dropped_unused s next.sound serial dropped (next.blocks.live block serial live) };
+  }
+
+  long : length (w.published ++ p ∷ []) ≡ length w.published + 1
+  long = length-append w.published (p ∷ [])
+
+  later : newest w.published ≤ newest (w.published ++ p ∷ [])
+  later = (let is = newest_pushed w.published p in omega (arith, is))
+
+  words_next : WordsTell s pools (with_next p w)
+  words_next = record {
+    retire = next.words.retire;
+    since = λ block serial since is. let when = next.words.since block serial since is in let reached = when.1 in let more = long in (when.0, omega (arith, reached, more));
+    free = next.words.free;
+    doom = λ block serial big is. doom_later s serial (newest w.published) (newest (w.published ++ p ∷ [])) (word_at w.words (doom_place block)) later (next.words.doom block serial big is);
+    untraced = next.words.untraced;
+  }
+
+  images_next : ImagesKept s pools (kept_next w p)
+  images_next = record {
+    areas = is_kept_next names s pools w p next up;
+    images = λ k at. (kept_is names s pools w p next up k at).image;
+    apart = apart_next names s pools w p next up;
+  }
+
+  pub stands_next : p.root.bp ≡ (newest_of w).root.bp → StandFor names s pools (with_next p w)
+  stands_next bp = record {
+    newest_is = record {
+      stood = s;
+      sound = next.sound;
+      since = record { same = refl; fewer = λ serial is. is; more = λ serial is. is };
+      shows = inl (ap (λ (x : Published). x.state) (newest_next w p) ∙ up.state);
+    };
+    numbered = next.numbered;
+    keys_once = next.keys_once;
+    narrow = next.narrow;
+    bp = subst (λ (x : Published). x.root.bp < 2) (sym (newest_next w p)) (let low = next.bp in omega (arith, bp, low));
+    listed = λ a at used. listed_next names s pools w p next up a (subst (λ (x : Published). Among x.areas a) (newest_next w p) at);
+    blocks = next.blocks;
+    placed = next.placed;
+    images = images_next;
+    words = words_next;
+    dropped = dropped_next names s pools w p next up;
+  }

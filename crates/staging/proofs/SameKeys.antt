@@ -1,0 +1,89 @@
+-- Where a change leaves the keys, the active term table holds those of the next generation too.
+use Rattle.std.proofs.Common.{◌≡◌, ℕ, zero, suc, inl, inr, true, List, [], ◌∷◌, map, Option, Some, None, refl, sym, ap, subst, ◌∙◌}
+use Rattle.std.specs.Prelude.{◌==◌, ◌&&◌, slice_get, option_and_then, IsSomeAnd, IsTrue}
+use Rattle.std.specs.List.{list_any}
+use Rattle.std.proofs.lemmas.Bool.{and_from, and_parts, eqb-true}
+use Rattle.term_core.specs.declared.area.AreaRef.{AreaRef}
+use Rattle.term_core.specs.declared.atom.Mfa.{Mfa}
+use Rattle.term_core.specs.declared.generation.Generation.{Generation}
+use Rattle.term_core.specs.declared.generation.Holding.{Holding}
+use Rattle.term_core.specs.declared.generation.Holding.TheVariants.{Word, Area}
+use Rattle.term_core.specs.declared.generation.KeyTerm.{KeyTerm}
+use Rattle.area_core.specs.declared.table.Published.{Published}
+use Rattle.area_core.specs.Generations.{is_area_word, is_term_word}
+use Rattle.area_core.specs.Blocks.{Among}
+use Rattle.area_core.specs.Terms.{TermsStand, found_in, is_word_of}
+use Rattle.server_core.specs.Generations.{key_term}
+use Rattle.server_core.specs.ServerState.{Persistent, ServerState}
+use Rattle.prgr_core.proofs.Parts.{some_same}
+use Rattle.staging.specs.Standing.{AreKeysOnce, IsShownBy, IsUsed}
+use Rattle.staging.proofs.NextFresh.{any_at, at_any}
+use Rattle.staging.proofs.NextReads.{held_at}
+
+-- ---- two generations with the same keys
+
+-- the areas of keys that one lists the other lists too
+abbrev pub ListsKeys : Published → Published → Type 0
+ListsKeys p q = (k : KeyTerm) (serial : ℕ) (a : AreaRef) → Among p.state.keys k → k.holding ≡ Area serial → Among p.areas a → a.serial ≡ serial → Among q.areas a
+
+word_alike : (p q : Published) (h : Holding) (word : ℕ) → ((serial : ℕ) (a : AreaRef) → h ≡ Area serial → Among p.areas a → a.serial ≡ serial → Among q.areas a) → is_term_word p h word ≡ true → is_term_word q h word ≡ true
+word_alike p q (Word value) word lists e = e
+word_alike p q (Area serial) word lists e =
+    let found = at_any (λ (a : AreaRef). (a.serial == serial) && is_area_word a word) p.areas e in
+    let parts = and_parts (found.0.serial == serial) (is_area_word found.0 word) found.2 in
+    any_at (λ (a : AreaRef). (a.serial == serial) && is_area_word a word) q.areas found.0 (lists serial found.0 refl found.1 (eqb-true found.0.serial serial parts.0)) found.2
+
+some_alike : (P Q : ℕ → Type 0) (o : Option ℕ) → ((x : ℕ) → P x → Q x) → IsSomeAnd o P → IsSomeAnd o Q
+some_alike P Q None f h = h
+some_alike P Q (Some x) f h = f x h
+
+module _ (block : ℕ → ℕ) (p q : Published) (keys : q.state.keys ≡ p.state.keys) (lists : ListsKeys p q) where
+  key_alike : (k : KeyTerm) (word : ℕ) → Among p.state.keys k → is_term_word p k.holding word ≡ true → is_term_word q k.holding word ≡ true
+  key_alike k word at e = word_alike p q k.holding word (λ serial a is. lists k serial a at is) e
+
+  found_alike : TermsStand block p → (i : ℕ) (k : KeyTerm) → slice_get q.state.keys i ≡ Some k → IsSomeAnd (found_in block k.key.0) (λ word. IsTrue (is_term_word q k.holding word))
+  found_alike stands i k at =
+      let there : slice_get p.state.keys i ≡ Some k = ap (λ (ks : List KeyTerm). slice_get ks i) (sym keys) ∙ at in
+      some_alike (λ word. IsTrue (is_term_word p k.holding word)) (λ word. IsTrue (is_term_word q k.holding word)) (found_in block k.key.0) (λ word e. key_alike k word (i, there) e) (stands.found i k there)
+
+  only_alike : TermsStand block p → (key word : ℕ) → found_in block key ≡ Some word → IsTrue (list_any (is_word_of q key word) q.state.keys)
+  only_alike stands key word is =
+      let found = at_any (is_word_of p key word) p.state.keys (stands.only key word is) in
+      let parts = and_parts (found.0.key.0 == key) (is_term_word p found.0.holding word) found.2 in
+      any_at (is_word_of q key word) q.state.keys found.0 (subst (λ (ks : List KeyTerm). Among ks found.0) (sym keys) found.1)
+      (and_from (found.0.key.0 == key) (is_term_word q found.0.holding word) parts.0 (key_alike found.0 word found.1 parts.1))
+
+  pub terms_alike : TermsStand block p → TermsStand block q
+  terms_alike stands = record { found = found_alike stands; only = only_alike stands }
+
+-- ---- the keys of a state
+
+-- the newest generation has those of the state
+pub newest_keys : (names : List Mfa) (s : ServerState) (p : Published) → IsShownBy names s p → p.state.keys ≡ map key_term s.keys
+newest_keys names s p shown =
+    elim shown.shows as (λ _. p.state.keys ≡ map key_term s.keys) [
+      | inl is ↦ ap (λ (g : Generation). g.keys) is ∙ ap (λ (t : ServerState). map key_term t.keys) (sym shown.since.same)
+      | inr first ↦ ap (λ (x : Published). x.state.keys) first.0 ∙ sym (ap (λ (t : ServerState). map key_term t.keys) shown.since.same ∙ ap (λ (t : ServerState). map key_term t.keys) first.1)
+    ]
+
+at_mapped : (keys : List Persistent) (i : ℕ) (k : KeyTerm) → slice_get (map key_term keys) i ≡ Some k → (p : Persistent) × (slice_get keys i ≡ Some p) × (key_term p ≡ k)
+at_mapped [] i k at = absurd (cc)
+at_mapped (p ∷ keys) zero k at = (p, refl, some_same (key_term p) k at)
+at_mapped (p ∷ keys) (suc i) k at = at_mapped keys i k at
+
+area_of : (p : Persistent) (serial : ℕ) (o : Option ℕ) → p.area ≡ o → (key_term p).holding ≡ Area serial → p.area ≡ Some serial
+area_of p serial None is e = absurd (let none = subst (λ (a : Option ℕ). (key_term (record p { area = a })).holding ≡ Area serial) is e in word_none none)
+  where
+    word_none : {v : ℕ} → Word v ≡ Area serial → ⊥
+    word_none e = (cc)
+area_of p serial (Some n) is e = is ∙ ap (λ (k : ℕ). Some k) (same n (subst (λ (a : Option ℕ). (key_term (record p { area = a })).holding ≡ Area serial) is e))
+  where
+    same : (n : ℕ) → Area n ≡ Area serial → n ≡ serial
+    same n e = (cc)
+
+-- so the area of one of them is used
+pub key_used : (s : ServerState) (k : KeyTerm) (serial : ℕ) → AreKeysOnce s.keys → Among (map key_term s.keys) k → k.holding ≡ Area serial → IsUsed s serial
+key_used s k serial once at is =
+    let found = at_mapped s.keys at.0 k at.1 in
+    let area = area_of found.0 serial found.0.area refl (ap (λ (x : KeyTerm). x.holding) found.2 ∙ is) in
+    inr (inr (found.0.key, ap (λ (o : Option Persistent). option_and_then (λ (x : Persistent). x.area) o) (held_at s.keys at.0 found.0 once found.1) ∙ area))

@@ -1,0 +1,7 @@
+-- The words stand for the state before the first command.
+use Rattle.staging.proofs.AtFirst.{rest_first}
+use Rattle.staging.proofs.tables.Tables.new.Goals as goal
+
+pub returns-clause-rest : goal.returns-clause-rest
+returns-clause-rest c =
+    rest_first c.args.exports (record { writer = c.args.writer; exports = c.args.exports; index = c.new-index.result; terms = c.new-terms.result; pools = c.in_ok-pools.pools }) c.requires.first c.new-index.ensures.nothing c.new-terms.ensures.nothing c.in_ok-pools.ensures.opening

@@ -1,0 +1,114 @@
+-- How far the words are with a change of the server that waits, and what a step of it leaves.
+-- Source: Erlang/OTP erts internal documentation, CodeLoading (stage, wait for thread progress, commit), and the manual page of persistent_term.
+use Rattle.std.specs.Prelude.{◌≡◌, ◌⊎◌, ℕ, ◌+◌, ◌<◌, List, [], ◌∷◌, ◌++◌, length, None}
+use Rattle.term_core.specs.declared.area.AreaRef.{AreaRef}
+use Rattle.term_core.specs.declared.atom.Mfa.{Mfa}
+use Rattle.area_core.specs.declared.table.Published.{Published}
+use Rattle.progress_words.specs.declared.answers.NotYet.{NotYet}
+use Rattle.progress_words.specs.Tokens.{written_by}
+use Rattle.server_core.specs.declared.change.Change.{Change}
+use Rattle.server_core.specs.declared.change.Change.TheVariants.{BringIn, MakeOld, HoldWord, HoldArea, Forget}
+use Rattle.server_core.specs.Decided.{made}
+use Rattle.server_core.specs.ServerState.{ServerState}
+use Rattle.code_index.specs.declared.index.Staging.TheVariants.{Nothing}
+use Rattle.literal_areas.specs.declared.areas.Areas.{Areas}
+use Rattle.literal_areas.specs.declared.blocks.Pool.{Pool}
+use Rattle.literal_areas.specs.Blocks.{AwaitsRelease, blocks_of}
+use Rattle.staging.specs.declared.tables.Tables.{Tables}
+use Rattle.staging.specs.declared.stage.Stage.{Stage}
+use Rattle.staging.specs.declared.stage.Stage.TheVariants.{Untouched, Placed, Exported}
+use Rattle.staging.specs.declared.placing.Placing.{Placing}
+use Rattle.staging.specs.declared.placing.Placing.TheVariants.{Whole, AwaitRelease}
+use Rattle.staging.specs.declared.stage.Step.{Step}
+use Rattle.staging.specs.declared.stage.Step.TheVariants as steps
+use Rattle.staging.specs.Exported.{AreExported}
+use Rattle.change_laws.specs.Changes.{incoming}
+use Rattle.staging.specs.Placed.{ArePlaced}
+use Rattle.staging.specs.Standing.{StandFor}
+use Rattle.staging.specs.Upcoming.{generation_shown}
+
+-- ---- how far
+
+-- no exports and no keys are staged
+pub record NothingStaged (t : Tables) : Type 0 where
+  pub index : t.index ≡ Nothing
+  pub terms : t.terms.staged ≡ None
+
+-- the words stand for the state, and nothing is under way
+pub record AreAtRest (names : List Mfa) (s : ServerState) (t : Tables) : Type 0 where
+  pub stands : StandFor names s t.pools (written_by t.writer)
+  pub staged : NothingStaged t
+
+-- the words stand for the state, and the first of what the change brings in has these areas beside
+pub record HavePlaced (names : List Mfa) (s : ServerState) (change : Change) (t : Tables) (taken : List AreaRef) : Type 0 where
+  pub rest : Areas
+  pub stands : StandFor names s rest (written_by t.writer)
+  pub placed : ArePlaced (incoming change) rest t.pools (written_by t.writer) taken
+  pub terms : t.terms.staged ≡ None
+
+-- a change of code alone
+abbrev pub IsCodeChange : Change → Type 0
+IsCodeChange (BringIn generation modules areas versions) = Unit {0}
+IsCodeChange (MakeOld generation name) = Unit {0}
+IsCodeChange change = ⊥
+
+-- all of it has, and exports are staged, which those of a change of code alone are
+pub record HaveExported (names : List Mfa) (s : ServerState) (change : Change) (t : Tables) (taken : List AreaRef) : Type 0 where
+  pub code : IsCodeChange change
+  pub placed : HavePlaced names s change t taken
+  pub whole : length taken ≡ length (incoming change)
+  pub exported : AreExported names s change t
+
+-- what is so at a stage of the change
+abbrev pub StageStands : List Mfa → ServerState → Change → Tables → Stage → Type 0
+StageStands names s change t Untouched = AreAtRest names s t
+StageStands names s change t (Placed areas) = HavePlaced names s change t areas.items × (t.index ≡ Nothing)
+StageStands names s change t (Exported areas) = HaveExported names s change t areas.items
+
+-- whether all that a change brings in has its areas, as it is told
+abbrev pub PlacingAnswers : Change → Tables → List AreaRef → Placing → Type 0
+PlacingAnswers change t taken Whole = length taken ≡ length (incoming change)
+PlacingAnswers change t taken AwaitRelease = (pool : Pool) × AwaitsRelease (blocks_of pool t.pools)
+
+-- whether what comes in at this place has its area
+abbrev pub NextAnswers : ℕ → Tables → List AreaRef → Placing → Type 0
+NextAnswers at t taken Whole = length taken ≡ at + 1
+NextAnswers at t taken AwaitRelease = (length taken ≡ at) × ((pool : Pool) × AwaitsRelease (blocks_of pool t.pools))
+
+-- ---- a step
+
+-- a change of a key alone
+abbrev pub IsKeyChange : Change → Type 0
+IsKeyChange (HoldWord generation key term keys retired) = Unit {0}
+IsKeyChange (HoldArea generation key term kept areas keys retired) = Unit {0}
+IsKeyChange (Forget generation key retired) = Unit {0}
+IsKeyChange change = ⊥
+
+-- a change that goes by stages
+abbrev pub IsStaged : Change → Type 0
+IsStaged change = IsCodeChange change ⊎ IsKeyChange change
+
+-- the change is published: one generation more, which is that of the state that it leaves
+pub record HasPublished (names : List Mfa) (s : ServerState) (old new : Tables) (generation : ℕ) : Type 0 where
+  pub next : Published
+  pub shows : next.state ≡ generation_shown names s
+  pub published : (written_by new.writer).published ≡ (written_by old.writer).published ++ next ∷ []
+  pub number : generation ≡ length (written_by old.writer).published
+  pub rest : AreAtRest names s new
+
+-- nothing is published, and this is why the change waits
+pub record Waits (names : List Mfa) (s : ServerState) (change : Change) (old new : Tables) (stage : Stage) (Why : Type 0) : Type 0 where
+  pub published : (written_by new.writer).published ≡ (written_by old.writer).published
+  pub stands : StageStands names s change new stage
+  pub why : Why
+
+-- the counter that was loaded in this call is below what is awaited
+pub record IsLate (new : Tables) (answer : NotYet) : Type 0 where
+  pub loaded : answer.current ≡ (written_by new.writer).counter
+  pub below : answer.current < answer.need
+
+-- what each answer says
+abbrev pub StepAnswers : List Mfa → ServerState → Change → Tables → Tables → Stage → Step → Type 0
+StepAnswers names s change old new stage (steps.Published generation) = HasPublished names (made s change).state old new generation
+StepAnswers names s change old new stage (steps.NotYet answer) = Waits names s change old new stage (IsLate new answer)
+StepAnswers names s change old new stage steps.AwaitRelease = Waits names s change old new stage ((pool : Pool) × AwaitsRelease (blocks_of pool new.pools))

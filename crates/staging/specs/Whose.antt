@@ -1,0 +1,31 @@
+-- The tables by which the one writer of the shared words changes them, and whose they are.
+-- Source: this project's own.
+use Rattle.std.specs.Prelude.{◌≡◌, ℕ}
+use Rattle.atomic_table.specs.Seated.{TableId}
+use Rattle.area_core.specs.Map.{word_at}
+use Rattle.shared_words.specs.declared.opening.Opening.{Opening}
+use Rattle.shared_words.specs.declared.view.WriterView.{WriterView}
+use Rattle.progress_words.specs.Tokens.{IsWriterOf, written_by}
+use Rattle.code_index.specs.Laws.{IsElsewhere}
+use Rattle.code_index.specs.Staging.{IsIndexOf}
+use Rattle.term_table.specs.Tables.{IsTableOf}
+use Rattle.literal_areas.specs.Owned.{AreOf}
+use Rattle.staging.specs.declared.tables.Tables.{Tables}
+
+-- they are those of the writer of this table of words
+pub record AreTablesOf (table : TableId) (opening : Opening) (t : Tables) : Type 0 where
+  pub token : IsWriterOf table opening t.writer
+  pub index : IsIndexOf t.index (written_by t.writer)
+  pub terms : IsTableOf t.terms (written_by t.writer)
+  pub pools : AreOf t.pools (written_by t.writer)
+
+-- the names, and what is staged, are as before
+pub record KeepsStaged (old new : Tables) : Type 0 where
+  pub exports : new.exports ≡ old.exports
+  pub index : new.index ≡ old.index
+  pub terms : new.terms ≡ old.terms
+
+-- words of code indices alone were stored
+pub record StoresExports (old new : WriterView) : Type 0 where
+  pub others : (place : ℕ) → IsElsewhere place → word_at new.words place ≡ word_at old.words place
+  pub same : new ≡ record old { words = new.words }

@@ -1,0 +1,117 @@
+//! Changes of code: what a load or a delete does to the words, step by step.
+
+ghost use Rattle.std.specs.Prelude.{◌≡◌, ◌<◌, ◌^◌, length, IfOk, OnErr};
+ghost use Rattle.progress_words.specs.Tokens.{written_by};
+ghost use Rattle.server_core.specs.Decided.{Fits, made};
+ghost use Rattle.server_core.specs.Generations.{AreNumbered};
+ghost use Rattle.code_index.specs.declared.index.Staging.TheVariants as indices;
+ghost use Rattle.staging.specs.Stages.{HavePlaced, HaveExported, IsCodeChange, StageStands, StepAnswers};
+ghost use Rattle.staging.specs.Whose.{AreTablesOf};
+ghost use Rattle.staging.specs.declared.stage.Stage.TheVariants as stages;
+
+use crate::committing::commit_exports;
+use crate::exporting::stage_exports;
+use crate::placing::{Placing, give_back, place_incoming};
+use crate::stage::{Stage, Step};
+use crate::tables::Tables;
+use code_law::{CodeLaw, Naming};
+use server_core::{Change, Server};
+use shared_words::Shared;
+use std::alloc::Global;
+use term_core::{AreaRef, NoMemory};
+
+/// Goes on with a load or a delete: its areas, its exports, the wait, the store of the root. After want of memory nothing of it stands in the words.
+///
+/// Source: Erlang/OTP erts internal documentation, CodeLoading: stage, wait for thread progress, commit.
+pub fn step_code<K: Naming>(
+    alloc: Global,
+    tables: &mut Tables,
+    shared: &Shared<CodeLaw<K>>,
+    server: &Server,
+    change: &Change,
+    stage: Stage,
+) -> (Stage, Result<Step, NoMemory>)
+    requires tables { AreTablesOf shared.now.table.shared.table_id shared.now.table.shared.key tables.old }
+    requires names { tables.old.exports ≡ K.names }
+    requires fits { Fits server.now change.now }
+    requires code { IsCodeChange change.now }
+    requires numbered { AreNumbered K.names (made server.now change.now).state }
+    requires stage { StageStands K.names server.now change.now tables.old stage }
+    requires room { length (written_by tables.old.writer).published < 2 ^ 40 }
+    ensures tables { AreTablesOf shared.now.table.shared.table_id shared.now.table.shared.key tables.new }
+    ensures names { tables.new.exports ≡ K.names }
+    ensures ok { IfOk result.1 (StepAnswers K.names server.now change.now tables.old tables.new result.0) }
+    ensures err { OnErr result.1 (StageStands K.names server.now change.now tables.new stages.Untouched) }
+    ensures err_stage { OnErr result.1 (result.0 ≡ stages.Untouched) }
+    ensures err_published { OnErr result.1 ((written_by tables.new.writer).published ≡ (written_by tables.old.writer).published) }
+{
+    match stage {
+        Stage::Untouched => place_code(alloc, tables, shared, server, change, Vec::new(alloc)),
+        Stage::Placed { areas } => place_code(alloc, tables, shared, server, change, areas),
+        Stage::Exported { areas } => commit_code(tables, shared, server, change, areas),
+    }
+}
+
+/// The areas of a load, and all that follows.
+fn place_code<K: Naming>(
+    alloc: Global,
+    tables: &mut Tables,
+    shared: &Shared<CodeLaw<K>>,
+    server: &Server,
+    change: &Change,
+    areas: Vec<AreaRef>,
+) -> (Stage, Result<Step, NoMemory>)
+    requires tables { AreTablesOf shared.now.table.shared.table_id shared.now.table.shared.key tables.old }
+    requires names { tables.old.exports ≡ K.names }
+    requires fits { Fits server.now change.now }
+    requires code { IsCodeChange change.now }
+    requires numbered { AreNumbered K.names (made server.now change.now).state }
+    requires placed { HavePlaced K.names server.now change.now tables.old areas.items }
+    requires index { tables.old.index ≡ indices.Nothing }
+    requires room { length (written_by tables.old.writer).published < 2 ^ 40 }
+    ensures tables { AreTablesOf shared.now.table.shared.table_id shared.now.table.shared.key tables.new }
+    ensures names { tables.new.exports ≡ K.names }
+    ensures ok { IfOk result.1 (StepAnswers K.names server.now change.now tables.old tables.new result.0) }
+    ensures err { OnErr result.1 (StageStands K.names server.now change.now tables.new stages.Untouched) }
+    ensures err_stage { OnErr result.1 (result.0 ≡ stages.Untouched) }
+    ensures err_published { OnErr result.1 ((written_by tables.new.writer).published ≡ (written_by tables.old.writer).published) }
+{
+    let mut areas = areas;
+    match place_incoming(alloc, tables, shared, server, change, &mut areas) {
+        Err(NoMemory) => {
+            give_back(tables, shared, server, change, areas);
+            (Stage::Untouched, Err(NoMemory))
+        }
+        Ok(Placing::AwaitRelease) => (Stage::Placed { areas }, Ok(Step::AwaitRelease)),
+        Ok(Placing::Whole) => {
+            stage_exports(tables, shared, server, change, areas.as_slice());
+            commit_code(tables, shared, server, change, areas)
+        }
+    }
+}
+
+/// The wait of a load or a delete, and the store of the root behind it.
+fn commit_code<K: Naming>(
+    tables: &mut Tables,
+    shared: &Shared<CodeLaw<K>>,
+    server: &Server,
+    change: &Change,
+    areas: Vec<AreaRef>,
+) -> (Stage, Result<Step, NoMemory>)
+    requires tables { AreTablesOf shared.now.table.shared.table_id shared.now.table.shared.key tables.old }
+    requires names { tables.old.exports ≡ K.names }
+    requires fits { Fits server.now change.now }
+    requires code { IsCodeChange change.now }
+    requires numbered { AreNumbered K.names (made server.now change.now).state }
+    requires exported { HaveExported K.names server.now change.now tables.old areas.items }
+    requires room { length (written_by tables.old.writer).published < 2 ^ 40 }
+    ensures tables { AreTablesOf shared.now.table.shared.table_id shared.now.table.shared.key tables.new }
+    ensures names { tables.new.exports ≡ K.names }
+    ensures ok { IfOk result.1 (StepAnswers K.names server.now change.now tables.old tables.new result.0) }
+    ensures never { OnErr result.1 ⊥ }
+{
+    match commit_exports(tables, shared, server, change, &areas) {
+        Ok(generation) => (Stage::Untouched, Ok(Step::Published(generation))),
+        Err(answer) => (Stage::Exported { areas }, Ok(Step::NotYet(answer))),
+    }
+}

@@ -1,0 +1,50 @@
+//! What is staged is published by one store of the root.
+
+ghost use Rattle.std.specs.Prelude.{◌≡◌, ◌<◌, ◌^◌, length, IfErr, IfOk};
+ghost use Rattle.progress_words.specs.Tokens.{written_by};
+ghost use Rattle.server_core.specs.Decided.{Fits, made};
+ghost use Rattle.server_core.specs.Generations.{AreNumbered};
+ghost use Rattle.staging.specs.Stages.{HasPublished, HaveExported, IsLate, Waits};
+ghost use Rattle.staging.specs.Whose.{AreTablesOf};
+ghost use Rattle.staging.specs.declared.stage.Stage.TheVariants as stages;
+
+use crate::tables::Tables;
+use crate::upcoming::Upcoming;
+use code_law::{CodeLaw, Naming};
+use progress_words::NotYet;
+use server_core::{Change, Server};
+use shared_words::Shared;
+use term_core::AreaRef;
+use term_table::roots_keep_tables;
+
+/// Publishes the exports that are staged once no thread reads the index in which they stand.
+///
+/// Source: Erlang/OTP erts internal documentation, CodeLoading and ThreadProgress.
+pub fn commit_exports<K: Naming>(
+    tables: &mut Tables,
+    shared: &Shared<CodeLaw<K>>,
+    server: &Server,
+    change: &Change,
+    areas: &Vec<AreaRef>,
+) -> Result<u64, NotYet>
+    requires tables { AreTablesOf shared.now.table.shared.table_id shared.now.table.shared.key tables.old }
+    requires names { tables.old.exports ≡ K.names }
+    requires fits { Fits server.now change.now }
+    requires exported { HaveExported K.names server.now change.now tables.old areas.now.items }
+    requires numbered { AreNumbered K.names (made server.now change.now).state }
+    requires room { length (written_by tables.old.writer).published < 2 ^ 40 }
+    ensures tables { AreTablesOf shared.now.table.shared.table_id shared.now.table.shared.key tables.new }
+    ensures names { tables.new.exports ≡ K.names }
+    ensures published { IfOk result (λ generation. HasPublished K.names (made server.now change.now).state tables.old tables.new generation) }
+    ensures waits { IfErr result (λ answer. Waits K.names server.now change.now tables.old tables.new (stages.Exported areas.now) (IsLate tables.new answer)) }
+{
+    roots_keep_tables();
+    let _generation = server.generation();
+    let next = Upcoming {
+        exports: &tables.exports,
+        server,
+        change,
+        pools: &tables.pools,
+    };
+    tables.index.commit(shared, &mut tables.writer, &next)
+}
