@@ -1,0 +1,68 @@
+"""Tests of tools/bench: its scripts, what it reckons from the times of runs, and what it refuses."""
+
+import pathlib
+import stat
+import sys
+import tempfile
+import unittest
+from unittest import mock
+
+from loading import load_tool
+
+bench = load_tool("bench")
+
+
+class Times(unittest.TestCase):
+    def setUp(self):
+        folder = tempfile.TemporaryDirectory()
+        self.addCleanup(folder.cleanup)
+        self.folder = pathlib.Path(folder.name)
+
+    def program(self, text):
+        """A program of this text."""
+        path = self.folder / "program"
+        path.write_text(f"#!{sys.executable}\n{text}", encoding="ascii")
+        path.chmod(path.stat().st_mode | stat.S_IXUSR)
+        return path
+
+    def test_run(self):
+        taken = bench.run(self.program("print('report')\n"), ["run"])
+        self.assertGreater(taken.seconds, 0)
+        self.assertGreater(taken.processor, 0)
+        self.assertGreater(taken.kilobytes, 0)
+
+    def test_run_that_ends_with_a_fault(self):
+        with self.assertRaisesRegex(SystemExit, "run FILE: it ended with status 3"):
+            bench.run(self.program("import sys\nsys.exit(3)\n"), ["run", "FILE"])
+
+    def test_least_of_the_runs(self):
+        runs = [bench.Run(3.0, 1.0, 10), bench.Run(2.0, 1.5, 12), bench.Run(2.5, 1.2, 11)]
+        with mock.patch.object(bench, "run", lambda *_: runs.pop()):
+            self.assertEqual(bench.least("a", [], 3), bench.Run(2.0, 1.0, 10))
+
+    def test_row(self):
+        measure = bench.Measure("a call", "ns", bench.calls, bench.two_moves, 1, (10, 110), "120")
+        seconds = {"call_ext": {10: 1.0, 110: 1.00003}, "move 1 $1\nmove 1 $1": {10: 0.5, 110: 0.50001}}
+
+        def least(_program, words, _rounds):
+            text = pathlib.Path(words[-1]).read_text(encoding="ascii")
+            times = next(times for mark, times in seconds.items() if mark in text)
+            return bench.Run(9.0, next(time for count, time in times.items() if f"less $0 {count} again" in text), 0)
+
+        with mock.patch.object(bench, "least", least):
+            self.assertEqual(bench.row("a", self.folder, measure, 1), "| a call | 200.0 ns | 120 |")
+
+    def test_scripts_differ_in_what_is_timed(self):
+        with_it, without = bench.calls(7).split("\n"), bench.two_moves(7).split("\n")
+        self.assertEqual([line for line in with_it if line not in without], ["call_ext n:one/0 $1"])
+        self.assertEqual([line for line in without if line not in with_it], ["move 1 $1", "move 1 $1"])
+
+    def test_processes_stand_on_other_schedulers_than_the_loader(self):
+        text = bench.commits(2)(3)
+        spawns = [line for line in text.split("\n") if line.startswith("spawn")]
+        self.assertEqual(spawns, ["spawn n:none()", "spawn m:main()", "spawn m:main()"])
+        self.assertEqual([line for line in text.split("\n") if line.startswith("put")], ["put tick 0", "put tick 1", "put tick 2", "put stop 1"])
+
+
+if __name__ == "__main__":
+    unittest.main()
