@@ -18,6 +18,12 @@ class Times(unittest.TestCase):
         self.addCleanup(folder.cleanup)
         self.folder = pathlib.Path(folder.name)
 
+    def script(self):
+        """A file that is taken for a script."""
+        path = self.folder / "a.script"
+        path.write_text("beam script 1\ngo\n", encoding="ascii")
+        return path
+
     def program(self, text):
         """A program of this text."""
         path = self.folder / "program"
@@ -26,26 +32,27 @@ class Times(unittest.TestCase):
         return path
 
     def test_run(self):
-        taken = bench.run(self.program("print('report')\n"), ["run"])
+        program = self.program("import sys\nassert sys.argv[1:] == ['run', '--schedulers', '2']\nassert sys.stdin.read() == 'beam script 1\\ngo\\n'\n")
+        taken = bench.run(program, 2, self.script())
         self.assertGreater(taken.seconds, 0)
         self.assertGreater(taken.processor, 0)
         self.assertGreater(taken.kilobytes, 0)
 
     def test_run_that_ends_with_a_fault(self):
-        with self.assertRaisesRegex(SystemExit, "run FILE: it ended with status 3"):
-            bench.run(self.program("import sys\nsys.exit(3)\n"), ["run", "FILE"])
+        with self.assertRaisesRegex(SystemExit, "run --schedulers 1 < .*a.script: it ended with status 3"):
+            bench.run(self.program("import sys\nsys.exit(3)\n"), 1, self.script())
 
     def test_least_of_the_runs(self):
         runs = [bench.Run(3.0, 1.0, 10), bench.Run(2.0, 1.5, 12), bench.Run(2.5, 1.2, 11)]
         with mock.patch.object(bench, "run", lambda *_: runs.pop()):
-            self.assertEqual(bench.least("a", [], 3), bench.Run(2.0, 1.0, 10))
+            self.assertEqual(bench.least("a", 1, "a.script", 3), bench.Run(2.0, 1.0, 10))
 
     def test_row(self):
         measure = bench.Measure("a call", "ns", bench.calls, bench.two_moves, 1, (10, 110), "120")
         seconds = {"call_ext": {10: 1.0, 110: 1.00003}, "move 1 $1\nmove 1 $1": {10: 0.5, 110: 0.50001}}
 
-        def least(_program, words, _rounds):
-            text = pathlib.Path(words[-1]).read_text(encoding="ascii")
+        def least(_program, _schedulers, path, _rounds):
+            text = path.read_text(encoding="ascii")
             times = next(times for mark, times in seconds.items() if mark in text)
             return bench.Run(9.0, next(time for count, time in times.items() if f"less $0 {count} again" in text), 0)
 
