@@ -11,3 +11,4 @@ pub mod KeptCases
 pub mod NumberedNames
 pub mod Counted
 pub mod Dropped
+pub mod KeptTraced

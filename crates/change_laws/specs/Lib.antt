@@ -5,3 +5,4 @@ pub mod Images
 pub mod Counts
 pub mod Releases
 pub mod Names
+pub mod Breakpoints

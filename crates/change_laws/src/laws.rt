@@ -1,5 +1,6 @@
 //! What holds of every change that is made.
 
+ghost use Rattle.change_laws.specs.Breakpoints.{BreakpointsStay};
 ghost use Rattle.change_laws.specs.Calls.{DeletedIsNotReached, DeletesLeaveOthers, LoadsAreReached, LoadsLeaveOthers, OthersLeaveCalls};
 ghost use Rattle.change_laws.specs.Changes.{ChangesKeepSound, LoadsLeaveTheRest, SerialsAreGiven};
 ghost use Rattle.change_laws.specs.Counts.{InstancesAreCounted, KeysBeginOnce, KeysStayOnce, TermsAreCounted};
@@ -38,6 +39,13 @@ pub fn deletes_reach_nothing()
 /// No other change alters what a call reaches.
 pub fn calls_stay_but_for_loads_and_deletes()
     ensures { OthersLeaveCalls }
+{}
+
+/// No change but one of breakpoints, or one that drops code, alters which functions have a breakpoint.
+///
+/// Rule: Erlang/OTP erts internal documentation, Tracing.
+pub fn breakpoints_stay()
+    ensures { BreakpointsStay }
 {}
 
 /// What is current, old, used or retired after a change was in use before, or came in with it.

@@ -9,7 +9,7 @@ use Rattle.mod_core.specs.declared.code.Module.{Module}
 use Rattle.mod_core.specs.Module.{IsModule}
 use Rattle.server_core.specs.Generations.{AreNumbered, function_ref, generation_of}
 use Rattle.server_core.specs.ServerState.{Entry, IsSound, ServerState, code_of, current_of, export_of, is_export, is_same_entry, is_serial_in, words_of_area}
-use Rattle.machine_core.specs.GenerationReads.{exported, function_count, is_function, place_within, reads_in, shown_in, words_in}
+use Rattle.machine_core.specs.GenerationReads.{function_count, is_function, place_within, reads_in, shown_in, words_in}
 use Rattle.machine_core.specs.Process.{PlainFrame, PlainProcess}
 use Rattle.machine_core.specs.Reads.{HasFunction, entry_at}
 use Rattle.machine_core.specs.ServerReads.{reads_of}

@@ -11,12 +11,14 @@ use Rattle.machine_core.specs.declared.process.TurnEnd.{TurnEnd}
 use Rattle.machine_core.specs.declared.process.TurnEnd.TheVariants.{Ended}
 use Rattle.machine_core.specs.Holds.{Holds, is_among, is_held}
 use Rattle.machine_core.specs.Process.{PlainFrame, PlainProcess, PlainValue, first_registers, frame_names, names_of, owned_values}
-use Rattle.machine_core.specs.Turn.{Ran, Step, begun, copied, doomed_serial, executed, ran_of, step_of, turn_by, turn_of}
+use Rattle.machine_core.specs.Turn.{Ran, Step, begun, copied, doomed_serial, ended_with, executed, ran_of, step_of, turn_by, turn_of}
+use Rattle.machine_core.specs.TurnEnds.{IsKilledFor}
 use Rattle.machine_core.proofs.NamedAreas.{instance_serials}
 use Rattle.machine_core.proofs.OwnEnds.{IsOwnEnd, IsOwnTurnEnd}
 use Rattle.machine_core.proofs.RunLaws.{IsKept, KeepsSo, ran_kept}
 use Rattle.machine_core.proofs.SerialLists.{among-serials_of, same_first}
 use Rattle.machine_core.proofs.StepCases.{Came, it_calls, it_calls_out, it_ends, IsCalled, call_refused, call_stacks, IsCalledOut, out_reaches, out_refused, called_out_is, came}
+use Rattle.machine_core.proofs.Turns.{is_below}
 use Rattle.machine_core.specs.Reads.{Reads, instr_at}
 use Rattle.machine_core.specs.ServerReads.{reads_of}
 
@@ -97,3 +99,13 @@ killed_by_doomed s p serial e = ran_killer s p serial e
 -- the same under a state of the server
 pub killed_is_doomed : (s : ServerState) (p : PlainProcess) (serial : ℕ) → (turn_of s p).end ≡ Ended (Killed serial) → HasKiller (reads_of s) p serial
 killed_is_doomed s p serial e = killed_by_doomed (reads_of s) p serial e
+
+ran_killed : (s : Reads) (p : PlainProcess) (serial : ℕ) → (p.turns == MOST_TURNS) ≡ false → doomed_serial s p.frames ≡ Some serial → ran_of s p ≡ ended_with (names_of p) [] (Killed serial)
+ran_killed s p serial t d = rw (t, d) refl
+
+-- and what is held for it then is what it named
+pub killed_for : (s : Reads) (p : PlainProcess) (serial : ℕ) → (turn_by s p).end ≡ Ended (Killed serial) → IsKilledFor s p serial
+killed_for s p serial e =
+    let k = killed_by_doomed s p serial e in
+    let ran = ran_killed s p serial (is_below p.turns k.below) k.topmost in
+    record { doomed = k.doomed; held = ap (λ (left : Ran). is_among left.held.frames serial) ran ∙ k.named }

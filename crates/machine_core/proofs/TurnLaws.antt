@@ -12,11 +12,11 @@ use Rattle.machine_core.specs.declared.process.End.TheVariants.{SystemLimit}
 use Rattle.machine_core.specs.declared.process.Frame.{Frame}
 use Rattle.machine_core.specs.declared.process.Process.{Process}
 use Rattle.machine_core.specs.declared.process.TheConstants.{MOST_TURNS}
-use Rattle.machine_core.specs.declared.process.TurnEnd.TheVariants.{Ended}
+use Rattle.machine_core.specs.declared.process.TurnEnd.TheVariants.{Again, Ended}
 use Rattle.machine_core.specs.Holds.{Holds}
 use Rattle.machine_core.specs.Process.{HasNotEnded, PlainFrame, PlainProcess, Words, frame_names, frame_of, frames_of, names_of, new_process, process_of}
 use Rattle.machine_core.specs.View.{AreValues, HasValues, Shown, server_words, shown_of}
-use Rattle.machine_core.specs.Turn.{ArePlaced, IsPlaceIn, IsPlaced, MayTurn, Ran, Step, goes_on, yields, ends, begun, copied, ended_with, ran_of, step_of, turn_by, turn_of}
+use Rattle.machine_core.specs.Turn.{ArePlaced, IsPlaceIn, IsPlaced, MayTurn, Ran, Step, goes_on, yields, ends, begun, copied, ended_with, held_after, ran_of, step_of, turn_by, turn_of}
 use Rattle.machine_core.specs.LaterStates.{HasAreas}
 use Rattle.machine_core.proofs.LaterWords.{frames_later, process_later, values_later}
 use Rattle.machine_core.proofs.RunLaws.{IsKept, KeepsSo, ran_kept}
@@ -104,21 +104,40 @@ may_turn_later before after held now p has e ready =
 FramesEnd : Ran → Type 0
 FramesEnd ran = (end : End) → ran.end ≡ Ended end → ran.frames ≡ []
 
-any_step : (s : Reads) (held : Holds) (step : Step) → KeepsSo s (λ _ _. Unit {0}) (λ _. Unit {0}) FramesEnd held step
-any_step s held (goes_on frames now line) = tt
-any_step s held (yields frames) = tt
-any_step s held (ends end) = tt
+any_step : (s : Reads) (Leaves : Ran → Type 0) (held : Holds) (step : Step) → KeepsSo s (λ _ _. Unit {0}) (λ _. Unit {0}) Leaves held step
+any_step s Leaves held (goes_on frames now line) = tt
+any_step s Leaves held (yields frames) = tt
+any_step s Leaves held (ends end) = tt
+
+-- with what a turn begins is any step
+begins_any : (s : Reads) (Leaves : Ran → Type 0) (p : PlainProcess) →
+    KeepsSo s (λ _ _. Unit {0}) (λ _. Unit {0}) Leaves (frame_names (copied s p.frames)) (begun s p.target p.args (frame_names (copied s p.frames)) (copied s p.frames))
+begins_any s Leaves p = any_step s Leaves (frame_names (copied s p.frames)) (begun s p.target p.args (frame_names (copied s p.frames)) (copied s p.frames))
 
 end_kept : (s : Reads) → IsKept s (λ _ _. Unit {0}) (λ _. Unit {0}) FramesEnd
 unfolding FramesEnd
-end_kept s = record { step = λ frames held h. any_step s held (step_of s frames held); pause = λ frames held made h end e. absurd (cc); end = λ held made end h last e. refl }
+end_kept s = record { step = λ frames held h. any_step s FramesEnd held (step_of s frames held); pause = λ frames held made h end e. absurd (cc); end = λ held made end h last e. refl }
 
 -- a turn that ends the process leaves no frame
 pub turn_ended_by : (s : Reads) (p : PlainProcess) (end : End) → (turn_by s p).end ≡ Ended end → (turn_by s p).process.frames ≡ []
 unfolding FramesEnd
-turn_ended_by s p end e =
-    let frames = copied s p.frames in
-    ran_kept s (λ _ _. Unit {0}) (λ _. Unit {0}) FramesEnd p (end_kept s) (any_step s (frame_names frames) (begun s p.target p.args (frame_names frames) frames)) (λ serial t d last f. refl) (λ last f. refl) end e
+turn_ended_by s p end e = ran_kept s (λ _ _. Unit {0}) (λ _. Unit {0}) FramesEnd p (end_kept s) (begins_any s FramesEnd p) (λ serial t d last f. refl) (λ last f. refl) end e
+
+HoldsNames : Ran → Type 0
+HoldsNames ran = ran.end ≡ Again → ran.held ≡ frame_names ran.frames
+
+names_kept : (s : Reads) → IsKept s (λ _ _. Unit {0}) (λ _. Unit {0}) HoldsNames
+unfolding HoldsNames
+names_kept s = record { step = λ frames held h. any_step s HoldsNames held (step_of s frames held); pause = λ frames held made h again. refl; end = λ held made end h again. absurd (cc) }
+
+-- a turn after which the process goes on leaves just what it then names held
+pub turn_holds_by : (s : Reads) (p : PlainProcess) → (turn_by s p).end ≡ Again → held_after s p ≡ names_of (turn_by s p).process
+unfolding HoldsNames
+turn_holds_by s p e = ran_kept s (λ _ _. Unit {0}) (λ _. Unit {0}) HoldsNames p (names_kept s) (begins_any s HoldsNames p) (λ serial t d again. absurd (cc)) (λ again. absurd (cc)) e
+
+-- and counts
+pub again_counts_by : (s : Reads) (p : PlainProcess) → (turn_by s p).end ≡ Again → (turn_by s p).process.turns ≡ p.turns + 1
+again_counts_by s p again = turn_counts_by s p (λ limit. let over : Again ≡ Ended SystemLimit = sym again ∙ limit_ends_by s p limit in absurd (cc))
 
 -- ---- the same under a state of the server
 

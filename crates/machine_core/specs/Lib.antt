@@ -8,6 +8,7 @@ pub mod View
 pub mod Decode
 pub mod Values
 pub mod Turn
+pub mod TurnEnds
 pub mod Stand
 pub mod GenerationReads
 pub mod GenerationLaws

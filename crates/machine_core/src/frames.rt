@@ -40,6 +40,7 @@ impl FrameList {
         }
     }
 
+    /// The frames, the topmost last.
     pub fn as_slice(&self) -> &[Frame]
         ensures { result.now ≡ self.now }
     {

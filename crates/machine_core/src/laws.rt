@@ -1,6 +1,7 @@
-//! What holds of every sound state of the server and its generation in plain numbers.
+//! What holds of every turn, and of every sound state of the server and its generation in plain numbers.
 
 ghost use Rattle.machine_core.specs.GenerationLaws.{AreasAgree, CallsReachSame, IsLawfulGeneration, KeysHoldSame, LiteralsAgree, OfEachState, PlacesAgree, ProcessesAgree, TurnsAgree};
+ghost use Rattle.machine_core.specs.TurnEnds.{IsCounted, KillsForDoomed, LeavesNames, OfEachTurn};
 
 /// A view that shows the generation of a sound state, with the images of its areas, is lawful.
 pub fn generations_are_lawful()
@@ -43,4 +44,21 @@ pub fn processes_are_those_of_states()
 /// Rule: Erlang/OTP erts internal documentation, CodeLoading, for calls; a turn sees one generation.
 pub fn turns_are_those_of_states()
     ensures { OfEachState TurnsAgree }
+{}
+
+/// A turn kills a process only for an instance which by what it read is being purged, and which is still held for the frames that stood in it.
+///
+/// Rule: Erlang/OTP manual page `code`, for the end of what stands in purged code.
+pub fn kills_are_for_doomed_code()
+    ensures { OfEachTurn KillsForDoomed }
+{}
+
+/// After a turn of a process that goes on just what it names is held, and a process that ended has no frames.
+pub fn turns_hold_what_is_named()
+    ensures { OfEachTurn LeavesNames }
+{}
+
+/// A turn counts, unless the process had as many turns as can be, and then it ends at the limit.
+pub fn turns_are_counted()
+    ensures { OfEachTurn IsCounted }
 {}

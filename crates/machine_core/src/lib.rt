@@ -32,8 +32,9 @@ mod view;
 pub use frames::FrameList;
 pub use laws::{
     generations_are_lawful, generations_have_the_areas, generations_hold_the_same,
-    generations_reach_the_same, literals_are_those_of_states, places_are_those_of_states,
-    processes_are_those_of_states, turns_are_those_of_states,
+    generations_reach_the_same, kills_are_for_doomed_code, literals_are_those_of_states,
+    places_are_those_of_states, processes_are_those_of_states, turns_are_counted,
+    turns_are_those_of_states, turns_hold_what_is_named,
 };
 pub use machine::turn;
 pub use plain::PlainView;

@@ -66,6 +66,7 @@ impl ValueList {
         arguments(self.values.as_slice(), at as usize, count as usize)
     }
 
+    /// What the registers hold, from register 0 on.
     pub fn as_slice(&self) -> &[Value]
         ensures { result.now ≡ self.now }
     {

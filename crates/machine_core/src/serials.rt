@@ -24,6 +24,7 @@ impl Model for SerialList {
 }
 
 impl SerialList {
+    /// No serials, with room for as many as a process holds areas.
     pub fn new(alloc: Global) -> Result<SerialList, NoMemory>
         ensures { IfOk result (λ it. it ≡ []) }
     {
@@ -32,6 +33,7 @@ impl SerialList {
         })
     }
 
+    /// The serials, the least first: at most as many as a process holds areas.
     pub fn as_slice(&self) -> &[u64]
         ensures value { result.now ≡ self.now }
         ensures few { length self.now ≤ MOST_AREAS }
@@ -40,6 +42,7 @@ impl SerialList {
         self.serials.as_slice()
     }
 
+    /// Whether a serial is one of these.
     pub fn contains(&self, serial: u64) -> bool
         ensures { result ≡ is_among self.now serial }
     {

@@ -58,21 +58,27 @@ fn execute<V: CodeView>(
     areas: &mut HeldAreas,
     lines: &mut LineList,
 ) -> Result<Outcome, NoMemory>
+    // the topmost frame stands at a word of an image
     requires room { top.old.place + 1 ≤ 1024 }
+    // the view is lawful, what the topmost frame names is held, and all that the frames refer to stands in its block
     requires lawful { IsLawful (V.shown view.old) }
     requires ready { IsReadyFrame (V.shown view.old) (V.held view.old) top.old }
     requires values { HasValues (V.shown view.old) top.old }
     requires below { AreValues (V.shown view.old) below.old }
+    // what the instruction reads and what it calls is there; the areas kept beside the frames are those that are held
     requires sources { HasSources (V.shown view.old) top.old.code.area op.now }
     requires tracked { V.held view.old ≡ area_holds areas.old }
     requires callee { HasCallee (V.shown view.old).reads (frame_of (V.shown view.old).words top.old) (instr_shown ((V.shown view.old).words top.old.code.area.serial) op.now) }
+    // process, holds and lines are what the definition of the instruction says
     ensures ok { IfOk result (λ outcome.
         stand_after (V.held view.old) lines.old (executed (V.shown view.old).reads (frame_of (V.shown view.old).words top.old) (frames_of (V.shown view.old).words below.old) (V.held view.old)
         (instr_shown ((V.shown view.old).words top.old.code.area.serial) op.now))
         ≡ stand_of outcome (frame_of (V.shown view.old).words top.new ∷ frames_of (V.shown view.old).words below.new) (V.held view.new) lines.new) }
+    // all that the frames refer to stands in its block still, and the areas kept beside them are those that are held
     ensures values { OnOk result (HasValues (V.shown view.old) top.new) }
     ensures below { OnOk result (AreValues (V.shown view.old) below.new) }
     ensures tracked { OnOk result (V.held view.new ≡ area_holds areas.new) }
+    // the view shows what it showed
     ensures same { V.shown view.new ≡ V.shown view.old }
 {
     match op {

@@ -13,7 +13,7 @@ use Rattle.run_log.specs.declared.logs.Span.{Span}
 use Rattle.run_log.specs.declared.logs.ProcessLog.{ProcessLog}
 use Rattle.run_log.specs.declared.logs.RunLog.{RunLog}
 use Rattle.run_log.specs.Journal.{published_before, published_count}
-use Rattle.run_log.specs.History.{AreHistoriesOf, History}
+use Rattle.run_log.specs.History.{AreHistoriesOf, AreKnown, History}
 use Rattle.run_log.specs.Legal.{Complete, IsLogOf, Legal, LogsMatch, PurgesGo, SpansFollow, SpawnBeforeTurns, TurnsFollow, commands_of, first_generation, marks_of}
 use Rattle.run_log.specs.WholeSpans.{AreWhole}
 use Rattle.run_log.proofs.HistoryEnd.{lingers_told, purged_unnamed, released_unnamed}
@@ -24,8 +24,8 @@ use Rattle.run_steps.specs.declared.observers.ObserverRun.{ObserverRun}
 use Rattle.run_steps.specs.Stands.{IsEnd, Rests, Stand, end_of, fin_in, history_of, log_of}
 use Rattle.run_steps.specs.Standing.{IsSpawned, StandsIn}
 use Rattle.run_steps.specs.Observers.{HaveObserved, shots_of}
-use Rattle.run_steps.specs.Runs.{HasNoWork, IsRun, RunState, histories_in, log_of_run, states_in}
-use Rattle.run_steps.specs.Laws.{IsWholeHistory}
+use Rattle.run_steps.specs.Runs.{AreAsMany, EachStands, HasNoWork, JournalStands, RunState, histories_in, log_of_run, states_in}
+use Rattle.run_steps.specs.Laws.{AreAllTaken, IsWholeHistory, TellsTruth}
 use Rattle.run_steps.proofs.Ends.{line_text}
 use Rattle.run_steps.proofs.Joining.{generations_counted, line_for}
 use Rattle.run_steps.proofs.Observing.{seen_published, seen_true}
@@ -49,14 +49,14 @@ logs_match (line ∷ lines) [] e h = absurd (omega (arith, e))
 logs_match (line ∷ lines) (x ∷ xs) e h = (h 0 line x refl refl, logs_match lines xs (omega (arith, e)) (λ n y q a b. h (suc n) y q a b))
 
 -- what holds of each log that is there
-all_logs : (P : ProcessLog → Type 0) (logs : List ProcessLog) → ((n : ℕ) (log : ProcessLog) → slice_get logs n ≡ Some log → P log) → All P logs
+pub all_logs : (P : ProcessLog → Type 0) (logs : List ProcessLog) → ((n : ℕ) (log : ProcessLog) → slice_get logs n ≡ Some log → P log) → All P logs
 all_logs P logs h k d below = h k _ (slice_get-get_or logs k d below)
 
-some_spans : (states : ℕ → ServerState) (p : PlainProcess) (spans : List Span) (fin : End) → SpansFollow states p spans fin → length spans ≢ 0
+pub some_spans : (states : ℕ → ServerState) (p : PlainProcess) (spans : List Span) (fin : End) → SpansFollow states p spans fin → length spans ≢ 0
 some_spans states p [] fin h e = absurd h
 some_spans states p (span ∷ spans) fin h e = absurd (omega (arith, e))
 
-same_start : (number : ℕ) (line : SpawnLine) (p : PlainProcess) → p.target ≡ line.target → p.args ≡ line.args → new_process number line.target line.args ≡ new_process number p.target p.args
+pub same_start : (number : ℕ) (line : SpawnLine) (p : PlainProcess) → p.target ≡ line.target → p.args ≡ line.args → new_process number line.target line.args ≡ new_process number p.target p.args
 same_start number line p t a = ap (λ x. new_process number x line.args) (sym t) ∙ ap (λ x. new_process number p.target x) (sym a)
 
 same_fin : (phase : Phase) → IsEnd phase → fin_in phase ≡ Some (end_of phase)
@@ -64,7 +64,7 @@ same_fin Waiting h = absurd h
 same_fin Going h = absurd h
 same_fin (Ended fin) h = refl
 
-module _ (s : Script) (r : RunState) (known : IsRun s r) (over : HasNoWork s r) where
+module _ (s : Script) (r : RunState) (stood : JournalStands s r) (many : AreAsMany s r) (each : EachStands s r) (over : HasNoWork s r) where
   abbrev states : ℕ → ServerState
   states = states_in s r
 
@@ -74,13 +74,13 @@ module _ (s : Script) (r : RunState) (known : IsRun s r) (over : HasNoWork s r) 
   over_at : (number : ℕ) (line : SpawnLine) (x : Stand) → slice_get (spawns_of 0 s.loaders) number ≡ Some line → slice_get r.stands number ≡ Some x
       → IsSpawned r.journal states r.server.generation (r.done line.loader) number line x (Some (end_of x.phase))
   over_at number line x line_is x_is =
-      over_in r.journal states r.server.generation (r.done line.loader) number line x x.phase (past_place number line line_is) (over.processes number x x_is) (known.processes.each number line x line_is x_is)
+      over_in r.journal states r.server.generation (r.done line.loader) number line x x.phase (past_place number line line_is) (over.processes number x x_is) (each number line x line_is x_is)
 
   -- each process has ended
   pub all_ended : (number : ℕ) (x : Stand) → slice_get r.stands number ≡ Some x → IsEnd x.phase
   all_ended number x h =
-      let line = line_for s r known.processes number x h in
-      end_in r.journal states r.server.generation (r.done (line.0).loader) number line.0 x x.phase (past_place number line.0 line.1) (over.processes number x h) (known.processes.each number line.0 x line.1 h)
+      let line = line_for s r many number x h in
+      end_in r.journal states r.server.generation (r.done (line.0).loader) number line.0 x x.phase (past_place number line.0 line.1) (over.processes number x h) (each number line.0 x line.1 h)
 
   abbrev logs : List ProcessLog
   logs = map log_of r.stands
@@ -90,32 +90,32 @@ module _ (s : Script) (r : RunState) (known : IsRun s r) (over : HasNoWork s r) 
 
   follow_at : (number : ℕ) (x : Stand) → slice_get r.stands number ≡ Some x → SpansFollow states (new_process number x.process.target x.process.args) x.spans (end_of x.phase)
   follow_at number x h =
-      let line = line_for s r known.processes number x h in
+      let line = line_for s r many number x h in
       let o = over_at number line.0 x line.1 h in
       subst (λ p. SpansFollow states p x.spans (end_of x.phase)) (same_start number line.0 x.process o.was.target o.was.args) o.follow
 
   known_at : (number : ℕ) (log : ProcessLog) → slice_get logs number ≡ Some log → All (λ span. span.generation ≤ published_count r.journal) log.spans
   known_at number log h =
       let x = process_of_log number log h in
-      let line = line_for s r known.processes number x.0 x.1.0 in
+      let line = line_for s r many number x.0 x.1.0 in
       let o = over_at number line.0 x.0 line.1 x.1.0 in
       subst (λ (y : ProcessLog). All (λ span. span.generation ≤ published_count r.journal) y.spans) x.1.1
-      (subst (λ g. All (λ (span : Span). span.generation ≤ g) (x.0).spans) (sym (generations_counted s r known.journal)) (All-from_recursion (λ (span : Span). span.generation ≤ r.server.generation) (x.0).spans o.was.known))
+      (subst (λ g. All (λ (span : Span). span.generation ≤ g) (x.0).spans) (sym (generations_counted s r stood)) (All-from_recursion (λ (span : Span). span.generation ≤ r.server.generation) (x.0).spans o.was.known))
 
   -- turns in a row under one generation are one span
   pub all_whole : All (λ log. AreWhole log.spans) logs
   all_whole =
       all_logs (λ log. AreWhole log.spans) logs
-      (λ number log h. let x = process_of_log number log h in let line = line_for s r known.processes number x.0 x.1.0 in subst (λ (y : ProcessLog). AreWhole y.spans) x.1.1 (over_at number line.0 x.0 line.1 x.1.0).was.whole)
+      (λ number log h. let x = process_of_log number log h in let line = line_for s r many number x.0 x.1.0 in subst (λ (y : ProcessLog). AreWhole y.spans) x.1.1 (over_at number line.0 x.0 line.1 x.1.0).was.whole)
 
   process_of_history : (number : ℕ) (h : History) → slice_get (histories_in s r) number ≡ Some h → (x : Stand) × ((slice_get r.stands number ≡ Some x) × (history_of states x ≡ h))
   process_of_history number h at = get_map (history_of states) r.stands number h at
 
   same_marks : (number : ℕ) (x : Stand) → slice_get r.stands number ≡ Some x → marks_of states (new_process x.process.number x.process.target x.process.args) x.spans ≡ marks_of states (new_process number x.process.target x.process.args) x.spans
-  same_marks number x h = let line = line_for s r known.processes number x h in ap (λ n. marks_of states (new_process n x.process.target x.process.args) x.spans) (over_at number line.0 x line.1 h).was.numbered
+  same_marks number x h = let line = line_for s r many number x h in ap (λ n. marks_of states (new_process n x.process.target x.process.args) x.spans) (over_at number line.0 x line.1 h).was.numbered
 
   -- with what the observers saw after the last look
-  module _ (observers : List ObserverRun) (observed : HaveObserved s r.journal observers) (all_taken : (k : ℕ) (o : ObserverRun) → slice_get observers k ≡ Some o → o.left ≡ 0) where
+  module _ (observers : List ObserverRun) (observed : HaveObserved s r.journal observers) (all_taken : AreAllTaken observers) where
     abbrev the_log : RunLog
     the_log = log_of_run r observers
 
@@ -131,12 +131,12 @@ module _ (s : Script) (r : RunState) (known : IsRun s r) (over : HasNoWork s r) 
 
     complete : Complete s the_log
     complete = record {
-      processes = logs_match (spawns_of 0 s.loaders) r.stands known.processes.many (λ n line x a b. let o = over_at n line x a b in record { target = o.was.target; args = o.was.args });
+      processes = logs_match (spawns_of 0 s.loaders) r.stands many (λ n line x a b. let o = over_at n line x a b in record { target = o.was.target; args = o.was.args });
       turns = all_logs (λ log. length log.spans ≢ 0) logs
           (λ number log h. let x = process_of_log number log h in subst (λ (y : ProcessLog). length y.spans ≢ 0) x.1.1 (some_spans states (new_process number (x.0).process.target (x.0).process.args) (x.0).spans (end_of (x.0).phase) (follow_at number x.0 x.1.0)));
       generations = all_logs (λ log. All (λ span. span.generation ≤ published_count r.journal) log.spans) logs known_at;
       observers = length-map observers shots_of ∙ observed.many;
-      snapshots = seen_published s r.journal observers observed (published_count r.journal) (omega (arith, generations_counted s r known.journal, ap (λ (x : ServerState). x.generation) known.journal.server));
+      snapshots = seen_published s r.journal observers observed (published_count r.journal) (omega (arith, generations_counted s r stood, ap (λ (x : ServerState). x.generation) stood.server));
     }
 
     -- the history of a process and its log
@@ -158,24 +158,32 @@ module _ (s : Script) (r : RunState) (known : IsRun s r) (over : HasNoWork s r) 
           ap (λ (z : History). z.fin) (sym x.1.1) ∙ same_fin x.0.phase (all_ended number x.0 x.1.0) ∙ ap (λ (z : Stand). Some (end_of z.phase)) same ∙ ap (λ (z : ProcessLog). Some z.fin) y.1.1;
     }
 
-    -- what was done is lawful
-    pub run_legal : Legal s the_log
-    run_legal = record {
-      replays = known.journal.replays;
+    -- what was done is lawful, where what the journal tells of processes is so
+    pub run_legal : TellsTruth s the_log → Legal s the_log
+    run_legal truth = record {
+      replays = stood.replays;
       loaders_in_order = record {
-        commands = λ loader. known.journal.in_order loader ∙ take_all (r.done loader) (commands_of s loader) (omega (arith, over.loaders loader));
-        purges = subst (PurgesGo s.modules empty_state None r.journal) over.half known.journal.purges;
+        commands = λ loader. stood.in_order loader ∙ take_all (r.done loader) (commands_of s loader) (omega (arith, over.loaders loader));
+        purges = subst (PurgesGo s.modules empty_state None r.journal) over.half stood.purges;
       };
       spawn_before_turns = spawn_before;
       turns_follow = turns_follow;
-      released_unnamed = released_unnamed s the_log (histories_in s r) known.processes.answers.stand are_histories;
-      lingers_told = lingers_told s the_log (histories_in s r) known.processes.answers.stand are_histories;
-      purged_unnamed = purged_unnamed s the_log (histories_in s r) known.processes.answers.stand are_histories;
+      released_unnamed = truth.released;
+      lingers_told = truth.lingers;
+      purged_unnamed = truth.purged;
       snapshots_true = seen_true s r.journal observers observed logs all_taken;
-      nothing_retired = ap (λ (x : ServerState). x.retired) (sym known.journal.server) ∙ over.retired;
+      nothing_retired = ap (λ (x : ServerState). x.retired) (sym stood.server) ∙ over.retired;
       complete = complete;
     }
 
     -- and its spans are whole
-    pub whole_history : IsWholeHistory s r observers
-    whole_history = record { legal = run_legal; whole = all_whole }
+    pub true_history : TellsTruth s the_log → IsWholeHistory s r observers
+    true_history truth = record { legal = run_legal truth; whole = all_whole }
+
+    -- it is so where it was known of each moment of the run
+    pub whole_history : AreKnown s.modules r.journal (histories_in s r) → IsWholeHistory s r observers
+    whole_history answers = true_history (record {
+      released = released_unnamed s the_log (histories_in s r) answers.stand are_histories;
+      lingers = lingers_told s the_log (histories_in s r) answers.stand are_histories;
+      purged = purged_unnamed s the_log (histories_in s r) answers.stand are_histories;
+    })

@@ -21,15 +21,15 @@ use Rattle.run_steps.specs.declared.phase.Phase.{Phase}
 use Rattle.run_steps.specs.declared.phase.Phase.TheVariants.{Waiting, Going, Ended}
 use Rattle.run_steps.specs.Stands.{Stand, fin_in, histories_of, history_of}
 use Rattle.run_steps.specs.Standing.{StandsIn, WasSpawned}
-use Rattle.run_steps.specs.Runs.{JournalStands, ProcessesStand, RunState, histories_in, states_in}
+use Rattle.run_steps.specs.Runs.{AreAsMany, JournalStands, ProcessesStand, RunState, histories_in, states_in}
 use Rattle.run_steps.specs.Steps.{HasJoined}
 
 -- what a longer journal keeps of a process
-record IsLonger (journal longer : List Entry) (states others : ℕ → ServerState) (top higher done more : ℕ) (line : SpawnLine) : Type 0 where
-  same : (g : ℕ) → g ≤ top → others g ≡ states g
-  later : top ≤ higher
-  before : line.place < done → published_before line.loader line.place longer ≡ published_before line.loader line.place journal
-  as_many : done ≤ more
+pub record IsLonger (journal longer : List Entry) (states others : ℕ → ServerState) (top higher done more : ℕ) (line : SpawnLine) : Type 0 where
+  pub same : (g : ℕ) → g ≤ top → others g ≡ states g
+  pub later : top ≤ higher
+  pub before : line.place < done → published_before line.loader line.place longer ≡ published_before line.loader line.place journal
+  pub as_many : done ≤ more
 
 module _ (journal longer : List Entry) (states others : ℕ → ServerState) (top higher done more number : ℕ) (line : SpawnLine) (x : Stand) (l : IsLonger journal longer states others top higher done more line) where
   was_kept : WasSpawned top done number journal line x → WasSpawned higher more number longer line x
@@ -44,7 +44,7 @@ module _ (journal longer : List Entry) (states others : ℕ → ServerState) (to
   }
 
   -- where a process stands it stands under a longer journal too; one that waits still waits
-  stands_kept : (phase : Phase) → (done ≤ line.place → more ≤ line.place) → StandsIn journal states top done number line x phase → StandsIn longer others higher more number line x phase
+  pub stands_kept : (phase : Phase) → (done ≤ line.place → more ≤ line.place) → StandsIn journal states top done number line x phase → StandsIn longer others higher more number line x phase
   stands_kept Waiting still w = record { process = w.process; spans = w.spans; still = still w.still }
   stands_kept Going still g = record { was = was_kept g.was; follow = go_under states others top l.same (new_process number line.target line.args) x.spans x.process g.was.known g.follow }
   stands_kept (Ended fin) still o = record { was = was_kept o.was; follow = follow_under states others top l.same (new_process number line.target line.args) x.spans fin o.was.known o.follow }
@@ -58,13 +58,18 @@ spans_known journal states top done number line x (Ended fin) o = o.was.known
 
 -- ---- a run
 
-module _ (s : Script) (r : RunState) (stand : ProcessesStand s r) where
-  -- a process of a run has its line
-  pub line_for : (number : ℕ) (x : Stand) → slice_get r.stands number ≡ Some x → (line : SpawnLine) × (slice_get (spawns_of 0 s.loaders) number ≡ Some line)
-  line_for number x h = get_within (spawns_of 0 s.loaders) number (omega (arith, slice_get_within r.stands number x h, stand.many))
+-- a process of a run has its line
+pub line_for : (s : Script) (r : RunState) → AreAsMany s r → (number : ℕ) (x : Stand) → slice_get r.stands number ≡ Some x
+    → (line : SpawnLine) × (slice_get (spawns_of 0 s.loaders) number ≡ Some line)
+line_for s r many number x h = get_within (spawns_of 0 s.loaders) number (omega (arith, slice_get_within r.stands number x h, many))
 
-  pub stands_at : (number : ℕ) (x : Stand) (h : slice_get r.stands number ≡ Some x) → StandsIn r.journal (states_in s r) r.server.generation (r.done (line_for number x h).0.loader) number (line_for number x h).0 x x.phase
-  stands_at number x h = stand.each number (line_for number x h).0 x (line_for number x h).1 h
+module _ (s : Script) (r : RunState) (stand : ProcessesStand s r) where
+  abbrev line_here : (number : ℕ) (x : Stand) → slice_get r.stands number ≡ Some x → (line : SpawnLine) × (slice_get (spawns_of 0 s.loaders) number ≡ Some line)
+  line_here number x h = line_for s r stand.many number x h
+
+  pub stands_at : (number : ℕ) (x : Stand) (h : slice_get r.stands number ≡ Some x)
+      → StandsIn r.journal (states_in s r) r.server.generation (r.done (line_here number x h).0.loader) number (line_here number x h).0 x x.phase
+  stands_at number x h = stand.each number (line_here number x h).0 x (line_here number x h).1 h
 
   -- its history is known
   pub history_at : (number : ℕ) (x : Stand) → slice_get r.stands number ≡ Some x → slice_get (histories_in s r) number ≡ Some (history_of (states_in s r) x)
@@ -144,7 +149,7 @@ module _ (s : Script) (r : RunState) (known : JournalStands s r) where
 
       history_kept : (number : ℕ) (x : Stand) → slice_get r.stands number ≡ Some x → history_of (state_at s.modules empty_state longer) x ≡ history_of (states_in s r) x
       history_kept number x h =
-          let line = line_for s r stand number x h in
+          let line = line_for s r stand.many number x h in
           ap (λ ms. record { marks = ms; now = x.process; fin = fin_in x.phase })
           (marks_under (states_in s r) (state_at s.modules empty_state longer) r.server.generation same_states (new_process x.process.number x.process.target x.process.args) x.spans
           (spans_known r.journal (states_in s r) r.server.generation (r.done line.0.loader) number line.0 x x.phase (stands_at s r stand number x h)))

@@ -7,6 +7,7 @@ pub mod Looking
 pub mod Entries
 pub mod Ends
 pub mod Turns
+pub mod MadeTurns
 pub mod Beginning
 pub mod Observing
 pub mod Finished

@@ -117,7 +117,7 @@ module _ (s : Script) (r : RunState) (known : IsRun s r) where
         let y = get_map history after.stands number g is in
         subst (λ z. RestsOrTurns r.server z g) x.1.1
         (subst (RestsOrTurns r.server (history x.0)) y.1.1
-        (step_turns number (line_for s r known.processes number x.0 x.1.0).0 x.0 y.0 x.1.0 (stands_at s r known.processes number x.0 x.1.0) (only.turns.each number x.0 y.0 x.1.0 y.1.0)))
+        (step_turns number (line_for s r known.processes.many number x.0 x.1.0).0 x.0 y.0 x.1.0 (stands_at s r known.processes number x.0 x.1.0) (only.turns.each number x.0 y.0 x.1.0 y.1.0)))
 
     answers_kept : AreKnown s.modules r.journal (histories_of states after.stands)
     answers_kept =

@@ -1,5 +1,6 @@
 pub mod Stands
 pub mod Turns
+pub mod MadeTurns
 pub mod Standing
 pub mod Observers
 pub mod Runs

@@ -40,11 +40,19 @@ pub record JournalStands (s : Script) (r : RunState) : Type 0 where
   pub within : (loader : ℕ) → r.done loader ≤ length (commands_of s loader)
   pub in_order : (loader : ℕ) → commands_in loader r.journal ≡ take (r.done loader) (commands_of s loader)
 
--- each process stands where its spawn and its turns so far have brought it, and what the journal tells of processes is so
+-- there is a process for each spawn line
+abbrev pub AreAsMany : Script → RunState → Type 0
+AreAsMany s r = length r.stands ≡ length (spawns_of 0 s.loaders)
+
+-- each process stands where its spawn and its turns so far have brought it
+abbrev pub EachStands : Script → RunState → Type 0
+EachStands s r = (number : ℕ) (line : SpawnLine) (x : Stand) → slice_get (spawns_of 0 s.loaders) number ≡ Some line → slice_get r.stands number ≡ Some x
+    → StandsIn r.journal (states_in s r) r.server.generation (r.done line.loader) number line x x.phase
+
+-- so it is, and what the journal tells of processes is so
 pub record ProcessesStand (s : Script) (r : RunState) : Type 0 where
-  pub many : length r.stands ≡ length (spawns_of 0 s.loaders)
-  pub each : (number : ℕ) (line : SpawnLine) (x : Stand) → slice_get (spawns_of 0 s.loaders) number ≡ Some line → slice_get r.stands number ≡ Some x
-      → StandsIn r.journal (states_in s r) r.server.generation (r.done line.loader) number line x x.phase
+  pub many : AreAsMany s r
+  pub each : EachStands s r
   pub answers : AreKnown s.modules r.journal (histories_in s r)
 
 -- what holds of a run of the script between two of its steps

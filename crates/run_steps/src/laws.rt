@@ -1,6 +1,7 @@
 //! What holds of every run of a script, whatever program makes it.
 
-ghost use Rattle.run_steps.specs.Laws.{BeginningsAreRuns, EndsOfCommandsKeepRuns, EntriesKeepRuns, LapsKeepRuns, LogsAreLawful, TurnsAreDefined};
+ghost use Rattle.run_steps.specs.Laws.{BeginningsAreRuns, EndsOfCommandsKeepRuns, EntriesKeepRuns, LapsKeepRuns, LogsAreLawful, TrueLogsAreLawful, TurnsAreDefined};
+ghost use Rattle.run_steps.specs.MadeTurns.{MadeAlike, MadeTurnsFollow, OneMoreMade};
 
 /// A run before its first step is as it should be.
 pub fn runs_begin()
@@ -28,8 +29,30 @@ pub fn turns_are_their_definition()
     ensures { TurnsAreDefined }
 {}
 
+/// A process whose turns were made one by one, each under the state of a generation of the journal, none older than the one before, stands
+/// where a run has it, and they are the turns of its log.
+///
+/// Rule: Erlang/OTP erts internal documentation, CodeLoading: a turn sees one generation.
+pub fn made_turns_follow()
+    ensures { MadeTurnsFollow }
+{}
+
+/// Behind the turns that were made of a process that goes on stands one more; and turns that were made by what one source lets a process read were
+/// made by another, where each turn is the same by either.
+pub fn turns_are_made()
+    ensures more { OneMoreMade }
+    ensures alike { MadeAlike }
+{}
+
 /// The log of a run that has no work left, after the last look of its observers, is a history of one code server; turns of a process in a row under one
 /// generation are one span.
 pub fn logs_of_runs_are_lawful()
     ensures { LogsAreLawful }
+{}
+
+/// So is the log of a run of which it is known only at its end, and of the whole log, that what the journal tells of processes is so.
+///
+/// Rule: the manual page `erlang`, on `purge_module`, and `persistent_term`; how a run knows it is its own.
+pub fn true_logs_are_lawful()
+    ensures { TrueLogsAreLawful }
 {}
