@@ -62,9 +62,11 @@ steps_go_on : (w : WriterView) → StepsGoOn w
 steps_go_on w = record {
   words = λ word value. record { pairs = λ pair among. among; counter = omega (arith); published = ([], sym (append-nil w.published)); anchors = λ l among. among };
   roots = λ p. record { pairs = λ pair among. among; counter = omega (arith); published = (p ∷ [], refl); anchors = λ l among. among };
+  drops = λ d. record { pairs = λ pair among. among; counter = omega (arith); published = ([], sym (append-nil w.published)); anchors = λ l among. among };
   counters = λ counter later. record { pairs = λ pair among. among_front w.pairs _ pair among; counter = later; published = ([], sym (append-nil w.published)); anchors = λ l among. among };
   notes = λ process. record { pairs = λ pair among. among; counter = omega (arith); published = ([], sym (append-nil w.published)); anchors = λ l among. among };
   slots = λ process place found look. slots_on w process place found look;
+  lingering = λ l. record { pairs = λ pair among. among; counter = omega (arith); published = ([], sym (append-nil w.published)); anchors = λ l among. among };
 }
 
 on_again : (a b c : WriterView) → HasGoneOn a b → HasGoneOn b c → HasGoneOn a c

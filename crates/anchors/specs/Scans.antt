@@ -13,6 +13,8 @@ use Rattle.marks.specs.declared.kept.LookKind.{LookKind}
 use Rattle.marks.specs.declared.kept.EndedWait.{EndedWait}
 use Rattle.marks.specs.declared.kept.LookedAnchor.{LookedAnchor}
 use Rattle.marks.specs.declared.kept.ReadTurn.{ReadTurn}
+use Rattle.marks.specs.declared.kept.DroppedArea.{DroppedArea}
+use Rattle.marks.specs.declared.kept.LingeringFrame.{LingeringFrame}
 use Rattle.marks.specs.Names.{names_in, tells_kill}
 use Rattle.shared_words.specs.declared.opening.Opening.{Opening}
 use Rattle.shared_words.specs.declared.view.WriterView.{WriterView}
@@ -20,8 +22,10 @@ use Rattle.shared_words.specs.declared.view.View.{View}
 use Rattle.shared_words.specs.Kinds.{counter_kept}
 use Rattle.shared_words.specs.Notes.{with_note}
 use Rattle.shared_words.specs.Publishing.{with_word, with_next}
+use Rattle.shared_words.specs.Drops.{with_drop}
 use Rattle.shared_words.specs.Rule.{IsBeginning, RunningRule}
 use Rattle.shared_words.specs.Slots.{wait_for, look_kind, slot_looked, IsClear}
+use Rattle.shared_words.specs.Lingering.{with_lingering}
 use Rattle.shared_words.specs.Laws.{IsOutOfUse}
 use Rattle.anchors.specs.declared.answers.Scan.{Scan}
 use Rattle.anchors.specs.declared.answers.Scan.TheVariants as scans
@@ -110,14 +114,16 @@ abbrev pub ScanMeans : (Published → Type 0) → Opening → WriterView → Loo
 ScanMeans Served opening w kind serial (scans.Named process turn place word) = Unit {0}
 ScanMeans Served opening w kind serial (scans.Clear killed) = StaysOutOfUse Served opening w kind serial
 
--- each step of the writer goes on: the store of a word, that of the root, the load of the counter, the split of a note and the load of
--- a word of a slot
+-- each step of the writer goes on: the store of a word, that of the root, a drop that it keeps with one of these, the load of the
+-- counter, the split of a note, the load of a word of a slot, and the answer that a process lingers, which it keeps
 pub record StepsGoOn (w : WriterView) : Type 0 where
   pub words : (word value : ℕ) → HasGoneOn w (with_word word value w)
   pub roots : (p : Published) → HasGoneOn w (with_next p w)
+  pub drops : (d : DroppedArea) → HasGoneOn w (with_drop d w)
   pub counters : (counter : ℕ) → w.counter ≤ counter → HasGoneOn w (counter_kept counter w)
   pub notes : (process : ℕ) → HasGoneOn w (with_note process w)
   pub slots : (process place found : ℕ) (look : Option (AreaRef × Option Kind)) → HasGoneOn w (slot_looked process place look found w)
+  pub lingering : (l : LingeringFrame) → HasGoneOn w (with_lingering l w)
 
 -- and steps add up
 abbrev pub WriterGoesOn : Type 0

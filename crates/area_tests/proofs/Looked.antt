@@ -3,19 +3,22 @@ use Rattle.std.proofs.Common.{◌≡◌, ℕ, suc, ◌+◌, ◌<◌, ◌≤◌, 
 use mathlib.Core.Logic.{dite}
 use native.Mathlib.Decide.{ℕ_discrete}
 use Rattle.std.specs.Prelude.{nat_lt}
+use Rattle.term_core.specs.declared.area.AreaRef.{AreaRef}
 use Rattle.area_core.specs.Map.{doom_place, retire_place}
 use Rattle.marks.specs.declared.kept.LookKind.TheVariants.{Both}
 use Rattle.marks.proofs.Anchors.{has_element}
 use Rattle.shared_words.specs.declared.view.WriterView.{WriterView}
 use Rattle.shared_words.specs.Publishing.{with_word}
 use Rattle.shared_words.specs.Slots.{LookMayBegin, IsClear}
+use Rattle.shared_words.specs.Drops.{drop_of, with_drop}
+use Rattle.shared_words.proofs.Dropping.{clear_still}
 use Rattle.progress_words.specs.Needs.{HasTaken}
 use Rattle.anchors.specs.Scans.{LooksMore}
 use Rattle.literal_areas.specs.declared.areas.Areas.{Areas}
 use Rattle.literal_areas.specs.declared.blocks.BlockUse.TheVariants.{Free, Retired}
 use Rattle.literal_areas.specs.Blocks.{use_of, without_area}
 use Rattle.literal_areas.specs.Owned.{AreOf}
-use Rattle.literal_areas.specs.Released.{MayRelease, words_cleared}
+use Rattle.literal_areas.specs.Released.{MayRelease, words_cleared, area_released}
 use Rattle.literal_areas.proofs.Listed.{owned_looked}
 use Rattle.literal_areas.proofs.Uses.{use_other}
 use Rattle.area_tests.specs.Gone.{AreGone}
@@ -74,34 +77,46 @@ may_release at last need s v low h clear =
       clear = clear;
     }
 
--- the words are others, and what is kept, and nothing else
-module _ (block : ℕ) (v : WriterView) where
+-- the words are others, and what is kept, and the drop, and nothing else
+module _ (area : AreaRef) (v : WriterView) where
   abbrev one : WriterView
-  one = with_word (retire_place block) 0 v
+  one = with_word (retire_place area.block) 0 v
 
   abbrev two : WriterView
-  two = with_word (doom_place block) 0 one
+  two = with_word (doom_place area.block) 0 one
+
+  abbrev after : WriterView → WriterView
+  after x = with_drop (drop_of v Both area.serial) x
 
   either : (b : Bool) → cond b two one ≡ record v { words = (cond b two one).words; kept = (cond b two one).kept }
   either true = refl
   either false = refl
 
-  cleared_is : (z : WriterView) → z ≡ words_cleared block v → z ≡ record v { words = z.words; kept = z.kept }
-  cleared_is z is = subst (λ (x : WriterView). x ≡ record v { words = x.words; kept = x.kept }) (sym is) (either (nat_lt block 64))
+  either_after : (b : Bool) → after (cond b two one) ≡ record v { words = (after (cond b two one)).words; kept = (after (cond b two one)).kept; looks = (after (cond b two one)).looks }
+  either_after true = refl
+  either_after false = refl
 
-module _ (at last need : ℕ) (s t : Areas) (v z : WriterView) (h : AreReleased at last need s v) (clear : IsClear v Both (suc at)) (low : at < last) (is : t ≡ without_area (ref_one at) s) (stored : z ≡ words_cleared (9 + at) v) (own : AreOf t z) where
+  released_is : (z : WriterView) → z ≡ area_released area v → z ≡ record v { words = z.words; kept = z.kept; looks = z.looks }
+  released_is z is = subst (λ (x : WriterView). x ≡ record v { words = x.words; kept = x.kept; looks = x.looks }) (sym is) (either_after (nat_lt area.block 64))
+
+  clear_released : (z : WriterView) → z ≡ area_released area v → (serial : ℕ) → IsClear v Both serial → IsClear z Both serial
+  clear_released z is serial clear =
+      subst (λ (x : WriterView). IsClear x Both serial) (sym is)
+      (clear_still (words_cleared area.block v) (drop_of v Both area.serial) Both serial (clear_kept serial v (words_cleared area.block v) (either (nat_lt area.block 64)) clear))
+
+module _ (at last need : ℕ) (s t : Areas) (v z : WriterView) (h : AreReleased at last need s v) (clear : IsClear v Both (suc at)) (low : at < last) (is : t ≡ without_area (ref_one at) s) (stored : z ≡ area_released (ref_one at) v) (own : AreOf t z) where
   pub one_released : AreReleased (at + 1) last need t z
   one_released = record {
     gone = record {
       owned = own;
       used = λ i first few. ap (λ (x : Areas). use_of x (9 + i)) is ∙ use_other s (9 + at) (9 + i) (Retired (suc at) 2) Free (h.gone.used at (omega (arith)) low) (λ same. omega (arith, same, first)) ∙ h.gone.used i (omega (arith, first)) few;
-      published = ap (λ (x : WriterView). length x.published) (cleared_is (9 + at) v z stored) ∙ h.gone.published;
+      published = ap (λ (x : WriterView). length x.published) (released_is (ref_one at) v z stored) ∙ h.gone.published;
     };
-    taken = subst (λ (x : WriterView). HasTaken x 2 need) (sym (cleared_is (9 + at) v z stored)) h.taken;
-    enough = subst (λ (x : WriterView). need ≤ x.counter) (sym (cleared_is (9 + at) v z stored)) h.enough;
+    taken = subst (λ (x : WriterView). HasTaken x 2 need) (sym (released_is (ref_one at) v z stored)) h.taken;
+    enough = subst (λ (x : WriterView). need ≤ x.counter) (sym (released_is (ref_one at) v z stored)) h.enough;
     clear = record {
       each = λ i few. dite (ℕ_discrete i at)
-          (λ (same : i ≡ at). subst (λ (j : ℕ). IsClear z Both (suc j)) (sym same) (clear_kept (suc at) v z (cleared_is (9 + at) v z stored) clear))
-          (λ (differ : i ≡ at → ⊥). clear_kept (suc i) v z (cleared_is (9 + at) v z stored) (h.clear.each i (omega (arith, few, differ))));
+          (λ (same : i ≡ at). subst (λ (j : ℕ). IsClear z Both (suc j)) (sym same) (clear_released (ref_one at) v z stored (suc at) clear))
+          (λ (differ : i ≡ at → ⊥). clear_released (ref_one at) v z stored (suc i) (h.clear.each i (omega (arith, few, differ))));
     };
   }

@@ -170,8 +170,8 @@ fn end_all(
         leader,
     };
     let members = join_three(&shared, alloc, three)?;
-    let closed = close(shared, Parts { writer, members })?;
-    let words = closed.words(alloc)?;
+    let closed = close(alloc, shared, Parts { writer, members })?;
+    let words = closed.words();
     Ok(Told {
         released,
         late,

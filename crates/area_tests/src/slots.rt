@@ -234,8 +234,8 @@ fn a_slot_holds_sixteen_areas(rt: HostRuntime) -> Result<(), Fail> {
     let answers = begin_and_fill(&shared, &mut writer, &mut member);
     assert_eq!(rt; answers, [true, false, true, true, true, true, true]);
     members.push(member)?;
-    let closed = close(shared, Parts { writer, members })?;
-    let words = closed.words(rt.alloc())?;
+    let closed = close(rt.alloc(), shared, Parts { writer, members })?;
+    let words = closed.words();
     let slot = [
         1, 69, 9, 13, 17, 21, 25, 29, 33, 37, 41, 45, 49, 53, 57, 61, 64,
     ];

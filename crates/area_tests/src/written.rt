@@ -50,8 +50,8 @@ fn areas_stand_in_their_blocks(rt: HostRuntime) -> Result<(), Fail> {
     let mut pools = Pools::new(rt.alloc())?;
     write_next(&shared, &mut writer, &mut pools, Pool::Big, &[11, 12, 13]);
     write_next(&shared, &mut writer, &mut pools, Pool::Small, &[21, 22]);
-    let closed = close(shared, Parts { writer, members })?;
-    let words = closed.words(rt.alloc())?;
+    let closed = close(rt.alloc(), shared, Parts { writer, members })?;
+    let words = closed.words();
     let cases = [
         (10_708, 0),
         (10_709, 11),

@@ -1,6 +1,7 @@
 -- When what is staged may be published, and what each answer of a commit says.
 -- Source: Erlang/OTP erts internal documentation, CodeLoading and ThreadProgress; the words are this project's own.
 use Rattle.std.specs.Prelude.{◌≡◌, ℕ, ◌+◌, ◌<◌, ◌≤◌, List, [], ◌∷◌, ◌++◌, length}
+use Rattle.prgr_core.specs.Invariant.{CounterInRange}
 use Rattle.term_core.specs.declared.area.AreaRef.{AreaRef}
 use Rattle.term_core.specs.declared.generation.Generation.{Generation}
 use Rattle.area_core.specs.declared.table.Published.{Published}
@@ -51,6 +52,8 @@ pub record MayCommit (Served : Published → Type 0) (x : Staging) (w : WriterVi
 -- the first call of a commit takes a value two above the counter, which never falls, and the commit waits for it from then on
 pub record HasTakenFirst (old new : WriterView) (need : ℕ) : Type 0 where
   pub counter : ℕ
+  -- a counter, which never falls
+  pub range : CounterInRange counter
   pub rising : old.counter ≤ counter
   pub view : new ≡ counter_kept counter old
   pub ahead : need ≡ counter + 2

@@ -51,8 +51,8 @@ fn staged_words_stand_in_the_staging_index(rt: HostRuntime) -> Result<(), Fail> 
     } = parts;
     let mut index = CodeIndex::new();
     stage_and_abort(&shared, &mut writer, &mut index);
-    let closed = close(shared, Parts { writer, members })?;
-    let words = closed.words(rt.alloc())?;
+    let closed = close(rt.alloc(), shared, Parts { writer, members })?;
+    let words = closed.words();
     let cases = [
         (1_498, 0),
         (2_521, 0),

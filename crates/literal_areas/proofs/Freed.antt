@@ -8,7 +8,7 @@ use Rattle.area_core.specs.declared.map.TheConstants.{BLOCKS, BIG_BLOCKS}
 use Rattle.area_core.specs.declared.map.WordKind.{WordKind}
 use Rattle.area_core.specs.declared.table.Published.{Published}
 use Rattle.area_core.specs.declared.table.KeptArea.{KeptArea}
-use Rattle.area_core.specs.Map.{block_place, retire_place, doom_place}
+use Rattle.area_core.specs.Map.{kind_at, block_place, retire_place, doom_place}
 use Rattle.area_core.specs.Stores.{is_released_at}
 use Rattle.area_core.specs.Generations.{has_serial, is_current, is_instance, is_key_area, is_reached, is_retired, is_used}
 use Rattle.area_core.specs.Blocks.{Among}
@@ -22,18 +22,21 @@ use Rattle.shared_words.specs.Views.{newest}
 use Rattle.shared_words.specs.Rule.{MayBeRead}
 use Rattle.shared_words.specs.Publishing.{FitsInBlock, FitsRetire, FitsWord, MayStoreWord, is_released, kept_left, with_word}
 use Rattle.shared_words.specs.Slots.{IsClear}
+use Rattle.shared_words.specs.Drops.{drop_of, with_drop}
 use Rattle.shared_words.proofs.AreaReleases.{not_both}
 use Rattle.shared_words.proofs.ClearLooks.{clear_word}
 use Rattle.shared_words.proofs.ReadWords.{not_loaded}
+use Rattle.shared_words.proofs.Dropping.{clear_still, fits_still}
 use Rattle.literal_areas.specs.declared.blocks.BlockUse.{BlockUse}
 use Rattle.literal_areas.specs.declared.blocks.BlockUse.TheVariants.{Free, Live, Retired}
 use Rattle.literal_areas.specs.declared.areas.Areas.{Areas}
 use Rattle.literal_areas.specs.Blocks.{use_of, with_use, serial_at, IsSound, without_area}
 use Rattle.literal_areas.specs.Owned.{AreOf, IsPast, HasRetired}
-use Rattle.literal_areas.specs.Released.{MayRelease, IsUnread, IsUnnamed, words_cleared}
+use Rattle.literal_areas.specs.Released.{MayRelease, IsUnread, IsUnnamed, words_cleared, area_released}
 use Rattle.literal_areas.proofs.Uses.{use_there, use_within, use_here, sizes_stay}
 use Rattle.literal_areas.proofs.Serials.{serial_here, serial_other, serial_after, use_after}
 use Rattle.literal_areas.proofs.Stores.{owned_stored, no_generation}
+use Rattle.literal_areas.proofs.Listed.{owned_looked}
 
 no_serial : (n : ℕ) → None ≡ Some n → ⊥
 no_serial n e = (cc)
@@ -173,8 +176,12 @@ module _ (s : Areas) (w : WriterView) (own : AreOf s w) (area : AreaRef) (may : 
         | inr small ↦ subst Holds (ap (λ (b : Bool). cond b (with_word (doom_place area.block) 0 (with_word (retire_place area.block) 0 w)) (with_word (retire_place area.block) 0 w)) (sym small)) first
       ]
 
-  pub owned_released : AreOf (without_area area s) (words_cleared area.block w)
-  owned_released = cleared_by (AreOf (without_area area s)) owned_first (λ v. owned_stored (without_area area s) v (doom_place area.block) 0)
+  owned_cleared : AreOf (without_area area s) (words_cleared area.block w)
+  owned_cleared = cleared_by (AreOf (without_area area s)) owned_first (λ v. owned_stored (without_area area s) v (doom_place area.block) 0)
+
+  -- nor does the drop that is kept change the pools
+  pub owned_released : AreOf (without_area area s) (area_released area w)
+  owned_released = owned_looked (without_area area s) (words_cleared area.block w) (area_released area w) refl owned_cleared
 
   -- a store of a word takes nothing from a look
   clear_stored : (v : WriterView) (word : ℕ) → IsClear v Both area.serial → IsClear (with_word word 0 v) Both area.serial
@@ -184,8 +191,10 @@ module _ (s : Areas) (w : WriterView) (own : AreOf s w) (area : AreaRef) (may : 
     looked = clear.looked;
   }
 
-  still_clear : IsClear (words_cleared area.block w) Both area.serial
-  still_clear = cleared_by (λ (v : WriterView). IsClear v Both area.serial) (clear_stored w (retire_place area.block) may.clear) (λ v. clear_stored v (doom_place area.block))
+  still_clear : IsClear (area_released area w) Both area.serial
+  still_clear =
+      clear_still (words_cleared area.block w) (drop_of w Both area.serial) Both area.serial
+      (cleared_by (λ (v : WriterView). IsClear v Both area.serial) (clear_stored w (retire_place area.block) may.clear) (λ v. clear_stored v (doom_place area.block)))
 
 -- ---- a free block is read by nobody
 
@@ -217,16 +226,16 @@ module _ (s : Areas) (w : WriterView) (own : AreOf s w) (block : ℕ) (free : us
 
 -- ---- the call
 
-pub unread_now : (Served : Published → Type 0) (opening : Opening) (s : Areas) (w last : WriterView) (area : AreaRef) → AreOf s w → MayRelease s w area → last ≡ words_cleared area.block w → IsUnread Served opening last area.block
+pub unread_now : (Served : Published → Type 0) (opening : Opening) (s : Areas) (w last : WriterView) (area : AreaRef) → AreOf s w → MayRelease s w area → last ≡ area_released area w → IsUnread Served opening last area.block
 unread_now Served opening s w last area own may stored =
     subst (λ (v : WriterView). IsUnread Served opening v area.block) (sym stored)
-    (free_unread (without_area area s) (words_cleared area.block w) (owned_released s w own area may) area.block (use_here s area.block (Retired area.serial may.since) Free may.retired) Served opening)
+    (free_unread (without_area area s) (area_released area w) (owned_released s w own area may) area.block (use_here s area.block (Retired area.serial may.since) Free may.retired) Served opening)
 
-pub unnamed_now : (Served : Published → Type 0) (opening : Opening) (s : Areas) (w last : WriterView) (area : AreaRef) → AreOf s w → MayRelease s w area → last ≡ words_cleared area.block w → IsUnnamed Served opening last area.serial
+pub unnamed_now : (Served : Published → Type 0) (opening : Opening) (s : Areas) (w last : WriterView) (area : AreaRef) → AreOf s w → MayRelease s w area → last ≡ area_released area w → IsUnnamed Served opening last area.serial
 unnamed_now Served opening s w last area own may stored t r is process anchor is_anchor =
     clear_word t r Both area.serial (subst (λ (v : WriterView). IsClear v Both area.serial) (sym (is ∙ stored)) (still_clear s w own area may)) process anchor is_anchor
 
-pub owned_last : (s new : Areas) (w last : WriterView) (area : AreaRef) → AreOf s w → MayRelease s w area → new ≡ without_area area s → last ≡ words_cleared area.block w → AreOf new last
+pub owned_last : (s new : Areas) (w last : WriterView) (area : AreaRef) → AreOf s w → MayRelease s w area → new ≡ without_area area s → last ≡ area_released area w → AreOf new last
 owned_last s new w last area own may is stored = subst (λ (z : Areas × WriterView). AreOf z.0 z.1) (λ i. (sym is i, sym stored i)) (owned_released s w own area may)
 
 pub sound_last : (old new : Areas) (w : WriterView) (area : AreaRef) → IsSound old → MayRelease old w area → new ≡ without_area area old → IsSound new
@@ -237,19 +246,21 @@ pub still_there : (s : Areas) (w : WriterView) (area : AreaRef) → MayRelease s
 still_there s w area may = ap is_some may.retired
 
 -- the stores of the call
-pub may_clear_now : (s : Areas) (w : WriterView) (area : AreaRef) (word : ℕ) → AreOf s w → MayRelease s w area → word ≡ retire_place area.block → MayStoreWord w word 0
-may_clear_now s w area word own may is = subst (λ (n : ℕ). MayStoreWord w n 0) (sym is) (may_clear s w own area may)
+module _ (s : Areas) (w : WriterView) (area : AreaRef) (own : AreOf s w) (may : MayRelease s w area) where
+  abbrev dropped : WriterView
+  dropped = with_drop (drop_of w Both area.serial) (with_word (retire_place area.block) 0 w)
 
-pub may_clear_next : (s : Areas) (w v : WriterView) (area : AreaRef) (word next : ℕ) → AreOf s w → MayRelease s w area → word ≡ retire_place area.block → v ≡ with_word word 0 w → next ≡ doom_place area.block → area.block < BIG_BLOCKS → MayStoreWord v next 0
-may_clear_next s w v area word next own may is stored doom big =
-    subst (λ (z : WriterView × ℕ). MayStoreWord z.0 z.1 0) (λ i. (sym (stored ∙ ap (λ (n : ℕ). with_word n 0 w) is) i, sym doom i)) (may_clear_doom s w own area may big)
+  pub may_clear_next : (v : WriterView) (next : ℕ) → v ≡ dropped → next ≡ doom_place area.block → area.block < BIG_BLOCKS → MayStoreWord v next 0
+  may_clear_next v next stored doom big =
+      subst (λ (z : WriterView × ℕ). MayStoreWord z.0 z.1 0) (λ i. (sym stored i, sym doom i))
+      (fits_still (with_word (retire_place area.block) 0 w) (drop_of w Both area.serial) 0 (kind_at (doom_place area.block)) (may_clear_doom s w own area may big))
 
-pub cleared_both : (w v last : WriterView) (block word next : ℕ) → word ≡ retire_place block → v ≡ with_word word 0 w → next ≡ doom_place block → last ≡ with_word next 0 v → block < BIG_BLOCKS → last ≡ words_cleared block w
-cleared_both w v last block word next is stored doom then_stored big =
-    then_stored ∙ (λ i. with_word (doom i) 0 ((stored ∙ ap (λ (n : ℕ). with_word n 0 w) is) i))
-    ∙ ap (λ (b : Bool). cond b (with_word (doom_place block) 0 (with_word (retire_place block) 0 w)) (with_word (retire_place block) 0 w)) (sym (lt-ltb block BIG_BLOCKS big))
+pub cleared_both : (w v last : WriterView) (area : AreaRef) (next : ℕ) → v ≡ with_drop (drop_of w Both area.serial) (with_word (retire_place area.block) 0 w) → next ≡ doom_place area.block → last ≡ with_word next 0 v → area.block < BIG_BLOCKS → last ≡ area_released area w
+cleared_both w v last area next stored doom then_stored big =
+    then_stored ∙ (λ i. with_word (doom i) 0 (stored i))
+    ∙ ap (λ (b : Bool). with_drop (drop_of w Both area.serial) (cond b (with_word (doom_place area.block) 0 (with_word (retire_place area.block) 0 w)) (with_word (retire_place area.block) 0 w))) (sym (lt-ltb area.block BIG_BLOCKS big))
 
-pub cleared_one : (w v : WriterView) (block word : ℕ) → word ≡ retire_place block → v ≡ with_word word 0 w → BIG_BLOCKS ≤ block → v ≡ words_cleared block w
-cleared_one w v block word is stored small =
-    stored ∙ ap (λ (n : ℕ). with_word n 0 w) is
-    ∙ ap (λ (b : Bool). cond b (with_word (doom_place block) 0 (with_word (retire_place block) 0 w)) (with_word (retire_place block) 0 w)) (sym (le-ltb block BIG_BLOCKS small))
+pub cleared_one : (w v : WriterView) (area : AreaRef) → v ≡ with_drop (drop_of w Both area.serial) (with_word (retire_place area.block) 0 w) → BIG_BLOCKS ≤ area.block → v ≡ area_released area w
+cleared_one w v area stored small =
+    stored
+    ∙ ap (λ (b : Bool). with_drop (drop_of w Both area.serial) (cond b (with_word (doom_place area.block) 0 (with_word (retire_place area.block) 0 w)) (with_word (retire_place area.block) 0 w))) (sym (le-ltb area.block BIG_BLOCKS small))

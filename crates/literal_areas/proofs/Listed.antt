@@ -99,7 +99,7 @@ fewer_read : (w : WriterView) (counter : ℕ) → w.counter ≤ counter → (g :
 fewer_read w counter rises g may pair among need =
     may pair (among.0, still_at w.pairs _ among.0 pair among.1) (omega (arith, rises, need))
 
-kept_counted : (s : Areas) (w : WriterView) (counter : ℕ) → w.counter ≤ counter → AreOf s w → AreOf s (counter_kept counter w)
+pub kept_counted : (s : Areas) (w : WriterView) (counter : ℕ) → w.counter ≤ counter → AreOf s w → AreOf s (counter_kept counter w)
 kept_counted s w counter rises own = record {
   sound = own.sound;
   all = own.all;

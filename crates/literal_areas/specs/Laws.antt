@@ -20,7 +20,7 @@ KeptByRoots = (s : Areas) (w : WriterView) (p : Published) → AreOf s w → IsL
 abbrev pub KeptByCounters : Type 0
 KeptByCounters = (s : Areas) (old new : WriterView) → HasLoadedCounter old new → AreOf s old → AreOf s new
 
--- a look, which tells the writer of anchors and turn words alone
+-- a look, which tells the writer of anchors and turn words alone, or a drop that it keeps besides
 abbrev pub KeptByLooks : Type 0
 KeptByLooks = (s : Areas) (old new : WriterView) → new ≡ record old { looks = new.looks; named = new.named } → AreOf s old → AreOf s new
 

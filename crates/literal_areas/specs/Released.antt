@@ -19,6 +19,7 @@ use Rattle.shared_words.specs.declared.view.View.{View}
 use Rattle.shared_words.specs.Rule.{RunningRule}
 use Rattle.shared_words.specs.Publishing.{MayLoadWord, with_word}
 use Rattle.shared_words.specs.Slots.{IsClear}
+use Rattle.shared_words.specs.Drops.{drop_of, with_drop}
 use Rattle.literal_areas.specs.declared.blocks.BlockUse.TheVariants.{Retired}
 use Rattle.literal_areas.specs.declared.areas.Areas.{Areas}
 use Rattle.literal_areas.specs.Blocks.{use_of}
@@ -41,6 +42,10 @@ pub record MayRelease (s : Areas) (w : WriterView) (area : AreaRef) : Type 0 whe
 abbrev pub words_cleared : ℕ → WriterView → WriterView
 words_cleared block w =
     if nat_lt block BIG_BLOCKS then with_word (doom_place block) 0 (with_word (retire_place block) 0 w) else with_word (retire_place block) 0 w
+
+-- the same once the area is released: it keeps besides that the area was dropped in both kinds
+abbrev pub area_released : AreaRef → WriterView → WriterView
+area_released area w = with_drop (drop_of w Both area.serial) (words_cleared area.block w)
 
 -- while the writer knows this, no thread may load a word of the block
 abbrev pub IsUnread : (Published → Type 0) → Opening → WriterView → ℕ → Type 0

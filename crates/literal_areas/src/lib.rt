@@ -18,5 +18,6 @@ pub use blocks::{BlockList, BlockUse, INSTANCE_BLOCKS, Pool, TERM_BLOCKS};
 pub use laws::{
     counters_keep_pools, looks_keep_pools, notes_keep_pools, roots_keep_pools, stores_keep_pools,
 };
+pub use places::{doom_word, retire_word};
 pub use pools::Pools;
 pub use taking::Take;

@@ -23,9 +23,9 @@ fn a_table_is_made_and_closed(rt: HostRuntime) -> Result<(), Fail> {
     let told = note(&shared, &mut writer, 0);
     learn(&shared, &mut first, told);
     let members = vec![in rt.alloc(); first, second]?;
-    let closed = close(shared, Parts { writer, members })?;
+    let closed = close(rt.alloc(), shared, Parts { writer, members })?;
     assert_eq!(rt; closed.published(), 0, "the root was never stored");
-    let words = closed.words(rt.alloc())?;
+    let words = closed.words();
     assert_eq!(rt; words.len(), 83_413);
     assert_eq!(rt; words.get(ROOT as usize).copied(), Some(0));
     assert_eq!(rt; words.get(COUNTER as usize).copied(), Some(1));

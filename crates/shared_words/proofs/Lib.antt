@@ -20,10 +20,12 @@ pub mod AnchorStores
 pub mod SlotStores
 pub mod WriterFrames
 pub mod SlotLoads
+pub mod LingeringLoads
 pub mod ShownWords
 pub mod WordStores
 pub mod Mirrors
 pub mod RootStores
+pub mod Dropping
 pub mod WordLoads
 pub mod WriterSeats
 pub mod NoteSplits

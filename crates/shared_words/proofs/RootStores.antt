@@ -175,7 +175,7 @@ module _ {Served : Published → Type 0} {opening : Opening} (s : State (Unit {0
       (λ (last : (among.0 ≡ length r.writer.published) × (q ≡ p)). subst (λ (x : Published). Served x) (sym last.1) new)
       (slice_get-push_at r.writer.published p among.0 q among.1)
 
-  root_stores : (p : Published) (code bp term n : ℕ) → IsRootOf p.root code bp term → length r.writer.published ≡ n + 1 → MayPublish Served r.writer p → RunningRule Served opening (after_step s (set s.words ROOT (code + 4 * bp + 8 * term + 32 * (n + 1))) 0 (Writer (with_next p r.writer)))
+  pub root_stores : (p : Published) (code bp term n : ℕ) → IsRootOf p.root code bp term → length r.writer.published ≡ n + 1 → MayPublish Served r.writer p → RunningRule Served opening (after_step s (set s.words ROOT (code + 4 * bp + 8 * term + 32 * (n + 1))) 0 (Writer (with_next p r.writer)))
   root_stores p code bp term n root number may =
       let w = r.writer in
       let x : ℕ = code + 4 * bp + 8 * term + 32 * (n + 1) in

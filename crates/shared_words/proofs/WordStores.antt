@@ -250,7 +250,7 @@ module _ {Served : Published → Type 0} {opening : Opening} (s : State (Unit {0
         leader_made = subst (λ (n : ℕ). n ≤ length w'.members) (sym (get_or-set_other s.words word LEAD value 0 (λ e. absurd (omega arith)))) (subst (λ xs. slice_index s.words LEAD ≤ length xs) (sym members) r.machine.leader_made);
       }
 
-  word_stores : (word value : ℕ) → MayStoreWord r.writer word value → RunningRule Served opening (after_step s (set s.words word value) 0 (Writer (with_word word value r.writer)))
+  pub word_stores : (word value : ℕ) → MayStoreWord r.writer word value → RunningRule Served opening (after_step s (set s.words word value) 0 (Writer (with_word word value r.writer)))
   word_stores word value may =
       let w = r.writer in
       let placed = word_placed w word value (kind_at word) refl may in

@@ -6,7 +6,9 @@ pub mod Opening
 pub mod Seats
 pub mod Kinds
 pub mod Slots
+pub mod Lingering
 pub mod Publishing
+pub mod Drops
 pub mod Notes
 pub mod Closing
 pub mod Passes

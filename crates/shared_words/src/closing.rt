@@ -1,6 +1,6 @@
 //! The end of a table: no thread makes a step any more, and all seats come in.
 
-ghost use Rattle.std.specs.Prelude.{◌≡◌, ◌+◌, ◌<◌, ℕ, length, IfOk, Some, slice_get};
+ghost use Rattle.std.specs.Prelude.{◌≡◌, ◌+◌, ◌<◌, ℕ, length, IfOk, OnOk, Some, slice_get};
 ghost use Rattle.shared_words.specs.declared.seats.Member as tokens;
 ghost use Rattle.shared_words.specs.declared.view.View.TheVariants as views;
 ghost use Rattle.shared_words.specs.Seats.{IsSeatOf, IsSameSeat, IsWriterSeat, writer_of, member_of};
@@ -8,25 +8,24 @@ ghost use Rattle.shared_words.specs.Closing.{AreAllMembers, HasAllMembers, HaveM
 ghost use Rattle.shared_words.specs.Rule.{IsBeginning};
 ghost use Rattle.area_core.specs.declared.map.TheConstants.{TABLE_WORDS};
 
-use crate::law::{Law, Served};
-use crate::opening::Opening;
+use crate::law::Served;
 use crate::pass::Words;
 use crate::plays::{SeeMembers, SeeWord, TakeIn};
 use crate::seats::{Member, Parts, Writer};
 use crate::table::{ROOT, Shared};
 use crate::view::View;
 use area_core::TABLE_WORDS;
-use atomic_table::{Seat, Table};
+use atomic_table::Seat;
 use std::alloc::{AllocError, Global};
 use term_core::{NoMemory, WordList};
 
-/// A table at its end, with the one seat that is left. No step is made any more.
+/// A table at its end: its words, and the one seat that is left. No step is made any more.
 #[derive(Drop)]
-pub struct Closed<N: Served> {
-    table: Table<(), View, Opening, Law<N>, Global>,
+pub struct Closed {
+    words: WordList,
     writer: Writer,
-    pub ghost token: { IsWriterSeat table.shared.table_id table.shared.key writer.generation writer.seat },
-    pub ghost sized: { table.shared.table_id.words ≡ TABLE_WORDS },
+    pub ghost numbered: { length (writer_of writer.seat.me.0).published ≡ writer.generation + 1 },
+    pub ghost last: { AreLastWords (writer_of writer.seat.me.0) words },
 }
 
 /// The seat of a member comes in. It loads the root.
@@ -59,8 +58,9 @@ fn take_in_all<N: Served>(table: &Words<N>, writer: &mut Seat<(), View>, mut mem
 }
 
 /// Ends a table. All tokens that `new` made are in `parts`, the members in the order of their numbers;
-/// notes that were not joined may be left out. Their seats come in to the writer's.
-pub fn close<N: Served>(shared: Shared<N>, parts: Parts) -> Result<Closed<N>, NoMemory>
+/// notes that were not joined may be left out. Their seats come in to the writer's. It takes memory for
+/// the words.
+pub fn close<N: Served>(alloc: Global, shared: Shared<N>, parts: Parts) -> Result<Closed, NoMemory>
     requires token { IsWriterSeat shared.table.shared.table_id shared.table.shared.key parts.writer.generation parts.writer.seat }
     requires members { AreAllMembers shared.table.shared.table_id shared.table.shared.key.members parts.members.items }
     ensures generation { IfOk result (λ closed. closed.writer.generation ≡ parts.writer.generation) }
@@ -77,10 +77,14 @@ pub fn close<N: Served>(shared: Shared<N>, parts: Parts) -> Result<Closed<N>, No
     table
         .shared
         .load::<SeeMembers>(&mut writer.seat, ROOT as usize);
-    Ok(Closed { table, writer })
+    let words = copied(alloc, &table.shared, &mut writer.seat, TABLE_WORDS as usize)?;
+    Ok(Closed {
+        words: WordList::from_vec(words),
+        writer,
+    })
 }
 
-impl<N: Served> Closed<N> {
+impl Closed {
     /// How often the root was stored.
     pub fn published(&self) -> u64
         ensures { length (writer_of self.now.writer.seat.me.0).published ≡ result + 1 }
@@ -88,18 +92,16 @@ impl<N: Served> Closed<N> {
         self.writer.generation
     }
 
-    /// The words of the table as `close` left them. It takes memory.
-    pub fn words(self, alloc: Global) -> Result<WordList, NoMemory>
-        ensures { IfOk result (λ words. AreLastWords (writer_of self.writer.seat.me.0) words) }
+    /// The words of the table as `close` left them.
+    pub fn words(self) -> WordList
+        ensures { AreLastWords (writer_of self.writer.seat.me.0) result }
     {
-        let Closed { table, writer } = self;
-        let Writer { mut seat, .. } = writer;
-        let words = copied(alloc, &table.shared, &mut seat, TABLE_WORDS as usize)?;
-        Ok(WordList::from_vec(words))
+        let Closed { words, writer: _ } = self;
+        words
     }
 }
 
-/// The words of a table in which no other seat makes a step.
+/// The words of a table in which no other seat makes a step. The seat learns nothing by them.
 fn copied<N: Served>(
     alloc: Global,
     table: &Words<N>,
@@ -110,7 +112,8 @@ fn copied<N: Served>(
     requires writer { writer.old.me.0 ≡ views.Writer (writer_of writer.old.me.0) }
     requires sized { table.now.table_id.words ≡ count }
     requires count { count ≡ TABLE_WORDS }
-    ensures { IfOk result (λ words. AreLastWords (writer_of writer.old.me.0) words.items) }
+    ensures view { OnOk result (writer.new.me.0 ≡ writer.old.me.0) }
+    ensures words { IfOk result (λ words. AreLastWords (writer_of writer.old.me.0) words.items) }
 {
     let mut words = Vec::with_capacity(alloc, count)?;
     for place in 0..count {

@@ -4,9 +4,11 @@
 
 mod closing;
 mod counter;
+mod drops;
 mod law;
 mod laws;
 mod leader;
+mod lingering;
 mod making;
 mod members;
 mod notes;

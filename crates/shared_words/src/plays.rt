@@ -2,12 +2,16 @@
 
 ghost use Rattle.shared_words.specs.Kinds.{counter_loaded, root_loaded, confirmed, scanned, raised, lead_taken, lead_dropped, waiting_stored, entering_stored};
 ghost use Rattle.shared_words.specs.Publishing.{word_stored, root_stored, word_loaded};
+ghost use Rattle.shared_words.specs.Drops.{release_stored, root_dropped};
 ghost use Rattle.shared_words.specs.Notes.{note_left, note_right, note_join};
 ghost use Rattle.shared_words.specs.Making.{handed_on, handed_out};
 ghost use Rattle.shared_words.specs.Slots.{slot_stored, slot_loaded};
+ghost use Rattle.shared_words.specs.Lingering.{lingering_loaded};
 ghost use Rattle.shared_words.specs.Closing.{member_taken, members_seen, word_seen};
 
+use crate::drops::Dropped;
 use crate::law::Served;
+use crate::lingering::Lingered;
 use crate::notes::Spawned;
 use crate::slots::Looking;
 use crate::view::View;
@@ -105,6 +109,25 @@ impl<M: Next> Play<(), View> for StoreRoot<M> {
     ghost then = { root_stored M.next };
 }
 
+/// The store of 0 into a retire word by which the area that was picked is released.
+pub struct StoreRelease<K> {
+    marker: PhantomData<K>,
+}
+
+impl<K: Dropped> Play<(), View> for StoreRelease<K> {
+    ghost then = { release_stored K.serial };
+}
+
+/// The store of the root by which the instance that was picked is dropped.
+pub struct StoreRootDropping<M, K> {
+    next: PhantomData<M>,
+    dropped: PhantomData<K>,
+}
+
+impl<M: Next, K: Dropped> Play<(), View> for StoreRootDropping<M, K> {
+    ghost then = { root_dropped M.next K.serial };
+}
+
 /// A load of a word of blocks.
 pub struct LoadWord;
 
@@ -173,4 +196,13 @@ pub struct SeeWord;
 
 impl Play<(), View> for SeeWord {
     ghost then = { word_seen };
+}
+
+/// A load of an anchor by which the writer keeps the answer that a process lingers.
+pub struct LoadLingering<K> {
+    marker: PhantomData<K>,
+}
+
+impl<K: Lingered> Play<(), View> for LoadLingering<K> {
+    ghost then = { lingering_loaded K.serial K.turns };
 }

@@ -35,7 +35,7 @@ impl Looking for Brand {
 }
 
 /// The place of a word of a process's slot in the table: the turns done, then the anchors.
-fn slot_word(process: u32, place: u32) -> usize
+pub(crate) fn slot_word(process: u32, place: u32) -> usize
     requires process { process < PROCESSES }
     requires place { place ≤ ANCHORS }
     ensures { result ≡ slot_place process place }

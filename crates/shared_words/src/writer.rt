@@ -27,7 +27,7 @@ impl Next for Brand {
 }
 
 /// The root word of a generation.
-fn root_word(code: u32, bp: u32, term: u32, generation: u64) -> u64
+pub(crate) fn root_word(code: u32, bp: u32, term: u32, generation: u64) -> u64
     requires code { code < CODE_INDICES }
     requires bp { bp < BREAKPOINT_INDICES }
     requires term { term < TERM_TABLES }

@@ -15,6 +15,7 @@ ghost use Rattle.progress_tests.specs.Running.{IsEmpty, IsReady, HasReported};
 use super::publishing::{Any, publish};
 use progress_words::*;
 use shared_words::{COUNTER, Closed, Member, Parts, ROOT, Shared, Writer, close};
+use std::alloc::Global;
 use std::sync::atomic::{AtomicU64, Ordering};
 use std::test::Fail;
 use std::thread::{Threads, for_each_mut, join};
@@ -166,17 +167,18 @@ fn run_beside<R: Threads + Sync>(
 #[tactic(auto, using(crate::proofs::Emptied::handing_empty, crate::proofs::Emptied::handing_first, crate::proofs::Leading::begun_as))]
 fn run_to_end<R: Threads + Sync>(
     rt: &R,
+    alloc: Global,
     shared: Shared<Any>,
     parts: Parts,
     tally: &Tally,
-) -> Result<Closed<Any>, NoMemory>
+) -> Result<Closed, NoMemory>
     requires opening { shared.table.shared.key.members ≡ MEMBERS }
     requires token { IsWriterOf shared.table.shared.table_id shared.table.shared.key parts.writer }
     requires writer { IsHanding shared.table.shared.table_id shared.table.shared.key MEMBERS parts.writer.seat }
     requires members { AreMembersBegun shared.table.shared.table_id MEMBERS parts.members.items }
 {
     let (writer, members) = run_beside(rt, &shared, parts, tally);
-    close(shared, Parts { writer, members })
+    close(alloc, shared, Parts { writer, members })
 }
 
 #[test]
@@ -186,7 +188,7 @@ fn grace_on_threads(rt: HostRuntime) -> Result<(), Fail> {
         falls: AtomicU64::new(0),
         raises: AtomicU64::new(0),
     };
-    let closed = run_to_end(&rt, shared, parts, &tally)?;
+    let closed = run_to_end(&rt, rt.alloc(), shared, parts, &tally)?;
     let falls = tally.falls.load(Ordering::SeqCst);
     let raises = tally.raises.load(Ordering::SeqCst);
     assert_eq!(rt; falls, 0, "no generation falls");
@@ -195,7 +197,7 @@ fn grace_on_threads(rt: HostRuntime) -> Result<(), Fail> {
         "whoever leads first finds that all words are 2"
     );
     assert_eq!(rt; closed.published(), 1_000, "the root was stored so often");
-    let words = closed.words(rt.alloc())?;
+    let words = closed.words();
     assert_eq!(rt;
         words.get(ROOT as usize).copied(),
         Some(32_000),

@@ -5,7 +5,7 @@ use Rattle.marks.specs.declared.kept.LookKind.TheVariants.{Both}
 use Rattle.shared_words.specs.Slots.{LookMayBegin, IsClear}
 use Rattle.progress_words.specs.Tokens.{written_by}
 use Rattle.literal_areas.specs.Blocks.{without_area}
-use Rattle.literal_areas.specs.Released.{MayRelease, words_cleared}
+use Rattle.literal_areas.specs.Released.{MayRelease, area_released}
 use Rattle.area_tests.proofs.Looked.{may_look, may_release, released_looked, one_released}
 use Rattle.area_tests.proofs.released.release_clear.Goals as goal
 
@@ -25,7 +25,7 @@ pub returns-in-Clear-clause-released : goal.returns-in-Clear-clause-released
 returns-in-Clear-clause-released c = λ done.
     one_released c.args.at c.args.areas c.args.need c.args.pools.now c.release.new.self (written_by c.scan.new.writer) (written_by c.release.new.writer)
     (released_looked c.args.at c.args.areas c.args.need c.args.pools.now (written_by c.args.writer.now) (written_by c.scan.new.writer) c.scan.ensures.more c.requires.released) (subst (λ (a : AreaRef). IsClear (written_by c.scan.new.writer) Both a.serial) c.area_of-area.ensures c.in-Clear.ensures.cause.1) c.requires.few.0
-    (c.release.ensures.released ∙ ap (λ (a : AreaRef). without_area a c.args.pools.now) c.area_of-area.ensures) (c.release.ensures.stored ∙ ap (λ (a : AreaRef). words_cleared a.block (written_by c.scan.new.writer)) c.area_of-area.ensures) c.release.ensures.owned
+    (c.release.ensures.released ∙ ap (λ (a : AreaRef). without_area a c.args.pools.now) c.area_of-area.ensures) (c.release.ensures.stored ∙ ap (λ (a : AreaRef). area_released a (written_by c.scan.new.writer)) c.area_of-area.ensures) c.release.ensures.owned
 
 pub returns-in-Named-clause-stays : goal.returns-in-Named-clause-stays
 returns-in-Named-clause-stays c = λ named. released_looked c.args.at c.args.areas c.args.need c.args.pools.now (written_by c.args.writer.now) (written_by c.scan.new.writer) c.scan.ensures.more c.requires.released

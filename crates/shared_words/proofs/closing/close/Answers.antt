@@ -19,11 +19,11 @@ load-requires g c = (
 -- what each member had learnt was published
 pub returns-clause-seen : goal.returns-clause-seen
 returns-clause-seen g c = λ k token at.
-    subst (λ (w : WriterView). IsBeginning (member_of token.seat.me.0).seen w.published) (sym (ap (λ m. writer_of m.0) c.load.ensures.2.same))
+    subst (λ (w : WriterView). IsBeginning (member_of token.seat.me.0).seen w.published) (sym (ap writer_of c.in_ok-words.ensures.view ∙ ap (λ m. writer_of m.0) c.load.ensures.2.same))
     (each_begins _ _ _ c.take_in_all.ensures.members (c.load.ensures.2.known _ c.take_in_all.ensures.view) k token at)
 
 -- what is known of the processes of each member
 pub returns-clause-marks : goal.returns-clause-marks
 returns-clause-marks g c =
-    subst (λ (w : WriterView). HaveMarks c.args.parts.members.items w) (sym (ap (λ m. writer_of m.0) c.load.ensures.2.same))
+    subst (λ (w : WriterView). HaveMarks c.args.parts.members.items w) (sym (ap writer_of c.in_ok-words.ensures.view ∙ ap (λ m. writer_of m.0) c.load.ensures.2.same))
     (each_marked _ _ _ c.take_in_all.ensures.members (c.requires.members.all ∙ sym c.requires.token.made) (c.load.ensures.2.marked _ c.take_in_all.ensures.view))
