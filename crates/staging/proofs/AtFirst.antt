@@ -24,17 +24,13 @@ use Rattle.literal_areas.specs.declared.blocks.BlockUse.TheVariants.{Free, Live,
 use Rattle.literal_areas.specs.Blocks.{Stands, opening_areas, serial_of, use_of}
 use Rattle.literal_areas.proofs.AtFirst.{each_free}
 use Rattle.term_table.specs.Tables as terms
+use Rattle.change_laws.specs.Uses.{IsUsed}
 use Rattle.staging.specs.declared.tables.Tables.{Tables}
 use Rattle.staging.specs.Stages.{AreAtRest}
-use Rattle.staging.specs.Standing.{IsShownBy, IsUsed, StandFor, WordsTell, live_blocks, retire_word_of}
+use Rattle.staging.specs.Standing.{IsShownBy, StandFor, WordsTell, live_blocks, retire_word_of}
+use Rattle.staging.proofs.BlockUses.{live_some, retired_some}
 
 -- ---- no block is in use
-
-no_live : (n : ℕ) → Live n ≡ Free → ⊥
-no_live n e = (cc)
-
-no_retired : (n since : ℕ) → Retired n since ≡ Free → ⊥
-no_retired n since e = (cc)
 
 free_use : (block : ℕ) (u : BlockUse) → use_of opening_areas block ≡ Some u → u ≡ Free
 free_use block u at = each_free 55 256 block u at
@@ -55,7 +51,7 @@ retire_none : (o : Option BlockUse) → ((u : BlockUse) → o ≡ Some u → u �
 retire_none None free = refl
 retire_none (Some Free) free = refl
 retire_none (Some (Live n)) free = refl
-retire_none (Some (Retired n since)) free = absurd (no_retired n since (free (Retired n since) refl))
+retire_none (Some (Retired n since)) free = absurd (retired_some n since (free (Retired n since) refl))
 
 unused : (n : ℕ) → IsUsed empty_state n → ⊥
 unused n used =
@@ -100,9 +96,9 @@ module _ (names : List Mfa) (w : WriterView) (is : IsAtFirst w) where
   words_first : WordsTell empty_state opening_areas w
   words_first = record {
     retire = λ block few. is.words (retire_place block) ∙ sym (retire_none (use_of opening_areas block) (free_use block));
-    since = λ block serial since at. absurd (no_retired serial since (free_use block (Retired serial since) at));
+    since = λ block serial since at. absurd (retired_some serial since (free_use block (Retired serial since) at));
     free = λ block few at. is.words (doom_place block);
-    doom = λ block serial few at. absurd (no_live serial (free_use block (Live serial) at));
+    doom = λ block serial few at. absurd (live_some serial (free_use block (Live serial) at));
     untraced = λ bp block function low for few. is.words (breakpoint_place bp block function);
   }
 
@@ -118,9 +114,9 @@ module _ (names : List Mfa) (w : WriterView) (is : IsAtFirst w) where
     blocks = record {
       next = refl;
       used = λ serial used. absurd (unused serial used);
-      live = λ block serial at. absurd (no_live serial (free_use block (Live serial) at));
+      live = λ block serial at. absurd (live_some serial (free_use block (Live serial) at));
       waiting = λ serial retired. absurd (false≢true retired);
-      retired = λ block serial since at. absurd (no_retired serial since (free_use block (Retired serial since) at));
+      retired = λ block serial since at. absurd (retired_some serial since (free_use block (Retired serial since) at));
       unreleased = λ block serial at. refl;
       instances = none_live 55;
       terms = none_live 256;

@@ -10,7 +10,7 @@ use Rattle.area_core.specs.declared.table.Published.{Published}
 use Rattle.area_core.specs.Generations as generations
 use Rattle.area_core.specs.Generations.{functions_of, has_serial}
 use Rattle.server_core.specs.declared.change.Change.{Change}
-use Rattle.server_core.specs.declared.change.Change.TheVariants.{Nothing, BringIn, MakeOld, DropOld, Condemn, HoldWord, HoldArea, Forget, SetTrace, ClearTrace, GiveBack}
+use Rattle.server_core.specs.declared.change.Change.TheVariants.{BringIn, MakeOld}
 use Rattle.server_core.specs.Decided.{Fits}
 use Rattle.server_core.specs.ServerState.{IsSound, ServerState, instance_image, is_doomed, is_retired, live_count}
 use Rattle.change_laws.specs.Changes.{Incoming, incoming, instance, state_after}
@@ -36,44 +36,20 @@ code_after s (BringIn generation modules areas versions) fits code =
     let same = load_leaves_rest s modules.items in
     record { keys = same.keys; retired = same.retired; released = same.released; undoomed = fits.1.rest; doomed = same.doomed ∙ fits.1.rest }
 code_after s (MakeOld generation name) fits code = record { keys = refl; retired = refl; released = refl; undoomed = fits.1.rest; doomed = fits.1.rest }
-code_after s (Nothing reply) fits code = absurd code
-code_after s (DropOld generation name serial says retired) fits code = absurd code
-code_after s (Condemn generation serial) fits code = absurd code
-code_after s (HoldWord generation key term keys retired) fits code = absurd code
-code_after s (HoldArea generation key term stored areas keys retired) fits code = absurd code
-code_after s (Forget generation key retired) fits code = absurd code
-code_after s (SetTrace generation function traced) fits code = absurd code
-code_after s (ClearTrace generation function) fits code = absurd code
-code_after s (GiveBack serial released) fits code = absurd code
+code_after s change fits code = absurd code
 
 -- what comes in are instances
 pub comes_instance : (s : ServerState) (change : Change) → Fits s change → IsCodeChange change → (place : ℕ) (i : Incoming) → slice_get (incoming change) place ≡ Some i → IsInstance i
 comes_instance s (BringIn generation modules areas versions) fits code place i at = instance_at modules.items fits.1.sound place i at
 comes_instance s (MakeOld generation name) fits code place i at = absurd (cc)
-comes_instance s (Nothing reply) fits code place i at = absurd code
-comes_instance s (DropOld generation name serial says retired) fits code place i at = absurd code
-comes_instance s (Condemn generation serial) fits code place i at = absurd code
-comes_instance s (HoldWord generation key term keys retired) fits code place i at = absurd code
-comes_instance s (HoldArea generation key term stored areas keys retired) fits code place i at = absurd code
-comes_instance s (Forget generation key retired) fits code place i at = absurd code
-comes_instance s (SetTrace generation function traced) fits code place i at = absurd code
-comes_instance s (ClearTrace generation function) fits code place i at = absurd code
-comes_instance s (GiveBack serial released) fits code place i at = absurd code
+comes_instance s change fits code place i at = absurd code
 
 -- so many are live
 pub code_counted : (s : ServerState) (change : Change) → Fits s change → IsCodeChange change → live_count (state_after s change).versions ≡ live_count s.versions + length (incoming change)
 code_counted s (BringIn generation modules areas versions) fits code =
     let counted = instances_counted s (BringIn generation modules areas versions) fits in let many = length-map modules.items instance in omega (arith, counted, many)
 code_counted s (MakeOld generation name) fits code = let counted = instances_counted s (MakeOld generation name) fits in omega (arith, counted)
-code_counted s (Nothing reply) fits code = absurd code
-code_counted s (DropOld generation name serial says retired) fits code = absurd code
-code_counted s (Condemn generation serial) fits code = absurd code
-code_counted s (HoldWord generation key term keys retired) fits code = absurd code
-code_counted s (HoldArea generation key term stored areas keys retired) fits code = absurd code
-code_counted s (Forget generation key retired) fits code = absurd code
-code_counted s (SetTrace generation function traced) fits code = absurd code
-code_counted s (ClearTrace generation function) fits code = absurd code
-code_counted s (GiveBack serial released) fits code = absurd code
+code_counted s change fits code = absurd code
 
 -- the image of an instance tells how many functions it has
 pub image_functions : (serial : ℕ) (m : Module) → functions_of (instance_image serial m) ≡ length m.functions

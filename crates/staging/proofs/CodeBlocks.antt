@@ -12,6 +12,7 @@ use Rattle.server_core.specs.Decided.{Fits}
 use Rattle.server_core.specs.Generations.{AreNumbered}
 use Rattle.server_core.specs.ServerState.{IsSound, ServerState, is_retired, is_serial_in, live_areas}
 use Rattle.change_laws.specs.Changes.{Incoming, incoming, state_after}
+use Rattle.change_laws.specs.Uses.{IsUsed}
 use Rattle.change_laws.proofs.AreaUses.{used_stood}
 use Rattle.change_laws.proofs.Dropped.{used_known}
 use Rattle.change_laws.proofs.GivenSerials.{serials_given}
@@ -26,7 +27,8 @@ use Rattle.literal_areas.proofs.Serials.{serial_here}
 use Rattle.prgr_core.proofs.Parts.{and_then_some, some_same}
 use Rattle.staging.specs.Placed.{ArePlaced, IsAreaOf, pool_of, with_areas}
 use Rattle.staging.specs.Stages.{IsCodeChange}
-use Rattle.staging.specs.Standing.{IsUsed, PoolsStand, StandFor, live_blocks}
+use Rattle.staging.specs.Standing.{PoolsStand, StandFor, live_blocks}
+use Rattle.staging.proofs.BlockUses.{live_serial, live_some, retired_live, retired_some}
 use Rattle.staging.proofs.CodeAfter.{code_after, code_counted, comes_instance}
 use Rattle.staging.proofs.Counts.{big_taken}
 use Rattle.staging.proofs.GivenBack.{get_at}
@@ -35,12 +37,6 @@ use Rattle.staging.proofs.NextReads.{used_unretired}
 use Rattle.staging.proofs.Sizes.{IsInstance}
 use Rattle.staging.proofs.Taken.{next_taken, taken_live}
 use Rattle.staging.proofs.TakenUses.{IsTakenAt, serial_taken, small_same, used_after, used_stays}
-
-live_some : (n : ℕ) → Live n ≡ Free → ⊥
-live_some n e = (cc)
-
-retired_some : (n since : ℕ) → Retired n since ≡ Free → ⊥
-retired_some n since e = (cc)
 
 -- what is known when all of it has its areas
 pub record IsPlacedWhole (names : List Mfa) (s : ServerState) (change : Change) (w : WriterView) (rest pools : Areas) (taken : List AreaRef) : Type 0 where
@@ -171,9 +167,6 @@ module _ (names : List Mfa) (s : ServerState) (change : Change) (w : WriterView)
             let serial_is : serial ≡ taken_at.area.serial = live_serial serial taken_at.area.serial taken_at.used in
             subst (IsUsed after) (sym (serial_is ∙ new.serial)) (incoming_used s change new.place new.comes h.fits new.comes_at)
       ]
-    where
-      live_serial : (n k : ℕ) → Live n ≡ Live k → n ≡ k
-      live_serial n k e = (cc)
 
   waits : (serial : ℕ) → is_retired after serial ≡ true → (block : ℕ) × ((since : ℕ) × (use_of pools block ≡ Some (Retired serial since)))
   waits serial is =
@@ -184,11 +177,8 @@ module _ (names : List Mfa) (s : ServerState) (change : Change) (w : WriterView)
   was_retired block serial since is =
       elim (used_now block (Retired serial since) is) as (λ _. use_of rest block ≡ Some (Retired serial since)) [
         | inl was ↦ was
-        | inr taken_at ↦ absurd (no_live serial since taken_at.area.serial taken_at.used)
+        | inr taken_at ↦ absurd (retired_live serial since taken_at.area.serial taken_at.used)
       ]
-    where
-      no_live : (n since k : ℕ) → Retired n since ≡ Live k → ⊥
-      no_live n since k e = (cc)
 
   unreleased : (block serial : ℕ) → serial_at pools block ≡ Some serial → is_serial_in after.released serial ≡ false
   unreleased block serial is =

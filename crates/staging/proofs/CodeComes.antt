@@ -1,6 +1,7 @@
 -- Once what a load brings in has its areas, the state that it leaves may be published; a delete brings nothing in.
 use Rattle.std.proofs.Common.{◌≡◌, ℕ, ◌+◌, ◌^◌, ◌<◌, ◌≤◌, ◌⊎◌, inl, inr, false, List, [], ◌∷◌, length, Some, None, refl, sym, ap, subst, ◌∙◌, arith}
 use Rattle.std.proofs.lemmas.Bool.{true≢false}
+use Rattle.std.proofs.lemmas.Option.{none-some}
 use Rattle.term_core.specs.declared.area.AreaRef.{AreaRef}
 use Rattle.term_core.specs.declared.atom.Mfa.{Mfa}
 use Rattle.mod_core.specs.declared.code.Module.{Module}
@@ -14,13 +15,14 @@ use Rattle.server_core.specs.declared.change.Change.{Change}
 use Rattle.server_core.specs.ServerState.{ServerState, code_of, current_of, is_doomed, is_serial_in, words_of_area}
 use Rattle.change_laws.specs.Changes.{Incoming, state_after}
 use Rattle.change_laws.specs.Images.{module_of, words_of}
+use Rattle.change_laws.specs.Uses.{IsUsed}
 use Rattle.change_laws.proofs.AreaUses.{used_stood}
 use Rattle.change_laws.proofs.KeptImages.{code_comes, code_stays, images_before, images_new}
 use Rattle.change_laws.proofs.VersionUses.{current_stood}
 use Rattle.literal_areas.specs.declared.areas.Areas.{Areas}
 use Rattle.literal_areas.specs.declared.blocks.BlockUse.TheVariants.{Live}
 use Rattle.literal_areas.specs.Blocks.{Stands, use_of}
-use Rattle.staging.specs.Standing.{AreKeysOnce, AreasPlaced, IsUsed, StaysDropped, WordsTell, retire_word_of}
+use Rattle.staging.specs.Standing.{AreKeysOnce, AreasPlaced, StaysDropped, WordsTell, retire_word_of}
 use Rattle.staging.proofs.CodeBlocks.{IsNew, IsPlacedWhole, big_block, blocks_after, new_at, new_live, next_is, pools_use, sound_after, stood_known, stood_or_new, used_now, was_retired}
 use Rattle.staging.proofs.CodeAfter.{code_after, image_functions, newest_below}
 use Rattle.staging.proofs.Coming.{ComesNext, HasImage, IsFresh}
@@ -50,14 +52,11 @@ module _ (names : List Mfa) (s : ServerState) (change : Change) (w : WriterView)
             | inr new ↦ big_block names s change w rest pools taken h a new
           ]
 
-      none_some : (m : Module) → None ≡ Some m → ⊥
-      none_some m e = (cc)
-
       in_small : (a : AreaRef) → Stands pools a → code_of after a.serial ≡ None → 64 ≤ a.block
       in_small a stands code =
           elim (stood_or_new names s change w rest pools taken h a stands) as (λ _. 64 ≤ a.block) [
             | inl stood ↦ h.stands.placed.terms a stood (sym (code_stays s change a.serial (stood_known names s change w rest pools taken h a stood)) ∙ code)
-            | inr new ↦ absurd (none_some new.instance_is.m (sym code ∙ code_new a new))
+            | inr new ↦ absurd (none-some new.instance_is.m (sym code ∙ code_new a new))
           ]
 
   fresh_new : (a : AreaRef) → (new : New a) → IsFresh after pools w a (words_of a.serial new.comes)

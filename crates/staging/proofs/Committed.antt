@@ -20,20 +20,21 @@ use Rattle.server_core.specs.Generations.{AreNumbered, key_term}
 use Rattle.server_core.specs.ServerState.{IsSound, Persistent, ServerState}
 use Rattle.code_law.specs.Served.{IsServed}
 use Rattle.change_laws.specs.Changes.{incoming, state_after}
+use Rattle.change_laws.specs.Uses.{IsUsed}
 use Rattle.code_index.specs.declared.index.Staging.{Staging}
 use Rattle.code_index.specs.declared.index.Staging.TheVariants as indices
 use Rattle.code_index.specs.Committed.{HasCommitted, IsWaiting, MayCommit, TakesNeed, committed}
 use Rattle.code_index.specs.Exports.{LeadTo}
 use Rattle.code_index.specs.Staging as staged
-use Rattle.code_index.specs.Staging.{IsIndexOf, block_of}
+use Rattle.code_index.specs.Staging.{block_of}
 use Rattle.literal_areas.specs.declared.areas.Areas.{Areas}
 use Rattle.literal_areas.specs.Owned.{AreOf}
-use Rattle.literal_areas.proofs.Listed.{owned_next}
+use Rattle.literal_areas.proofs.Listed.{kept_counted, owned_next}
 use Rattle.term_table.specs.Laws.{KeepsKeys, KeptByRoots}
 use Rattle.term_table.specs.Tables.{IsTableOf, Terms, words_in}
 use Rattle.staging.specs.declared.tables.Tables.{Tables}
 use Rattle.staging.specs.Placed.{ArePlaced}
-use Rattle.staging.specs.Standing.{IsUsed, StandFor}
+use Rattle.staging.specs.Standing.{StandFor}
 use Rattle.staging.specs.Stages.{HasPublished, HaveExported, IsCodeChange, IsLate}
 use Rattle.staging.specs.Upcoming.{IsUpcoming, areas_in, generation_shown}
 use Rattle.staging.specs.Whose.{AreTablesOf}
@@ -41,12 +42,13 @@ use Rattle.staging.proofs.CodeAfter.{code_after}
 use Rattle.staging.proofs.CodeBlocks.{IsPlacedWhole, still_stands}
 use Rattle.staging.proofs.CodeComes.{code_comes_next}
 use Rattle.staging.proofs.Coming.{ComesNext}
-use Rattle.staging.proofs.Counted.{comes_counted, placed_counted, pools_counted, stands_counted, tables_counted}
+use Rattle.staging.proofs.Counted.{comes_counted, placed_counted, stands_counted, tables_counted}
 use Rattle.staging.proofs.NextAreas.{apart_next, go_on, next_listed, used_kept}
 use Rattle.staging.proofs.NextStands.{is_listed, stands_next}
 use Rattle.staging.proofs.NextStays.{old_stays_next, retired_stays_next, served_next}
 use Rattle.staging.proofs.NextWords.{areas_next, breakpoints_next, fresh_fits, fresh_images, fresh_told, instances_next}
-use Rattle.staging.proofs.SameKeys.{ListsKeys, key_used, newest_keys, terms_alike}
+use Rattle.staging.proofs.KeyStaged.{newest_keys}
+use Rattle.staging.proofs.SameKeys.{ListsKeys, key_used, terms_alike}
 
 -- ---- the wait
 
@@ -73,7 +75,7 @@ pub record IsNextOver (names : List Mfa) (after : ServerState) (pools : Areas) (
 
 pub over_counted : (names : List Mfa) (after : ServerState) (pools : Areas) (terms : Terms) (p : Published) (first : List Published) (v : WriterView) (counter : ℕ) → v.counter ≤ counter → IsNextOver names after pools terms p first v → IsNextOver names after pools terms p first (counter_kept counter v)
 over_counted names after pools terms p first v counter rises was = record {
-  comes = comes_counted _ counter v names after pools (pools_counted pools v counter rises was.comes.owned) was.comes;
+  comes = comes_counted _ counter v names after pools (kept_counted pools v counter rises was.comes.owned) was.comes;
   tables = tables_counted terms v counter was.unstaged was.tables;
   unstaged = was.unstaged;
   bp = was.bp;
@@ -204,7 +206,7 @@ module _ (names : List Mfa) (s : ServerState) (change : Change) (table : TableId
     stands = stands_counted _ counter v names s had.placed.rest was.stands;
     placed = placed_counted _ counter v (incoming change) had.placed.rest t.pools taken was.placed;
     tables = tables_counted t.terms v counter had.placed.terms was.tables;
-    pools = pools_counted t.pools v counter rises was.pools;
+    pools = kept_counted t.pools v counter rises was.pools;
     words = was.words;
     published = was.published;
   }

@@ -1,12 +1,11 @@
 -- Loads of the counter change nothing of what the words stand for.
-use Rattle.std.proofs.Common.{◌≡◌, ℕ, ◌≤◌, ◌⊎◌, inl, inr, List, Option, None, sym, subst, arith}
+use Rattle.std.proofs.Common.{◌≡◌, ℕ, ◌⊎◌, inl, inr, List, Option, None, sym, subst}
 use Rattle.term_core.specs.declared.area.AreaRef.{AreaRef}
 use Rattle.term_core.specs.declared.atom.Mfa.{Mfa}
 use Rattle.prgr_core.specs.declared.member.Retirement.{Retirement}
 use Rattle.area_core.specs.Blocks.{Among}
 use Rattle.shared_words.specs.declared.view.WriterView.{WriterView}
 use Rattle.shared_words.specs.Kinds.{counter_kept}
-use Rattle.shared_words.specs.Rule.{MayBeRead}
 use Rattle.shared_words.proofs.ShownMembers.{still_at}
 use Rattle.server_core.specs.ServerState.{ServerState}
 use Rattle.literal_areas.specs.declared.areas.Areas.{Areas}
@@ -17,22 +16,7 @@ use Rattle.staging.specs.Placed.{ArePlaced}
 use Rattle.staging.specs.Standing.{StandFor}
 use Rattle.staging.proofs.Coming.{ComesNext, HasImage, IsFresh}
 
--- ---- the pools and the term tables
-
--- a counter that did not fall lets the writer know of no fewer generations that they have passed
-pub fewer_read : (w : WriterView) (counter : ℕ) → w.counter ≤ counter → (g : ℕ) → MayBeRead (counter_kept counter w) g → MayBeRead w g
-fewer_read w counter rises g may pair among need = may pair (among.0, still_at w.pairs _ among.0 pair among.1) (omega (arith, rises, need))
-
-pub pools_counted : (s : Areas) (w : WriterView) (counter : ℕ) → w.counter ≤ counter → AreOf s w → AreOf s (counter_kept counter w)
-pools_counted s w counter rises own = record {
-  sound = own.sound;
-  all = own.all;
-  kept = own.kept;
-  reached = λ g p counts. own.reached g p (fewer_read w counter rises g counts);
-  taken = own.taken;
-  past = own.past;
-  since = own.since;
-}
+-- ---- the term tables
 
 pub tables_counted : (t : Terms) (w : WriterView) (counter : ℕ) → t.staged ≡ None → IsTableOf t w → IsTableOf t (counter_kept counter w)
 tables_counted t w counter none own = record {

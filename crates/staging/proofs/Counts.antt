@@ -14,7 +14,7 @@ use Rattle.mod_core.specs.Module.{IsModule}
 use Rattle.shared_words.proofs.ShownMembers.{there_is, within_get}
 use Rattle.progress_words.specs.Tokens.{written_by}
 use Rattle.server_core.specs.declared.change.Change.{Change}
-use Rattle.server_core.specs.declared.change.Change.TheVariants.{Nothing, BringIn, MakeOld, DropOld, Condemn, HoldWord, HoldArea, Forget, SetTrace, ClearTrace, GiveBack}
+use Rattle.server_core.specs.declared.change.Change.TheVariants.{BringIn, HoldArea}
 use Rattle.server_core.specs.Decided.{Fits}
 use Rattle.server_core.specs.ServerState.{ServerState, live_areas, live_count}
 use Rattle.literal_areas.specs.declared.blocks.Pool.{Pool}
@@ -109,12 +109,4 @@ block_left names s (HoldArea generation key term kept areas keys retired) t take
     let place = fits.1.place.for_area in
     let room : nat_le 256 (live_areas s.keys) ≡ false = subst (λ (b : Bool). (not b && nat_le 256 (live_areas s.keys)) ≡ false) fits.2 place in
     all_small names s (HoldArea generation key term kept areas keys retired) t taken i had sizes there (stored (plain term)) refl refl (leb-false 256 (live_areas s.keys) room) live
-block_left names s (Nothing reply) t taken i had sizes there fits live = (cc)
-block_left names s (MakeOld generation name) t taken i had sizes there fits live = (cc)
-block_left names s (DropOld generation name serial says retired) t taken i had sizes there fits live = (cc)
-block_left names s (Condemn generation serial) t taken i had sizes there fits live = (cc)
-block_left names s (HoldWord generation key term keys retired) t taken i had sizes there fits live = (cc)
-block_left names s (Forget generation key retired) t taken i had sizes there fits live = (cc)
-block_left names s (SetTrace generation function traced) t taken i had sizes there fits live = (cc)
-block_left names s (ClearTrace generation function) t taken i had sizes there fits live = (cc)
-block_left names s (GiveBack serial released) t taken i had sizes there fits live = (cc)
+block_left names s change t taken i had sizes there fits live = (cc)

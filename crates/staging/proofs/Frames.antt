@@ -1,13 +1,15 @@
 -- The words stand for a state still, over stores in blocks that tell nothing of areas.
-use Rattle.std.proofs.Common.{◌≡◌, ◌≢◌, ℕ, ◌+◌, ◌-◌, ◌*◌, ◌<◌, ◌≤◌, inl, inr, List, length, refl, sym, ap, subst, ◌∙◌, arith}
+use Rattle.std.proofs.Common.{◌≡◌, ℕ, ◌+◌, ◌<◌, ◌≤◌, inl, inr, List, refl, sym, subst, ◌∙◌, arith}
 use Rattle.std.proofs.lemmas.Bool.{cases_lt, lt-ltb, le-ltb}
+use Rattle.term_core.specs.declared.area.AreaRef.{AreaRef}
 use Rattle.term_core.specs.declared.atom.Mfa.{Mfa}
-use Rattle.area_core.specs.Map.{block_place, breakpoint_place, breakpoint_at, doom_place, retire_place, room_of, word_at}
+use Rattle.area_core.specs.Map.{block_place, breakpoint_place, breakpoint_at, doom_place, retire_place, word_at}
 use Rattle.area_core.specs.Blocks.{IsForInstances}
 use Rattle.shared_words.specs.declared.view.WriterView.{WriterView}
 use Rattle.shared_words.specs.Views.{newest}
 use Rattle.server_core.specs.ServerState.{ServerState}
 use Rattle.literal_areas.specs.declared.areas.Areas.{Areas}
+use Rattle.literal_areas.specs.Owned.{IsUnpublished}
 use Rattle.literal_areas.specs.Written.{HasWritten, KeepsOtherBlocks}
 use Rattle.staging.specs.Standing.{DoomStands, StandFor}
 use Rattle.staging.proofs.Elsewhere.{big_room}
@@ -48,6 +50,10 @@ pub stands_alike : (names : List Mfa) (s : ServerState) (pools : Areas) (old new
 stands_alike names s pools old new alike stands =
     subst (StandFor names s pools) (sym alike.same) (stands_words names s pools old new.words (record { retire = alike.retire; doom = alike.doom; untraced = alike.untraced; same = refl }) stands)
 
+-- what was never published is not, where nothing but words has changed
+pub unpublished_written : (old : WriterView) (words : List ℕ) (area : AreaRef) → IsUnpublished old area → IsUnpublished (record old { words = words }) area
+unpublished_written old words area was = record { listed = was.listed; kept = was.kept }
+
 -- ---- a write into a block of an area
 
 -- words of blocks stand behind those that tell of areas
@@ -58,7 +64,7 @@ block_behind block at =
       | inr high ↦ rw (le-ltb block 64 high) (omega (arith, high))
     ]
 
-at_fits : (block function : ℕ) → IsForInstances block → function < 16 → breakpoint_at block function < 1024
+pub at_fits : (block function : ℕ) → IsForInstances block → function < 16 → breakpoint_at block function < 1024
 at_fits block function for few = let first = for.first in let last = for.last in omega (arith, first, last, few)
 
 pub tells_written : (block count : ℕ) (words : List ℕ) (old new : WriterView) → 9 ≤ block → HasWritten block count words old new → KeepsOtherBlocks block old new → TellsAlike old new

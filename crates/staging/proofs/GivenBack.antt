@@ -20,7 +20,7 @@ use Rattle.literal_areas.proofs.Uses.{use_big, use_here, use_small, use_there}
 use Rattle.staging.specs.declared.tables.Tables.{Tables}
 use Rattle.change_laws.specs.Changes.{incoming}
 use Rattle.staging.specs.Placed.{AreTaken, IsAreaOf, with_areas}
-use Rattle.staging.specs.Stages.{AreAtRest, HavePlaced}
+use Rattle.staging.specs.Stages.{HavePlaced}
 use Rattle.staging.specs.Standing.{StandFor}
 use Rattle.staging.proofs.PlaceLoops.{GivesBack}
 use Rattle.staging.proofs.Taken.{with_one_more}

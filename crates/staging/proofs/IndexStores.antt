@@ -1,5 +1,5 @@
 -- Stores into code indices alone leave what the words tell of areas, and the areas that are placed.
-use Rattle.std.proofs.Common.{◌≡◌, ℕ, ◌+◌, ◌<◌, ◌≤◌, inl, inr, List, refl, sym, ap, subst, ◌∙◌, arith}
+use Rattle.std.proofs.Common.{◌≡◌, ℕ, ◌+◌, ◌<◌, ◌≤◌, inl, inr, List, sym, ap, subst, ◌∙◌, arith}
 use Rattle.std.proofs.lemmas.Bool.{cases_lt, lt-ltb, le-ltb}
 use Rattle.term_core.specs.declared.area.AreaRef.{AreaRef}
 use Rattle.term_core.specs.declared.atom.Mfa.{Mfa}
@@ -17,7 +17,7 @@ use Rattle.staging.specs.Placed.{IsAreaOf, pool_of}
 use Rattle.staging.specs.Stages.{HavePlaced}
 use Rattle.staging.specs.Whose.{StoresExports}
 use Rattle.literal_areas.specs.Blocks.{first_of}
-use Rattle.staging.proofs.Frames.{TellsAlike, block_behind, stands_alike}
+use Rattle.staging.proofs.Frames.{TellsAlike, block_behind, stands_alike, unpublished_written}
 
 -- ---- places
 
@@ -62,16 +62,13 @@ first_high : (i : Incoming) (block : ℕ) → first_of (pool_of i) ≤ block →
 first_high (instance m) block first = omega (arith, first)
 first_high (stored term) block first = omega (arith, first)
 
-unpublished_still : (old : WriterView) (words : List ℕ) (area : AreaRef) → IsUnpublished old area → IsUnpublished (record old { words = words }) area
-unpublished_still old words area was = record { listed = was.listed; kept = was.kept }
-
 area_still : (old new : WriterView) (i : Incoming) (a : AreaRef) → StoresExports old new → IsAreaOf old i a → IsAreaOf new i a
 area_still old new i a stores was = record {
   small = was.small;
   first = was.first;
   last = was.last;
   room = was.room;
-  unpublished = subst (λ (w : WriterView). IsUnpublished w a) (sym stores.same) (unpublished_still old new.words a was.unpublished);
+  unpublished = subst (λ (w : WriterView). IsUnpublished w a) (sym stores.same) (unpublished_written old new.words a was.unpublished);
   written = λ at value is. stores.others (block_place a.block at) (behind_elsewhere (block_place a.block at) (third_behind a.block at (first_high i a.block was.first))) ∙ was.written at value is;
 }
 

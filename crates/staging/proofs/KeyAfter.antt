@@ -1,6 +1,7 @@
 -- What else a put or an erase leaves of the state, and what comes in with it.
 use Rattle.std.proofs.Common.{◌≡◌, ℕ, zero, suc, ◌+◌, ◌≤◌, List, length, Some, None, refl, sym, ap, ◌∙◌, subst, arith}
 use Rattle.std.specs.Prelude.{slice_get}
+use Rattle.std.proofs.lemmas.Option.{none-some}
 use Rattle.prgr_core.proofs.Parts.{some_same}
 use Rattle.term_core.specs.declared.area.AreaRef.{AreaRef}
 use Rattle.term_core.specs.declared.atom.Mfa.{Mfa}
@@ -8,7 +9,7 @@ use Rattle.term_core.specs.Plain.{plain}
 use Rattle.term_core.specs.PlainTerm.{PlainTerm}
 use Rattle.shared_words.specs.declared.view.WriterView.{WriterView}
 use Rattle.server_core.specs.declared.change.Change.{Change}
-use Rattle.server_core.specs.declared.change.Change.TheVariants.{Nothing, BringIn, MakeOld, DropOld, Condemn, HoldWord, HoldArea, Forget, SetTrace, ClearTrace, GiveBack}
+use Rattle.server_core.specs.declared.change.Change.TheVariants.{HoldWord, HoldArea, Forget}
 use Rattle.server_core.specs.Generations.{AreNumbered}
 use Rattle.server_core.specs.ServerState.{ServerState}
 use Rattle.server_core.proofs.KeyEntries.{counted}
@@ -31,14 +32,7 @@ pub key_after : (names : List Mfa) (s : ServerState) (change : Change) → IsKey
 key_after names s (HoldWord generation key term keys retired) is = record { versions = refl; released = refl; doomed = refl; once = λ once. put_stand s.keys (record { key = key.0; term = plain term; area = None }) once; numbered = λ numbered to. numbered to }
 key_after names s (HoldArea generation key term kept areas keys retired) is = record { versions = refl; released = refl; doomed = refl; once = λ once. put_stand s.keys (record { key = key.0; term = plain term; area = Some s.next_serial }) once; numbered = λ numbered to. numbered to }
 key_after names s (Forget generation key retired) is = record { versions = refl; released = refl; doomed = refl; once = λ once. erase_stand s.keys key.0 once; numbered = λ numbered to. numbered to }
-key_after names s (Nothing reply) is = absurd is
-key_after names s (BringIn generation modules areas versions) is = absurd is
-key_after names s (MakeOld generation name) is = absurd is
-key_after names s (DropOld generation name serial says retired) is = absurd is
-key_after names s (Condemn generation serial) is = absurd is
-key_after names s (SetTrace generation function traced) is = absurd is
-key_after names s (ClearTrace generation function) is = absurd is
-key_after names s (GiveBack serial released) is = absurd is
+key_after names s change is = absurd is
 
 -- ---- what comes in
 
@@ -57,41 +51,17 @@ key_comes s (HoldArea generation key term kept areas keys retired) is zero i at 
 key_comes s (HoldArea generation key term kept areas keys retired) is (suc place) i at = absurd (cc)
 key_comes s (HoldWord generation key term keys retired) is place i at = absurd (cc)
 key_comes s (Forget generation key retired) is place i at = absurd (cc)
-key_comes s (Nothing reply) is place i at = absurd is
-key_comes s (BringIn generation modules areas versions) is place i at = absurd is
-key_comes s (MakeOld generation name) is place i at = absurd is
-key_comes s (DropOld generation name serial says retired) is place i at = absurd is
-key_comes s (Condemn generation serial) is place i at = absurd is
-key_comes s (SetTrace generation function traced) is place i at = absurd is
-key_comes s (ClearTrace generation function) is place i at = absurd is
-key_comes s (GiveBack serial released) is place i at = absurd is
-
-none_some : (n : ℕ) → None ≡ Some n → ⊥
-none_some n e = (cc)
+key_comes s change is place i at = absurd is
 
 -- it has the next serial, and is the only one
 pub key_came : (s : ServerState) (change : Change) → IsKeyChange change → (serial : ℕ) → came_with s change ≡ Some serial → (serial ≡ s.next_serial) × (length (incoming change) ≡ 1)
 key_came s (HoldArea generation key term kept areas keys retired) is serial came = (sym (some_same s.next_serial serial came), refl)
-key_came s (HoldWord generation key term keys retired) is serial came = absurd (none_some serial came)
-key_came s (Forget generation key retired) is serial came = absurd (none_some serial came)
-key_came s (Nothing reply) is serial came = absurd is
-key_came s (BringIn generation modules areas versions) is serial came = absurd is
-key_came s (MakeOld generation name) is serial came = absurd is
-key_came s (DropOld generation name old says retired) is serial came = absurd is
-key_came s (Condemn generation old) is serial came = absurd is
-key_came s (SetTrace generation function traced) is serial came = absurd is
-key_came s (ClearTrace generation function) is serial came = absurd is
-key_came s (GiveBack old released) is serial came = absurd is
+key_came s (HoldWord generation key term keys retired) is serial came = absurd (none-some serial came)
+key_came s (Forget generation key retired) is serial came = absurd (none-some serial came)
+key_came s change is serial came = absurd is
 
 pub came_count : (s : ServerState) (change : Change) → IsKeyChange change → length (incoming change) ≡ counted (came_with s change)
 came_count s (HoldArea generation key term kept areas keys retired) is = refl
 came_count s (HoldWord generation key term keys retired) is = refl
 came_count s (Forget generation key retired) is = refl
-came_count s (Nothing reply) is = absurd is
-came_count s (BringIn generation modules areas versions) is = absurd is
-came_count s (MakeOld generation name) is = absurd is
-came_count s (DropOld generation name serial says retired) is = absurd is
-came_count s (Condemn generation serial) is = absurd is
-came_count s (SetTrace generation function traced) is = absurd is
-came_count s (ClearTrace generation function) is = absurd is
-came_count s (GiveBack serial released) is = absurd is
+came_count s change is = absurd is

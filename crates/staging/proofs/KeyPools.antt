@@ -2,6 +2,7 @@
 use Rattle.std.proofs.Common.{◌≡◌, ◌≢◌, ◌⊎◌, inl, inr, ℕ, zero, suc, ◌+◌, ◌-◌, ◌≤◌, List, [], ◌∷◌, length, Option, Some, None, refl, sym, ap, subst, ◌∙◌, arith}
 use Rattle.std.specs.Prelude.{slice_get, slice_set}
 use Rattle.std.proofs.lemmas.Bool.{le-ltb}
+use Rattle.std.proofs.lemmas.Option.{none-some}
 use Rattle.prgr_core.proofs.Parts.{some_same}
 use Rattle.term_core.specs.declared.area.AreaRef.{AreaRef}
 use Rattle.server_core.proofs.KeyEntries.{counted}
@@ -15,6 +16,7 @@ use Rattle.literal_areas.proofs.Uses.{use_here, use_other, use_small}
 use Rattle.staging.specs.Placed.{with_areas}
 use Rattle.staging.specs.Replaced.{FormerRetired}
 use Rattle.staging.specs.Standing.{live_blocks}
+use Rattle.staging.proofs.BlockUses.{live_retired}
 
 -- ---- an area is retired
 
@@ -29,9 +31,6 @@ pub record Retires (former : Option ℕ) (since : ℕ) (old new : Areas) : Type 
   pub big : live_blocks new.big ≡ live_blocks old.big
   pub small : live_blocks new.small + counted former ≡ live_blocks old.small
 
-none_some : (n : ℕ) → None ≡ Some n → ⊥
-none_some n e = (cc)
-
 live_set : (uses : List BlockUse) (k n since : ℕ) → slice_get uses k ≡ Some (Live n) → live_blocks (slice_set uses k (Retired n since)) + 1 ≡ live_blocks uses
 live_set [] k n since e = absurd (cc)
 live_set (Free ∷ uses) zero n since e = absurd (cc)
@@ -39,17 +38,14 @@ live_set (Live serial ∷ uses) zero n since e = omega (arith)
 live_set (Retired serial first ∷ uses) zero n since e = absurd (cc)
 live_set (used ∷ uses) (suc k) n since e = let behind = live_set uses k n since e in omega (arith, behind)
 
-live_retired : (n m since : ℕ) → Live n ≡ Retired m since → ⊥
-live_retired n m since e = (cc)
-
 -- nothing is retired
 pub retires_none : (since : ℕ) (old new : Areas) → new ≡ old → Retires None since old new
 retires_none since old new same = record {
   next = ap (λ (s : Areas). s.next) same;
   before = λ block u now. inl (sym (ap (λ (s : Areas). use_of s block) same) ∙ now);
   stays = λ block u was differ. ap (λ (s : Areas). use_of s block) same ∙ was;
-  gone = λ block serial now e. none_some serial e;
-  retired = λ serial e. absurd (none_some serial e);
+  gone = λ block serial now e. none-some serial e;
+  retired = λ serial e. absurd (none-some serial e);
   stands = λ block serial was. ap (λ (s : Areas). serial_at s block) same ∙ was;
   big = ap (λ (s : Areas). live_blocks s.big) same;
   small = (let count = ap (λ (s : Areas). live_blocks s.small) same in omega (arith, count));

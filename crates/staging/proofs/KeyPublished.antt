@@ -27,7 +27,7 @@ use Rattle.progress_words.specs.Roots.{newest_of}
 use Rattle.progress_words.specs.Tokens.{IsWriterOf, written_by}
 use Rattle.progress_words.proofs.Rooted.{some_published}
 use Rattle.server_core.specs.declared.change.Change.{Change}
-use Rattle.server_core.specs.declared.change.Change.TheVariants.{Nothing, BringIn, MakeOld, DropOld, Condemn, HoldWord, HoldArea, Forget, SetTrace, ClearTrace, GiveBack}
+use Rattle.server_core.specs.declared.change.Change.TheVariants.{HoldWord, HoldArea, Forget}
 use Rattle.server_core.specs.Decided.{Fits}
 use Rattle.server_core.specs.Generations.{function_ref, key_term}
 use Rattle.server_core.specs.ServerState.{HasItsArea, IsPersistent, IsSound, IsTermArea, Persistent, ServerState, code_of, dispatch_of, key_area, persistent_of}
@@ -44,7 +44,7 @@ use Rattle.literal_areas.specs.Blocks.{Stands, use_of}
 use Rattle.literal_areas.proofs.Serials.{serial_here}
 use Rattle.literal_areas.proofs.Uses.{use_within}
 use Rattle.literal_areas.specs.Owned.{AreOf}
-use Rattle.literal_areas.proofs.Listed.{owned_next}
+use Rattle.literal_areas.proofs.Listed.{kept_counted, owned_next}
 use Rattle.term_table.specs.Published as published
 use Rattle.term_table.specs.Published.{MayPublishTerms, restaged}
 use Rattle.term_table.specs.Tables.{IsTableOf, Terms}
@@ -56,13 +56,14 @@ use Rattle.staging.specs.Standing.{StandFor, retire_word_of}
 use Rattle.staging.specs.Upcoming.{IsUpcoming, areas_in, generation_shown}
 use Rattle.staging.specs.Whose.{AreTablesOf}
 use Rattle.staging.proofs.Coming.{ComesNext, IsFresh}
-use Rattle.staging.proofs.Counted.{pools_counted, stands_counted}
+use Rattle.staging.proofs.Counted.{stands_counted}
 use Rattle.staging.proofs.KeyLists.{once_stand}
 use Rattle.staging.proofs.KeyPools.{retires}
 use Rattle.staging.proofs.KeyStates.{rekeys}
 use Rattle.staging.proofs.KeyWords.{retires_words}
 use Rattle.staging.proofs.Taken.{live_stays}
-use Rattle.staging.proofs.KeyComes.{IsNew, IsReady, key_comes_next, stood_or_new, stood_stands}
+use Rattle.staging.proofs.KeyBlocks.{IsNew, IsReady, stood_or_new, stood_stands}
+use Rattle.staging.proofs.KeyComes.{key_comes_next}
 use Rattle.staging.proofs.Mixed.{reached_in_state}
 use Rattle.staging.proofs.NextAreas.{apart_next, fresh_comes, go_on, next_listed, used_kept}
 use Rattle.staging.proofs.NextStands.{is_listed, stands_next}
@@ -75,14 +76,7 @@ calls_stay : (s : ServerState) (change : Change) → IsKeyChange change → (to 
 calls_stay s (HoldWord generation key term keys retired) is to = refl
 calls_stay s (HoldArea generation key term kept areas keys retired) is to = refl
 calls_stay s (Forget generation key retired) is to = refl
-calls_stay s (Nothing reply) is to = absurd is
-calls_stay s (BringIn generation modules areas versions) is to = absurd is
-calls_stay s (MakeOld generation name) is to = absurd is
-calls_stay s (DropOld generation name serial says retired) is to = absurd is
-calls_stay s (Condemn generation serial) is to = absurd is
-calls_stay s (SetTrace generation function traced) is to = absurd is
-calls_stay s (ClearTrace generation function) is to = absurd is
-calls_stay s (GiveBack serial released) is to = absurd is
+calls_stay s change is to = absurd is
 
 no_function : (k : KeptArea) (function : ℕ) → 64 ≤ k.area.block → has_function k function ≡ true → ⊥
 no_function k function small e = absurd (let parts = and_parts (nat_lt k.area.block 64) _ e in let low = ltb-true k.area.block 64 parts.0 in omega (arith, low, small))
@@ -252,7 +246,7 @@ module _ (names : List Mfa) (s : ServerState) (change : Change) (table : TableId
       token = token;
       index = subst (λ x. IsIndexOf x (written_by new.writer)) (sym (index ∙ nothing)) ((by_counters indices.Nothing (with_next p view) (written_by new.writer) loaded).owned index_next);
       terms = terms;
-      pools = subst (λ (x : Areas). AreOf x (written_by new.writer)) (sym pools) (subst (AreOf t.pools) (sym loaded.view) (pools_counted t.pools (with_next p view) done.counter done.rising (owned_next t.pools view own.pools p (is_listed names later t.pools view p comes up))));
+      pools = subst (λ (x : Areas). AreOf x (written_by new.writer)) (sym pools) (subst (AreOf t.pools) (sym loaded.view) (kept_counted t.pools (with_next p view) done.counter done.rising (owned_next t.pools view own.pools p (is_listed names later t.pools view p comes up))));
     };
     published = record {
       next = p;

@@ -3,18 +3,19 @@ use Rattle.std.proofs.Common.{◌≡◌, ◌≢◌, ◌⊎◌, inl, inr, ℕ, �
 use Rattle.std.specs.Option.{option_to_list}
 use Rattle.std.proofs.lemmas.Bool.Decides.{nat_tests}
 use Rattle.std.proofs.lemmas.Bool.{cases_eq}
+use Rattle.std.proofs.lemmas.Option.{none-some}
 use Rattle.term_core.specs.Plain.{plain}
 use Rattle.server_core.specs.declared.change.Change.{Change}
-use Rattle.server_core.specs.declared.change.Change.TheVariants.{Nothing, BringIn, MakeOld, DropOld, Condemn, HoldWord, HoldArea, Forget, SetTrace, ClearTrace, GiveBack}
+use Rattle.server_core.specs.declared.change.Change.TheVariants.{HoldWord, HoldArea, Forget}
 use Rattle.server_core.specs.CommandTable.{with_key, without_key}
 use Rattle.server_core.specs.Decided.{made}
 use Rattle.server_core.specs.Rooms.{area_among}
 use Rattle.server_core.specs.ServerState.{Persistent, ServerState, current_of, is_retired, is_serial_in, key_area, live_areas, old_of, persistent_among, persistent_of}
 use Rattle.server_core.proofs.KeyChanges.{IsAreaOf, area_of_key, in_option, persistent_erased, persistent_put}
 use Rattle.server_core.proofs.KeyEntries.{areas_put, counted}
+use Rattle.change_laws.specs.Uses.{IsUsed}
 use Rattle.staging.specs.Replaced.{former_of}
 use Rattle.staging.specs.Stages.{IsKeyChange}
-use Rattle.staging.specs.Standing.{IsUsed}
 use Rattle.staging.proofs.KeyLists.{StandOnce, apart_none, same_key}
 
 -- the serial of the area that comes in with a key
@@ -71,9 +72,6 @@ areas_erased (p ∷ ps) key once = by (nat_eq p.key key) refl (areas_erased ps k
         let zero = ap counted none in omega (arith, rest, zero)
     by false is rest = omega (arith, rest)
 
-none_some : (n : ℕ) → None ≡ Some n → ⊥
-none_some n e = (cc)
-
 -- the area of a key that is another one stays
 stays_put : (ps : List Persistent) (new : Persistent) (k serial : ℕ) → (k ≡ new.key → ⊥) → area_among ps k ≡ Some serial → area_among (with_key ps new) k ≡ Some serial
 stays_put ps new k serial differ e =
@@ -113,7 +111,7 @@ pub rekeys : (s : ServerState) (change : Change) → StandOnce s.keys → IsKeyC
 rekeys s (HoldWord generation key term keys retired) once is = record {
   used = λ serial u. used_from s key.0 (Some new) (with_key s.keys new) (persistent_put s.keys new) t refl (λ name. refl) (λ name. refl) serial u;
   stays = λ serial u differ. used_still s key.0 (Some new) (with_key s.keys new) (persistent_put s.keys new) t refl (λ name. refl) (λ name. refl) serial (λ k other e. stays_put s.keys new k serial other e) u differ;
-  comes = λ serial e. absurd (none_some serial e);
+  comes = λ serial e. absurd (none-some serial e);
   held = λ serial e. (key.0, e);
   retired = λ serial h. in_option (key_area s key.0) s.retired serial h;
   still = λ serial h. in_front s.retired (option_to_list (key_area s key.0)) serial h;
@@ -145,7 +143,7 @@ rekeys s (HoldArea generation key term stored areas keys retired) once is = reco
 rekeys s (Forget generation key retired) once is = record {
   used = λ serial u. used_from s key.0 None (without_key key.0 s.keys) (persistent_erased s.keys key.0) t refl (λ name. refl) (λ name. refl) serial u;
   stays = λ serial u differ. used_still s key.0 None (without_key key.0 s.keys) (persistent_erased s.keys key.0) t refl (λ name. refl) (λ name. refl) serial (λ k other e. stays_erased s.keys key.0 k serial other e) u differ;
-  comes = λ serial e. absurd (none_some serial e);
+  comes = λ serial e. absurd (none-some serial e);
   held = λ serial e. (key.0, e);
   retired = λ serial h. in_option (key_area s key.0) s.retired serial h;
   still = λ serial h. in_front s.retired (option_to_list (key_area s key.0)) serial h;
@@ -155,11 +153,4 @@ rekeys s (Forget generation key retired) once is = record {
   where
     t : ServerState
     t = (made s (Forget generation key retired)).state
-rekeys s (Nothing reply) once is = absurd is
-rekeys s (BringIn generation modules areas versions) once is = absurd is
-rekeys s (MakeOld generation name) once is = absurd is
-rekeys s (DropOld generation name serial says retired) once is = absurd is
-rekeys s (Condemn generation serial) once is = absurd is
-rekeys s (SetTrace generation function traced) once is = absurd is
-rekeys s (ClearTrace generation function) once is = absurd is
-rekeys s (GiveBack serial released) once is = absurd is
+rekeys s change once is = absurd is

@@ -6,6 +6,7 @@ mod KeyStates
 mod KeyPools
 mod KeyWords
 mod KeyAfter
+mod KeyBlocks
 mod KeyComes
 mod KeyPublished
 mod KeyReplaced
@@ -16,6 +17,7 @@ mod StagedTables
 mod StagedEnds
 mod TableStores
 mod PlacedAreas
+mod BlockUses
 mod Frames
 mod Taken
 mod PlacedMore
@@ -26,7 +28,6 @@ mod PlaceCalls
 mod PlaceLoops
 mod SetNames
 mod Reached
-mod Listed
 mod IndexStores
 mod Mixed
 mod Reaching

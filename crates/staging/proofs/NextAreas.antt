@@ -22,7 +22,7 @@ use Rattle.literal_areas.specs.declared.blocks.BlockUse.TheVariants.{Free, Live,
 use Rattle.literal_areas.specs.Blocks.{Stands, serial_at, serial_of, use_of}
 use Rattle.literal_areas.proofs.Serials.{serial_here}
 use Rattle.prgr_core.proofs.Parts.{some_same, and_then_some}
-use Rattle.staging.specs.Standing.{IsUsed}
+use Rattle.change_laws.specs.Uses.{IsUsed}
 use Rattle.staging.specs.Upcoming.{IsUpcoming}
 use Rattle.staging.proofs.AreasIn.{AreRising, among_either, among_left, among_right, areas_rise, listed_stands, stands_listed}
 use Rattle.staging.proofs.Coming.{ComesNext, IsFresh}

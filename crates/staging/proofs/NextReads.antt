@@ -12,11 +12,12 @@ use Rattle.area_core.specs.declared.table.Published.{Published}
 use Rattle.area_core.specs.Generations as generations
 use Rattle.area_core.specs.Generations.{has_serial, holds_area}
 use Rattle.server_core.specs.Generations.{is_current_code, is_old_code, is_serial, key_term, serials_below}
-use Rattle.server_core.specs.ServerState.{IsDropped, IsInstanceOf, IsSound, Persistent, ServerState, code_of, current_of, is_retired, is_serial_in, key_area, old_of, persistent_among}
+use Rattle.server_core.specs.ServerState.{IsDropped, IsInstanceOf, IsSound, Persistent, ServerState, code_of, current_of, is_retired, key_area, old_of, persistent_among}
 use Rattle.machine_core.proofs.ImageKinds.{found_number}
 use Rattle.machine_core.proofs.GenerationAreas.{some_of}
 use Rattle.prgr_core.proofs.Parts.{some_same}
-use Rattle.staging.specs.Standing.{AreKeysOnce, IsUsed}
+use Rattle.change_laws.specs.Uses.{IsUsed}
+use Rattle.staging.specs.Standing.{AreKeysOnce}
 use Rattle.staging.specs.Upcoming.{generation_shown}
 
 -- ---- serials that pass a test

@@ -20,7 +20,8 @@ use Rattle.machine_core.proofs.ImageKinds.{instance_no_term}
 use Rattle.code_law.specs.Served.{IsServed, TermsPlaced}
 use Rattle.literal_areas.specs.declared.areas.Areas.{Areas}
 use Rattle.literal_areas.specs.Blocks.{Stands}
-use Rattle.staging.specs.Standing.{IsUsed, StaysDropped}
+use Rattle.change_laws.specs.Uses.{IsUsed}
+use Rattle.staging.specs.Standing.{StaysDropped}
 use Rattle.staging.specs.Upcoming.{IsUpcoming}
 use Rattle.staging.proofs.Coming.{ComesNext}
 use Rattle.staging.proofs.NextAreas.{image_next, listed_next}

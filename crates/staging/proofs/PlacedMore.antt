@@ -1,5 +1,5 @@
 -- One more of what a change brings in is placed.
-use Rattle.std.proofs.Common.{◌≡◌, ◌≢◌, ℕ, ◌+◌, ◌^◌, ◌<◌, ◌≤◌, inl, inr, List, [], ◌∷◌, ◌++◌, length, length-append, refl, sym, ap, subst, ◌∙◌, arith}
+use Rattle.std.proofs.Common.{◌≡◌, ℕ, ◌+◌, ◌^◌, ◌<◌, ◌≤◌, inl, inr, List, [], ◌∷◌, ◌++◌, length, length-append, sym, ap, subst, ◌∙◌, arith}
 use Rattle.std.specs.Prelude.{Some, slice_get}
 use Rattle.prgr_core.proofs.Parts.{slice_get-push_at, some_same}
 use Rattle.term_core.specs.declared.area.AreaRef.{AreaRef}
@@ -20,16 +20,12 @@ use Rattle.change_laws.specs.Images.{words_of}
 use Rattle.staging.specs.Placed.{HasPlaced, HasWords, IsAreaOf, pool_of, with_areas}
 use Rattle.staging.specs.Stages.{HavePlaced}
 use Rattle.staging.proofs.Elsewhere.{block_high, room_same}
-use Rattle.staging.proofs.Frames.{stands_alike, tells_written}
-use Rattle.staging.proofs.Taken.{apart_from, next_taken, taken_more, with_one_more}
+use Rattle.staging.proofs.Frames.{stands_alike, tells_written, unpublished_written}
+use Rattle.staging.proofs.Taken.{apart_from, taken_more, with_one_more}
 
 block_within : (i : Incoming) (block : ℕ) → block < first_of (pool_of i) + size_of (pool_of i) → block < 320
 block_within (instance m) block last = omega (arith, last)
 block_within (stored term) block last = omega (arith, last)
-
--- what was never published is not, where nothing but words has changed
-unpublished_written : (old : WriterView) (words : List ℕ) (area : AreaRef) → IsUnpublished old area → IsUnpublished (record old { words = words }) area
-unpublished_written old words area was = record { listed = was.listed; kept = was.kept }
 
 module _ (names : List Mfa) (s : ServerState) (change : Change) (old new : Tables) (taken : List AreaRef) (area : AreaRef) (i : Incoming) (words : List ℕ) (had : HavePlaced names s change old taken) (there : slice_get (incoming change) (length taken) ≡ Some i) (words_are : words ≡ words_of old.pools.next i)
     (room : length words ≤ room_of (first_of (pool_of i))) (low : old.pools.next < 2 ^ 40) (placed : HasPlaced (pool_of i) words area old new) where

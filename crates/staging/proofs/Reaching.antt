@@ -12,7 +12,7 @@ use Rattle.term_core.specs.declared.atom.Mfa.{Mfa}
 use Rattle.mod_core.specs.declared.code.Module.{Module}
 use Rattle.area_core.specs.Blocks.{Among}
 use Rattle.server_core.specs.declared.change.Change.{Change}
-use Rattle.server_core.specs.declared.change.Change.TheVariants.{Nothing, BringIn, MakeOld, DropOld, Condemn, HoldWord, HoldArea, Forget, SetTrace, ClearTrace, GiveBack}
+use Rattle.server_core.specs.declared.change.Change.TheVariants.{BringIn, MakeOld}
 use Rattle.server_core.specs.Decided.{Fits, made}
 use Rattle.server_core.specs.Generations.{function_ref}
 use Rattle.server_core.specs.ServerState.{Entry, IsSound, ServerState, dispatch_of, export_of}
@@ -26,7 +26,7 @@ use Rattle.staging.specs.Exported.{export_in, or_first, reached_after, reached_b
 use Rattle.change_laws.specs.Changes.{incoming, instance}
 use Rattle.staging.specs.Placed.{AreTaken, with_areas}
 use Rattle.staging.specs.Upcoming.{areas_in}
-use Rattle.staging.proofs.Listed.{stands_listed}
+use Rattle.staging.proofs.AreasIn.{stands_listed}
 use Rattle.staging.proofs.Mixed.{reached_in_state}
 use Rattle.staging.proofs.Reached.{equal_test}
 use Rattle.staging.proofs.Taken.{taken_live}
@@ -122,7 +122,6 @@ module _ (laws : CallLaws) (s : ServerState) (sound : IsSound s) (taken : List A
 
   -- the change is about the name
   pub changed_reaches : (change : Change) → Fits s change → (r : Option CodeRef) → reached_after change taken to ≡ Some r → Reaches s (made s change).state (with_areas taken rest) to r
-  changed_reaches (Nothing reply) fits r e = no_change _ r e
   changed_reaches (BringIn generation modules areas versions) fits r e =
       let f = found_by modules.items taken to r e in
       let serial : f.area.serial ≡ s.next_serial + f.place = (let is = serial_taken taken rest f.place f.area were f.its in omega (arith, is, next)) in
@@ -144,18 +143,10 @@ module _ (laws : CallLaws) (s : ServerState) (sound : IsSound s) (taken : List A
         where
           no_code : (at : CodeRef) → None ≡ Some at → ⊥
           no_code at e = (cc)
-  changed_reaches (DropOld generation name serial says retired) fits r e = no_change _ r e
-  changed_reaches (Condemn generation serial) fits r e = no_change _ r e
-  changed_reaches (HoldWord generation key term keys retired) fits r e = no_change _ r e
-  changed_reaches (HoldArea generation key term stored areas keys retired) fits r e = no_change _ r e
-  changed_reaches (Forget generation key retired) fits r e = no_change _ r e
-  changed_reaches (SetTrace generation at traced) fits r e = no_change _ r e
-  changed_reaches (ClearTrace generation at) fits r e = no_change _ r e
-  changed_reaches (GiveBack serial released) fits r e = no_change _ r e
+  changed_reaches change fits r e = no_change _ r e
 
   -- it is not
   pub other_reaches : (change : Change) → length taken ≡ length (incoming change) → reached_after change taken to ≡ None → dispatch_of (made s change).state to ≡ dispatch_of s to
-  other_reaches (Nothing reply) whole e = laws.others s (Nothing reply) to tt
   other_reaches (BringIn generation modules areas versions) whole e =
       laws.not_loaded s modules.items to sound
       (λ k d within. none_by modules.items taken to e (let long = length-map modules.items instance in omega (arith, long, whole)) k _ (slice_get-get_or modules.items k d within))
@@ -163,11 +154,4 @@ module _ (laws : CallLaws) (s : ServerState) (sound : IsSound s) (taken : List A
     where
       some_none : (r : Option CodeRef) → Some r ≡ None → ⊥
       some_none r e = (cc)
-  other_reaches (DropOld generation name serial says retired) whole e = laws.others s (DropOld generation name serial says retired) to tt
-  other_reaches (Condemn generation serial) whole e = laws.others s (Condemn generation serial) to tt
-  other_reaches (HoldWord generation key term keys retired) whole e = laws.others s (HoldWord generation key term keys retired) to tt
-  other_reaches (HoldArea generation key term stored areas keys retired) whole e = laws.others s (HoldArea generation key term stored areas keys retired) to tt
-  other_reaches (Forget generation key retired) whole e = laws.others s (Forget generation key retired) to tt
-  other_reaches (SetTrace generation at traced) whole e = laws.others s (SetTrace generation at traced) to tt
-  other_reaches (ClearTrace generation at) whole e = laws.others s (ClearTrace generation at) to tt
-  other_reaches (GiveBack serial released) whole e = laws.others s (GiveBack serial released) to tt
+  other_reaches change whole e = laws.others s change to tt

@@ -1,11 +1,9 @@
 -- Where a change leaves the keys, the active term table holds those of the next generation too.
-use Rattle.std.proofs.Common.{◌≡◌, ℕ, zero, suc, inl, inr, true, List, [], ◌∷◌, map, Option, Some, None, refl, sym, ap, subst, ◌∙◌}
+use Rattle.std.proofs.Common.{◌≡◌, ℕ, inr, true, List, map, Option, Some, None, refl, sym, ap, subst, ◌∙◌}
 use Rattle.std.specs.Prelude.{◌==◌, ◌&&◌, slice_get, option_and_then, IsSomeAnd, IsTrue}
 use Rattle.std.specs.List.{list_any}
 use Rattle.std.proofs.lemmas.Bool.{and_from, and_parts, eqb-true}
 use Rattle.term_core.specs.declared.area.AreaRef.{AreaRef}
-use Rattle.term_core.specs.declared.atom.Mfa.{Mfa}
-use Rattle.term_core.specs.declared.generation.Generation.{Generation}
 use Rattle.term_core.specs.declared.generation.Holding.{Holding}
 use Rattle.term_core.specs.declared.generation.Holding.TheVariants.{Word, Area}
 use Rattle.term_core.specs.declared.generation.KeyTerm.{KeyTerm}
@@ -15,8 +13,9 @@ use Rattle.area_core.specs.Blocks.{Among}
 use Rattle.area_core.specs.Terms.{TermsStand, found_in, is_word_of}
 use Rattle.server_core.specs.Generations.{key_term}
 use Rattle.server_core.specs.ServerState.{Persistent, ServerState}
-use Rattle.prgr_core.proofs.Parts.{some_same}
-use Rattle.staging.specs.Standing.{AreKeysOnce, IsShownBy, IsUsed}
+use Rattle.change_laws.specs.Uses.{IsUsed}
+use Rattle.staging.specs.Standing.{AreKeysOnce}
+use Rattle.staging.proofs.KeyLists.{key_at}
 use Rattle.staging.proofs.NextFresh.{any_at, at_any}
 use Rattle.staging.proofs.NextReads.{held_at}
 
@@ -58,19 +57,6 @@ module _ (block : ℕ → ℕ) (p q : Published) (keys : q.state.keys ≡ p.stat
 
 -- ---- the keys of a state
 
--- the newest generation has those of the state
-pub newest_keys : (names : List Mfa) (s : ServerState) (p : Published) → IsShownBy names s p → p.state.keys ≡ map key_term s.keys
-newest_keys names s p shown =
-    elim shown.shows as (λ _. p.state.keys ≡ map key_term s.keys) [
-      | inl is ↦ ap (λ (g : Generation). g.keys) is ∙ ap (λ (t : ServerState). map key_term t.keys) (sym shown.since.same)
-      | inr first ↦ ap (λ (x : Published). x.state.keys) first.0 ∙ sym (ap (λ (t : ServerState). map key_term t.keys) shown.since.same ∙ ap (λ (t : ServerState). map key_term t.keys) first.1)
-    ]
-
-at_mapped : (keys : List Persistent) (i : ℕ) (k : KeyTerm) → slice_get (map key_term keys) i ≡ Some k → (p : Persistent) × (slice_get keys i ≡ Some p) × (key_term p ≡ k)
-at_mapped [] i k at = absurd (cc)
-at_mapped (p ∷ keys) zero k at = (p, refl, some_same (key_term p) k at)
-at_mapped (p ∷ keys) (suc i) k at = at_mapped keys i k at
-
 area_of : (p : Persistent) (serial : ℕ) (o : Option ℕ) → p.area ≡ o → (key_term p).holding ≡ Area serial → p.area ≡ Some serial
 area_of p serial None is e = absurd (let none = subst (λ (a : Option ℕ). (key_term (record p { area = a })).holding ≡ Area serial) is e in word_none none)
   where
@@ -84,6 +70,6 @@ area_of p serial (Some n) is e = is ∙ ap (λ (k : ℕ). Some k) (same n (subst
 -- so the area of one of them is used
 pub key_used : (s : ServerState) (k : KeyTerm) (serial : ℕ) → AreKeysOnce s.keys → Among (map key_term s.keys) k → k.holding ≡ Area serial → IsUsed s serial
 key_used s k serial once at is =
-    let found = at_mapped s.keys at.0 k at.1 in
+    let found = key_at s.keys at.0 k at.1 in
     let area = area_of found.0 serial found.0.area refl (ap (λ (x : KeyTerm). x.holding) found.2 ∙ is) in
     inr (inr (found.0.key, ap (λ (o : Option Persistent). option_and_then (λ (x : Persistent). x.area) o) (held_at s.keys at.0 found.0 once found.1) ∙ area))

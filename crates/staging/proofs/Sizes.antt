@@ -9,7 +9,7 @@ use Rattle.mod_core.specs.Module.{IsModule}
 use Rattle.mod_core.specs.ModuleImage.{module_image}
 use Rattle.area_core.specs.Map.{room_of}
 use Rattle.server_core.specs.declared.change.Change.{Change}
-use Rattle.server_core.specs.declared.change.Change.TheVariants.{Nothing, BringIn, MakeOld, DropOld, Condemn, HoldWord, HoldArea, Forget, SetTrace, ClearTrace, GiveBack}
+use Rattle.server_core.specs.declared.change.Change.TheVariants.{BringIn, HoldArea}
 use Rattle.server_core.specs.Decided.{Fits}
 use Rattle.server_core.specs.ServerState.{ServerState}
 use Rattle.literal_areas.specs.Blocks.{first_of}
@@ -41,13 +41,4 @@ words_fit s (BringIn generation modules areas versions) fits at n i e =
     let found = instance_at modules.items fits.1.sound at i e in subst (HasRoom n) (sym found.is) (image_short n (module_image found.m) found.sound.short)
 words_fit s (HoldArea generation key term kept areas keys retired) fits zero n i e =
     subst (HasRoom n) (some_same (stored (plain term)) i e) (let long = length-image (plain term) in let short = fits.1.short.short in omega (arith, long, short))
-words_fit s (HoldArea generation key term kept areas keys retired) fits (suc at) n i e = absurd (cc)
-words_fit s (Nothing reply) fits at n i e = absurd (cc)
-words_fit s (MakeOld generation name) fits at n i e = absurd (cc)
-words_fit s (DropOld generation name serial says retired) fits at n i e = absurd (cc)
-words_fit s (Condemn generation serial) fits at n i e = absurd (cc)
-words_fit s (HoldWord generation key term keys retired) fits at n i e = absurd (cc)
-words_fit s (Forget generation key retired) fits at n i e = absurd (cc)
-words_fit s (SetTrace generation function traced) fits at n i e = absurd (cc)
-words_fit s (ClearTrace generation function) fits at n i e = absurd (cc)
-words_fit s (GiveBack serial released) fits at n i e = absurd (cc)
+words_fit s change fits at n i e = absurd (cc)

@@ -15,7 +15,7 @@ use Rattle.shared_words.specs.declared.opening.Opening.{Opening}
 use Rattle.progress_words.specs.Needs.{HasLoadedCounter}
 use Rattle.progress_words.specs.Tokens.{IsWriterOf, written_by}
 use Rattle.server_core.specs.declared.change.Change.{Change}
-use Rattle.server_core.specs.declared.change.Change.TheVariants.{Nothing, BringIn, MakeOld, DropOld, Condemn, HoldWord, HoldArea, Forget, SetTrace, ClearTrace, GiveBack}
+use Rattle.server_core.specs.declared.change.Change.TheVariants.{HoldWord, HoldArea, Forget}
 use Rattle.server_core.specs.Decided.{Fits}
 use Rattle.server_core.specs.Generations.{key_term}
 use Rattle.server_core.specs.ServerState.{Persistent, ServerState, key_area, persistent_among}
@@ -36,7 +36,7 @@ use Rattle.staging.specs.Replaced.{former_of}
 use Rattle.staging.specs.Stages.{HasPublished, HavePlaced, IsCodeChange, IsKeyChange}
 use Rattle.staging.specs.Whose.{AreTablesOf}
 use Rattle.staging.proofs.KeyLists.{held_among, term_at}
-use Rattle.staging.proofs.TableStores.{placed_counted, stands_counted}
+use Rattle.staging.proofs.TableStores.{placed_loaded, stands_loaded}
 
 -- ---- the change of the keys
 
@@ -46,14 +46,7 @@ never_none (HoldWord generation key term keys retired) taken is whole none = (cc
 never_none (HoldArea generation key term kept areas keys retired) [] is whole none = (cc)
 never_none (HoldArea generation key term kept areas keys retired) (a ∷ taken) is whole none = (cc)
 never_none (Forget generation key retired) taken is whole none = (cc)
-never_none (Nothing reply) taken is whole none = is
-never_none (BringIn generation modules areas versions) taken is whole none = is
-never_none (MakeOld generation name) taken is whole none = is
-never_none (DropOld generation name serial says retired) taken is whole none = is
-never_none (Condemn generation serial) taken is whole none = is
-never_none (SetTrace generation function traced) taken is whole none = is
-never_none (ClearTrace generation function) taken is whole none = is
-never_none (GiveBack serial released) taken is whole none = is
+never_none change taken is whole none = is
 
 by_key : (s : ServerState) (n key : ℕ) → n ≡ key → key_area s key ≡ key_area s n
 by_key s n key same = ap (key_area s) (sym same)
@@ -61,17 +54,9 @@ by_key s n key same = ap (key_area s) (sym same)
 -- its key is that of the change
 pub former_is : (s : ServerState) (change : Change) (taken : List AreaRef) (staged : changes.Change) (n : ℕ) → key_change change taken ≡ Some staged → n ≡ key_of staged → former_of s change ≡ key_area s n
 former_is s (HoldWord generation key term keys retired) taken staged n is same = by_key s n key.0 (same ∙ sym (ap key_of (some_same (Put key (immediate_word term)) staged is)))
-former_is s (HoldArea generation key term kept areas keys retired) [] staged n is same = absurd (cc)
 former_is s (HoldArea generation key term kept areas keys retired) (a ∷ taken) staged n is same = by_key s n key.0 (same ∙ sym (ap key_of (some_same (Put key (area_word a)) staged is)))
 former_is s (Forget generation key retired) taken staged n is same = by_key s n key.0 (same ∙ sym (ap key_of (some_same (Erase key) staged is)))
-former_is s (Nothing reply) taken staged n is same = absurd (cc)
-former_is s (BringIn generation modules areas versions) taken staged n is same = absurd (cc)
-former_is s (MakeOld generation name) taken staged n is same = absurd (cc)
-former_is s (DropOld generation name serial says retired) taken staged n is same = absurd (cc)
-former_is s (Condemn generation serial) taken staged n is same = absurd (cc)
-former_is s (SetTrace generation function traced) taken staged n is same = absurd (cc)
-former_is s (ClearTrace generation function) taken staged n is same = absurd (cc)
-former_is s (GiveBack serial released) taken staged n is same = absurd (cc)
+former_is s change taken staged n is same = absurd (cc)
 
 -- ---- there is room for the key
 
@@ -91,17 +76,9 @@ module _ (names : List Mfa) (s : ServerState) (p : Published) (keys : p.state.ke
 
   pub never_full : (change : Change) (taken : List AreaRef) (staged : changes.Change) → Fits s change → key_change change taken ≡ Some staged → IsNewKey staged p → length p.state.keys ≡ 384 → ⊥
   never_full (HoldWord generation key term kept retired) taken staged fits is new full = room key.0 fits.1.place.for_key (subst (λ (c : changes.Change). IsNewKey c p) (sym (some_same (Put key (immediate_word term)) staged is)) new) full
-  never_full (HoldArea generation key term kept areas places retired) [] staged fits is new full = (cc)
   never_full (HoldArea generation key term kept areas places retired) (a ∷ taken) staged fits is new full = room key.0 fits.1.place.for_key (subst (λ (c : changes.Change). IsNewKey c p) (sym (some_same (Put key (area_word a)) staged is)) new) full
   never_full (Forget generation key retired) taken staged fits is new full = subst (λ (c : changes.Change). IsNewKey c p) (sym (some_same (Erase key) staged is)) new
-  never_full (Nothing reply) taken staged fits is new full = (cc)
-  never_full (BringIn generation modules areas versions) taken staged fits is new full = (cc)
-  never_full (MakeOld generation name) taken staged fits is new full = (cc)
-  never_full (DropOld generation name serial says retired) taken staged fits is new full = (cc)
-  never_full (Condemn generation serial) taken staged fits is new full = (cc)
-  never_full (SetTrace generation function traced) taken staged fits is new full = (cc)
-  never_full (ClearTrace generation function) taken staged fits is new full = (cc)
-  never_full (GiveBack serial released) taken staged fits is new full = (cc)
+  never_full change taken staged fits is new full = (cc)
 
 -- ---- the wait
 
@@ -116,8 +93,8 @@ tables_waited table opening old new by_counter by_loads was token terms loaded i
 pub placed_waited : (names : List Mfa) (s : ServerState) (change : Change) (old new : Tables) (taken : List AreaRef) → HasLoadedCounter (written_by old.writer) (written_by new.writer) → new.terms ≡ old.terms → new.pools ≡ old.pools → HavePlaced names s change old taken → HavePlaced names s change new taken
 placed_waited names s change old new taken loaded terms pools had = record {
   rest = had.rest;
-  stands = stands_counted names s had.rest (written_by old.writer) (written_by new.writer) loaded had.stands;
-  placed = subst (λ (x : Areas). ArePlaced (incoming change) had.rest x (written_by new.writer) taken) (sym pools) (placed_counted (incoming change) had.rest old.pools taken (written_by old.writer) (written_by new.writer) loaded had.placed);
+  stands = stands_loaded names s had.rest (written_by old.writer) (written_by new.writer) loaded had.stands;
+  placed = subst (λ (x : Areas). ArePlaced (incoming change) had.rest x (written_by new.writer) taken) (sym pools) (placed_loaded (incoming change) had.rest old.pools taken (written_by old.writer) (written_by new.writer) loaded had.placed);
   terms = ap (λ t. t.staged) terms ∙ had.terms;
 }
 
@@ -138,11 +115,4 @@ pub not_both : (change : Change) → IsCodeChange change → IsKeyChange change 
 not_both (HoldWord generation key term keys retired) code is = code
 not_both (HoldArea generation key term kept areas keys retired) code is = code
 not_both (Forget generation key retired) code is = code
-not_both (Nothing reply) code is = is
-not_both (BringIn generation modules areas versions) code is = is
-not_both (MakeOld generation name) code is = is
-not_both (DropOld generation name serial says retired) code is = is
-not_both (Condemn generation serial) code is = is
-not_both (SetTrace generation function traced) code is = is
-not_both (ClearTrace generation function) code is = is
-not_both (GiveBack serial released) code is = is
+not_both change code is = is

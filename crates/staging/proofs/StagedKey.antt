@@ -2,6 +2,7 @@
 use Rattle.std.proofs.Common.{◌≡◌, ℕ, ◌+◌, ◌<◌, inr, true, List, [], ◌∷◌, length, map, Option, Some, None, refl, sym, ap, subst, ◌∙◌, arith}
 use Rattle.std.specs.Prelude.{slice_get}
 use Rattle.std.specs.Option.{option_and_then}
+use Rattle.std.proofs.lemmas.Option.{none-some}
 use Rattle.prgr_core.proofs.Parts.{some_same}
 use Rattle.term_core.specs.declared.area.AreaRef.{AreaRef}
 use Rattle.term_core.specs.declared.atom.Mfa.{Mfa}
@@ -20,7 +21,7 @@ use Rattle.area_core.specs.Generations.{is_term_word}
 use Rattle.shared_words.specs.declared.view.WriterView.{WriterView}
 use Rattle.progress_words.specs.Roots.{newest_of}
 use Rattle.server_core.specs.declared.change.Change.{Change}
-use Rattle.server_core.specs.declared.change.Change.TheVariants.{Nothing, BringIn, MakeOld, DropOld, Condemn, HoldWord, HoldArea, Forget, SetTrace, ClearTrace, GiveBack}
+use Rattle.server_core.specs.declared.change.Change.TheVariants.{HoldWord, HoldArea, Forget}
 use Rattle.server_core.specs.Decided.{Fits, made}
 use Rattle.server_core.specs.Generations.{holding_of, key_term}
 use Rattle.server_core.specs.ServerState.{IsShortTerm, ServerState, key_area}
@@ -36,21 +37,18 @@ use Rattle.change_laws.specs.Changes.{Incoming, incoming, stored}
 use Rattle.staging.specs.Placed.{ArePlaced, AreTaken, IsAreaOf, with_areas}
 use Rattle.staging.specs.Standing.{StandFor}
 use Rattle.staging.specs.Upcoming.{areas_in, generation_shown}
+use Rattle.staging.proofs.AreasIn.{stands_listed}
 use Rattle.staging.proofs.KeyLists.{StandOnce, key_at, once_stand, stand_held}
 use Rattle.staging.proofs.KeyStaged.{KeepsAreas, area_stands, erase_changes, newest_keys, put_changes, word_stands}
-use Rattle.staging.proofs.Listed.{stands_listed}
 use Rattle.staging.proofs.Taken.{taken_live}
 
 -- ---- areas that stand
-
-free_none : (n : ℕ) → None ≡ Some n → ⊥
-free_none n e = (cc)
 
 -- an area stands still when others are taken
 pub stands_with : (taken : List AreaRef) (pools : Areas) (block n : ℕ) → AreTaken taken pools → serial_at pools block ≡ Some n → serial_at (with_areas taken pools) block ≡ Some n
 stands_with [] pools block n were stands = stands
 stands_with (a ∷ taken) pools block n were stands =
-    stands_with taken (with_area a pools) block n were.2 (serial_other (record pools { next = pools.next + 1 }) a.block block Free (Live a.serial) were.1 (λ same. free_none n (sym (ap (serial_at pools) same ∙ serial_here pools a.block Free were.1) ∙ stands)) ∙ stands)
+    stands_with taken (with_area a pools) block n were.2 (serial_other (record pools { next = pools.next + 1 }) a.block block Free (Live a.serial) were.1 (λ same. none-some n (sym (ap (serial_at pools) same ∙ serial_here pools a.block Free were.1) ∙ stands)) ∙ stands)
 
 -- what holds an area is the area of its key
 holds_area : (term : PlainTerm) (area : Option ℕ) (serial : ℕ) → holding_of term area ≡ holdings.Area serial → area ≡ Some serial
@@ -87,15 +85,7 @@ module _ (names : List Mfa) (s : ServerState) (rest pools : Areas) (w : WriterVi
   pub has_word : (change : Change) (taken : List AreaRef) → Fits s change → ArePlaced (incoming change) rest pools w taken → HasKeyWord change taken
   has_word (HoldWord generation key term keys retired) taken fits placed = immediate_is term fits.1.short fits.2
   has_word (HoldArea generation key term kept areas keys retired) taken fits placed = λ area at. let is = placed.each 0 (stored (plain term)) area refl at in (is.small, block_small (plain term) w area is)
-  has_word (Forget generation key retired) taken fits placed = tt
-  has_word (Nothing reply) taken fits placed = tt
-  has_word (BringIn generation modules areas versions) taken fits placed = tt
-  has_word (MakeOld generation name) taken fits placed = tt
-  has_word (DropOld generation name serial says retired) taken fits placed = tt
-  has_word (Condemn generation serial) taken fits placed = tt
-  has_word (SetTrace generation function traced) taken fits placed = tt
-  has_word (ClearTrace generation function) taken fits placed = tt
-  has_word (GiveBack serial released) taken fits placed = tt
+  has_word change taken fits placed = tt
 
 -- ---- the change of the keys
 
@@ -126,7 +116,6 @@ module _ (names : List Mfa) (s : ServerState) (rest pools : Areas) (w : WriterVi
       (put_changes (newest_of w) q s.keys key (plain term) None (immediate_word term) once keys (ap (λ (g : Generation). g.keys) state)
       (word_stands q (immediate_word (term_of (plain term))) (immediate_word term) (ap immediate_word (sym (term_of-plain term))))
       (keeps_areas names s rest pools w taken [] stands placed key.0 q areas))
-  one_taken (HoldArea generation key term kept blocks places retired) [] staged placed whole state is = absurd (cc)
   one_taken (HoldArea generation key term kept blocks places retired) (a ∷ []) staged placed whole state is =
       subst (λ (c : changes.Change). ChangesTo c (newest_of w) q) (some_same (Put key (area_word a)) staged is)
       (put_changes (newest_of w) q s.keys key (plain term) (Some s.next_serial) (area_word a) once keys (ap (λ (g : Generation). g.keys) state)
@@ -136,11 +125,4 @@ module _ (names : List Mfa) (s : ServerState) (rest pools : Areas) (w : WriterVi
   one_taken (Forget generation key retired) taken staged placed whole state is =
       subst (λ (c : changes.Change). ChangesTo c (newest_of w) q) (some_same (Erase key) staged is)
       (erase_changes (newest_of w) q s.keys key keys (ap (λ (g : Generation). g.keys) state) (keeps_areas names s rest pools w taken [] stands placed key.0 q areas))
-  one_taken (Nothing reply) taken staged placed whole state is = absurd (cc)
-  one_taken (BringIn generation modules blocks versions) taken staged placed whole state is = absurd (cc)
-  one_taken (MakeOld generation name) taken staged placed whole state is = absurd (cc)
-  one_taken (DropOld generation name serial says retired) taken staged placed whole state is = absurd (cc)
-  one_taken (Condemn generation serial) taken staged placed whole state is = absurd (cc)
-  one_taken (SetTrace generation function traced) taken staged placed whole state is = absurd (cc)
-  one_taken (ClearTrace generation function) taken staged placed whole state is = absurd (cc)
-  one_taken (GiveBack serial released) taken staged placed whole state is = absurd (cc)
+  one_taken change taken staged placed whole state is = absurd (cc)

@@ -26,13 +26,14 @@ use Rattle.code_index.specs.Staging.{IsStaged, Stages}
 use Rattle.staging.specs.declared.tables.Tables.{Tables}
 use Rattle.staging.specs.Exported.{AreExported, reached_after}
 use Rattle.change_laws.specs.Changes.{incoming}
+use Rattle.change_laws.specs.Uses.{IsUsed}
 use Rattle.staging.specs.Placed.{with_areas}
 use Rattle.staging.specs.Stages.{HavePlaced}
-use Rattle.staging.specs.Standing.{IsShownBy, IsUsed}
+use Rattle.staging.specs.Standing.{IsShownBy}
 use Rattle.staging.specs.Upcoming.{areas_in}
 use Rattle.staging.specs.Whose.{AreTablesOf, StoresExports}
 use Rattle.staging.proofs.IndexStores.{placed_still}
-use Rattle.staging.proofs.Listed.{stands_listed}
+use Rattle.staging.proofs.AreasIn.{stands_listed}
 use Rattle.staging.proofs.Mixed.{all_changed, all_kept, between, next_changed, none_changed, reached_in_state}
 use Rattle.staging.proofs.Reaching.{CallLaws, changed_reaches, other_reaches}
 use Rattle.staging.proofs.Taken.{stands_taken}

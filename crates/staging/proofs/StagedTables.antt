@@ -1,5 +1,5 @@
 -- A key is staged: what that leaves of the writer's tables.
-use Rattle.std.proofs.Common.{◌≡◌, ℕ, ◌+◌, true, List, [], ◌∷◌, length, map, Option, Some, None, refl, sym, ap, subst, ◌∙◌, arith}
+use Rattle.std.proofs.Common.{◌≡◌, ℕ, ◌+◌, true, List, ◌∷◌, length, map, Option, Some, None, refl, sym, ap, subst, ◌∙◌, arith}
 use Rattle.std.specs.Prelude.{◌==◌, slice_get, IsSomeAnd}
 use Rattle.std.proofs.lemmas.Bool.{and_parts, eqb-true}
 use Rattle.prgr_core.proofs.Parts.{some_same}
@@ -19,7 +19,7 @@ use Rattle.shared_words.specs.declared.view.WriterView.{WriterView}
 use Rattle.progress_words.specs.Roots.{newest_of}
 use Rattle.progress_words.specs.Tokens.{IsWriterOf, written_by}
 use Rattle.server_core.specs.declared.change.Change.{Change}
-use Rattle.server_core.specs.declared.change.Change.TheVariants.{Nothing, BringIn, MakeOld, DropOld, Condemn, HoldWord, HoldArea, Forget, SetTrace, ClearTrace, GiveBack}
+use Rattle.server_core.specs.declared.change.Change.TheVariants.{HoldWord, HoldArea, Forget}
 use Rattle.server_core.specs.Decided.{made}
 use Rattle.server_core.specs.Generations.{key_term}
 use Rattle.server_core.specs.ServerState.{Persistent, ServerState, persistent_among}
@@ -43,7 +43,7 @@ use Rattle.staging.specs.Whose.{AreTablesOf}
 use Rattle.staging.proofs.KeyLists.{StandOnce, held_among, held_one, key_at, length_erased, length_put, none_among, once_stand, term_at}
 use Rattle.staging.proofs.KeyStaged.{newest_keys}
 use Rattle.staging.proofs.StagedKey.{one_taken}
-use Rattle.staging.proofs.TableStores.{StoresTable, index_table, owned_table, placed_counted, placed_table, stands_counted, stands_table}
+use Rattle.staging.proofs.TableStores.{StoresTable, index_table, owned_table, placed_loaded, placed_table, stands_loaded, stands_table}
 
 -- ---- how many keys there are
 
@@ -126,25 +126,17 @@ module _ (table : TableId) (opening : Opening) (old new : Tables) (staged : chan
     counted_for : (change : Change) (taken : List AreaRef) → key_change change taken ≡ Some staged → held_in (words_in after.words (staging_table before)) 512 ≡ length (made s change).state.keys
     counted_for (HoldWord generation key term kept retired) taken is =
         let sum = told _ (sym (some_same _ staged is)) in let long = length_put s.keys (record { key = key.0; term = plain term; area = None }) in omega (arith, sum, long)
-    counted_for (HoldArea generation key term kept blocks places retired) [] is = absurd (cc)
     counted_for (HoldArea generation key term kept blocks places retired) (a ∷ taken) is =
         let sum = told _ (sym (some_same _ staged is)) in let long = length_put s.keys (record { key = key.0; term = plain term; area = Some s.next_serial }) in omega (arith, sum, long)
     counted_for (Forget generation key retired) taken is = let sum = told _ (sym (some_same _ staged is)) in let long = length_erased s.keys key.0 once in omega (arith, sum, long)
-    counted_for (Nothing reply) taken is = absurd (cc)
-    counted_for (BringIn generation modules blocks versions) taken is = absurd (cc)
-    counted_for (MakeOld generation name) taken is = absurd (cc)
-    counted_for (DropOld generation name serial says retired) taken is = absurd (cc)
-    counted_for (Condemn generation serial) taken is = absurd (cc)
-    counted_for (SetTrace generation function traced) taken is = absurd (cc)
-    counted_for (ClearTrace generation function) taken is = absurd (cc)
-    counted_for (GiveBack serial released) taken is = absurd (cc)
+    counted_for change taken is = absurd (cc)
 
     pub have_keyed : HaveKeyed names s change new taken
     have_keyed = record {
       rest = had.rest;
-      stands = stands_table names s had.rest (staging_table before) has.waited after stores (stands_counted names s had.rest before has.waited has.loaded had.stands);
+      stands = stands_table names s had.rest (staging_table before) has.waited after stores (stands_loaded names s had.rest before has.waited has.loaded had.stands);
       placed = subst (λ p. ArePlaced (incoming change) had.rest p after taken) (sym pools_are)
-          (placed_table (incoming change) had.rest old.pools taken (staging_table before) has.waited after stores (placed_counted (incoming change) had.rest old.pools taken before has.waited has.loaded had.placed));
+          (placed_table (incoming change) had.rest old.pools taken (staging_table before) has.waited after stores (placed_loaded (incoming change) had.rest old.pools taken before has.waited has.loaded had.placed));
       whole = whole;
       keyed = λ q state areas. stands q (one_taken names s had.rest old.pools before q had.stands (areas ∙ ap areas_in pools_are) change taken staged had.placed whole state is);
       counted = ap (λ (t : ℕ). held_in (words_in after.words t) 512) staging_is ∙ counted_for change taken is;

@@ -4,9 +4,7 @@ use Rattle.std.proofs.lemmas.Bool.{cases_lt, lt-ltb, le-ltb}
 use Rattle.term_core.specs.declared.area.AreaRef.{AreaRef}
 use Rattle.term_core.specs.declared.atom.Mfa.{Mfa}
 use Rattle.area_core.specs.Map.{block_place, breakpoint_at, doom_place, retire_place, term_place, word_at}
-use Rattle.area_core.specs.Blocks.{IsForInstances}
 use Rattle.shared_words.specs.declared.view.WriterView.{WriterView}
-use Rattle.shared_words.specs.Kinds.{counter_kept}
 use Rattle.progress_words.specs.Needs.{HasLoadedCounter}
 use Rattle.server_core.specs.ServerState.{ServerState}
 use Rattle.literal_areas.specs.declared.areas.Areas.{Areas}
@@ -16,7 +14,8 @@ use Rattle.code_index.specs.Laws as indices
 use Rattle.change_laws.specs.Changes.{Incoming, instance, stored}
 use Rattle.staging.specs.Placed.{ArePlaced, IsAreaOf, pool_of}
 use Rattle.staging.specs.Standing.{StandFor}
-use Rattle.staging.proofs.Frames.{TellsAlike, stands_alike}
+use Rattle.staging.proofs.Counted.{placed_counted, stands_counted}
+use Rattle.staging.proofs.Frames.{TellsAlike, at_fits, stands_alike, unpublished_written}
 use Rattle.staging.proofs.SetNames.{table_place}
 
 -- words of this term table were stored, and nothing else has changed
@@ -45,9 +44,6 @@ block_above block at high =
       | inr small ↦ rw (le-ltb block 64 small) (omega (arith, small))
     ]
 
-at_fits : (block function : ℕ) → IsForInstances block → function < 16 → breakpoint_at block function < 1024
-at_fits block function for few = let first = for.first in let last = for.last in omega (arith, first, last, few)
-
 -- ---- what they leave
 
 pub tells_table : (table : ℕ) (old new : WriterView) → StoresTable table old new → TellsAlike old new
@@ -71,16 +67,13 @@ first_high : (i : Incoming) (block : ℕ) → first_of (pool_of i) ≤ block →
 first_high (instance m) block first = first
 first_high (stored term) block first = omega (arith, first)
 
-unpublished_still : (old : WriterView) (words : List ℕ) (area : AreaRef) → IsUnpublished old area → IsUnpublished (record old { words = words }) area
-unpublished_still old words area was = record { listed = was.listed; kept = was.kept }
-
 area_still : (table : ℕ) (old new : WriterView) (i : Incoming) (a : AreaRef) → StoresTable table old new → IsAreaOf old i a → IsAreaOf new i a
 area_still table old new i a stores was = record {
   small = was.small;
   first = was.first;
   last = was.last;
   room = was.room;
-  unpublished = subst (λ (w : WriterView). IsUnpublished w a) (sym stores.same) (unpublished_still old new.words a was.unpublished);
+  unpublished = subst (λ (w : WriterView). IsUnpublished w a) (sym stores.same) (unpublished_written old new.words a was.unpublished);
   written = λ at value is. stores.others (block_place a.block at) (behind table (block_place a.block at) stores.fits (block_above a.block at (first_high i a.block was.first))) ∙ was.written at value is;
 }
 
@@ -104,31 +97,8 @@ owned_table pools table old new stores own = subst (AreOf pools) (sym stores.sam
 
 -- ---- a load of the counter
 
-stands_kept : (names : List Mfa) (s : ServerState) (pools : Areas) (w : WriterView) (counter : ℕ) → StandFor names s pools w → StandFor names s pools (counter_kept counter w)
-stands_kept names s pools w counter stands = record {
-  newest_is = stands.newest_is;
-  numbered = stands.numbered;
-  keys_once = stands.keys_once;
-  narrow = stands.narrow;
-  bp = stands.bp;
-  listed = stands.listed;
-  blocks = stands.blocks;
-  placed = stands.placed;
-  images = stands.images;
-  words = record { retire = stands.words.retire; since = stands.words.since; free = stands.words.free; doom = stands.words.doom; untraced = stands.words.untraced };
-  dropped = stands.dropped;
-}
+pub stands_loaded : (names : List Mfa) (s : ServerState) (pools : Areas) (old new : WriterView) → HasLoadedCounter old new → StandFor names s pools old → StandFor names s pools new
+stands_loaded names s pools old new loaded stands = subst (StandFor names s pools) (sym loaded.view) (stands_counted _ loaded.counter old names s pools stands)
 
-pub stands_counted : (names : List Mfa) (s : ServerState) (pools : Areas) (old new : WriterView) → HasLoadedCounter old new → StandFor names s pools old → StandFor names s pools new
-stands_counted names s pools old new loaded stands = subst (StandFor names s pools) (sym loaded.view) (stands_kept names s pools old loaded.counter stands)
-
-area_kept : (w : WriterView) (counter : ℕ) (i : Incoming) (a : AreaRef) → IsAreaOf w i a → IsAreaOf (counter_kept counter w) i a
-area_kept w counter i a was = record { small = was.small; first = was.first; last = was.last; room = was.room; unpublished = record { listed = was.unpublished.listed; kept = was.unpublished.kept }; written = was.written }
-
-pub placed_counted : (comes : List Incoming) (rest pools : Areas) (taken : List AreaRef) (old new : WriterView) → HasLoadedCounter old new → ArePlaced comes rest pools old taken → ArePlaced comes rest pools new taken
-placed_counted comes rest pools taken old new loaded placed = record {
-  few = placed.few;
-  taken_are = placed.taken_are;
-  pools_are = placed.pools_are;
-  each = λ place i a come at. subst (λ (w : WriterView). IsAreaOf w i a) (sym loaded.view) (area_kept old loaded.counter i a (placed.each place i a come at));
-}
+pub placed_loaded : (comes : List Incoming) (rest pools : Areas) (taken : List AreaRef) (old new : WriterView) → HasLoadedCounter old new → ArePlaced comes rest pools old taken → ArePlaced comes rest pools new taken
+placed_loaded comes rest pools taken old new loaded placed = subst (λ (w : WriterView). ArePlaced comes rest pools w taken) (sym loaded.view) (placed_counted _ loaded.counter old comes rest pools taken placed)

@@ -16,7 +16,8 @@ use Rattle.shared_words.specs.Rule.{OldStays, RetiredStays}
 use Rattle.shared_words.specs.Views.{newest}
 use Rattle.progress_words.specs.Roots.{newest_of}
 use Rattle.server_core.specs.Generations.{AreNumbered}
-use Rattle.server_core.specs.ServerState.{IsSound, Persistent, ServerState, code_of, current_of, empty_state, is_doomed, is_retired, is_serial_in, key_area, live_areas, live_count, old_of, words_of_area}
+use Rattle.server_core.specs.ServerState.{IsSound, Persistent, ServerState, code_of, current_of, empty_state, is_doomed, is_retired, is_serial_in, live_areas, live_count, words_of_area}
+use Rattle.change_laws.specs.Uses.{IsUsed}
 use Rattle.literal_areas.specs.declared.blocks.BlockUse.{BlockUse}
 use Rattle.literal_areas.specs.declared.blocks.BlockUse.TheVariants.{Free, Live, Retired}
 use Rattle.literal_areas.specs.declared.areas.Areas.{Areas}
@@ -49,11 +50,6 @@ abbrev pub AreKeysOnce : List Persistent → Type 0
 AreKeysOnce keys = (i j : ℕ) (p q : Persistent) → slice_get keys i ≡ Some p → slice_get keys j ≡ Some q → p.key ≡ q.key → i ≡ j
 
 -- ---- the areas
-
--- the state uses the area: it is a current or old instance, or the area of a key
-abbrev pub IsUsed : ServerState → ℕ → Type 0
-IsUsed s serial =
-    ((name : ℕ) × (current_of s name ≡ Some serial)) ⊎ (((name : ℕ) × (old_of s name ≡ Some serial)) ⊎ ((key : ℕ) × (key_area s key ≡ Some serial)))
 
 -- how many blocks of a pool have a live area
 abbrev pub live_blocks : List BlockUse → ℕ

@@ -31,15 +31,20 @@ pub fn step_code<K: Naming>(
     change: &Change,
     stage: Stage,
 ) -> (Stage, Result<Step, NoMemory>)
+    // the tables are those of this table of words, by the run's names
     requires tables { AreTablesOf shared.now.table.shared.table_id shared.now.table.shared.key tables.old }
     requires names { tables.old.exports ≡ K.names }
+    // the change is one of code that fits the server, and how far the words are with it
     requires fits { Fits server.now change.now }
     requires code { IsCodeChange change.now }
     requires numbered { AreNumbered K.names (made server.now change.now).state }
     requires stage { StageStands K.names server.now change.now tables.old stage }
+    // there is a number for one generation more
     requires room { length (written_by tables.old.writer).published < 2 ^ 40 }
+    // whose tables they are stays
     ensures tables { AreTablesOf shared.now.table.shared.table_id shared.now.table.shared.key tables.new }
     ensures names { tables.new.exports ≡ K.names }
+    // an answer, or want of memory, after which nothing of the change is left
     ensures ok { IfOk result.1 (StepAnswers K.names server.now change.now tables.old tables.new result.0) }
     ensures err { OnErr result.1 (StageStands K.names server.now change.now tables.new stages.Untouched) }
     ensures err_stage { OnErr result.1 (result.0 ≡ stages.Untouched) }
@@ -61,16 +66,21 @@ fn place_code<K: Naming>(
     change: &Change,
     areas: Vec<AreaRef>,
 ) -> (Stage, Result<Step, NoMemory>)
+    // the tables are those of this table of words, by the run's names
     requires tables { AreTablesOf shared.now.table.shared.table_id shared.now.table.shared.key tables.old }
     requires names { tables.old.exports ≡ K.names }
+    // the change is one of code that fits the server; the first of what it brings in has areas, and no exports are staged
     requires fits { Fits server.now change.now }
     requires code { IsCodeChange change.now }
     requires numbered { AreNumbered K.names (made server.now change.now).state }
     requires placed { HavePlaced K.names server.now change.now tables.old areas.items }
     requires index { tables.old.index ≡ indices.Nothing }
+    // there is a number for one generation more
     requires room { length (written_by tables.old.writer).published < 2 ^ 40 }
+    // whose tables they are stays
     ensures tables { AreTablesOf shared.now.table.shared.table_id shared.now.table.shared.key tables.new }
     ensures names { tables.new.exports ≡ K.names }
+    // an answer, or want of memory, after which nothing of the change is left
     ensures ok { IfOk result.1 (StepAnswers K.names server.now change.now tables.old tables.new result.0) }
     ensures err { OnErr result.1 (StageStands K.names server.now change.now tables.new stages.Untouched) }
     ensures err_stage { OnErr result.1 (result.0 ≡ stages.Untouched) }
@@ -98,15 +108,20 @@ fn commit_code<K: Naming>(
     change: &Change,
     areas: Vec<AreaRef>,
 ) -> (Stage, Result<Step, NoMemory>)
+    // the tables are those of this table of words, by the run's names
     requires tables { AreTablesOf shared.now.table.shared.table_id shared.now.table.shared.key tables.old }
     requires names { tables.old.exports ≡ K.names }
+    // the change is one of code that fits the server, with its exports staged
     requires fits { Fits server.now change.now }
     requires code { IsCodeChange change.now }
     requires numbered { AreNumbered K.names (made server.now change.now).state }
     requires exported { HaveExported K.names server.now change.now tables.old areas.items }
+    // there is a number for one generation more
     requires room { length (written_by tables.old.writer).published < 2 ^ 40 }
+    // whose tables they are stays
     ensures tables { AreTablesOf shared.now.table.shared.table_id shared.now.table.shared.key tables.new }
     ensures names { tables.new.exports ≡ K.names }
+    // an answer, and never want of memory
     ensures ok { IfOk result.1 (StepAnswers K.names server.now change.now tables.old tables.new result.0) }
     ensures never { OnErr result.1 ⊥ }
 {

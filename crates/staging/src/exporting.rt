@@ -81,15 +81,19 @@ pub fn stage_exports<K: Naming>(
     change: &Change,
     taken: &[AreaRef],
 )
+    // the tables are those of this table of words, by the run's names
     requires tables { AreTablesOf shared.now.table.shared.table_id shared.now.table.shared.key tables.old }
     requires names { tables.old.exports ≡ K.names }
+    // the change fits the server, all that it brings in has areas, and no exports are staged
     requires fits { Fits server.now change.now }
     requires placed { HavePlaced K.names server.now change.now tables.old taken.now }
     requires whole { length taken.now ≡ length (incoming change.now) }
     requires nothing { tables.old.index ≡ indices.Nothing }
+    // whose tables they are stays, and so do the areas
     ensures tables { AreTablesOf shared.now.table.shared.table_id shared.now.table.shared.key tables.new }
     ensures names { tables.new.exports ≡ K.names }
     ensures placed { HavePlaced K.names server.now change.now tables.new taken.now }
+    // the exports are staged, and nothing is published
     ensures exported { AreExported K.names server.now change.now tables.new }
     ensures published { (written_by tables.new.writer).published ≡ (written_by tables.old.writer).published }
 {
@@ -153,17 +157,20 @@ fn stage_name<K: Naming>(
     taken: &[AreaRef],
     number: u32,
 )
+    // the tables are those of this table of words, and exports are being staged
     requires tables { AreTablesOf shared.now.table.shared.table_id shared.now.table.shared.key tables.old }
     requires fits { FitsSome change.now }
     requires whole { length taken.now ≡ length (incoming change.now) }
     requires staged { IsStaged tables.old.index }
     requires number { number < EXPORT_ENTRIES }
+    // the tables are as they were, but for words of code indices
     ensures tables { AreTablesOf shared.now.table.shared.table_id shared.now.table.shared.key tables.new }
     ensures exports { tables.new.exports ≡ tables.old.exports }
     ensures index { tables.new.index ≡ tables.old.index }
     ensures terms { tables.new.terms ≡ tables.old.terms }
     ensures pools { tables.new.pools ≡ tables.old.pools }
     ensures stored { StoresExports (written_by tables.old.writer) (written_by tables.new.writer) }
+    // the name is led to what it reaches then, or is left as it is
     ensures changed { (to : Mfa) (reached : Option CodeRef) → slice_get tables.old.exports number ≡ Some to → reached_after change.now taken.now to ≡ Some reached → (p q : Published) → Stages tables.old.index p (written_by tables.old.writer) → ExportsWith number reached p q → Stages tables.new.index q (written_by tables.new.writer) }
     ensures other { ((to : Mfa) → slice_get tables.old.exports number ≡ Some to → reached_after change.now taken.now to ≡ None) → written_by tables.new.writer ≡ written_by tables.old.writer }
 {

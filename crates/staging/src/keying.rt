@@ -86,14 +86,18 @@ pub fn step_key<K: Naming>(
     change: &Change,
     stage: Stage,
 ) -> (Stage, Result<Step, NoMemory>)
+    // the tables are those of this table of words, by the run's names
     requires tables { AreTablesOf shared.now.table.shared.table_id shared.now.table.shared.key tables.old }
     requires names { tables.old.exports ≡ K.names }
+    // the change is one of a key that fits the server, how far the words are with it, and a number for one generation more
     requires fits { Fits server.now change.now }
     requires key { IsKeyChange change.now }
     requires stage { StageStands K.names server.now change.now tables.old stage }
     requires room { length (written_by tables.old.writer).published < 2 ^ 40 }
+    // whose tables they are stays
     ensures tables { AreTablesOf shared.now.table.shared.table_id shared.now.table.shared.key tables.new }
     ensures names { tables.new.exports ≡ K.names }
+    // an answer, or want of memory, after which nothing of the change is left
     ensures ok { IfOk result.1 (StepAnswers K.names server.now change.now tables.old tables.new result.0) }
     ensures err { OnErr result.1 (StageStands K.names server.now change.now tables.new stages.Untouched) }
     ensures err_stage { OnErr result.1 (result.0 ≡ stages.Untouched) }
@@ -115,15 +119,19 @@ fn place_key<K: Naming>(
     change: &Change,
     areas: Vec<AreaRef>,
 ) -> (Stage, Result<Step, NoMemory>)
+    // the tables are those of this table of words, by the run's names
     requires tables { AreTablesOf shared.now.table.shared.table_id shared.now.table.shared.key tables.old }
     requires names { tables.old.exports ≡ K.names }
+    // the change is one of a key that fits the server, its area may be there, no exports are staged, and there is one number more
     requires fits { Fits server.now change.now }
     requires key { IsKeyChange change.now }
     requires placed { HavePlaced K.names server.now change.now tables.old areas.items }
     requires index { tables.old.index ≡ indices.Nothing }
     requires room { length (written_by tables.old.writer).published < 2 ^ 40 }
+    // whose tables they are stays
     ensures tables { AreTablesOf shared.now.table.shared.table_id shared.now.table.shared.key tables.new }
     ensures names { tables.new.exports ≡ K.names }
+    // an answer, or want of memory, after which nothing of the change is left
     ensures ok { IfOk result.1 (StepAnswers K.names server.now change.now tables.old tables.new result.0) }
     ensures err { OnErr result.1 (StageStands K.names server.now change.now tables.new stages.Untouched) }
     ensures err_stage { OnErr result.1 (result.0 ≡ stages.Untouched) }
@@ -148,8 +156,10 @@ fn publish_staged<K: Naming>(
     change: &Change,
     areas: Vec<AreaRef>,
 ) -> (Stage, Result<Step, NoMemory>)
+    // the tables are those of this table of words, by the run's names
     requires tables { AreTablesOf shared.now.table.shared.table_id shared.now.table.shared.key tables.old }
     requires names { tables.old.exports ≡ K.names }
+    // the change is one of a key that fits the server, its area is there, no exports are staged, and there is one number more
     requires fits { Fits server.now change.now }
     requires key { IsKeyChange change.now }
     requires placed { HavePlaced K.names server.now change.now tables.old areas.items }
@@ -158,6 +168,7 @@ fn publish_staged<K: Naming>(
     requires room { length (written_by tables.old.writer).published < 2 ^ 40 }
     ensures tables { AreTablesOf shared.now.table.shared.table_id shared.now.table.shared.key tables.new }
     ensures names { tables.new.exports ≡ K.names }
+    // an answer, and never want of memory
     ensures ok { IfOk result.1 (StepAnswers K.names server.now change.now tables.old tables.new result.0) }
     ensures never { OnErr result.1 ⊥ }
 {
@@ -191,17 +202,22 @@ fn stage_key<K: Naming>(
     change: &Change,
     areas: &[AreaRef],
 ) -> Result<AtomId, NotYet>
+    // the tables are those of this table of words
     requires tables { AreTablesOf shared.now.table.shared.table_id shared.now.table.shared.key tables.old }
+    // the change is one of a key that fits the server, and all that it brings in has its area
     requires fits { Fits server.now change.now }
     requires key { IsKeyChange change.now }
     requires placed { HavePlaced K.names server.now change.now tables.old areas.now }
     requires whole { length areas.now ≡ length (incoming change.now) }
+    // the tables are as they were, and nothing is published
     ensures tables { AreTablesOf shared.now.table.shared.table_id shared.now.table.shared.key tables.new }
     ensures exports { tables.new.exports ≡ tables.old.exports }
     ensures index { tables.new.index ≡ tables.old.index }
     ensures published { (written_by tables.new.writer).published ≡ (written_by tables.old.writer).published }
+    // the key is staged, and this is it
     ensures keyed { IfOk result (λ key. HaveKeyed K.names server.now change.now tables.new areas.now) }
     ensures former { IfOk result (λ key. former_of server.now change.now ≡ key_area server.now key.0) }
+    // or the table in which it would be staged may still be read
     ensures placed { OnErr result (HavePlaced K.names server.now change.now tables.new areas.now) }
     ensures late { IfErr result (IsLate tables.new) }
 {

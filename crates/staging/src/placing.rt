@@ -140,14 +140,18 @@ fn place_next<K: Naming>(
     at: usize,
     taken: &mut Vec<AreaRef>,
 ) -> Result<Placing, NoMemory>
+    // the tables are those of this table of words
     requires tables { AreTablesOf shared.now.table.shared.table_id shared.now.table.shared.key tables.old }
+    // the change fits the server, the first of what it brings in has areas, and this is the next place
     requires fits { Fits _server.now change.now }
     requires placed { HavePlaced K.names _server.now change.now tables.old taken.old.items }
     requires next { at ≡ length taken.old.items }
     requires there { at < length (incoming change.now) }
+    // the tables are as they were but for what was placed, and nothing is published
     ensures tables { AreTablesOf shared.now.table.shared.table_id shared.now.table.shared.key tables.new }
     ensures exports { tables.new.exports ≡ tables.old.exports }
     ensures index { tables.new.index ≡ tables.old.index }
+    // one more has its area, or none is free, or memory was refused
     ensures placed { HavePlaced K.names _server.now change.now tables.new taken.new.items }
     ensures answers { IfOk result (NextAnswers at tables.new taken.new.items) }
     ensures err { OnErr result (length taken.new.items ≡ at) }

@@ -30,15 +30,20 @@ pub fn step<K: Naming>(
     change: &Change,
     stage: Stage,
 ) -> (Stage, Result<Step, NoMemory>)
+    // the tables are those of this table of words, by the run's names
     requires tables { AreTablesOf shared.now.table.shared.table_id shared.now.table.shared.key tables.old }
     requires names { tables.old.exports ≡ K.names }
+    // the change goes by stages and fits the server, and how far the words are with it
     requires fits { Fits server.now change.now }
     requires staged { IsStaged change.now }
     requires numbered { AreNumbered K.names (made server.now change.now).state }
     requires stage { StageStands K.names server.now change.now tables.old stage }
+    // there is a number for one generation more
     requires room { length (written_by tables.old.writer).published < 2 ^ 40 }
+    // whose tables they are stays
     ensures tables { AreTablesOf shared.now.table.shared.table_id shared.now.table.shared.key tables.new }
     ensures names { tables.new.exports ≡ K.names }
+    // an answer, or want of memory, after which nothing of the change is left
     ensures ok { IfOk result.1 (StepAnswers K.names server.now change.now tables.old tables.new result.0) }
     ensures err { OnErr result.1 (AreAtRest K.names server.now tables.new) }
     ensures err_stage { OnErr result.1 (result.0 ≡ stages.Untouched) }

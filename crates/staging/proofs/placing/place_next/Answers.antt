@@ -1,5 +1,5 @@
 -- What comes in has room, a block, and then its area.
-use Rattle.std.proofs.Common.{length, ◌≤◌, sym, ap, subst, ◌∙◌, List, [], ◌∷◌, ◌++◌, arith}
+use Rattle.std.proofs.Common.{length, ◌≤◌, sym, ap, subst, ◌∙◌, [], ◌∷◌, ◌++◌, arith}
 use Rattle.area_core.specs.Map.{room_of}
 use Rattle.literal_areas.specs.Blocks.{first_of}
 use Rattle.staging.proofs.PlaceCalls.{never_full, placed_next, room_for}
