@@ -109,7 +109,7 @@ pub held_names : (kind : Kind) (anchors : List ℕ) (serial : ℕ) → IsTrue (i
 held_names kind anchors serial held = among_named kind serial anchors (sym (held_is kind anchors serial) ∙ held)
 
 -- two tests that say the same
-agree : (a b : Bool) → (a ≡ true → b ≡ true) → (b ≡ true → a ≡ true) → a ≡ b
+pub agree : (a b : Bool) → (a ≡ true → b ≡ true) → (b ≡ true → a ≡ true) → a ≡ b
 agree true true there back = refl
 agree true false there back = absurd (true≢false (sym (there refl)))
 agree false true there back = absurd (true≢false (sym (back refl)))

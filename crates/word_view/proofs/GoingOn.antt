@@ -25,7 +25,7 @@ use Rattle.machine_core.specs.declared.process.Value.TheVariants.{Literal, Owned
 use Rattle.machine_core.specs.Decode.{instr_shown, op_at}
 use Rattle.machine_core.specs.GenerationReads.{block_among, function_count, is_term_image, row_of, words_in}
 use Rattle.machine_core.specs.Holds.{Holds, is_among, is_area_held}
-use Rattle.machine_core.specs.Process.{PlainFrame, code_names, frame_of, frames_of, literal, value_areas, value_shown, values_shown}
+use Rattle.machine_core.specs.Process.{PlainFrame, code_names, frame_of, frames_of, literal, process_of, value_areas, value_shown, values_shown}
 use Rattle.machine_core.specs.Reads.{entry_at}
 use Rattle.machine_core.specs.Stand.{AreHeld}
 use Rattle.machine_core.specs.Turn.{ArePlaced, IsPlaceIn, IsPlaced, MayTurn}
@@ -122,21 +122,35 @@ module _ (names : List Mfa) (traced seen : List FunctionRef) (p q : Published) w
 
   -- ---- the process
 
-  pub may_go_on : (held : Holds) (process : Process) → ((serial : ℕ) → is_area_held held serial ≡ true → IsSame serial) → MayTurn (shown_by names traced p) held process → MayTurn (shown_by names seen q) held process
-  may_go_on held process same h =
-      let named : held ≡ code_names process.frames = h.names ∙ sym (code_names-shown (words_in p.state) process.frames) in
-      let own : (n : ℕ) → is_among held.frames n ≡ true → IsSame n = λ n among. same n (or_left (is_among held.frames n) (is_among held.literals n) among) in
-      let lit : (n : ℕ) → is_among held.literals n ≡ true → IsSame n = λ n among. same n (or_right (is_among held.frames n) (is_among held.literals n) among) in
-      let both = frames_on process.frames (λ n among. own n (ap (λ (x : Holds). is_among x.frames n) named ∙ among-serials_of (instances process.frames) n ∙ among))
-      (λ n among. lit n (ap (λ (x : Holds). is_among x.literals n) named ∙ among-serials_of (literals process.frames) n ∙ among)) h.values in
-      let stays : frames_of (words_in p.state) process.frames ≡ frames_of (words_in q.state) process.frames = ap reverse both.0 in
-      let frames : List PlainFrame = frames_of (words_in p.state) process.frames in
-      record {
-        going = subst (λ (fs : List PlainFrame). fs ≡ [] → process.turns ≡ 0) stays h.going;
-        names = named ∙ code_names-shown (words_in q.state) process.frames;
-        placed = subst (ArePlaced (shown_by names seen q).reads) stays (all_placed held frames own (subst (λ (x : Holds). AreHeld x frames) (sym h.names) (all_held frames)) h.placed);
-        values = both.1;
-      }
+  -- where the areas that a process names are the same, so is what its frames stand for, and it may have a turn by either
+  module _ (held : Holds) (process : Process) (same : (serial : ℕ) → is_area_held held serial ≡ true → IsSame serial) (h : MayTurn (shown_by names traced p) held process) where
+    named : held ≡ code_names process.frames
+    named = h.names ∙ sym (code_names-shown (words_in p.state) process.frames)
+
+    own : (n : ℕ) → is_among held.frames n ≡ true → IsSame n
+    own n among = same n (or_left (is_among held.frames n) (is_among held.literals n) among)
+
+    lit : (n : ℕ) → is_among held.literals n ≡ true → IsSame n
+    lit n among = same n (or_right (is_among held.frames n) (is_among held.literals n) among)
+
+    both : (map (frame_of (words_in p.state)) process.frames ≡ map (frame_of (words_in q.state)) process.frames) × AreValues (shown_by names seen q) process.frames
+    both =
+        frames_on process.frames (λ n among. own n (ap (λ (x : Holds). is_among x.frames n) named ∙ among-serials_of (instances process.frames) n ∙ among))
+        (λ n among. lit n (ap (λ (x : Holds). is_among x.literals n) named ∙ among-serials_of (literals process.frames) n ∙ among)) h.values
+
+    pub frames_stay : frames_of (words_in p.state) process.frames ≡ frames_of (words_in q.state) process.frames
+    frames_stay = ap reverse both.0
+
+    pub may_go_on : MayTurn (shown_by names seen q) held process
+    may_go_on =
+        let frames : List PlainFrame = frames_of (words_in p.state) process.frames in
+        record {
+          going = subst (λ (fs : List PlainFrame). fs ≡ [] → process.turns ≡ 0) frames_stay h.going;
+          names = named ∙ code_names-shown (words_in q.state) process.frames;
+          placed = subst (ArePlaced (shown_by names seen q).reads) frames_stay
+              (all_placed held frames own (subst (λ (x : Holds). AreHeld x frames) (sym h.names) (all_held frames)) h.placed);
+          values = both.1;
+        }
 
 -- ---- over a report
 
@@ -165,3 +179,9 @@ module _ (v : Viewed) (b : tokens.Member) (generation : ℕ) (traced : List Func
   goes_on process ready =
       subst (λ (held : Holds). MayTurn (shown_by v.names traced q) held process) (sym (ap (λ (x : MemberView). holds_by (anchors_of x v.process)) r.view))
       (may_go_on v.names v.traced traced p q (held_of_view v) process same_area ready)
+
+  -- and it stands for what it stood for
+  pub stands_on : (process : Process) → MayTurn (shown_of_view v) (held_of_view v) process → process_of (shown_of_view v).words process ≡ process_of (shown_by v.names traced q).words process
+  stands_on process ready =
+      ap (λ (frames : List PlainFrame). record { number = process.number; target = process.target; args = process.args; turns = process.turns; frames = frames })
+      (frames_stay v.names v.traced traced p q (held_of_view v) process same_area ready)

@@ -13,3 +13,4 @@ pub mod GoneOn
 pub mod ViewCalls
 pub mod Reporting
 pub mod GoingOn
+pub mod Lapping

@@ -3,3 +3,4 @@ pub mod Views
 pub mod Loaded
 pub mod Turned
 pub mod Laws
+pub mod Laps

@@ -12,6 +12,10 @@ mod turns;
 mod view;
 
 pub use began::Began;
-pub use laws::{reports_begin_turns, turns_go_on_after_reports, turns_leave_other_processes};
+pub use laws::{
+    newcomers_begin, other_steps_leave_slots, reports_begin_turns, reports_leave_processes,
+    stores_leave_other_processes, turns_go_on_after_reports, turns_leave_other_processes,
+    wakes_are_reports,
+};
 pub use turns::turn_of;
 pub use view::WordView;

@@ -1,8 +1,8 @@
 //! Where the words stand that a turn reads.
 
 ghost use Rattle.std.specs.Prelude.{◌≡◌, ◌<◌};
-ghost use Rattle.area_core.specs.declared.map.TheConstants.{BLOCKS, BIG_BLOCKS as BIG, CODE_INDICES, EXPORT_ENTRIES};
-ghost use Rattle.area_core.specs.Map.{block_place, doom_place, retire_place, room_of};
+ghost use Rattle.area_core.specs.declared.map.TheConstants.{BLOCKS, CODE_INDICES, EXPORT_ENTRIES};
+ghost use Rattle.area_core.specs.Map.{block_place, room_of};
 
 /// Blocks with a lower number are big ones; instances stand in these.
 pub const BIG_BLOCKS: u32 = 64;
@@ -24,12 +24,6 @@ pub const GENERATION_UNIT: u64 = 32;
 
 /// How many code indices a root word tells apart.
 pub const CODE_UNIT: u64 = 4;
-
-/// The first retire word.
-const RETIRE_START: u32 = 1109;
-
-/// The first doom word.
-const DOOM_START: u32 = 1429;
 
 /// The first word of the blocks.
 const BLOCKS_START: u32 = 1493;
@@ -63,20 +57,4 @@ pub fn index_word(code: u32, entry: u32) -> u32
     ensures { result ≡ block_place code entry }
 {
     BLOCKS_START + code * BIG_WORDS + entry
-}
-
-/// The place of the retire word of a block.
-pub fn retire_word(block: u32) -> u32
-    requires { block < BLOCKS }
-    ensures { result ≡ retire_place block }
-{
-    RETIRE_START + block
-}
-
-/// The place of the doom word of a big block.
-pub fn doom_word(block: u32) -> u32
-    requires { block < BIG }
-    ensures { result ≡ doom_place block }
-{
-    DOOM_START + block
 }

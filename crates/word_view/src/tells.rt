@@ -12,8 +12,9 @@ ghost use Rattle.anchors.specs.Holds.{view_of};
 ghost use Rattle.word_view.specs.Loaded.{HasRead, IsNamedAt};
 ghost use Rattle.word_view.specs.Views.{IsReading};
 
-use crate::places::{GENERATION_UNIT, doom_word, retire_word};
+use crate::places::GENERATION_UNIT;
 use crate::reads::load;
+use literal_areas::{doom_word, retire_word};
 use shared_words::{Member, Served, Shared};
 use term_core::{AreaRef, CodeRef, FunctionRef};
 
