@@ -111,6 +111,13 @@ both_none names traced to =
     none_exported names to [] (λ n. refl) (number_of_name names to)
     ∙ sym (none_exported names to (generation_of names empty_state).exports (no_exports names) (number_of_name names to))
 
+-- all that is read of them is read alike
+pub empty_reads : (names : List Mfa) (traced : List FunctionRef) → reads_in names (with_traced traced empty_generation) ≡ reads_in names (generation_of names (tracing traced empty_state))
+empty_reads names traced = λ i. record (reads_in names (generation_of names (tracing traced empty_state))) {
+  export = λ serial to. option_and_then (place_within serial) (both_none names traced to i);
+  traced = λ e. list_any (is_function e) (sym (traces_these traced) i);
+}
+
 of_empty : (names : List Mfa) (traced : List FunctionRef) (g : Generation) → g ≡ empty_generation → HasState names traced g
 of_empty names traced g is =
     let s = tracing traced empty_state in
@@ -121,17 +128,11 @@ of_empty names traced g is =
       numbered = λ to h. absurd (cc);
       narrow = lit≤ tt;
       traces = traces_these traced;
-      reads = ap (reads_in names) first ∙ read_alike;
+      reads = ap (reads_in names) first ∙ empty_reads names traced;
       words = ap words_in first;
       keys = ap (λ (x : Generation). x.keys) is;
       calls = λ to. ap (λ (x : Generation). exported names x to) first ∙ both_none names traced to;
       of = inr (is, refl);
-    }
-  where
-    read_alike : reads_in names (with_traced traced empty_generation) ≡ reads_in names (generation_of names (tracing traced empty_state))
-    read_alike = λ i. record (reads_in names (generation_of names (tracing traced empty_state))) {
-      export = λ serial to. option_and_then (place_within serial) (both_none names traced to i);
-      traced = λ e. list_any (is_function e) (sym (traces_these traced) i);
     }
 
 pub state_of : (names : List Mfa) (traced : List FunctionRef) (g : Generation) → IsOfServer names g → HasState names traced g

@@ -38,12 +38,13 @@ use Rattle.run_log.specs.Legal.{EntryFollows, IsLogOf, Legal, Lingers, LogsMatch
 use Rattle.run_log.specs.Snapshots.{AreExports, IsExport}
 use Rattle.run_log.specs.WellFormed.{IsCallOf, IsExportOf, IsLingerOf, IsNamed, IsProcessOf, IsSnapshotOf, IsSpanOf, IsWellFormed}
 use Rattle.run_log.specs.WholeSpans.{AreWhole}
+use Rattle.run_log.proofs.EntryCommands.{HoldsOf, of_entries}
 use Rattle.run_log.proofs.Journals.{counted}
 use Rattle.run_log.proofs.KeptTexts.{empty_of_texts, next_of_texts}
 use Rattle.run_log.proofs.SpanRuns.{some_and}
 use Rattle.log_forms.specs.Numbers.{FitsWords}
 use Rattle.log_forms.proofs.SaidCode.{IsKnownFunction, IsKnownModule, both_give, functions_known, said_code}
-use Rattle.log_forms.proofs.SaidJournal.{HoldsOf, IsDone, journal_said, of_entries, serials_grow}
+use Rattle.log_forms.proofs.SaidJournal.{IsDone, journal_said, serials_grow}
 use Rattle.log_forms.proofs.SaidReplies.{IsSaidLinger, texts_named}
 use Rattle.log_forms.proofs.SaidSpans.{AreSaidSpans, IsSaidSpan, spans_said, standing_turn}
 use Rattle.log_forms.proofs.SaidSteps.{IsSaidCode}

@@ -3,6 +3,7 @@ pub mod Snapshots
 pub mod StatesForTurns
 pub mod Steps
 pub mod Journals
+pub mod EntryCommands
 pub mod AreaWords
 pub mod Releases
 pub mod TurnRuns

@@ -1,3 +1,4 @@
 pub mod JoinedPlaces
 pub mod NamesCopied
 pub mod SpawnLines
+pub mod ShortTerms

@@ -1,0 +1,9 @@
+pub mod States
+pub mod Tied
+pub mod Marks
+pub mod Processes
+pub mod Clauses
+pub mod Closing
+pub mod Newcomers
+pub mod Said
+pub mod Histories

@@ -1,0 +1,7 @@
+pub mod Published
+pub mod Reading
+pub mod Answers
+pub mod Newcomers
+pub mod Ended
+pub mod Ends
+pub mod Laws
