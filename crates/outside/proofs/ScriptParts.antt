@@ -1,5 +1,5 @@
 -- How an input is parted at its first line that is `go`, and that a script's text ends with that line.
-use Rattle.std.proofs.Common.{◌≡◌, ℕ, ◌+◌, ◌≤◌, ◌==◌, Bool, true, false, cond, List, [], ◌∷◌, ◌++◌, map, length, take, drop, Option, Some, None, option_map, bytes_eq, codes, refl, sym, ap, ◌∙◌, subst, arith, append_assoc, append-nil, length-append, eqb-true}
+use Rattle.std.proofs.Common.{◌≡◌, ℕ, ◌+◌, ◌≤◌, ◌==◌, Bool, true, false, cond, List, [], ◌∷◌, ◌++◌, map, length, take, drop, Option, Some, None, Ok, Err, option_map, bytes_eq, codes, refl, sym, ap, ◌∙◌, subst, arith, append_assoc, append-nil, length-append, eqb-true}
 use lib.Seq.{take-append_seam}
 use Rattle.std.specs.Prelude.{unwrap_or, IsTrue}
 use Rattle.std.specs.List.{AllByRecursion}
@@ -8,12 +8,18 @@ use Rattle.term_core.proofs.Text.Cuts.{lacks, cut_is, uncut_is, lines_behind, li
 use Rattle.term_core.proofs.Text.Options.{some_is, bytes_are}
 use Rattle.script_core.specs.declared.script.Script.{Script}
 use Rattle.script_text.specs.ScriptLine.{ScriptLine, go, script_line_written, is_script_line}
-use Rattle.script_text.specs.LineFaults.{last_of, line_fault}
-use Rattle.script_text.specs.ScriptText.{ScriptText, HaveNoFault}
+use Rattle.script_text.specs.ScriptText.{ScriptText}
 use Rattle.term_core.specs.Text.Parts.{lines_of, lines_joined}
-use Rattle.script_text.proofs.GrownLines.{last_of-snoc}
 use Rattle.term_core.proofs.Text.Parts.{ended_lack}
+use Rattle.script_text.specs.declared.reading.cause.LineCause.TheVariants as causes
+use Rattle.script_text.specs.declared.reading.reader.Place.{Place}
+use Rattle.script_text.specs.declared.reading.reader.Place.TheVariants.{Unread, Finished}
+use Rattle.script_text.specs.LineStep.{Known, opening, step_at, step, steps}
+use Rattle.script_text.proofs.Choices.{ok_is}
 use Rattle.script_text.proofs.OneLine.{one_line}
+use Rattle.script_text.proofs.StepEnds.{go_only}
+use Rattle.script_text.proofs.StepLaws.{bind_ok, go_ends}
+use Rattle.script_text.proofs.StepMoves.{moves}
 use Rattle.outside.specs.Parting.{lines_to_go, script_part, report_part}
 
 -- ---- line by line
@@ -126,28 +132,31 @@ part_within bytes = let both : length bytes ≡ length (script_part bytes ++ rep
 
 -- ---- a script's text ends with its first `go`
 
--- nothing stands behind `go`
-nothing_behind_go : (before : List ScriptLine) (line : ScriptLine) → last_of before ≡ Some go → line_fault before line ≡ None → ⊥
-nothing_behind_go before line e h = let faulty = rw e at h in absurd cc
-
 -- a line with others behind it is not `go`
-no_early_go : (before : List ScriptLine) (line next : ScriptLine) → IsTrue (is_script_line line) → line_fault (before ++ line ∷ []) next ≡ None → bytes_eq (script_line_written line) (codes "go") ≡ true → ⊥
-no_early_go before line next sound no_fault is =
+no_early_go : (s k : Known) (number : ℕ) (line next : ScriptLine) (known : Known) → IsTrue (is_script_line line) → step s number line ≡ Ok k → step k (number + 1) next ≡ Ok known → bytes_eq (script_line_written line) (codes "go") ≡ true → ⊥
+no_early_go s k number line next known sound e more is =
     let same : line ≡ go = one_line (codes "go") line go (record { text_is = sym (bytes_are (script_line_written line) (codes "go") is); sound = sound }) (record { text_is = refl; sound = refl }) in
-    nothing_behind_go (before ++ line ∷ []) next (last_of-snoc before line ∙ ap (λ (l : ScriptLine). let so : Option ScriptLine = Some l in so) same) no_fault
+    let place = go_ends s number k (ap (step s number) (sym same) ∙ e) in
+    let stops : Err causes.Syntax ≡ Ok known = sym (ap (λ (p : Place). step_at k (number + 1) p next) place) ∙ more in
+    absurd cc
 
 other_line : (t : Bool) (line : List ℕ) (others : List (List ℕ)) (o : Option (List (List ℕ))) → (t ≡ true → ⊥) → o ≡ Some others → cond t (Some (line ∷ [])) (option_map (λ ls. line ∷ ls) o) ≡ Some (line ∷ others)
 other_line true line others o never e = absurd (never refl)
 other_line false line others o never e = ap (option_map (λ ls. line ∷ ls)) e
 
 -- the lines of a script are those up to its first `go`
-script_to_go : (before lines : List ScriptLine) → AllByRecursion (λ line. IsTrue (is_script_line line)) lines → HaveNoFault before lines → last_of lines ≡ Some go → lines_to_go (map script_line_written lines) ≡ Some (map script_line_written lines)
-script_to_go before [] sound faultless last = absurd cc
-script_to_go before (line ∷ []) sound faultless last =
-    subst (λ (l : ScriptLine). lines_to_go (script_line_written l ∷ []) ≡ Some (script_line_written l ∷ [])) (sym (some_is line go last)) refl
-script_to_go before (line ∷ next ∷ lines) sound faultless last =
+script_to_go : (s : Known) (number : ℕ) (lines : List ScriptLine) (known : Known) → AllByRecursion (λ line. IsTrue (is_script_line line)) lines → steps s number lines ≡ Ok known → known.place ≡ Finished → (s.place ≡ Finished → ⊥) → lines_to_go (map script_line_written lines) ≡ Some (map script_line_written lines)
+script_to_go s number [] known sound e finished still = absurd (still (ap (λ (k : Known). k.place) (ok_is s known e) ∙ finished))
+script_to_go s number (line ∷ []) known sound e finished still =
+    let first = bind_ok (step s number line) (λ next. steps next (number + 1) []) known e in
+    let last : line ≡ go = go_only s number (moves s number line first.0 first.1) (ap (λ (k : Known). k.place) (ok_is first.0 known first.2) ∙ finished) in
+    subst (λ (l : ScriptLine). lines_to_go (script_line_written l ∷ []) ≡ Some (script_line_written l ∷ [])) (sym last) refl
+script_to_go s number (line ∷ next ∷ lines) known sound e finished still =
+    let first = bind_ok (step s number line) (λ k. steps k (number + 1) (next ∷ lines)) known e in
+    let second = bind_ok (step first.0 (number + 1) next) (λ k. steps k (number + 1 + 1) lines) known first.2 in
+    let goes_on : first.0.place ≡ Finished → ⊥ = λ place. let stops : Err causes.Syntax ≡ Ok second.0 = sym (ap (λ (p : Place). step_at first.0 (number + 1) p next) place) ∙ second.1 in absurd cc in
     other_line (bytes_eq (script_line_written line) (codes "go")) (script_line_written line) (map script_line_written (next ∷ lines)) (lines_to_go (map script_line_written (next ∷ lines)))
-    (no_early_go before line next sound.0 faultless.1.0) (script_to_go (before ++ line ∷ []) (next ∷ lines) sound.1 faultless.1 last)
+    (no_early_go s first.0 number line next second.0 sound.0 first.1 second.1) (script_to_go first.0 (number + 1) (next ∷ lines) known sound.1 first.2 finished goes_on)
 
 -- the lines of lines with a text behind them
 lines_of_both : (texts : List (List ℕ)) (behind : List ℕ) → AllByRecursion (λ line. lacks 10 line ≡ true) texts → (lines_of (lines_joined texts ++ behind)).ended ≡ texts ++ (lines_of behind).ended
@@ -168,6 +177,9 @@ to_go_more [] more found e = absurd cc
 to_go_more (line ∷ texts) more found e =
     more_step (bytes_eq line (codes "go")) line found (lines_to_go texts) (lines_to_go (texts ++ more)) (to_go_more texts more) e
 
+unread : Unread ≡ Finished → ⊥
+unread e = cc
+
 -- a script's text is the script's part of itself with any bytes behind it
 pub part_of_script : (front behind : List ℕ) (s : Script) → ScriptText front s → script_part (front ++ behind) ≡ front
 part_of_script front behind s t =
@@ -175,7 +187,7 @@ part_of_script front behind s t =
     let are = t.whole.lines_are in
     let joined : lines_joined texts ≡ front = sym (append-nil (lines_joined texts)) ∙ ap (λ tail. lines_joined texts ++ tail) (sym t.whole.nothing_more) ∙ text_is_lines front in
     let ended : (lines_of (front ++ behind)).ended ≡ texts ++ (lines_of behind).ended = ap (λ bytes. (lines_of (bytes ++ behind)).ended) (sym joined) ∙ lines_of_both texts behind (ended_lack front) in
-    let to_go : lines_to_go texts ≡ Some texts = ap lines_to_go are.written ∙ script_to_go [] t.lines are.sound are.faultless t.whole.finished ∙ ap (λ (ls : List (List ℕ)). let so : Option (List (List ℕ)) = Some ls in so) (sym are.written) in
+    let to_go : lines_to_go texts ≡ Some texts = ap lines_to_go are.written ∙ script_to_go opening 1 t.lines t.known are.sound are.known_is t.whole.finished unread ∙ ap (λ (ls : List (List ℕ)). let so : Option (List (List ℕ)) = Some ls in so) (sym are.written) in
     ap (λ o. unwrap_or (option_map lines_joined o) (front ++ behind)) (ap lines_to_go ended ∙ to_go_more texts (lines_of behind).ended texts to_go) ∙ joined
 
 -- and what stands behind it is the report's part

@@ -21,10 +21,10 @@ use Rattle.mod_text.specs.ModuleValue.{FunctionForm, HeaderForm, functions_in, h
 use Rattle.mod_text.proofs.ModuleSound.{head_of}
 use Rattle.term_core.proofs.Text.Options.{map_some, some_is, bytes_are}
 use Rattle.term_core.proofs.GrownTerms.{HasNumber}
-use Rattle.script_text.specs.Counts.{instr_functions}
 use Rattle.script_text.proofs.ModuleNames.{AreHeld, held_first, held_second}
 use Rattle.script_text.proofs.TermNames.{text_again}
 use Rattle.script_text.proofs.TextsBack.{atom_again, arity_again}
+use Rattle.script_text.proofs.FunctionNames.{instr_functions}
 
 -- ---- a function that is called
 

@@ -16,12 +16,11 @@ use Rattle.mod_text.specs.ModuleText.{FollowOn, names_behind}
 use Rattle.mod_text.specs.ModuleValue.{FunctionForm, HeaderForm, body_of, functions_in, headers_in, instrs_in, instr_in, function_in, module_of, IsTitled, is_settled_line, unsettled_at, unsettled_below, earlier, first_unsettled, unsettled_line}
 use Rattle.mod_text.proofs.Keepings.{last_line-push}
 use Rattle.mod_text.proofs.ModuleSound.{head_of}
-use Rattle.script_text.proofs.CodeSteps.{have_held_in}
 use Rattle.script_text.proofs.ModuleNames.{HaveHeld, held_body}
 use Rattle.script_text.proofs.TextsBack.{atom_again, version_again, arity_again}
-use Rattle.script_text.proofs.Alike.{Alike, alike_same, alike_back, alike_then, alike_append, alike_label, alike_labels, alike_line}
+use Rattle.script_text.proofs.Alike.{AreAlike, alike_same, alike_back, alike_then, alike_append, alike_label, alike_labels, alike_line}
 use Rattle.script_text.proofs.AlikeInstrs.{headers_are, IsGoodInstr, instr_like}
-use Rattle.script_text.proofs.SoundnessTexts.{IsClosed, titled, held_behind, unmapped}
+use Rattle.script_text.proofs.TextLines.{IsClosed, titled, held_behind, have_held_in, unmapped}
 
 -- ---- what the lines behind a title have
 
@@ -105,15 +104,15 @@ abbrev instr_lines : List InstrForm → List LineForm
 instr_lines is = map (λ i. instr i) is
 
 module _ (names : List (List ℕ)) (hs : List HeaderForm) (forms : List FunctionForm) (are : hs ≡ map head_of forms) where
-  instr_alike : (body : List LineForm) (i : InstrForm) → IsGoodInstr names hs body i → Alike (instr (written_instr names (map (function_in names hs) forms) (instr_in names hs body i)) ∷ []) (instr i ∷ [])
+  instr_alike : (body : List LineForm) (i : InstrForm) → IsGoodInstr names hs body i → AreAlike (instr (written_instr names (map (function_in names hs) forms) (instr_in names hs body i)) ∷ []) (instr i ∷ [])
   instr_alike body i g =
       let like = instr_like names hs forms body i are g in
-      alike_line (instr (written_instr names (map (function_in names hs) forms) (instr_in names hs body i))) (instr i) (record { atoms = like.atoms; titles = refl; homes = λ home. refl; functions = λ home. like.functions })
+      alike_line (instr (written_instr names (map (function_in names hs) forms) (instr_in names hs body i))) (instr i) (record { atoms = like.atoms; homes = λ home. refl; functions = λ home. like.functions })
 
   -- the lines of code name what its instructions do
-  code_alike : (body : List LineForm) (code : List Instr) (number : ℕ) (is : List InstrForm) → AllByRecursion (IsGoodInstr names hs body) is → Alike (lines_from names (map (function_in names hs) forms) code number (map (instr_in names hs body) is)) (instr_lines is)
+  code_alike : (body : List LineForm) (code : List Instr) (number : ℕ) (is : List InstrForm) → AllByRecursion (IsGoodInstr names hs body) is → AreAlike (lines_from names (map (function_in names hs) forms) code number (map (instr_in names hs body) is)) (instr_lines is)
   code_alike body code number [] good =
-      subst (λ (ls : List LineForm). Alike ls []) (append-nil (labels_at code number)) (alike_labels (list_any (goes_to number) code) (label_text number) [] [] (alike_same []))
+      subst (λ (ls : List LineForm). AreAlike ls []) (append-nil (labels_at code number)) (alike_labels (list_any (goes_to number) code) (label_text number) [] [] (alike_same []))
   code_alike body code number (i ∷ is) good =
       let fs = map (function_in names hs) forms in
       let first = instr (written_instr names fs (instr_in names hs body i)) in
@@ -127,13 +126,13 @@ module _ (names : List (List ℕ)) (hs : List HeaderForm) (forms : List Function
   abbrev to_end : List FunctionForm → List LineForm
   to_end fs = flat_map (function_lines names (map (function_in names hs) forms)) (map (function_in names hs) fs) ++ end ∷ []
 
-  header_alike : (exported : Bool) (name arity : List ℕ) → is_line_form (header exported name arity) ≡ true → HasNumber names name → Alike (header exported (atom_text names (number_in names name)) (decimal (number_value arity)) ∷ []) (header exported name arity ∷ [])
+  header_alike : (exported : Bool) (name arity : List ℕ) → is_line_form (header exported name arity) ≡ true → HasNumber names name → AreAlike (header exported (atom_text names (number_in names name)) (decimal (number_value arity)) ∷ []) (header exported name arity ∷ [])
   header_alike exported name arity sound held =
       let n = atom_again names name held in
       let a = arity_again arity (and_parts (is_atom_text name) (is_arity_text arity) sound).1 in
-      subst (λ (line : LineForm). Alike (line ∷ []) (header exported name arity ∷ [])) (λ k. header exported (sym n k) (sym a k)) (alike_same (header exported name arity ∷ []))
+      subst (λ (line : LineForm). AreAlike (line ∷ []) (header exported name arity ∷ [])) (λ k. header exported (sym n k) (sym a k)) (alike_same (header exported name arity ∷ []))
 
-  rest_alike : (lines : List LineForm) → IsRest lines → AreSound lines → HaveHeld names lines → first_unsettled hs lines ≡ None → Alike (instr_lines (instrs_in (body_of lines)) ++ to_end (functions_in lines)) lines
+  rest_alike : (lines : List LineForm) → IsRest lines → AreSound lines → HaveHeld names lines → first_unsettled hs lines ≡ None → AreAlike (instr_lines (instrs_in (body_of lines)) ++ to_end (functions_in lines)) lines
   rest_alike [] rest sound held none = absurd rest
   rest_alike (title name version ∷ lines) rest sound held none = absurd rest
   rest_alike (header exported name arity ∷ lines) rest sound held none =
@@ -144,11 +143,11 @@ module _ (names : List (List ℕ)) (hs : List HeaderForm) (forms : List Function
       let code = map (instr_in names hs body) (instrs_in body) in
       let own = lines_from names fs code 0 code in
       let good = good_instrs names hs body body (sound_body lines sound.1) (held_body names lines held.1) p.0 in
-      let later : Alike (own ++ to_end (functions_in lines)) lines =
+      let later : AreAlike (own ++ to_end (functions_in lines)) lines =
       alike_then (own ++ to_end (functions_in lines)) (instr_lines (instrs_in body) ++ to_end (functions_in lines)) lines
       (alike_append own (instr_lines (instrs_in body)) (to_end (functions_in lines)) (to_end (functions_in lines)) (code_alike body code 0 (instrs_in body) good) (alike_same (to_end (functions_in lines))))
       (rest_alike lines rest sound.1 held.1 p.1) in
-      subst (λ (ls : List LineForm). Alike ls (header exported name arity ∷ lines)) (sym (append_assoc (first ∷ own) (flat_map (function_lines names fs) (map (function_in names hs) (functions_in lines))) (end ∷ [])))
+      subst (λ (ls : List LineForm). AreAlike ls (header exported name arity ∷ lines)) (sym (append_assoc (first ∷ own) (flat_map (function_lines names fs) (map (function_in names hs) (functions_in lines))) (end ∷ [])))
       (alike_append (first ∷ []) (header exported name arity ∷ []) (own ++ to_end (functions_in lines)) lines (header_alike exported name arity sound.0.form held.0.0) later)
   rest_alike (label name ∷ lines) rest sound held none =
       alike_then (instr_lines (instrs_in (body_of lines)) ++ to_end (functions_in lines)) lines (label name ∷ lines)
@@ -156,17 +155,17 @@ module _ (names : List (List ℕ)) (hs : List HeaderForm) (forms : List Function
   rest_alike (instr i ∷ lines) rest sound held none =
       alike_append (instr i ∷ []) (instr i ∷ []) (instr_lines (instrs_in (body_of lines)) ++ to_end (functions_in lines)) lines (alike_same (instr i ∷ []))
       (rest_alike lines rest sound.1 held.1 (both_none None (first_unsettled hs lines) (unmapped suc _ none)).1)
-  rest_alike (end ∷ lines) rest sound held none = subst (λ (ls : List LineForm). Alike (to_end (functions_in ls)) (end ∷ ls)) (sym rest) (alike_same (end ∷ []))
+  rest_alike (end ∷ lines) rest sound held none = subst (λ (ls : List LineForm). AreAlike (to_end (functions_in ls)) (end ∷ ls)) (sym rest) (alike_same (end ∷ []))
 
 -- ---- modules
 
-title_alike : (names : List (List ℕ)) (name version : List ℕ) → is_line_form (title name version) ≡ true → HasNumber names name → Alike (title (atom_text names (number_in names name)) (decimal (number_value version)) ∷ []) (title name version ∷ [])
+title_alike : (names : List (List ℕ)) (name version : List ℕ) → is_line_form (title name version) ≡ true → HasNumber names name → AreAlike (title (atom_text names (number_in names name)) (decimal (number_value version)) ∷ []) (title name version ∷ [])
 title_alike names name version sound held =
     let n = atom_again names name held in
     let v = version_again version (and_parts (is_atom_text name) (is_version_text version) sound).1 in
-    subst (λ (line : LineForm). Alike (line ∷ []) (title name version ∷ [])) (λ k. title (sym n k) (sym v k)) (alike_same (title name version ∷ []))
+    subst (λ (line : LineForm). AreAlike (line ∷ []) (title name version ∷ [])) (λ k. title (sym n k) (sym v k)) (alike_same (title name version ∷ []))
 
-text_alike : (names before : List (List ℕ)) (text : List LineForm) → IsTitled text → FollowOn before [] text → last_line text ≡ Some end → HaveHeld names text → unsettled_line text ≡ None → Alike (canonical names (module_of names text)) text
+text_alike : (names before : List (List ℕ)) (text : List LineForm) → IsTitled text → FollowOn before [] text → last_line text ≡ Some end → HaveHeld names text → unsettled_line text ≡ None → AreAlike (canonical names (module_of names text)) text
 text_alike names before (title name version ∷ lines) t follow closed held none =
     let first = title name version in
     let hs = headers_in lines in
@@ -174,7 +173,7 @@ text_alike names before (title name version ∷ lines) t follow closed held none
     let rest = rest_of after (first ∷ []) lines first refl refl follow.1 closed in
     let more = rest_alike names hs (functions_in lines) (headers_are lines) lines rest (sound_of after (first ∷ []) lines follow.1) held.1 (both_none None (first_unsettled hs lines) (unmapped suc _ none)).1 in
     let ends = to_end names hs (functions_in lines) (headers_are lines) (functions_in lines) in
-    let behind : Alike ends lines = subst (λ (is : List InstrForm). Alike (instr_lines is ++ ends) lines) (no_instrs lines after name version follow.1) more in
+    let behind : AreAlike ends lines = subst (λ (is : List InstrForm). AreAlike (instr_lines is ++ ends) lines) (no_instrs lines after name version follow.1) more in
     alike_append (title (atom_text names (number_in names name)) (decimal (number_value version)) ∷ []) (first ∷ []) ends lines (title_alike names name version follow.0.stands.is_text.sound held.0.0) behind
 text_alike names before text t follow closed held none = absurd t
 
@@ -183,5 +182,5 @@ pub text_held : (names : List (List ℕ)) (text : List LineForm) → IsClosed na
 text_held names text c = have_held_in (names_behind c.before text) names text c.among (held_behind c.before text)
 
 -- the canonical lines of the module that a text says name what the text names
-pub module_alike : (names : List (List ℕ)) (text : List LineForm) → IsClosed names text → unsettled_line text ≡ None → Alike (canonical names (module_of names text)) text
+pub module_alike : (names : List (List ℕ)) (text : List LineForm) → IsClosed names text → unsettled_line text ≡ None → AreAlike (canonical names (module_of names text)) text
 module_alike names text c none = text_alike names c.before text (titled c.before text end c.follow c.closed) c.follow c.closed (text_held names text c) none

@@ -11,7 +11,7 @@ use Rattle.script_text.specs.ScriptText.{ScriptText, FaultOf}
 use Rattle.script_core.specs.Sound.{IsScript}
 use Rattle.script_text.proofs.Findings.{script_found, fault_found}
 use Rattle.script_text.proofs.Outcomes.{Comes, comes}
-use Rattle.script_text.proofs.Soundness.{sound_of}
+use Rattle.script_text.proofs.Sound.{sound_of}
 
 -- a fault with which a step fails is want of memory, or that of the step
 fails_so : {A : Type 0} (step : Result A ScriptFault) (fault : ScriptFault) → FailsWith step fault → (step ≡ Err fault) ⊎ (fault ≡ NoMemory)

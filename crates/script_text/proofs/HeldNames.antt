@@ -1,14 +1,11 @@
 -- Texts that a table of names holds: each keeps its number as the table grows, and no two have one number.
-use Rattle.std.proofs.Common.{◌≡◌, ℕ, Bool, true, false, cond, ◌==◌, List, [], ◌∷◌, ◌++◌, length, Option, Some, None, is_some, unwrap_or, slice_get, bytes_eq, refl, sym, ap, ◌∙◌, subst}
+use Rattle.std.proofs.Common.{◌≡◌, ℕ, cond, List, [], ◌∷◌, ◌++◌, length, Option, Some, None, is_some, unwrap_or, bytes_eq, refl, sym, ap, ◌∙◌, subst}
 use Rattle.std.specs.List.{AllByRecursion}
-use Rattle.std.proofs.lemmas.Bool.Decides.{Decides-eqb}
-use Rattle.std.proofs.lemmas.Slice.Eq.{bytes_eq-Decides}
 use Rattle.term_core.specs.Names.{Extends, number_of, names_with}
 use Rattle.term_core.specs.TermText.{number_in, names_with_all}
 use Rattle.term_core.proofs.Places.{position-append_found, position-append_one}
-use Rattle.term_core.proofs.NameTables.{slice_get-number_of}
 use Rattle.term_core.proofs.GrownNames.{Extends-refl, Extends-trans, names_with-Extends}
-use Rattle.term_core.proofs.Text.Options.{some_is, same_bytes}
+use Rattle.term_core.proofs.Text.Options.{same_bytes}
 use Rattle.term_core.proofs.GrownTerms.{HasNumber}
 
 pub held_more : (names more : List (List ℕ)) (text : List ℕ) → HasNumber names text → HasNumber (names ++ more) text
@@ -47,18 +44,3 @@ all_held_in names after (text ∷ texts) e h = (held_in names after text e h.0, 
 
 pub number_is : (names : List (List ℕ)) (text : List ℕ) (h : HasNumber names text) → number_in names text ≡ h.number
 number_is names text h = ap (λ (o : Option ℕ). unwrap_or o 0) h.is
-
-one_text : (names : List (List ℕ)) (t u : List ℕ) → HasNumber names t → HasNumber names u → number_in names t ≡ number_in names u → t ≡ u
-one_text names t u h k e =
-    let same : h.number ≡ k.number = sym (number_is names t h) ∙ e ∙ number_is names u k in
-    some_is t u (sym (slice_get-number_of names t h.number h.is) ∙ ap (slice_get names) same ∙ slice_get-number_of names u k.number k.is)
-
-by_tests : (a b : ℕ) (t u : List ℕ) (p q : Bool) → (a == b) ≡ p → bytes_eq t u ≡ q → (a ≡ b → t ≡ u) → (t ≡ u → a ≡ b) → p ≡ q
-by_tests a b t u true true e f to from = refl
-by_tests a b t u false false e f to from = refl
-by_tests a b t u true false e f to from = let same = (bytes_eq-Decides t u).1 (to ((Decides-eqb a b).0 e)) in absurd cc
-by_tests a b t u false true e f to from = let same = (Decides-eqb a b).1 (from ((bytes_eq-Decides t u).0 f)) in absurd cc
-
--- two texts are one exactly where their numbers are
-pub same_number : (names : List (List ℕ)) (t u : List ℕ) → HasNumber names t → HasNumber names u → (number_in names t == number_in names u) ≡ bytes_eq t u
-same_number names t u h k = by_tests (number_in names t) (number_in names u) t u (number_in names t == number_in names u) (bytes_eq t u) refl refl (one_text names t u h k) (λ e. ap (number_in names) e)

@@ -8,9 +8,8 @@ use Rattle.mod_text.specs.ModuleLine.{LineForm, line_bytes, lines_written}
 use Rattle.term_core.specs.Text.Cuts.{Lines, lines, lines_of}
 use Rattle.term_core.proofs.Text.Cuts.{lacks, lines_behind}
 use Rattle.term_core.proofs.Text.Parts.{LackLineFeed}
-use Rattle.script_text.specs.ScriptLine.{ScriptLine, head, code, go, script_line_written}
+use Rattle.script_text.specs.ScriptLine.{ScriptLine, code, script_line_written}
 use Rattle.script_text.specs.Canonical.{code_form, script_line_bytes}
-use Rattle.script_text.proofs.InOrder.{assemble}
 
 pub lack_of_forms : (forms : List ScriptLine) → LackLineFeed (map script_line_written forms) → AllByRecursion (λ line. lacks 10 (script_line_written line) ≡ true) forms
 lack_of_forms [] h = tt
@@ -30,9 +29,6 @@ pub codes_bytes : (codes : List LineForm) (more : List ScriptLine) → flat_map 
 codes_bytes [] more = refl
 codes_bytes (line ∷ codes) more =
     ap (λ (l : List ℕ). script_line_bytes (code line) ++ l) (codes_bytes codes more) ∙ sym (append_assoc (script_line_bytes (code line)) (lines_written codes) (flat_map script_line_bytes more))
-
-pub assembled_bytes : (codes : List LineForm) (blocks : List ScriptLine) → flat_map script_line_bytes (assemble codes blocks) ≡ script_line_bytes head ++ (lines_written codes ++ flat_map script_line_bytes (blocks ++ go ∷ []))
-assembled_bytes codes blocks = ap (λ (l : List ℕ). script_line_bytes head ++ l) (codes_bytes codes (blocks ++ go ∷ []))
 
 -- the bytes of the canonical lines of modules
 pub modules_written : (names : List (List ℕ)) (ms : List Module) → lines_written (flat_map (module_lines names) ms) ≡ flat_map (λ m. lines_written (module_lines names m)) ms

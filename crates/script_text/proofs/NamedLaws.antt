@@ -1,5 +1,5 @@
 -- The commands of one atom, and breakpoints: what is read has this text, and what has this text is read.
-use Rattle.std.proofs.Common.{◌≡◌, ℕ, Bool, true, false, cond, List, ◌∷◌, ◌++◌, Option, Some, None, bytes_eq, codes, refl, sym, ap, ◌∙◌, subst}
+use Rattle.std.proofs.Common.{◌≡◌, ℕ, Bool, true, false, cond, List, ◌∷◌, ◌++◌, Option, Some, None, bytes_eq, codes, refl, ap, ◌∙◌, subst}
 use Rattle.std.proofs.lemmas.Bool.{and_parts, and_from}
 use Rattle.term_core.specs.Names.{is_atom_text}
 use Rattle.term_core.specs.Text.Numbers.{is_number_text}
@@ -12,7 +12,6 @@ use Rattle.script_text.specs.ScriptLine.{AtomCommand, delete, soft_purge, purge,
 use Rattle.script_text.specs.LineReading.{command_reading, TraceForm, trace_reading}
 use Rattle.term_core.specs.Text.Words.{switch_word, switch_reading}
 use Rattle.term_core.proofs.Text.Words.{switch_is, switch_again}
-use Rattle.script_text.proofs.Choices.{other_word}
 
 -- ---- commands of one atom
 
@@ -32,10 +31,6 @@ word_is word c e =
     (bytes_eq word (codes "purge")) refl)
     (bytes_eq word (codes "soft_purge")) refl)
     (bytes_eq word (codes "delete")) refl e
-
-pub word_again : (c : AtomCommand) → command_reading (command_word c) ≡ Some c
-word_again delete = refl
-word_again c = refl
 
 word_lacks : (c : AtomCommand) → lacks 32 (command_word c) ≡ true
 word_lacks delete = refl
@@ -127,15 +122,3 @@ pub trace_cut : (text m f arity : List ℕ) (on : Bool) → IsLine text (trace m
 trace_cut text m f arity on is =
     let t : TraceForm = record { «module» = m; name = f; arity = arity; on = on } in
     (trace_text t, ap (cut_at 32) is.text_is ∙ cut_here 32 (codes "trace") (trace_text t) refl, trace_again t is.sound)
-
--- ---- texts of other words
-
-pub no_atom_command : (text word rest : List ℕ) → cut_at 32 text ≡ Some (word, rest) → command_reading word ≡ None → (c : AtomCommand) (n : List ℕ) → IsLine text (on_atom c n) → ⊥
-no_atom_command text word rest e other c n is =
-    let same : (command_word c, n) ≡ (word, rest) = some_is _ _ (sym (atom_cut text c n is) ∙ e) in
-    let yes : command_reading word ≡ Some c = ap (λ (p : List ℕ × List ℕ). command_reading p.0) (sym same) ∙ word_again c in
-    let both : None ≡ Some c = sym other ∙ yes in
-    absurd cc
-
-pub no_trace_text : (text word rest : List ℕ) → cut_at 32 text ≡ Some (word, rest) → bytes_eq word (codes "trace") ≡ false → (m f arity : List ℕ) (on : Bool) → IsLine text (trace m f arity on) → ⊥
-no_trace_text text word rest e other m f arity on is = let c = trace_cut text m f arity on is in other_word text word rest (codes "trace") c.0 e other c.1

@@ -2,7 +2,7 @@
 use Rattle.std.proofs.Common.{◌≡◌, ℕ, ◌≤◌, Bool, true, false, cond, not, ◌&&◌, ◌||◌, nat_lt, List, [], ◌∷◌, length, Some, None, is_some, Result, Ok, Err, refl, sym, ap, ◌∙◌, arith}
 use Rattle.std.specs.Prelude.{map}
 use Rattle.std.specs.List.{list_all, list_any, flat_map}
-use Rattle.std.proofs.lemmas.Bool.{and_parts, and_from, or_parts}
+use Rattle.std.proofs.lemmas.Bool.{and_parts, and_from, or_parts, le-ltb}
 use Rattle.std.proofs.lemmas.Bool.Decides.{nat_tests}
 use Rattle.std.proofs.lemmas.List.Concat.{flat_map_single}
 use Rattle.std.proofs.lemmas.List.{length-map}
@@ -32,12 +32,35 @@ use Rattle.script_text.proofs.HeldNames.{held_with, held_all, Extends-all, numbe
 use Rattle.script_text.proofs.TermLines.{text_of_form}
 use Rattle.script_text.proofs.TermNames.{term_after}
 
--- the names after these, if they are not too many
+-- what comes of names, if they are not too many
+abbrev pub or_limit : {Y : Type 0} → List (List ℕ) → Result Y LineCause → Result Y LineCause
+or_limit after x = cond (nat_lt 4096 (length after)) (Err (causes.Limit which.Names)) x
+
+-- a value by the names, with them
 abbrev pub or_full : {Y : Type 0} → (List (List ℕ) → Y) → List (List ℕ) → Result (Y × List (List ℕ)) LineCause
-or_full value after = cond (nat_lt 4096 (length after)) (Err (causes.Limit which.Names)) (Ok (value after, after))
+or_full value after = or_limit after (Ok (value after, after))
 
 over_stays : (a b : ℕ) → a ≤ b → nat_lt 4096 a ≡ true → nat_lt 4096 b ≡ true
 over_stays a b le h = grind (arith, nat_tests)
+
+-- the first names are named, and then more of them
+named_next : {X Y : Type 0} (between more : List (List ℕ)) (x : Result (X × List (List ℕ)) LineCause) (value : X) (f : X × List (List ℕ) → Result Y LineCause) (goal : Result Y LineCause) → x ≡ or_limit between (Ok (value, between)) → (length between ≤ 4096 → f (value, between) ≡ or_limit (names_with_all between more) goal) → (x >>= f) ≡ or_limit (names_with_all between more) goal
+named_next {X = X} between more x value f goal is rest = ap (λ (r : Result (X × List (List ℕ)) LineCause). r >>= f) is ∙ by_room (nat_lt 4096 (length between)) refl
+  where
+    by_room : (t : Bool) → nat_lt 4096 (length between) ≡ t → (cond t (Err (causes.Limit which.Names)) (Ok (value, between)) >>= f) ≡ or_limit (names_with_all between more) goal
+    by_room true e = sym (ap (λ t. cond t (Err (causes.Limit which.Names)) goal) (over_stays (length between) _ (more_names_all between more) e))
+    by_room false e = rest (test_not_lt 4096 (length between) e)
+
+-- all are named
+last_named : {Y : Type 0} (after : List (List ℕ)) (x y : Result Y LineCause) → length after ≤ 4096 → x ≡ y → x ≡ or_limit after y
+last_named after x y room e = e ∙ sym (ap (λ t. cond t (Err (causes.Limit which.Names)) y) (le-ltb 4096 (length after) room))
+
+limit_then : {X Y : Type 0} (after : List (List ℕ)) (z : X) (f : X → Result Y LineCause) → (or_limit after (Ok z) >>= f) ≡ or_limit after (f z)
+limit_then after z f = by_test (nat_lt 4096 (length after))
+  where
+    by_test : (t : Bool) → (cond t (Err (causes.Limit which.Names)) (Ok z) >>= f) ≡ cond t (Err (causes.Limit which.Names)) (f z)
+    by_test true = refl
+    by_test false = refl
 
 pub atom_named-is : (names : List (List ℕ)) (text : List ℕ) → is_atom_text text ≡ true → atom_named names text ≡ or_full (λ after. number_in after text) (names_with names text)
 atom_named-is names text h = ap (λ t. cond (not t) (Err causes.Syntax) (or_full (λ after. number_in after text) (names_with names text))) h
@@ -50,50 +73,29 @@ pub record IsNamer {A X Y : Type 0} (step : List (List ℕ) → X → Result (Y 
 abbrev in_front : {Y : Type 0} → Y → List Y × List (List ℕ) → Result (List Y × List (List ℕ)) LineCause
 in_front y ys = Ok (y ∷ ys.0, ys.1)
 
-abbrev all_named : {Y : Type 0} → Bool → List Y → List (List ℕ) → Result (List Y × List (List ℕ)) LineCause
-all_named t ys after = cond t (Err (causes.Limit which.Names)) (Ok (ys, after))
-
-abbrev join : {Y : Type 0} → Result (Y × List (List ℕ)) LineCause → (List (List ℕ) → Result (List Y × List (List ℕ)) LineCause) → Result (List Y × List (List ℕ)) LineCause
-join first more = first >>= λ y. more y.1 >>= λ ys. Ok (y.0 ∷ ys.0, ys.1)
+abbrev and_others : {X Y : Type 0} → (List (List ℕ) → X → Result (Y × List (List ℕ)) LineCause) → List X → Y × List (List ℕ) → Result (List Y × List (List ℕ)) LineCause
+and_others step xs y = each_named step y.1 xs >>= in_front y.0
 
 -- all items are named, or one finds the table full
 pub each_named-is : {A X Y : Type 0} (step : List (List ℕ) → X → Result (Y × List (List ℕ)) LineCause) (words : A → X) (atoms : A → List (List ℕ)) (value : List (List ℕ) → A → Y) (ok : A → Bool) → IsNamer step words atoms value ok → (names : List (List ℕ)) (xs : List A) → list_all ok xs ≡ true → length names ≤ 4096 → each_named step names (map words xs) ≡ or_full (λ after. map (value after) xs) (names_with_all names (flat_map atoms xs))
 unfolding each_named
-each_named-is step words atoms value ok n names [] h room =
-    let room : nat_lt 4096 (length names) ≡ false = grind (arith, nat_tests) in
-    sym (ap (λ t. cond {A = Result _ LineCause} t (Err (causes.Limit which.Names)) (Ok ([], names))) room)
+each_named-is step words atoms value ok n names [] h room = last_named names _ _ room refl
 each_named-is step words atoms value ok n names (x ∷ xs) h room =
     let p = and_parts (ok x) (list_all ok xs) h in
     let between = names_with_all names (atoms x) in
-    ap (λ (r : Result _ LineCause). join r (λ after. each_named step after (map words xs))) (n.one names x p.0 room)
-    ∙ by_room (nat_lt 4096 (length between)) refl p.0 (λ le. each_named-is step words atoms value ok n between xs p.1 le)
+    let after = names_with_all between (flat_map atoms xs) in
+    named_next between (flat_map atoms xs) (step names (words x)) (value between x) (and_others step (map words xs)) (Ok (map (value after) (x ∷ xs), after)) (n.one names x p.0 room)
+    (λ le.
+    ap (λ (r : Result (List _ × List (List ℕ)) LineCause). r >>= in_front (value between x)) (each_named-is step words atoms value ok n between xs p.1 le)
+    ∙ limit_then after (map (value after) xs, after) (in_front (value between x))
+    ∙ ap (λ y. or_limit after (Ok (y ∷ map (value after) xs, after))) (sym (n.stays names after x p.0 (Extends-all between (flat_map atoms xs)))))
     ∙ ap (λ (after : List (List ℕ)). or_full (λ ns. map (value ns) (x ∷ xs)) after) (sym (names_with_all-append names (atoms x) (flat_map atoms xs)))
-  where
-    by_over : (t : Bool) → ok x ≡ true → (all_named t (map (value (names_with_all (names_with_all names (atoms x)) (flat_map atoms xs))) xs) (names_with_all (names_with_all names (atoms x)) (flat_map atoms xs)) >>= in_front (value (names_with_all names (atoms x)) x))
-        ≡ all_named t (map (value (names_with_all (names_with_all names (atoms x)) (flat_map atoms xs))) (x ∷ xs)) (names_with_all (names_with_all names (atoms x)) (flat_map atoms xs))
-    by_over true ok_x = refl
-    by_over false ok_x =
-        let after = names_with_all (names_with_all names (atoms x)) (flat_map atoms xs) in
-        ap (λ y. all_named false (y ∷ map (value after) xs) after) (sym (n.stays names after x ok_x (Extends-all (names_with_all names (atoms x)) (flat_map atoms xs))))
-
-    by_room : (t : Bool) → nat_lt 4096 (length (names_with_all names (atoms x))) ≡ t → ok x ≡ true → (length (names_with_all names (atoms x)) ≤ 4096 → each_named step (names_with_all names (atoms x)) (map words xs) ≡ or_full (λ after. map (value after) xs) (names_with_all (names_with_all names (atoms x)) (flat_map atoms xs)))
-        → join (cond t (Err (causes.Limit which.Names)) (Ok (value (names_with_all names (atoms x)) x, names_with_all names (atoms x)))) (λ after. each_named step after (map words xs)) ≡ or_full (λ ns. map (value ns) (x ∷ xs)) (names_with_all (names_with_all names (atoms x)) (flat_map atoms xs))
-    by_room true e ok_x more =
-        let over : nat_lt 4096 (length (names_with_all (names_with_all names (atoms x)) (flat_map atoms xs))) ≡ true = over_stays (length (names_with_all names (atoms x))) _ (more_names_all (names_with_all names (atoms x)) (flat_map atoms xs)) e in
-        sym (ap (λ t. all_named t (map (value (names_with_all (names_with_all names (atoms x)) (flat_map atoms xs))) (x ∷ xs)) (names_with_all (names_with_all names (atoms x)) (flat_map atoms xs))) over)
-    by_room false e ok_x more =
-        let le : length (names_with_all names (atoms x)) ≤ 4096 = test_not_lt 4096 (length (names_with_all names (atoms x))) e in
-        ap (λ (r : Result _ LineCause). r >>= in_front (value (names_with_all names (atoms x)) x)) (more le)
-        ∙ by_over (nat_lt 4096 (length (names_with_all (names_with_all names (atoms x)) (flat_map atoms xs)))) ok_x
 
 -- ---- versions of modules
 
 -- an atom's number and the names after it
-abbrev Numbered : Type 0
+abbrev pub Numbered : Type 0
 Numbered = ℕ × List (List ℕ)
-
-abbrev numbered : Bool → List (List ℕ) → List ℕ → Result Numbered LineCause
-numbered t names text = cond t (Err (causes.Limit which.Names)) (Ok (number_in (names_with names text) text, names_with names text))
 
 abbrev ref_of : ℕ → Numbered → Result (ModRef × List (List ℕ)) LineCause
 ref_of version a = Ok (record { name = record { 0 = a.0 }; version = version }, a.1)
@@ -103,12 +105,8 @@ leaf_of a = Ok (atom_leaf a.0, a.1)
 
 ref_one : (names : List (List ℕ)) (r : RefForm) → is_ref_form r ≡ true → ref_named names (ref_words r) ≡ or_full (λ after. ref_in after r) (names_with names r.name)
 ref_one names r h =
-    let p = and_parts (is_atom_text r.name) _ h in
-    ap (λ (x : Result Numbered LineCause). x >>= ref_of (number_value r.version)) (atom_named-is names r.name p.0) ∙ by_test (nat_lt 4096 (length (names_with names r.name)))
-  where
-    by_test : (t : Bool) → (numbered t names r.name >>= ref_of (number_value r.version)) ≡ cond t (Err (causes.Limit which.Names)) (Ok (ref_in (names_with names r.name) r, names_with names r.name))
-    by_test true = refl
-    by_test false = refl
+    let after = names_with names r.name in
+    ap (λ (x : Result Numbered LineCause). x >>= ref_of (number_value r.version)) (atom_named-is names r.name (and_parts (is_atom_text r.name) _ h).0) ∙ limit_then after (number_in after r.name, after) (ref_of (number_value r.version))
 
 ref_stays : (names after : List (List ℕ)) (r : RefForm) → Extends (names_with names r.name) after → ref_in after r ≡ ref_in (names_with names r.name) r
 ref_stays names after r e = ap (λ (n : ℕ). let to : ModRef = record { name = record { 0 = n }; version = number_value r.version } in to) (number_in-after (names_with names r.name) after r.name e (held_with names r.name))
@@ -130,9 +128,6 @@ traced_in names t = mfa_in names t.«module» t.name t.arity
 abbrev with_function : ℕ → ℕ → Numbered → Result (Mfa × List (List ℕ)) LineCause
 with_function arity m f = Ok (record { «module» = record { 0 = m }; name = record { 0 = f.0 }; arity = arity }, f.1)
 
-abbrev traced : Bool → Mfa → List (List ℕ) → Result (Mfa × List (List ℕ)) LineCause
-traced b target after = cond b (Err (causes.Limit which.Names)) (Ok (target, after))
-
 abbrev after_module : TraceForm → Numbered → Result (Mfa × List (List ℕ)) LineCause
 after_module t m = atom_named m.1 t.name >>= with_function (number_value t.arity) m.0
 
@@ -140,25 +135,13 @@ after_module t m = atom_named m.1 t.name >>= with_function (number_value t.arity
 pub trace_named-is : (names : List (List ℕ)) (t : TraceForm) → is_atom_text t.«module» ≡ true → is_atom_text t.name ≡ true → trace_named names (trace_words t) ≡ or_full (λ after. traced_in after t) (names_with_all names (t.«module» ∷ t.name ∷ []))
 unfolding trace_named
 trace_named-is names t m_is f_is =
-    ap (λ (r : Result Numbered LineCause). r >>= after_module t) (atom_named-is names t.«module» m_is) ∙ by_module (nat_lt 4096 (length (names_with names t.«module»))) refl
-  where
-    by_over : (b : Bool) → b ≡ true → traced b (traced_in (names_with (names_with names t.«module») t.name) t) (names_with (names_with names t.«module») t.name) ≡ Err (causes.Limit which.Names)
-    by_over true e = refl
-    by_over false e = absurd cc
-
-    by_name : (b : Bool) → (numbered b (names_with names t.«module») t.name >>= with_function (number_value t.arity) (number_in (names_with names t.«module») t.«module»)) ≡ traced b (traced_in (names_with (names_with names t.«module») t.name) t) (names_with (names_with names t.«module») t.name)
-    by_name true = refl
-    by_name false =
-        let one = names_with names t.«module» in
-        let two = names_with one t.name in
-        let kept : number_in two t.«module» ≡ number_in one t.«module» = number_in-after one two t.«module» (Extends-all one (t.name ∷ [])) (held_with names t.«module») in
-        ap (λ (m : ℕ). with_function (number_value t.arity) m (number_in two t.name, two)) (sym kept)
-
-    by_module : (b : Bool) → nat_lt 4096 (length (names_with names t.«module»)) ≡ b → (numbered b names t.«module» >>= after_module t) ≡ or_full (λ after. traced_in after t) (names_with_all names (t.«module» ∷ t.name ∷ []))
-    by_module true e = sym (by_over (nat_lt 4096 (length (names_with (names_with names t.«module») t.name))) (over_stays (length (names_with names t.«module»)) _ (more_names_all (names_with names t.«module») (t.name ∷ [])) e))
-    by_module false e =
-        ap (λ (r : Result Numbered LineCause). r >>= with_function (number_value t.arity) (number_in (names_with names t.«module») t.«module»)) (atom_named-is (names_with names t.«module») t.name f_is)
-        ∙ by_name (nat_lt 4096 (length (names_with (names_with names t.«module») t.name)))
+    let one = names_with names t.«module» in
+    let two = names_with one t.name in
+    let kept : number_in two t.«module» ≡ number_in one t.«module» = number_in-after one two t.«module» (Extends-all one (t.name ∷ [])) (held_with names t.«module») in
+    let goal : Result (Mfa × List (List ℕ)) LineCause = Ok (traced_in two t, two) in
+    named_next one (t.name ∷ []) (atom_named names t.«module») (number_in one t.«module») (after_module t) goal (atom_named-is names t.«module» m_is)
+    (λ le. named_next two [] (atom_named one t.name) (number_in two t.name) (with_function (number_value t.arity) (number_in one t.«module»)) goal (atom_named-is one t.name f_is)
+    (λ few. last_named two _ goal few (ap (λ (m : ℕ). with_function (number_value t.arity) m (number_in two t.name, two)) (sym kept))))
 
 -- ---- arguments
 
@@ -182,12 +165,8 @@ argument_one names (integer_leaf text) h room = by_fit (is_term_integer (integer
         sym (ap (λ t. cond {A = Result _ LineCause} t (Err (causes.Limit which.Names)) (Ok (integer_leaf (integer_of text), names))) room)
     by_fit false e = absurd cc
 argument_one names (atom_leaf text) h room =
-    let p = and_parts (is_atom_text text) _ h in
-    ap (λ (x : Result Numbered LineCause). x >>= leaf_of) (atom_named-is names text p.0) ∙ by_test (nat_lt 4096 (length (names_with names text)))
-  where
-    by_test : (t : Bool) → (numbered t names text >>= leaf_of) ≡ cond t (Err (causes.Limit which.Names)) (Ok (atom_leaf (number_in (names_with names text) text), names_with names text))
-    by_test true = refl
-    by_test false = refl
+    let after = names_with names text in
+    ap (λ (x : Result Numbered LineCause). x >>= leaf_of) (atom_named-is names text (and_parts (is_atom_text text) _ h).0) ∙ limit_then after (number_in after text, after) leaf_of
 argument_one names (tuple_of row) h room = complex_one names (tuple_of row) (and_parts (is_term_form (tuple_of row)) _ h).0
 argument_one names (list_of row) h room = complex_one names (list_of row) (and_parts (is_term_form (list_of row)) _ h).0
 
@@ -212,9 +191,6 @@ Called = Mfa × List PlainTerm × List (List ℕ)
 abbrev pub call_or_full : List (List ℕ) → CallForm → Result Called LineCause
 call_or_full after c = cond (nat_lt 4096 (length after)) (Err (causes.Limit which.Names)) (Ok (target_in after c, map (argument_in after) c.args, after))
 
-abbrev called : Bool → Mfa → List PlainTerm → List (List ℕ) → Result Called LineCause
-called t to args after = cond t (Err (causes.Limit which.Names)) (Ok (to, args, after))
-
 abbrev with_target : ℕ → ℕ → List PlainTerm × List (List ℕ) → Result Called LineCause
 with_target m f args = Ok (record { «module» = record { 0 = m }; name = record { 0 = f }; arity = length args.0 }, args.0, args.1)
 
@@ -228,43 +204,23 @@ with_call f args target = atom_named target.1 f >>= with_module args target.0
 abbrev pub names_after_call : List (List ℕ) → CallForm → List (List ℕ)
 names_after_call names c = names_with_all names (c.«module» ∷ c.name ∷ flat_map atoms_of c.args)
 
-target_last : (names : List (List ℕ)) (m f : List ℕ) (args : List WrittenTerm) (t : Bool) → (all_named t (map (argument_in (names_with_all (names_with (names_with names m) f) (flat_map atoms_of args))) args) (names_with_all (names_with (names_with names m) f) (flat_map atoms_of args)) >>= with_target (number_in (names_with names m) m) (number_in (names_with (names_with names m) f) f))
-    ≡ called t (target_in (names_with_all (names_with (names_with names m) f) (flat_map atoms_of args)) (record { «module» = m; name = f; args = args })) (map (argument_in (names_with_all (names_with (names_with names m) f) (flat_map atoms_of args))) args) (names_with_all (names_with (names_with names m) f) (flat_map atoms_of args))
-target_last names m f args true = refl
-target_last names m f args false =
-    let one = names_with names m in
-    let two = names_with one f in
-    let after = names_with_all two (flat_map atoms_of args) in
-    let terms = map (argument_in after) args in
-    let from_one : Extends one after = Extends-all one (f ∷ flat_map atoms_of args) in
-    let from_two : Extends two after = Extends-all two (flat_map atoms_of args) in
-    let m_is : number_in one m ≡ number_in after m = sym (number_in-after one after m from_one (held_with names m)) in
-    let f_is : number_in two f ≡ number_in after f = sym (number_in-after two after f from_two (held_with one f)) in
-    let len : length terms ≡ length args = length-map args (argument_in after) in
-    λ i. called false (record { «module» = record { 0 = m_is i }; name = record { 0 = f_is i }; arity = len i }) terms after
-
 pub target_named-is : (names : List (List ℕ)) (c : CallForm) → is_atom_text c.«module» ≡ true → is_atom_text c.name ≡ true → list_all is_narrow c.args ≡ true → length names ≤ 4096 → target_named names (call_words c) ≡ call_or_full (names_after_call names c) c
 unfolding target_named
-target_named-is names c m_is f_is args_are room =
-    ap (λ (r : Result Numbered LineCause). r >>= with_call c.name (map argument_words c.args)) (atom_named-is names c.«module» m_is)
-    ∙ by_module (nat_lt 4096 (length (names_with names c.«module»))) refl
-  where
-    by_over : (t : Bool) → t ≡ true → called t (target_in (names_after_call names c) c) (map (argument_in (names_after_call names c)) c.args) (names_after_call names c) ≡ Err (causes.Limit which.Names)
-    by_over true e = refl
-    by_over false e = absurd cc
-
-    by_name : (t : Bool) → nat_lt 4096 (length (names_with (names_with names c.«module») c.name)) ≡ t → (numbered t (names_with names c.«module») c.name >>= with_module (map argument_words c.args) (number_in (names_with names c.«module») c.«module»)) ≡ call_or_full (names_after_call names c) c
-    by_name true e = sym (by_over (nat_lt 4096 (length (names_after_call names c))) (over_stays (length (names_with (names_with names c.«module») c.name)) _ (more_names_all (names_with (names_with names c.«module») c.name) (flat_map atoms_of c.args)) e))
-    by_name false e =
-        ap (λ (r : Result _ LineCause). r >>= with_target (number_in (names_with names c.«module») c.«module») (number_in (names_with (names_with names c.«module») c.name) c.name))
-        (arguments_named-is (names_with (names_with names c.«module») c.name) c.args args_are (test_not_lt 4096 (length (names_with (names_with names c.«module») c.name)) e))
-        ∙ target_last names c.«module» c.name c.args (nat_lt 4096 (length (names_after_call names c)))
-
-    by_module : (t : Bool) → nat_lt 4096 (length (names_with names c.«module»)) ≡ t → (numbered t names c.«module» >>= with_call c.name (map argument_words c.args)) ≡ call_or_full (names_after_call names c) c
-    by_module true e = sym (by_over (nat_lt 4096 (length (names_after_call names c))) (over_stays (length (names_with names c.«module»)) _ (more_names_all (names_with names c.«module») (c.name ∷ flat_map atoms_of c.args)) e))
-    by_module false e =
-        ap (λ (r : Result Numbered LineCause). r >>= with_module (map argument_words c.args) (number_in (names_with names c.«module») c.«module»)) (atom_named-is (names_with names c.«module») c.name f_is)
-        ∙ by_name (nat_lt 4096 (length (names_with (names_with names c.«module») c.name))) refl
+target_named-is names c m_text f_is args_are room =
+    let words = map argument_words c.args in
+    let atoms = flat_map atoms_of c.args in
+    let one = names_with names c.«module» in
+    let two = names_with one c.name in
+    let after = names_with_all two atoms in
+    let terms = map (argument_in after) c.args in
+    let m_is : number_in one c.«module» ≡ number_in after c.«module» = sym (number_in-after one after c.«module» (Extends-all one (c.name ∷ atoms)) (held_with names c.«module»)) in
+    let f_in : number_in two c.name ≡ number_in after c.name = sym (number_in-after two after c.name (Extends-all two atoms) (held_with one c.name)) in
+    let len : length terms ≡ length c.args = length-map c.args (argument_in after) in
+    let goal : Result Called LineCause = Ok (target_in after c, terms, after) in
+    named_next one (c.name ∷ atoms) (atom_named names c.«module») (number_in one c.«module») (with_call c.name words) goal (atom_named-is names c.«module» m_text)
+    (λ le. named_next two atoms (atom_named one c.name) (number_in two c.name) (with_module words (number_in one c.«module»)) goal (atom_named-is one c.name f_is)
+    (λ few. named_next after [] (arguments_named two words) terms (with_target (number_in one c.«module») (number_in two c.name)) goal (arguments_named-is two c.args args_are few)
+    (λ all. last_named after _ goal all (λ i. Ok (record { «module» = record { 0 = m_is i }; name = record { 0 = f_in i }; arity = len i }, terms, after)))))
 
 -- ---- limits of terms
 
@@ -326,9 +282,6 @@ Keyed = ℕ × PlainTerm × List (List ℕ)
 abbrev pub names_after_put : List (List ℕ) → PutForm → List (List ℕ)
 names_after_put names p = names_with_all names (p.key ∷ atoms_of p.term)
 
-abbrev keyed : Bool → ℕ → PlainTerm → List (List ℕ) → Result Keyed LineCause
-keyed t key term after = cond t (Err (causes.Limit which.Names)) (Ok (key, term, after))
-
 abbrev pub put_or_full : List (List ℕ) → PutForm → Result Keyed LineCause
 put_or_full after p = cond (nat_lt 4096 (length after)) (Err (causes.Limit which.Names)) (Ok (number_in after p.key, argument_in after p.term, after))
 
@@ -341,26 +294,14 @@ with_key term key = argument_named key.1 term >>= with_value key.0
 key_named-is : (names : List (List ℕ)) (p : PutForm) → is_atom_text p.key ≡ true → is_narrow p.term ≡ true → key_named names (put_words p) ≡ put_or_full (names_after_put names p) p
 unfolding key_named
 key_named-is names p key_is narrow =
-    ap (λ (r : Result Numbered LineCause). r >>= with_key (argument_words p.term)) (atom_named-is names p.key key_is) ∙ by_key (nat_lt 4096 (length (names_with names p.key))) refl
-  where
-    by_over : (t : Bool) → t ≡ true → keyed t (number_in (names_after_put names p) p.key) (argument_in (names_after_put names p) p.term) (names_after_put names p) ≡ Err (causes.Limit which.Names)
-    by_over true e = refl
-    by_over false e = absurd cc
-
-    by_term : (t : Bool) → (cond t (Err (causes.Limit which.Names)) (Ok (argument_in (names_after_put names p) p.term, names_after_put names p)) >>= with_value (number_in (names_with names p.key) p.key))
-        ≡ keyed t (number_in (names_after_put names p) p.key) (argument_in (names_after_put names p) p.term) (names_after_put names p)
-    by_term true = refl
-    by_term false =
-        let one = names_with names p.key in
-        let after = names_after_put names p in
-        let kept : number_in after p.key ≡ number_in one p.key = number_in-after one after p.key (Extends-all one (atoms_of p.term)) (held_with names p.key) in
-        ap (λ (n : ℕ). keyed false n (argument_in after p.term) after) (sym kept)
-
-    by_key : (t : Bool) → nat_lt 4096 (length (names_with names p.key)) ≡ t → (numbered t names p.key >>= with_key (argument_words p.term)) ≡ put_or_full (names_after_put names p) p
-    by_key true e = sym (by_over (nat_lt 4096 (length (names_after_put names p))) (over_stays (length (names_with names p.key)) _ (more_names_all (names_with names p.key) (atoms_of p.term)) e))
-    by_key false e =
-        ap (λ (r : Result _ LineCause). r >>= with_value (number_in (names_with names p.key) p.key)) (argument_one (names_with names p.key) p.term narrow (test_not_lt 4096 (length (names_with names p.key)) e))
-        ∙ by_term (nat_lt 4096 (length (names_after_put names p)))
+    let one = names_with names p.key in
+    let after = names_with_all one (atoms_of p.term) in
+    let term = argument_in after p.term in
+    let kept : number_in after p.key ≡ number_in one p.key = number_in-after one after p.key (Extends-all one (atoms_of p.term)) (held_with names p.key) in
+    let goal : Result Keyed LineCause = Ok (number_in after p.key, term, after) in
+    named_next one (atoms_of p.term) (atom_named names p.key) (number_in one p.key) (with_key (argument_words p.term)) goal (atom_named-is names p.key key_is)
+    (λ le. named_next after [] (argument_named one (argument_words p.term)) term (with_value (number_in one p.key)) goal (argument_one one p.term narrow le)
+    (λ few. last_named after _ goal few (ap (λ (n : ℕ). let so : Result Keyed LineCause = Ok (n, term, after) in so) (sym kept))))
 
 -- a put is named, or has an integer that is too wide, or a term that is too long, or finds the table full
 pub put_named-is : (names : List (List ℕ)) (p : PutForm) → is_atom_text p.key ≡ true → is_term_form p.term ≡ true →

@@ -26,18 +26,18 @@ abbrev pub trace_of : TraceForm → ScriptLine
 trace_of t = trace t.«module» t.name t.arity t.on
 
 -- the line of a command of one atom, or another
-abbrev by_word : Option AtomCommand → List ℕ → Option ScriptLine → Option ScriptLine
+abbrev pub by_word : Option AtomCommand → List ℕ → Option ScriptLine → Option ScriptLine
 by_word None rest other = other
 by_word (Some c) rest other = option_map (λ n. on_atom c n) (tested is_atom_text rest)
 
 -- the line of none of the words that have a step of their own
-abbrev by_other : List ℕ → List ℕ × List ℕ → Option ScriptLine
+abbrev pub by_other : List ℕ → List ℕ × List ℕ → Option ScriptLine
 by_other text parts =
     cond (bytes_eq parts.0 (codes "trace")) (option_map trace_of (trace_reading parts.1))
     (cond (bytes_eq parts.0 (codes "put")) (option_map put_of (put_reading parts.1)) (by_word (command_reading parts.0) parts.1 (option_map (λ l. code l) (line_reading text))))
 
 -- a line that is no observer's
-abbrev by_command : List ℕ → List ℕ × List ℕ → Option ScriptLine
+abbrev pub by_command : List ℕ → List ℕ × List ℕ → Option ScriptLine
 by_command text parts =
     cond (bytes_eq parts.0 (codes "load")) (option_map (λ refs. load refs) (refs_reading parts.1))
     (cond (bytes_eq parts.0 (codes "spawn")) (option_map spawn_of (call_reading parts.1)) (by_other text parts))
@@ -46,11 +46,11 @@ by_command text parts =
 abbrev pub observer_of : List ℕ → Option ScriptLine
 observer_of rest = option_map (λ count. observer count) (tested is_snapshots_text rest)
 
-abbrev by_parts : List ℕ → Option (List ℕ × List ℕ) → Option ScriptLine
+abbrev pub by_parts : List ℕ → Option (List ℕ × List ℕ) → Option ScriptLine
 by_parts text None = option_map (λ l. code l) (line_reading text)
 by_parts text (Some parts) = cond (bytes_eq parts.0 (codes "observer")) (observer_of parts.1) (by_command text parts)
 
-abbrev form_reading : List ℕ → Option ScriptLine
+abbrev pub form_reading : List ℕ → Option ScriptLine
 form_reading text =
     cond (bytes_eq text (codes "beam script 1")) (Some head)
     (cond (bytes_eq text (codes "loader")) (Some loader)
@@ -67,12 +67,12 @@ other_text text key differ = by_test (bytes_eq text key) refl
     by_test false e = refl
 
 -- a text that is none of the three words
-record IsOther (text : List ℕ) : Type 0 where
-  no_head : text ≡ codes "beam script 1" → ⊥
-  no_loader : text ≡ codes "loader" → ⊥
-  no_go : text ≡ codes "go" → ⊥
+pub record IsOther (text : List ℕ) : Type 0 where
+  pub no_head : text ≡ codes "beam script 1" → ⊥
+  pub no_loader : text ≡ codes "loader" → ⊥
+  pub no_go : text ≡ codes "go" → ⊥
 
-by_others : (text : List ℕ) → IsOther text → form_reading text ≡ by_parts text (cut_at 32 text)
+pub by_others : (text : List ℕ) → IsOther text → form_reading text ≡ by_parts text (cut_at 32 text)
 by_others text o =
     failed (bytes_eq text (codes "beam script 1")) (Some head) _ (other_text text (codes "beam script 1") o.no_head)
     ∙ failed (bytes_eq text (codes "loader")) (Some loader) _ (other_text text (codes "loader") o.no_loader)
@@ -136,7 +136,7 @@ code_parts text line e = by_cut (cut_at 32 text) refl
 
 -- ---- the one line
 
-reads : (text : List ℕ) (line : ScriptLine) → IsLine text line → form_reading text ≡ Some line
+pub reads : (text : List ℕ) (line : ScriptLine) → IsLine text line → form_reading text ≡ Some line
 reads text (code line) is =
     let e = text_again text line (record { text_is = is.text_is; sound = is.sound }) in
     by_others text (code_other text line e) ∙ code_parts text line e
@@ -168,9 +168,9 @@ reads text (spawn n f args) is =
     by_others text (worded text (codes "spawn") c.0 c.1 refl) ∙ ap (by_parts text) c.1 ∙ ap (option_map spawn_of) c.2
 reads text line is = ap form_reading is.text_is
 
--- the line of a text that begins with the word of an observer is an observer's
-pub observer_alone : (text rest : List ℕ) (line : ScriptLine) → cut_at 32 text ≡ Some (codes "observer", rest) → IsLine text line → observer_of rest ≡ Some line
-observer_alone text rest line cut is = sym (by_others text (worded text (codes "observer") rest cut refl) ∙ ap (by_parts text) cut) ∙ reads text line is
+-- a text that begins with the word of an observer is read as an observer's
+pub observer_reading : (text rest : List ℕ) → cut_at 32 text ≡ Some (codes "observer", rest) → form_reading text ≡ observer_of rest
+observer_reading text rest cut = by_others text (worded text (codes "observer") rest cut refl) ∙ ap (by_parts text) cut
 
 -- two lines with one text are one
 pub one_line : (text : List ℕ) (a b : ScriptLine) → IsLine text a → IsLine text b → a ≡ b

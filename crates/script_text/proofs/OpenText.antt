@@ -7,7 +7,7 @@ use Rattle.mod_text.specs.LineFaults.{last_line, may_follow, fault_of_line}
 use Rattle.mod_text.specs.LineReading.{line_reading}
 use Rattle.mod_text.specs.ModuleValue.{HeaderForm, IsTitled, headers_in, body_of, earlier, is_settled_line, unsettled_at, unsettled_below, first_unsettled, unsettled_line}
 use Rattle.mod_text.specs.Reading.{kept, judged, line_step}
-use Rattle.script_text.proofs.CodeSteps.{titled_more}
+use Rattle.script_text.proofs.TextLines.{titled_more}
 use Rattle.script_text.proofs.Choices.{ok_is}
 
 -- ---- the end of a text

@@ -1,5 +1,5 @@
 -- The line of a put: what is read has this text, and what has this text is read.
-use Rattle.std.proofs.Common.{◌≡◌, ℕ, true, false, List, ◌∷◌, ◌++◌, Option, Some, None, option_map, Result, Ok, codes, bytes_eq, refl, sym, ap, ◌∙◌, subst}
+use Rattle.std.proofs.Common.{◌≡◌, ℕ, true, List, ◌∷◌, ◌++◌, Option, Some, None, option_map, Result, Ok, codes, refl, sym, ap, ◌∙◌, subst}
 use Rattle.std.proofs.lemmas.Bool.{and_parts, and_from}
 use Rattle.term_core.specs.Names.{is_atom_text}
 use Rattle.term_core.specs.Written.{WrittenTerm, written}
@@ -17,7 +17,6 @@ use Rattle.script_text.specs.LineReading.{argument_reading, PutForm, put_reading
 use Rattle.script_text.specs.KeptTerm.{ArgumentWords, argument_words}
 use Rattle.script_text.specs.WrittenLine.{PutWords, put_words}
 use Rattle.script_text.proofs.TermLines.{argument_again, argument_is}
-use Rattle.script_text.proofs.Choices.{other_word}
 
 put_of : List ℕ → WrittenTerm → PutForm
 put_of key t = record { key = key; term = t }
@@ -84,6 +83,3 @@ pub put_cut : (text key : List ℕ) (t : WrittenTerm) → IsLine text (put key t
 put_cut text key t is =
     let p : PutForm = record { key = key; term = t } in
     (spaced key (written t), ap (cut_at 32) is.text_is ∙ cut_here 32 (codes "put") (spaced key (written t)) refl, put_again p is.sound)
-
-pub no_put_text : (text word rest : List ℕ) → cut_at 32 text ≡ Some (word, rest) → bytes_eq word (codes "put") ≡ false → (key : List ℕ) (t : WrittenTerm) → IsLine text (put key t) → ⊥
-no_put_text text word rest e other key t is = let c = put_cut text key t is in other_word text word rest (codes "put") c.0 e other c.1

@@ -31,9 +31,6 @@ snapshots_number text h =
 pub snapshots_bounds : (text : List ℕ) → is_snapshots_text text ≡ true → (0 < number_value text) × (number_value text ≤ 16)
 snapshots_bounds text h = let p = snapshots_number text h in let some = p.1 in (omega (arith, some), p.2)
 
-pub snapshots_again : (text : List ℕ) → is_snapshots_text text ≡ true → decimal (number_value text) ≡ text
-snapshots_again text h = let p = snapshots_number text h in let few = p.2 in decimal_again text p.0 (omega (arith, few))
-
 few_arguments : (text : List ℕ) → is_arity_text text ≡ true → number_value text ≤ 15
 few_arguments text h = test_le (number_value text) 15 (and_parts (is_number_text text) (nat_le (number_value text) 15) h).1
 

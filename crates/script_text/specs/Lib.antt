@@ -12,5 +12,6 @@ pub mod KeptTerm
 pub mod WrittenLine
 pub mod Naming
 pub mod Adding
+pub mod LineStep
 pub mod Reading
 pub mod Canonical

@@ -1,18 +1,18 @@
 -- The order in which the lines of a script are read and judged: what is known after each line, and what the next one adds. The
 -- relation of whole texts and scripts, in ScriptText, is shown to agree with it.
-use Rattle.std.specs.Prelude.{◌≡◌, ℕ, ◌+◌, ◌==◌, ◌&&◌, not, nat_lt, nat_le, Bool, true, false, List, [], ◌∷◌, ◌++◌, length, map, Option, Some, None, option_map, Result, Ok, Err, bytes_eq, codes, if◌then◌else◌}
+use Rattle.std.specs.Prelude.{◌≡◌, ℕ, ◌+◌, ◌==◌, ◌&&◌, not, nat_lt, nat_le, Bool, List, [], ◌∷◌, ◌++◌, length, map, Option, Some, None, option_map, Result, Ok, Err, bytes_eq, codes, if◌then◌else◌}
 use Rattle.std.specs.List.{list_all}
 use Rattle.term_core.specs.declared.atom.Mfa.{Mfa}
-use Rattle.term_core.specs.Names.{number_of, given_names}
+use Rattle.term_core.specs.Names.{number_of}
 use Rattle.term_core.specs.Plain.{term_of}
 use Rattle.mod_text.specs.declared.fault.LineFault.TheVariants as line_faults
-use Rattle.mod_text.specs.ModuleLine.{LineForm, end}
-use Rattle.mod_text.specs.LineFaults.{last_line, counted_of}
+use Rattle.mod_text.specs.ModuleLine.{LineForm}
+use Rattle.mod_text.specs.LineFaults.{counted_of}
 use Rattle.term_core.specs.Text.Cuts.{cut_at}
-use Rattle.mod_text.specs.ModuleValue.{IsTitled, module_of, unsettled_line}
+use Rattle.mod_text.specs.ModuleValue.{IsTitled}
 use Rattle.mod_text.specs.Reading.{Step, line_step, is_end}
 use Rattle.server_core.specs.declared.command.ModRef.{ModRef}
-use Rattle.script_core.specs.declared.script.TheConstants.{LONGEST_SCRIPT, LONGEST_LINE, MOST_LOADERS, MOST_PROCESSES, MOST_OBSERVERS}
+use Rattle.script_core.specs.declared.script.TheConstants.{LONGEST_SCRIPT, LONGEST_LINE, MOST_OBSERVERS}
 use Rattle.script_core.specs.declared.script.ScriptCmd.{ScriptCmd}
 use Rattle.script_core.specs.declared.script.ScriptCmd.TheVariants.{Load, Put, Trace, Spawn}
 use Rattle.script_core.specs.declared.script.Script.{Script}
@@ -22,28 +22,24 @@ use Rattle.script_text.specs.declared.fault.ScriptFault.TheVariants as faults
 use Rattle.script_text.specs.declared.reading.cause.LineCause.{LineCause}
 use Rattle.script_text.specs.declared.reading.cause.LineCause.TheVariants as causes
 use Rattle.script_text.specs.declared.reading.reader.Place.{Place}
-use Rattle.script_text.specs.declared.reading.reader.Place.TheVariants.{Unread, Between, Within, Observing, Loading, Finished}
+use Rattle.script_text.specs.declared.reading.reader.Place.TheVariants.{Unread, Between, Within, Observing, Finished}
 use Rattle.script_text.specs.declared.reading.reader.ScriptReader.{ScriptReader}
 use Rattle.script_text.specs.Groups.{onto_last}
 use Rattle.script_text.specs.ScriptValue.{command_of}
 use Rattle.script_text.specs.LineFaults.{or_else}
+pub use Rattle.script_text.specs.LineStep.{opening, by_code, is_text_end, closed_by, text_closed, repeat_cause, block_step, end_step, process_added}
 use Rattle.script_text.specs.LineReading.{snapshots_reading, refs_reading, command_reading, put_reading, trace_reading, call_reading, title_reading}
 use Rattle.script_text.specs.WrittenLine.{ref_words, put_words, trace_words, call_words}
 use Rattle.script_text.specs.Naming.{or_syntax, atom_named, refs_named, put_named, trace_named, call_named}
-use Rattle.script_text.specs.Causes.{◌>>=◌, fault_at, cause_of_code}
+use Rattle.script_text.specs.Causes.{◌>>=◌, fault_at}
 use Rattle.script_text.specs.Sets.{mfa_added, is_among, ref_added}
-use Rattle.script_text.specs.Adding.{counted_added, passes_counted}
+use Rattle.script_text.specs.Adding.{counted_added}
 use Rattle.term_core.specs.Text.Parts.{lines_of}
 
 -- ---- the head and the module texts
 
 abbrev pub head_step : ScriptReader → List ℕ → Result ScriptReader LineCause
 head_step s text = if bytes_eq text (codes "beam script 1") then Ok (record s { place = Between }) else Err causes.Syntax
-
--- a step with the cause of a script's line
-abbrev pub by_code : Step → Result (List (List ℕ) × List LineForm) LineCause
-by_code (Ok x) = Ok x
-by_code (Err fault) = Err (cause_of_code fault)
 
 -- what a line of a module's text gives
 abbrev pub code_step : List (List ℕ) → List LineForm → List ℕ → Result (List (List ℕ) × List LineForm) LineCause
@@ -57,23 +53,6 @@ title_step s number text = do
   name ← or_syntax (number_of x.0 r.0)
   titles ← ref_added s.titles (record { name = record { 0 = name }; version = r.1 })
   Ok (record s { names = x.0; lines = x.1; titles = titles; title = number; place = Within })
-
--- why a line is refused that gives something again: its function, if it has one, may be one too many besides
-abbrev pub repeat_cause : List Mfa → Option Mfa → LineCause
-repeat_cause fs f = if passes_counted fs f then causes.Limit which.Exports else causes.Duplicate
-
--- whether the line is the end of a module's text
-abbrev pub is_text_end : Option LineForm → Bool
-is_text_end (Some end) = true
-is_text_end last = false
-
--- a module's text is closed: its module, or the first line that names what is not there
-abbrev pub closed_by : ScriptReader → Option ℕ → ScriptReader
-closed_by s None = record s { modules = s.modules ++ module_of s.names s.lines ∷ []; lines = []; place = Between }
-closed_by s (Some place) = record s { unknown = or_else s.unknown (Some (s.title + place)); lines = []; place = Between }
-
-abbrev pub text_closed : ScriptReader → ScriptReader
-text_closed s = if is_text_end (last_line s.lines) then closed_by s (unsettled_line s.lines) else s
 
 -- the line that was read last is counted, and closes its text where it is the end
 abbrev pub counted_step : ScriptReader → List ℕ → Result ScriptReader LineCause
@@ -115,14 +94,6 @@ observing_by s (Some parts) = if bytes_eq parts.0 (codes "observer") then observ
 
 -- ---- the loader blocks
 
--- one loader block more
-abbrev pub block_step : ScriptReader → Result ScriptReader LineCause
-block_step s = if nat_le MOST_LOADERS (length s.loaders) then Err (causes.Limit which.Loaders) else Ok (record s { loaders = s.loaders ++ [] ∷ []; place = Loading })
-
--- the script's end
-abbrev pub end_step : ScriptReader → Result ScriptReader LineCause
-end_step s = Ok (record s { place = Finished })
-
 -- a command joins the last loader block
 abbrev pub with_command : ScriptReader → ScriptCmd → ScriptReader
 with_command s command = record s { loaders = onto_last s.loaders command }
@@ -158,10 +129,6 @@ trace_step s text = do
   form ← or_syntax (option_map trace_words (trace_reading text))
   target ← trace_named s.names form
   Ok (with_command (record s { names = target.1 }) (Trace target.0 form.on))
-
--- one process more
-abbrev pub process_added : ℕ → Result ℕ LineCause
-process_added processes = if nat_le MOST_PROCESSES processes then Err (causes.Limit which.Processes) else Ok (processes + 1)
 
 -- a spawn
 unfoldable pub spawn_step : ScriptReader → List ℕ → Result ScriptReader LineCause
@@ -253,23 +220,6 @@ text_on s number (text ∷ others) tail = go_on (line_judged s number (is_end ot
 -- the same for bytes
 abbrev pub bytes_on : ScriptReader → ℕ → List ℕ → Result Script ScriptFault
 bytes_on s number bytes = text_on s number (lines_of bytes).ended (lines_of bytes).tail
-
--- what is known before the first line
-abbrev pub opening : ScriptReader
-opening =
-    record {
-      names = given_names;
-      modules = [];
-      titles = [];
-      functions = [];
-      observers = [];
-      loaders = [];
-      processes = 0;
-      lines = [];
-      title = 0;
-      place = Unread;
-      unknown = None;
-    }
 
 -- a whole text
 abbrev pub script_reading : List ℕ → Result Script ScriptFault

@@ -1,20 +1,16 @@
--- The script that lines say: its names in the order of their first appearance, the module of each module text, how many snapshots
--- each observer takes, the commands of each loader block.
+-- What a line of a loader block says, by a table of names.
 use Rattle.std.specs.Prelude.{ℕ, List, [], ◌∷◌, map, length}
-use Rattle.std.specs.List.{flat_map}
 use Rattle.term_core.specs.declared.atom.AtomId.{AtomId}
 use Rattle.term_core.specs.Plain.{term_of}
 use Rattle.term_core.specs.PlainTerm.{PlainTerm, map_leaves}
 use Rattle.term_core.specs.Written.{WrittenTerm, integer_of}
 use Rattle.term_core.specs.TermText.{number_in}
 use Rattle.term_core.specs.Text.Numbers.{number_value}
-use Rattle.mod_text.specs.ModuleValue.{atom_in, mfa_in, module_of}
+use Rattle.mod_text.specs.ModuleValue.{atom_in, mfa_in}
 use Rattle.server_core.specs.declared.command.ModRef.{ModRef}
 use Rattle.script_core.specs.declared.script.ScriptCmd.{ScriptCmd}
 use Rattle.script_core.specs.declared.script.ScriptCmd.TheVariants.{Load, Delete, SoftPurge, Purge, CheckOld, Put, Erase, Trace, Spawn}
-use Rattle.script_core.specs.declared.script.Script.{Script}
 use Rattle.script_text.specs.ScriptLine.{RefForm, AtomCommand, delete, soft_purge, purge, check_old, erase, ScriptLine, load, on_atom, put, trace, spawn}
-use Rattle.script_text.specs.Counts.{names_of, module_texts, observers_of, loader_blocks}
 
 -- the version of a module that is written so
 abbrev pub ref_in : List (List ℕ) → RefForm → ModRef
@@ -40,17 +36,3 @@ commands_on names (put key term) = Put (atom_in names key) (term_of (argument_in
 commands_on names (trace «module» name arity on) = Trace (mfa_in names «module» name arity) on ∷ []
 commands_on names (spawn «module» name args) = Spawn (record { «module» = atom_in names «module»; name = atom_in names name; arity = length args }) (map (argument_in names) args) ∷ []
 commands_on names line = []
-
--- the commands of a loader block, in order
-abbrev pub commands_of : List (List ℕ) → List ScriptLine → List ScriptCmd
-commands_of names block = flat_map (commands_on names) block
-
--- the script that lines say
-abbrev pub script_of : List ScriptLine → Script
-script_of lines =
-    record {
-      names = names_of lines;
-      modules = map (module_of (names_of lines)) (module_texts lines);
-      observers = map number_value (observers_of lines);
-      loaders = map (commands_of (names_of lines)) (loader_blocks lines);
-    }

@@ -2,18 +2,14 @@ use Rattle.std.proofs.Common.{sym, ap, ◌∙◌, subst, arith}
 use Rattle.std.proofs.lemmas.Result.{err_from_is_err_and}
 use Rattle.script_text.specs.Causes.{FailsWith}
 use Rattle.script_text.specs.Reading.{line_judged}
-use Rattle.script_text.proofs.LineSteps.{is_counted}
-use Rattle.script_text.proofs.Summaries.{summary_of}
-use Rattle.script_text.proofs.TextSteps.{AtLine, at_first, at_next, at_fault, at_end, cut_length, unknown_small}
+use Rattle.script_text.proofs.TextSteps.{AtLine, at_first, is_counted, at_next, at_fault, at_end, cut_length, unknown_small}
 use Rattle.script_text.proofs.reading.read_lines.Goals as goal
 
 pub lines-init : goal.lines-init
 lines-init c = subst (λ r. AtLine c.args.text.now r 1 c.args.text.now) (sym c.in_ok-reader.ensures) (at_first c.args.text.now)
 
 pub judge_line-requires : goal.judge_line-requires
-judge_line-requires c =
-    let a = c.lines.invariant in
-    is_counted (summary_of a.before) c.lines.reader c.lines.number a.holds a.number_is
+judge_line-requires c = is_counted c.lines.reader c.lines.number c.lines.reader.place c.lines.invariant.kept.open_at
 
 -- a line is refused
 pub returns-in_err-judge_line : goal.returns-in_err-judge_line

@@ -2,7 +2,7 @@ use Rattle.std.proofs.Common.{length}
 use Rattle.script_text.proofs.TextSteps.{AtLine}
 use Rattle.script_text.proofs.reading.read_lines.Given as goal
 
--- the lines before have no fault, and the reader knows what they say
+-- none of the lines before was refused
 abbrev pub invariant-lines : goal.invariant-lines
 invariant-lines l = AtLine l.text l.reader l.number l.rest
 

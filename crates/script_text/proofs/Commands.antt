@@ -1,0 +1,334 @@
+-- The line of a command, under names that hold its atoms: the command that it says can be made, and is written as that line.
+use Rattle.std.proofs.Common.{◌≡◌, ℕ, ◌+◌, ◌<◌, ◌≤◌, ◌==◌, ◌&&◌, ◌||◌, Bool, true, false, cond, nat_le, List, [], ◌∷◌, map, length, Some, is_some, Result, Ok, Err, refl, sym, ap, ◌∙◌, subst, arith}
+use Rattle.std.specs.Prelude.{IsTrue}
+use Rattle.std.specs.List.{AllByRecursion, flat_map, list_all, list_any}
+use Rattle.std.proofs.lemmas.Bool.{and_parts, or_parts}
+use Rattle.std.proofs.lemmas.Bool.Decides.{Decides-eqb, nat_tests}
+use Rattle.std.proofs.lemmas.List.{length-map}
+use Rattle.std.proofs.lemmas.Option.{slice_get_within}
+use Rattle.term_core.specs.declared.atom.AtomId.{AtomId}
+use Rattle.term_core.specs.Names.{Extends, is_atom_text}
+use Rattle.term_core.specs.Plain.{term_of}
+use Rattle.term_core.specs.PlainTerm.{TermOf, RowOf, integer_leaf, atom_leaf, tuple_of, list_of, no_terms, term_then, EachLeaf, EachInRow, map_row, atoms_of, row_atoms, term_words}
+use Rattle.term_core.specs.TermText.{number_in}
+use Rattle.term_core.specs.Text.Numbers.{is_number_text, number_value}
+use Rattle.term_core.specs.Written.{WrittenTerm, IsTermInteger, IntegersFit, integer_of}
+use Rattle.term_core.proofs.GrownTerms.{HasNumber}
+use Rattle.term_core.proofs.LeafFacts.{term_words-map}
+use Rattle.term_core.proofs.NameTables.{slice_get-number_of}
+use Rattle.term_core.proofs.PlainTerms.{plain-term_of}
+use Rattle.term_core.proofs.Text.Cuts.{lacks}
+use Rattle.term_core.proofs.Truths.{test_not_lt}
+use Rattle.mod_core.specs.declared.code.Module.{Module}
+use Rattle.mod_text.specs.ModuleLine.{is_version_text, is_arity_text, is_function_form}
+use Rattle.mod_text.specs.ModuleValue.{atom_in}
+use Rattle.server_core.specs.declared.command.ModRef.{ModRef}
+use Rattle.server_core.specs.CommandTable.{text_of}
+use Rattle.script_core.specs.declared.script.ScriptCmd.{ScriptCmd}
+use Rattle.script_core.specs.declared.script.ScriptCmd.TheVariants.{Load, Put, Trace, Spawn}
+use Rattle.script_core.specs.Sound.{IsTermOf, IsCmdOf}
+use Rattle.script_core.specs.Processes.{spawns_in}
+use Rattle.script_text.specs.declared.fault.Which.TheVariants as which
+use Rattle.script_text.specs.declared.reading.cause.LineCause.{LineCause}
+use Rattle.script_text.specs.declared.reading.cause.LineCause.TheVariants as causes
+use Rattle.script_text.specs.ScriptLine.{RefForm, AtomCommand, delete, ScriptLine, load, on_atom, put, trace, spawn, go, script_line_written, is_ref_form, is_term_form, is_script_line}
+use Rattle.script_text.specs.Counts.{script_line_atoms}
+use Rattle.script_text.specs.LineFaults.{is_wide, is_long, is_wide_term, is_long_term}
+use Rattle.script_text.specs.ScriptValue.{ref_in, argument_in, command_of, commands_on}
+use Rattle.script_text.specs.Canonical.{ref_form, argument_form, command_line}
+use Rattle.script_text.specs.Sets.{is_same_mod_ref, is_among}
+use Rattle.script_text.specs.LineStep.{loads_given, processes_with}
+use Rattle.script_text.proofs.Choices.{ok_is}
+use Rattle.script_text.proofs.HeldNames.{number_is, number_in-after}
+use Rattle.script_text.proofs.ModuleNames.{AreHeld, held_first, held_second}
+use Rattle.script_text.proofs.TermNames.{each_first, term_after, terms_after, narrow_fits, term_again}
+use Rattle.script_text.proofs.TextsBack.{atom_again, version_again, arity_again}
+use Rattle.script_text.proofs.StepMoves.{IsCommand}
+
+-- ---- the parts of a line
+
+-- what a spawn has that is the line of a text
+record IsSpawnLine (m f : List ℕ) (args : List WrittenTerm) : Type 0 where
+  module_is : is_atom_text m ≡ true
+  name_is : is_atom_text f ≡ true
+  few : nat_le (length args) 15 ≡ true
+  args_are : list_all is_term_form args ≡ true
+
+spawn_line : (m f : List ℕ) (args : List WrittenTerm) → is_script_line (spawn m f args) ≡ true → IsSpawnLine m f args
+spawn_line m f args h =
+    let first = and_parts (is_atom_text m) (is_atom_text f && (nat_le (length args) 15 && list_all is_term_form args)) h in
+    let second = and_parts (is_atom_text f) (nat_le (length args) 15 && list_all is_term_form args) first.1 in
+    let third = and_parts (nat_le (length args) 15) (list_all is_term_form args) second.1 in
+    record { module_is = first.0; name_is = second.0; few = third.0; args_are = third.1 }
+
+trace_arity : (f g arity : List ℕ) (on : Bool) → is_script_line (trace f g arity on) ≡ true → is_arity_text arity ≡ true
+trace_arity f g arity on h = (and_parts (is_atom_text g) (is_arity_text arity) (and_parts (is_atom_text f) (is_function_form g arity) h).1).1
+
+some_refs : (refs : List RefForm) → is_script_line (load refs) ≡ true → (0 < length refs) × (list_all is_ref_form refs ≡ true)
+some_refs [] h = absurd cc
+some_refs (r ∷ refs) h = (omega arith, h)
+
+arguments_held : (names : List (List ℕ)) (args : List WrittenTerm) → AreHeld names (flat_map atoms_of args) → AllByRecursion (λ arg. AreHeld names (atoms_of arg)) args
+arguments_held names [] h = tt
+arguments_held names (arg ∷ args) h = let p = each_first (HasNumber names) (atoms_of arg) (flat_map atoms_of args) h in (p.0, arguments_held names args p.1)
+
+pub each_map : {X Y : Type 0} (P : Y → Type 0) (f : X → Y) (xs : List X) → AllByRecursion (λ x. P (f x)) xs → AllByRecursion P (map f xs)
+each_map P f [] h = tt
+each_map P f (x ∷ xs) h = (h.0, each_map P f xs h.1)
+
+-- ---- what is given
+
+abbrev pub ref_of : Module → ModRef
+ref_of m = record { name = m.name; version = m.version }
+
+pub flipped : (a b : ℕ) → (a == b) ≡ (b == a)
+flipped a b = by_tests (a == b) (b == a) refl refl
+  where
+    by_tests : (p q : Bool) → (a == b) ≡ p → (b == a) ≡ q → p ≡ q
+    by_tests true true e f = refl
+    by_tests false false e f = refl
+    by_tests true false e f = let back = (Decides-eqb b a).1 (sym ((Decides-eqb a b).0 e)) in absurd cc
+    by_tests false true e f = let back = (Decides-eqb a b).1 (sym ((Decides-eqb b a).0 f)) in absurd cc
+
+-- a module is found by its name and version where these are among those of all
+found_is : (texts : List Module) (r : ModRef) → is_some (text_of texts r) ≡ is_among (map ref_of texts) r
+found_is [] r = refl
+found_is (m ∷ texts) r =
+    let name = flipped m.name.0 r.name.0 in
+    let version = flipped m.version r.version in
+    (λ i. is_some (cond (name i && version i) (Some m) (text_of texts r))) ∙ by_test (is_same_mod_ref r (ref_of m)) (found_is texts r)
+  where
+    by_test : (t : Bool) → is_some (text_of texts r) ≡ is_among (map ref_of texts) r → is_some (cond t (Some m) (text_of texts r)) ≡ (t || is_among (map ref_of texts) r)
+    by_test true rest = refl
+    by_test false rest = rest
+
+pub given_found : (texts : List Module) (rs : List ModRef) → list_all (is_among (map ref_of texts)) rs ≡ true → AllByRecursion (λ r. IsTrue (is_some (text_of texts r))) rs
+given_found texts [] h = tt
+given_found texts (r ∷ rs) h =
+    let p = and_parts (is_among (map ref_of texts) r) (list_all (is_among (map ref_of texts)) rs) h in
+    (found_is texts r ∙ p.0, given_found texts rs p.1)
+
+-- ---- what is said can be made
+
+-- what a line has that is one of a script with these modules
+pub record IsLineOf (names : List (List ℕ)) (texts : List Module) (line : ScriptLine) : Type 0 where
+  pub sound : is_script_line line ≡ true
+  pub narrow : is_wide line ≡ false
+  pub brief : is_long line ≡ false
+  pub held : AreHeld names (script_line_atoms line)
+  pub given : loads_given (map ref_of texts) names line ≡ true
+
+held_below : (names : List (List ℕ)) (text : List ℕ) → HasNumber names text → number_in names text < length names
+held_below names text h = let within = slice_get_within names h.number text (slice_get-number_of names text h.number h.is) in omega (arith, within, number_is names text h)
+
+mutual
+  -- its atoms have names
+  held_leaves : (names : List (List ℕ)) (t : TermOf (List ℕ) (List ℕ)) → IntegersFit t → AreHeld names (atoms_of t) → EachLeaf IsTermInteger (λ atom. atom < length names) (argument_in names t)
+  held_leaves names (integer_leaf text) fits held = fits
+  held_leaves names (atom_leaf text) fits held = held_below names text held.0
+  held_leaves names (tuple_of row) fits held = held_row names row fits held
+  held_leaves names (list_of row) fits held = held_row names row fits held
+
+  held_row : (names : List (List ℕ)) (row : RowOf (List ℕ) (List ℕ)) → EachInRow (λ text. IsTermInteger (integer_of text)) (λ _. Unit {0}) row → AreHeld names (row_atoms row) → EachInRow IsTermInteger (λ atom. atom < length names) (map_row integer_of (number_in names) row)
+  held_row names no_terms fits held = tt
+  held_row names (term_then t row) fits held = (held_leaves names t fits.0 (held_first names (atoms_of t) (row_atoms row) held), held_row names row fits.1 (held_second names (atoms_of t) (row_atoms row) held))
+
+argument_is : (names : List (List ℕ)) (arg : WrittenTerm) → is_wide_term arg ≡ false → is_long_term arg ≡ false → AreHeld names (atoms_of arg) → IsTermOf names (argument_in names arg)
+argument_is names arg narrow brief held = record {
+  leaves = held_leaves names arg (narrow_fits arg narrow) held;
+  short = let same = term_words-map integer_of (number_in names) arg in let few = test_not_lt 64 (term_words arg) brief in omega (arith, same, few);
+}
+
+arguments_are : (names : List (List ℕ)) (args : List WrittenTerm) → list_any is_wide_term args ≡ false → list_any is_long_term args ≡ false → AllByRecursion (λ arg. AreHeld names (atoms_of arg)) args → AllByRecursion (λ arg. IsTermOf names (argument_in names arg)) args
+arguments_are names [] narrow brief held = tt
+arguments_are names (arg ∷ args) narrow brief held =
+    let n = or_parts (is_wide_term arg) (list_any is_wide_term args) narrow in
+    let b = or_parts (is_long_term arg) (list_any is_long_term args) brief in
+    (argument_is names arg n.0 b.0 held.0, arguments_are names args n.1 b.1 held.1)
+
+at_most : (n : ℕ) → nat_le n 15 ≡ true → n ≤ 15
+at_most n h = grind (arith, nat_tests)
+
+named_is : (names : List (List ℕ)) (texts : List Module) (command : AtomCommand) (name : List ℕ) → HasNumber names name → IsCmdOf names texts (command_of command (atom_in names name))
+named_is names texts delete name held = held_below names name held
+named_is names texts command name held = held_below names name held
+
+command_is : (names : List (List ℕ)) (texts : List Module) (line : ScriptLine) → IsLineOf names texts line → AllByRecursion (IsCmdOf names texts) (commands_on names line)
+command_is names texts (load refs) l = (
+  record { some = let some = (some_refs refs l.sound).0 in omega (arith, some, length-map refs (ref_in names)); given = given_found texts (map (ref_in names) refs) l.given },
+  tt,
+)
+command_is names texts (on_atom command name) l = (named_is names texts command name l.held.0, tt)
+command_is names texts (put key term) l = (
+  record { key_named = held_below names key l.held.0; is_term = subst (IsTermOf names) (sym (plain-term_of (argument_in names term))) (argument_is names term l.narrow l.brief l.held.1) },
+  tt,
+)
+command_is names texts (trace f g arity on) l = (
+  record {
+    module_named = held_below names f l.held.0;
+    name_named = held_below names g l.held.1.0;
+    few = at_most (number_value arity) (and_parts (is_number_text arity) (nat_le (number_value arity) 15) (trace_arity f g arity on l.sound)).1;
+  },
+  tt,
+)
+command_is names texts (spawn m f args) l =
+    let s = spawn_line m f args l.sound in (
+      record {
+        module_named = held_below names m l.held.0;
+        name_named = held_below names f l.held.1.0;
+        arity_is = sym (length-map args (argument_in names));
+        few = at_most (length args) s.few;
+        each = each_map (IsTermOf names) (argument_in names) args (arguments_are names args l.narrow l.brief (arguments_held names args l.held.1.1));
+      },
+      tt,
+    )
+command_is names texts line l = tt
+
+-- ---- and is written as the line
+
+refs_again : (names : List (List ℕ)) (refs : List RefForm) → list_all is_ref_form refs ≡ true → AreHeld names (map (λ r. r.name) refs) → map (ref_form names) (map (ref_in names) refs) ≡ refs
+refs_again names [] form held = refl
+refs_again names (r ∷ refs) form held =
+    let p = and_parts (is_ref_form r) (list_all is_ref_form refs) form in
+    let n = atom_again names r.name held.0 in
+    let v = version_again r.version (and_parts (is_atom_text r.name) (is_version_text r.version) p.0).1 in
+    let more = refs_again names refs p.1 held.1 in
+    λ k. record { name = n k; version = v k } ∷ more k
+
+arguments_again : (names : List (List ℕ)) (args : List WrittenTerm) → list_all is_term_form args ≡ true → list_any is_wide_term args ≡ false → AllByRecursion (λ arg. AreHeld names (atoms_of arg)) args → map (argument_form names) (map (argument_in names) args) ≡ args
+arguments_again names [] form narrow held = refl
+arguments_again names (arg ∷ args) form narrow held =
+    let f = and_parts (is_term_form arg) (list_all is_term_form args) form in
+    let n = or_parts (is_wide_term arg) (list_any is_wide_term args) narrow in
+    let first = term_again names arg f.0 (narrow_fits arg n.0) held.0 in
+    let more = arguments_again names args f.1 n.1 held.1 in
+    λ k. first k ∷ more k
+
+command_again : (names : List (List ℕ)) (command : AtomCommand) (name : List ℕ) → HasNumber names name → command_line names (command_of command (atom_in names name)) ≡ on_atom command name
+command_again names delete name held = ap (on_atom delete) (atom_again names name held)
+command_again names command name held = ap (on_atom command) (atom_again names name held)
+
+line_back : (names : List (List ℕ)) (texts : List Module) (line : ScriptLine) → IsCommand line → IsLineOf names texts line → map (command_line names) (commands_on names line) ≡ line ∷ []
+line_back names texts (load refs) is l = ap (λ (rs : List RefForm). load rs ∷ []) (refs_again names refs (some_refs refs l.sound).1 l.held)
+line_back names texts (on_atom command name) is l = ap (λ (line : ScriptLine). line ∷ []) (command_again names command name l.held.0)
+line_back names texts (put key term) is l =
+    let p = atom_again names key l.held.0 in
+    let form = (and_parts (is_atom_text key) (is_term_form term) l.sound).1 in
+    let t = ap (argument_form names) (plain-term_of (argument_in names term)) ∙ term_again names term form (narrow_fits term l.narrow) l.held.1 in
+    λ k. put (p k) (t k) ∷ []
+line_back names texts (trace f g arity on) is l =
+    let p = atom_again names f l.held.0 in
+    let q = atom_again names g l.held.1.0 in
+    let n = arity_again arity (trace_arity f g arity on l.sound) in
+    λ k. trace (p k) (q k) (n k) on ∷ []
+line_back names texts (spawn m f args) is l =
+    let s = spawn_line m f args l.sound in
+    let p = atom_again names m l.held.0 in
+    let q = atom_again names f l.held.1.0 in
+    let r = arguments_again names args s.args_are l.narrow (arguments_held names args l.held.1.1) in
+    λ k. spawn (p k) (q k) (r k) ∷ []
+line_back names texts line is l = absurd is
+
+-- ---- and stays as the names grow
+
+refs_after : (names after : List (List ℕ)) (refs : List RefForm) → Extends names after → AreHeld names (map (λ (r : RefForm). r.name) refs) → map (ref_in after) refs ≡ map (ref_in names) refs
+refs_after names after [] e h = refl
+refs_after names after (r ∷ refs) e h =
+    let here = number_in-after names after r.name e h.0 in
+    let rest = refs_after names after refs e h.1 in
+    λ i. record { name = record { 0 = here i }; version = number_value r.version } ∷ rest i
+
+pub same_commands : (names after : List (List ℕ)) (line : ScriptLine) → Extends names after → AreHeld names (script_line_atoms line) → commands_on after line ≡ commands_on names line
+same_commands names after (load refs) e held = ap (λ (rs : List ModRef). Load rs ∷ []) (refs_after names after refs e held)
+same_commands names after (on_atom c n) e held = ap (λ (k : ℕ). let atom : AtomId = record { 0 = k } in command_of c atom ∷ []) (number_in-after names after n e held.0)
+same_commands names after (put key t) e held =
+    let k = number_in-after names after key e held.0 in
+    let u = term_after names after t e held.1 in
+    λ i. Put (record { 0 = k i }) (term_of (u i)) ∷ []
+same_commands names after (trace n f arity on) e held =
+    let p = number_in-after names after n e held.0 in
+    let q = number_in-after names after f e held.1.0 in
+    λ i. Trace (record { «module» = record { 0 = p i }; name = record { 0 = q i }; arity = number_value arity }) on ∷ []
+same_commands names after (spawn n f args) e held =
+    let p = number_in-after names after n e held.0 in
+    let q = number_in-after names after f e held.1.0 in
+    let us = terms_after names after args e held.1.1 in
+    λ i. Spawn (record { «module» = record { 0 = p i }; name = record { 0 = q i }; arity = length args }) (us i) ∷ []
+same_commands names after line e held = refl
+
+-- so does what it loads
+pub same_given : (titles : List ModRef) (names after : List (List ℕ)) (line : ScriptLine) → Extends names after → AreHeld names (script_line_atoms line) → loads_given titles after line ≡ loads_given titles names line
+same_given titles names after (load refs) e held = ap (list_all (is_among titles)) (refs_after names after refs e held)
+same_given titles names after line e held = refl
+
+-- ---- one command a line
+
+-- how many processes a line makes
+abbrev pub spawned : ScriptLine → ℕ
+spawned (spawn m f args) = 1
+spawned line = 0
+
+pub record IsOne (names : List (List ℕ)) (line : ScriptLine) : Type 0 where
+  pub command : ScriptCmd
+  pub is : commands_on names line ≡ command ∷ []
+  pub spawns : spawns_in command ≡ spawned line
+
+no_spawn : (command : AtomCommand) (atom : AtomId) → spawns_in (command_of command atom) ≡ 0
+no_spawn delete atom = refl
+no_spawn command atom = refl
+
+pub one_command : (names : List (List ℕ)) (line : ScriptLine) → IsCommand line → IsOne names line
+one_command names (load refs) is = record { command = _; is = refl; spawns = refl }
+one_command names (on_atom command name) is = record { command = command_of command (atom_in names name); is = refl; spawns = no_spawn command (atom_in names name) }
+one_command names (put key t) is = record { command = _; is = refl; spawns = refl }
+one_command names (trace m f arity on) is = record { command = _; is = refl; spawns = refl }
+one_command names (spawn m f args) is = record { command = _; is = refl; spawns = refl }
+one_command names line is = absurd is
+
+-- the processes after a line, where they were few enough
+pub processes_are : (n next : ℕ) (line : ScriptLine) → processes_with n line ≡ Ok next → n ≤ 64 → (next ≡ n + spawned line) × (next ≤ 64)
+processes_are n next (spawn m f args) e few = by_test (nat_le 64 n) refl e
+  where
+    by_test : (t : Bool) → nat_le 64 n ≡ t → cond {A = Result ℕ LineCause} t (Err (causes.Limit which.Processes)) (Ok (n + 1)) ≡ Ok next → (next ≡ n + 1) × (next ≤ 64)
+    by_test true full e = absurd cc
+    by_test false room e =
+        let same = ok_is (n + 1) next e in
+        let small : n + 1 ≤ 64 = grind (arith, nat_tests) in
+        (sym same, omega (arith, same, small))
+processes_are n next line e few = let same = ok_is n next e in (omega (arith, same), omega (arith, same, few))
+
+pub processes_run : (n : ℕ) (line : ScriptLine) → n + spawned line ≤ 64 → processes_with n line ≡ Ok (n + spawned line)
+processes_run n (spawn m f args) few =
+    let room : nat_le 64 n ≡ false = grind (arith, nat_tests) in
+    ap (λ t. cond {A = Result ℕ LineCause} t (Err (causes.Limit which.Processes)) (Ok (n + 1))) room
+processes_run n line few = let same : n ≡ n + 0 = omega arith in ap (λ (k : ℕ). let so : Result ℕ LineCause = Ok k in so) same
+
+-- ---- commands that are told by their lines
+
+-- the line of a command says it, and passes every test of a line of a loader block
+pub record IsToldBy (names : List (List ℕ)) (texts : List Module) (c : ScriptCmd) : Type 0 where
+  pub is : IsCommand (command_line names c)
+  pub line : IsLineOf names texts (command_line names c)
+  pub says : commands_on names (command_line names c) ≡ c ∷ []
+  pub lacks_feed : lacks 10 (script_line_written (command_line names c)) ≡ true
+
+pub told_command : (names : List (List ℕ)) (texts : List Module) (c : ScriptCmd) → IsToldBy names texts c → IsCmdOf names texts c
+told_command names texts c t = (subst (AllByRecursion (IsCmdOf names texts)) t.says (command_is names texts (command_line names c) t.line)).0
+
+abbrev first_line : List ScriptLine → ScriptLine
+first_line [] = go
+first_line (line ∷ lines) = line
+
+-- a line that says a command is its line
+pub told_by_line : (names : List (List ℕ)) (texts : List Module) (line : ScriptLine) (c : ScriptCmd) → IsCommand line → IsLineOf names texts line → commands_on names line ≡ c ∷ [] → command_line names c ≡ line
+told_by_line names texts line c is l says = ap first_line (sym (ap (map (command_line names)) says) ∙ line_back names texts line is l)
+
+pub is_told : (names : List (List ℕ)) (texts : List Module) (line : ScriptLine) (c : ScriptCmd) → IsCommand line → IsLineOf names texts line → lacks 10 (script_line_written line) ≡ true → commands_on names line ≡ c ∷ [] → command_line names c ≡ line → IsToldBy names texts c
+is_told names texts line c is l feed says back =
+    let own = sym back in
+    record {
+      is = subst IsCommand own is;
+      line = subst (IsLineOf names texts) own l;
+      says = ap (commands_on names) back ∙ says;
+      lacks_feed = ap (λ (l : ScriptLine). lacks 10 (script_line_written l)) back ∙ feed;
+    }

@@ -1,0 +1,191 @@
+-- What a line does that is not refused: one of seven moves, each with what it passed and what is known behind it.
+use Rattle.std.proofs.Common.{◌≡◌, ℕ, ◌≤◌, Bool, true, false, cond, nat_le, nat_lt, List, [], ◌∷◌, ◌++◌, length, Option, Some, None, Result, Ok, Err, refl, sym, subst}
+use Rattle.std.specs.Prelude.{fold}
+use Rattle.term_core.specs.declared.atom.Mfa.{Mfa}
+use Rattle.term_core.specs.Text.Numbers.{number_value}
+use Rattle.term_core.specs.TermText.{names_with_all}
+use Rattle.term_core.proofs.Truths.{test_not_lt}
+use Rattle.mod_text.specs.declared.fault.LineFault.{LineFault}
+use Rattle.mod_text.specs.ModuleLine.{LineForm, title}
+use Rattle.mod_text.specs.LineFaults.{last_line, may_follow, names_after, fault_of_line, counted_name}
+use Rattle.mod_text.specs.Reading.{judged, kept}
+use Rattle.server_core.specs.declared.command.ModRef.{ModRef}
+use Rattle.script_text.specs.declared.fault.Which.TheVariants as which
+use Rattle.script_text.specs.declared.reading.cause.LineCause.{LineCause}
+use Rattle.script_text.specs.declared.reading.cause.LineCause.TheVariants as causes
+use Rattle.script_text.specs.declared.reading.reader.Place.{Place}
+use Rattle.script_text.specs.declared.reading.reader.Place.TheVariants.{Unread, Between, Within, Observing, Loading, Finished}
+use Rattle.script_text.specs.ScriptLine.{RefForm, ScriptLine, head, code, observer, loader, load, on_atom, put, trace, spawn, go}
+use Rattle.script_text.specs.Groups.{onto_last}
+use Rattle.script_text.specs.Counts.{script_line_atoms}
+use Rattle.script_text.specs.ScriptValue.{ref_in, commands_on}
+use Rattle.script_text.specs.LineFaults.{or_else, is_wide, is_long}
+use Rattle.script_text.specs.Causes.{◌>>=◌}
+use Rattle.script_text.specs.Sets.{is_among}
+use Rattle.script_text.specs.Adding.{counted_added}
+use Rattle.script_text.specs.LineStep.{Known, by_code, step_titled, step_title, text_closed, code_judged, step_code, names_added, spawned_in, processes_with, loads_given, step_named, step_command, step_head, step_within, step_observing, step_between, step_loading, step_at, step}
+
+-- ---- the moves
+
+-- where an observer may stand
+abbrev pub IsFront : Place → Type 0
+IsFront Between = Unit {0}
+IsFront Observing = Unit {0}
+IsFront place = ⊥
+
+-- where a loader block or the end may stand
+abbrev pub IsOutside : Place → Type 0
+IsOutside Between = Unit {0}
+IsOutside Observing = Unit {0}
+IsOutside Loading = Unit {0}
+IsOutside place = ⊥
+
+pub front_outside : (p : Place) → IsFront p → IsOutside p
+front_outside Between h = tt
+front_outside Observing h = tt
+front_outside p h = absurd h
+
+-- a command of a loader block
+abbrev pub IsCommand : ScriptLine → Type 0
+IsCommand head = ⊥
+IsCommand (code line) = ⊥
+IsCommand (observer count) = ⊥
+IsCommand loader = ⊥
+IsCommand go = ⊥
+IsCommand line = Unit {0}
+
+-- a line of a module's text that may stand there, and passes no limit of its text
+pub record IsJudged (s : Known) (line : LineForm) : Type 0 where
+  pub place : may_follow (last_line s.lines) line ≡ true
+  pub within : fault_of_line s.names s.lines line ≡ None
+
+-- a line that passes no limit of its own
+pub record IsPassed (s : Known) (line : ScriptLine) : Type 0 where
+  pub narrow : is_wide line ≡ false
+  pub brief : is_long line ≡ false
+  pub room : length (names_with_all s.names (script_line_atoms line)) ≤ 4096
+
+-- what is known with a title
+abbrev pub with_title : Known → ℕ → RefForm → Known
+with_title s number r =
+    let names = names_after s.names (title r.name r.version) in
+    record s { names = names; lines = s.lines ++ title r.name r.version ∷ []; titles = s.titles ++ ref_in names r ∷ []; title = number; place = Within }
+
+-- with a line behind it, before its text is closed
+abbrev pub with_line : Known → LineForm → List Mfa → Known
+with_line s line functions = record s { names = names_after s.names line; lines = s.lines ++ line ∷ []; functions = functions }
+
+-- with a command
+abbrev pub with_command : Known → ℕ → ScriptLine → List Mfa → ℕ → Known
+with_command s number line functions processes =
+    let names = names_with_all s.names (script_line_atoms line) in
+    record s { names = names; functions = functions; processes = processes; loaders = fold onto_last s.loaders (commands_on names line); unknown = cond (loads_given s.titles names line) s.unknown (or_else s.unknown (Some number)) }
+
+-- what is known next, with a line of this number
+pub data Move (s : Known) (number : ℕ) : ScriptLine → Known → Type 0 where
+  begins : s.place ≡ Unread → Move s number head (record s { place = Between })
+  opens : (r : RefForm) → s.place ≡ Between → IsJudged s (title r.name r.version) → is_among s.titles (ref_in (names_after s.names (title r.name r.version)) r) ≡ false → Move s number (code (title r.name r.version)) (with_title s number r)
+  writes : (line : LineForm) (functions : List Mfa) → s.place ≡ Within → IsJudged s line → counted_added s.functions (counted_name (names_after s.names line) (s.lines ++ line ∷ []) line) ≡ Ok functions → Move s number (code line) (text_closed (with_line s line functions))
+  observes : (count : List ℕ) → IsFront s.place → nat_le 4 (length s.observers) ≡ false → Move s number (observer count) (record s { observers = s.observers ++ number_value count ∷ []; place = Observing })
+  blocks : IsOutside s.place → nat_le 8 (length s.loaders) ≡ false → Move s number loader (record s { loaders = s.loaders ++ [] ∷ []; place = Loading })
+  ends : IsOutside s.place → Move s number go (record s { place = Finished })
+  commands : (line : ScriptLine) (functions : List Mfa) (processes : ℕ) → s.place ≡ Loading → IsCommand line → IsPassed s line → counted_added s.functions (spawned_in (names_with_all s.names (script_line_atoms line)) line) ≡ Ok functions → processes_with s.processes line ≡ Ok processes → Move s number line (with_command s number line functions processes)
+
+-- ---- each step is a move
+
+abbrev Moves : Known → ℕ → ScriptLine → Result Known LineCause → Type 0
+Moves s number line (Ok next) = Move s number line next
+Moves s number line (Err cause) = Unit {0}
+
+moves_if : (s : Known) (number : ℕ) (line : ScriptLine) (cause : LineCause) (x : Result Known LineCause) (t : Bool) → (t ≡ false → Moves s number line x) → Moves s number line (cond t (Err cause) x)
+moves_if s number line cause x true h = tt
+moves_if s number line cause x false h = h refl
+
+moves_on : {A : Type 0} (s : Known) (number : ℕ) (line : ScriptLine) (x : Result A LineCause) (f : A → Result Known LineCause) → ((a : A) → x ≡ Ok a → Moves s number line (f a)) → Moves s number line (x >>= f)
+moves_on s number line (Ok a) f h = h a refl
+moves_on s number line (Err cause) f h = tt
+
+title_moves : (s : Known) (number : ℕ) (r : RefForm) → s.place ≡ Between → Moves s number (code (title r.name r.version)) (step_title s number r)
+title_moves s number r place = by_fault (may_follow (last_line s.lines) line) (fault_of_line s.names s.lines line) refl refl
+  where
+    line : LineForm
+    line = title r.name r.version
+
+    after : List (List ℕ)
+    after = names_after s.names (title r.name r.version)
+
+    by_new : (t : Bool) → is_among s.titles (ref_in (names_after s.names (title r.name r.version)) r) ≡ t → IsJudged s (title r.name r.version) → Moves s number (code (title r.name r.version)) (cond {A = Result (List ModRef) LineCause} t (Err causes.Duplicate) (Ok (s.titles ++ ref_in (names_after s.names (title r.name r.version)) r ∷ [])) >>= λ titles. Ok (record s { names = names_after s.names (title r.name r.version); lines = s.lines ++ title r.name r.version ∷ []; titles = titles; title = number; place = Within }))
+    by_new true e is = tt
+    by_new false e is = opens r place is e
+
+    by_fault : (t : Bool) (o : Option LineFault) → may_follow (last_line s.lines) (title r.name r.version) ≡ t → fault_of_line s.names s.lines (title r.name r.version) ≡ o → Moves s number (code (title r.name r.version)) (by_code (cond t (kept s.names s.lines (title r.name r.version) o) (judged s.names s.lines None)) >>= step_titled s number r)
+    by_fault true None may e = by_new (is_among s.titles (ref_in (names_after s.names (title r.name r.version)) r)) refl (record { place = may; within = e })
+    by_fault true (Some fault) may e = tt
+    by_fault false o may e = tt
+
+code_moves : (s : Known) (number : ℕ) (line : LineForm) → s.place ≡ Within → Moves s number (code line) (step_code s line)
+code_moves s number line place = by_fault (may_follow (last_line s.lines) line) (fault_of_line s.names s.lines line) refl refl
+  where
+    by_fault : (t : Bool) (o : Option LineFault) → may_follow (last_line s.lines) line ≡ t → fault_of_line s.names s.lines line ≡ o → Moves s number (code line) (code_judged s line (cond t (kept s.names s.lines line o) (judged s.names s.lines None)))
+    by_fault true None may e = moves_on s number (code line) (counted_added s.functions (counted_name (names_after s.names line) (s.lines ++ line ∷ []) line)) (λ functions. Ok (text_closed (with_line s line functions))) (λ functions f. writes line functions place (record { place = may; within = e }) f)
+    by_fault true (Some fault) may e = tt
+    by_fault false o may e = tt
+
+command_moves : (s : Known) (number : ℕ) (line : ScriptLine) → s.place ≡ Loading → IsCommand line → Moves s number line (step_command s number line)
+command_moves s number line place is =
+    moves_if s number line (causes.Limit which.Integer) _ (is_wide line) (λ narrow. moves_if s number line (causes.Limit which.Term) (names_added s.names line >>= step_named s number line) (is_long line) (λ brief. by_room narrow brief (nat_lt 4096 (length after)) refl))
+  where
+    after : List (List ℕ)
+    after = names_with_all s.names (script_line_atoms line)
+
+    by_room : is_wide line ≡ false → is_long line ≡ false → (t : Bool) → nat_lt 4096 (length after) ≡ t → Moves s number line (cond t (Err (causes.Limit which.Names)) (Ok after) >>= step_named s number line)
+    by_room narrow brief true e = tt
+    by_room narrow brief false e =
+        let passed : IsPassed s line = record { narrow = narrow; brief = brief; room = test_not_lt 4096 (length after) e } in
+        moves_on s number line (counted_added s.functions (spawned_in after line)) (λ functions. processes_with s.processes line >>= λ processes. Ok (with_command s number line functions processes))
+        (λ functions f. moves_on s number line (processes_with s.processes line) (λ processes. Ok (with_command s number line functions processes)) (λ processes p. commands line functions processes place is passed f p))
+
+observing_moves : (s : Known) (number : ℕ) (line : ScriptLine) → IsFront s.place → Moves s number line (step_observing s line)
+observing_moves s number (observer count) front = moves_if s number (observer count) (causes.Limit which.Observers) _ (nat_le 4 (length s.observers)) (λ few. observes count front few)
+observing_moves s number loader front = moves_if s number loader (causes.Limit which.Loaders) _ (nat_le 8 (length s.loaders)) (λ few. blocks (front_outside s.place front) few)
+observing_moves s number go front = ends (front_outside s.place front)
+observing_moves s number line front = tt
+
+between_moves : (s : Known) (number : ℕ) (line : ScriptLine) → s.place ≡ Between → IsFront s.place → Moves s number line (step_between s number line)
+between_moves s number (code (title name version)) place front = title_moves s number (record { name = name; version = version }) place
+between_moves s number (observer count) place front = observing_moves s number (observer count) front
+between_moves s number loader place front = observing_moves s number loader front
+between_moves s number go place front = observing_moves s number go front
+between_moves s number line place front = tt
+
+loading_moves : (s : Known) (number : ℕ) (line : ScriptLine) → s.place ≡ Loading → IsOutside s.place → Moves s number line (step_loading s number line)
+loading_moves s number head place out = tt
+loading_moves s number (code line) place out = tt
+loading_moves s number (observer count) place out = tt
+loading_moves s number loader place out = moves_if s number loader (causes.Limit which.Loaders) _ (nat_le 8 (length s.loaders)) (λ few. blocks out few)
+loading_moves s number go place out = ends out
+loading_moves s number (load refs) place out = command_moves s number (load refs) place tt
+loading_moves s number (on_atom c name) place out = command_moves s number (on_atom c name) place tt
+loading_moves s number (put key t) place out = command_moves s number (put key t) place tt
+loading_moves s number (trace name f arity on) place out = command_moves s number (trace name f arity on) place tt
+loading_moves s number (spawn name f args) place out = command_moves s number (spawn name f args) place tt
+
+head_moves : (s : Known) (number : ℕ) (line : ScriptLine) → s.place ≡ Unread → Moves s number line (step_head s line)
+head_moves s number head place = begins place
+head_moves s number line place = tt
+
+within_moves : (s : Known) (number : ℕ) (line : ScriptLine) → s.place ≡ Within → Moves s number line (step_within s line)
+within_moves s number (code line) place = code_moves s number line place
+within_moves s number line place = tt
+
+-- what is known next is what a move leaves
+pub moves : (s : Known) (number : ℕ) (line : ScriptLine) (next : Known) → step s number line ≡ Ok next → Move s number line next
+moves s number line next e = subst (Moves s number line) e (by_place s.place refl)
+  where
+    by_place : (p : Place) → s.place ≡ p → Moves s number line (step_at s number p line)
+    by_place Unread place = head_moves s number line place
+    by_place Between place = between_moves s number line place (subst IsFront (sym place) tt)
+    by_place Within place = within_moves s number line place
+    by_place Observing place = observing_moves s number line (subst IsFront (sym place) tt)
+    by_place Loading place = loading_moves s number line place (subst IsOutside (sym place) tt)
+    by_place Finished place = tt
