@@ -201,72 +201,36 @@ fn puts(alloc: Global, entries: &mut EntryList) -> Result<(), NoMemory> {
     Ok(())
 }
 
+fn soft_purge_of(lingers: Option<Linger>) -> Cmd {
+    Cmd::SoftPurge { module: M, lingers }
+}
+
+fn trace_of(on: bool) -> Cmd {
+    Cmd::Trace { target: MAIN, on }
+}
+
+fn purge_of(module: AtomId, killed: bool) -> Cmd {
+    Cmd::Purge { module, killed }
+}
+
 fn purges(entries: &mut EntryList) -> Result<(), NoMemory> {
-    let lingers = Some(Linger {
+    let found = Linger {
         process: 3,
         turn: 12,
-    });
+    };
     let rows = [
         (0, Cmd::Delete(N), Reply::True, Some(2)),
         (0, Cmd::Delete(M), Reply::False, None),
-        (
-            2,
-            Cmd::SoftPurge { module: M, lingers },
-            Reply::FalseBy(Linger {
-                process: 3,
-                turn: 12,
-            }),
-            None,
-        ),
-        (
-            2,
-            Cmd::SoftPurge {
-                module: M,
-                lingers: None,
-            },
-            Reply::True,
-            Some(3),
-        ),
+        (2, soft_purge_of(Some(found)), Reply::FalseBy(found), None),
+        (2, soft_purge_of(None), Reply::True, Some(3)),
         (1, Cmd::Doom(N), Reply::Ok, Some(4)),
         (0, Cmd::CheckOld(N), Reply::True, None),
-        (
-            1,
-            Cmd::Purge {
-                module: N,
-                killed: true,
-            },
-            Reply::True,
-            Some(5),
-        ),
+        (1, purge_of(N, true), Reply::True, Some(5)),
         (1, Cmd::Doom(M), Reply::Ok, Some(6)),
-        (
-            1,
-            Cmd::Purge {
-                module: M,
-                killed: false,
-            },
-            Reply::False,
-            Some(7),
-        ),
+        (1, purge_of(M, false), Reply::False, Some(7)),
         (0, Cmd::CheckOld(N), Reply::False, None),
-        (
-            0,
-            Cmd::Trace {
-                target: MAIN,
-                on: true,
-            },
-            Reply::True,
-            Some(8),
-        ),
-        (
-            0,
-            Cmd::Trace {
-                target: MAIN,
-                on: false,
-            },
-            Reply::True,
-            Some(9),
-        ),
+        (0, trace_of(true), Reply::True, Some(8)),
+        (0, trace_of(false), Reply::True, Some(9)),
     ];
     for (loader, cmd, reply, published) in rows {
         let who = Who::Loader(loader);
