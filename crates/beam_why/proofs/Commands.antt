@@ -1,39 +1,20 @@
 -- The commands of a log that a report shows have terms that a text can say.
-use Rattle.std.proofs.Common.{◌≡◌, ℕ, ◌<◌, ◌≤◌, List, [], ◌∷◌, length, slice_get, Some, All, arith}
+use Rattle.std.proofs.Common.{◌≡◌, ℕ, ◌≤◌, List, [], ◌∷◌, length, slice_get, Some, All}
 use Rattle.std.proofs.lemmas.List.Elements.{All-from_recursion}
 use Rattle.std.specs.List.{AllByRecursion}
 use Rattle.term_core.specs.declared.names.TheConstants.{MOST_NAMES}
 use Rattle.term_core.specs.Plain.{plain}
-use Rattle.term_core.specs.PlainTerm.{PlainTerm}
-use Rattle.term_core.specs.Written.{IsTermInteger}
-use Rattle.term_core.proofs.LeafFacts.{EachLeaf-weaker}
 use Rattle.term_core.proofs.Places.{all_at}
 use Rattle.server_core.specs.declared.command.Cmd.{Cmd}
 use Rattle.server_core.specs.declared.command.Cmd.TheVariants as cmds
-use Rattle.server_core.specs.ServerState.{IsShortTerm}
 use Rattle.server_core.specs.CommandTable.{IsOfText}
-use Rattle.script_core.specs.Sound.{IsTermOf}
+use Rattle.script_core.proofs.ShortTerms.{short_term}
 use Rattle.run_log.specs.declared.logs.Entry.{Entry}
 use Rattle.run_log.specs.WellFormed.{IsCommandOf, IsEntryOf}
 
-short_term : (names : List (List ℕ)) (term : PlainTerm) → length names ≤ MOST_NAMES → IsTermOf names term → IsShortTerm term
-short_term names term room h = record {
-  fits = EachLeaf-weaker IsTermInteger IsTermInteger (λ atom. atom < length names) (λ atom. atom < 4294967296) (λ z fits. fits) (λ atom named. omega (arith, named, room)) term h.leaves;
-  short = h.short;
-}
-
 command_of_text : (names : List (List ℕ)) → length names ≤ MOST_NAMES → (cmd : Cmd) → IsCommandOf names cmd → IsOfText cmd
-command_of_text names room (cmds.Load refs) h = tt
-command_of_text names room (cmds.Delete name) h = tt
-command_of_text names room (cmds.SoftPurge name lingers) h = tt
-command_of_text names room (cmds.Doom name) h = tt
-command_of_text names room (cmds.Purge name killed) h = tt
-command_of_text names room (cmds.CheckOld name) h = tt
 command_of_text names room (cmds.Put key term) h = short_term names (plain term) room h.is_term
-command_of_text names room (cmds.Erase key) h = tt
-command_of_text names room (cmds.Trace target on) h = tt
-command_of_text names room (cmds.Spawn target args) h = tt
-command_of_text names room (cmds.Release serial) h = tt
+command_of_text names room cmd h = tt
 
 each_of_text : (names : List (List ℕ)) → length names ≤ MOST_NAMES → (journal : List Entry) → AllByRecursion (IsEntryOf names) journal → AllByRecursion (λ (e : Entry). IsOfText e.cmd) journal
 each_of_text names room [] h = tt

@@ -1,26 +1,22 @@
 -- What a script says of the commands of a journal that are its loaders', and of the processes of a complete log.
-use Rattle.std.proofs.Common.{◌≡◌, ℕ, zero, suc, ◌^◌, ◌<◌, ◌≤◌, Bool, true, false, cond, List, [], ◌∷◌, length, filter, slice_get, Some, unwrap_or, All, refl, sym, ap, subst, ◌∙◌, arith}
+use Rattle.std.proofs.Common.{◌≡◌, ℕ, zero, suc, ◌^◌, ◌<◌, Bool, true, false, cond, List, [], ◌∷◌, length, filter, slice_get, Some, unwrap_or, All, refl, sym, ap, subst, ◌∙◌, arith}
 use Rattle.std.proofs.lemmas.Bool.{eq-eqb, false≢true}
 use Rattle.std.proofs.lemmas.Option.{none-some, same_Some}
 use Rattle.std.proofs.lemmas.List.Elements.{All-from_recursion}
 use Rattle.std.specs.List.{AllByRecursion, flat_map}
-use Rattle.term_core.specs.declared.names.TheConstants.{MOST_NAMES}
 use Rattle.term_core.specs.Plain.{plain}
-use Rattle.term_core.specs.PlainTerm.{PlainTerm}
-use Rattle.term_core.specs.Written.{IsTermInteger}
-use Rattle.term_core.proofs.LeafFacts.{EachLeaf-weaker}
 use Rattle.term_core.proofs.Lists.{all_front, all_behind, each_append}
 use Rattle.server_core.specs.declared.command.Cmd.{Cmd}
 use Rattle.server_core.specs.declared.command.Cmd.TheVariants as cmds
-use Rattle.server_core.specs.ServerState.{IsShortTerm}
 use Rattle.server_core.specs.CommandTable.{IsOfText}
 use Rattle.mod_core.specs.declared.code.Module.{Module}
 use Rattle.script_core.specs.declared.script.Script.{Script}
 use Rattle.script_core.specs.declared.script.ScriptCmd.{ScriptCmd}
 use Rattle.script_core.specs.declared.script.ScriptCmd.TheVariants as script
-use Rattle.script_core.specs.Sound.{IsCmdOf, IsScript, IsTermOf}
+use Rattle.script_core.specs.Sound.{IsCmdOf, IsScript}
 use Rattle.script_core.specs.Processes.{SpawnLine, spawns_from, spawns_of}
 use Rattle.script_core.proofs.SpawnLines.{all_counted}
+use Rattle.script_core.proofs.ShortTerms.{short_term}
 use Rattle.run_log.specs.declared.logs.Who.{Who}
 use Rattle.run_log.specs.declared.logs.Who.TheVariants.{Loader, Runtime}
 use Rattle.run_log.specs.declared.logs.Entry.{Entry}
@@ -29,12 +25,6 @@ use Rattle.run_log.specs.Journal.{is_of}
 use Rattle.run_log.specs.Legal.{LogsMatch, commands_in, commands_of, ended_by, is_release, is_runtime}
 
 -- ---- the terms of puts
-
-short_term : (names : List (List ℕ)) (term : PlainTerm) → length names ≤ MOST_NAMES → IsTermOf names term → IsShortTerm term
-short_term names term room h = record {
-  fits = EachLeaf-weaker IsTermInteger IsTermInteger (λ atom. atom < length names) (λ atom. atom < 4294967296) (λ z fits. fits) (λ atom named. omega (arith, named, room)) term h.leaves;
-  short = h.short;
-}
 
 own_first : (P : ScriptCmd → Type 0) (own : Bool) (x : Entry) (xs : List Entry) → own ≡ true → AllByRecursion P (flat_map (λ (e : Entry). ended_by e.cmd) (cond own (x ∷ xs) xs)) → AllByRecursion P (ended_by x.cmd)
 own_first P true x xs is h = all_front P (ended_by x.cmd) (flat_map (λ (e : Entry). ended_by e.cmd) xs) h

@@ -1,8 +1,9 @@
 -- Pools whose blocks are all free are those of a writer who has not begun.
 use Rattle.std.proofs.lemmas.List.{length-replicate}
 use Rattle.std.proofs.Common.{◌≡◌, ℕ, zero, suc, ◌-◌, inl, inr, List, [], replicate, false, true, refl, sym, subst, ◌∙◌, arith}
-use Rattle.std.specs.Prelude.{Some, None, slice_get, IsTrue}
+use Rattle.std.specs.Prelude.{Some, slice_get, IsTrue}
 use Rattle.std.proofs.lemmas.Bool.{cases_lt}
+use Rattle.std.proofs.lemmas.Option.{none-some}
 use Rattle.prgr_core.proofs.Parts.{and_then_some}
 use Rattle.term_core.specs.declared.area.AreaRef.{AreaRef}
 use Rattle.area_core.specs.declared.table.Published.{Published}
@@ -35,13 +36,10 @@ free_in (suc count) (suc k) u at = free_in count k u at
 abbrev pub free_areas : ℕ → ℕ → Areas
 free_areas big small = record { next = 1; big = replicate big Free; small = replicate small Free }
 
-none_some : (u : BlockUse) → None ≡ Some u → ⊥
-none_some u e = (cc)
-
 pub each_free : (big small block : ℕ) (u : BlockUse) → use_of (free_areas big small) block ≡ Some u → u ≡ Free
 each_free big small block u at =
     elim (cases_lt block 9) as (λ _. u ≡ Free) [
-      | inl low ↦ absurd (none_some u (sym (use_none (free_areas big small) block low) ∙ at))
+      | inl low ↦ absurd (none-some u (sym (use_none (free_areas big small) block low) ∙ at))
       | inr some ↦ elim (cases_lt block 64) as (λ _. u ≡ Free) [
         | inl low ↦ free_in big (block - 9) u (sym (use_big (free_areas big small) block some low) ∙ at)
         | inr over ↦ free_in small (block - 64) u (sym (use_small (free_areas big small) block over) ∙ at)

@@ -2,7 +2,7 @@
 use Rattle.std.proofs.Common.{◌≡◌, ℕ, ◌+◌, ◌-◌, ◌<◌, ◌≤◌, Bool, true, false, cond, List, [], ◌∷◌, length, position, option_map, refl, sym, ap, subst, ◌∙◌, arith, add-one}
 use Rattle.std.specs.Prelude.{Option, Some, None, is_some, slice_get, ◌↔◌}
 use Rattle.std.specs.List.{list_any, list_all}
-use Rattle.std.proofs.lemmas.Option.{slice_get_within}
+use Rattle.std.proofs.lemmas.Option.{none-some, slice_get_within}
 use Rattle.term_core.proofs.Places.{position-cons, is_some-position}
 use Rattle.prgr_core.proofs.Parts.{some_same}
 use Rattle.area_core.proofs.Tests.{some_passes, passed_by, each_passes}
@@ -18,9 +18,6 @@ use Rattle.literal_areas.proofs.Uses.{use_big, use_small}
 
 -- ---- the first that passes
 
-none_some : (i : ℕ) → None ≡ Some i → ⊥
-none_some i e = (cc)
-
 false_true : false ≡ true → ⊥
 false_true e = (cc)
 
@@ -30,13 +27,13 @@ IsFound {X = X} test xs i = (x : X) × (slice_get xs i ≡ Some x) × (test x �
 
 found_in : {X : Type 0} (test : X → Bool) (x : X) (xs : List X) (b : Bool) → test x ≡ b → (o : Option ℕ) → ((j : ℕ) → o ≡ Some j → IsFound test xs j) → (i : ℕ) → cond b (Some 0) (option_map (λ j. j + 1) o) ≡ Some i → IsFound test (x ∷ xs) i
 found_in test x xs true is o behind i e = subst (IsFound test (x ∷ xs)) (some_same 0 i e) (x, refl, is)
-found_in test x xs false is None behind i e = absurd (none_some i e)
+found_in test x xs false is None behind i e = absurd (none-some i e)
 found_in test x xs false is (Some j) behind i e =
     let found = behind j refl in
     subst (IsFound test (x ∷ xs)) (sym (add-one j) ∙ some_same (j + 1) i e) (found.0, found.1, found.2)
 
 pub found_at : {X : Type 0} (test : X → Bool) (xs : List X) (i : ℕ) → position test xs ≡ Some i → IsFound test xs i
-found_at test [] i e = absurd (none_some i e)
+found_at test [] i e = absurd (none-some i e)
 found_at test (x ∷ xs) i e = found_in test x xs (test x) refl (position test xs) (found_at test xs) i (sym (position-cons test x xs) ∙ e)
 
 -- where none is found, none passes

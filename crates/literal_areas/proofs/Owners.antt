@@ -1,7 +1,8 @@
 -- The pools stay those of their writer: at first, over an area that is taken or given back, and over what is published.
 use Rattle.std.proofs.Common.{◌≡◌, ◌≢◌, ℕ, ◌+◌, ◌<◌, inl, inr, sym, ap, subst, ◌∙◌, arith}
-use Rattle.std.specs.Prelude.{Some, None}
+use Rattle.std.specs.Prelude.{Some}
 use Rattle.std.proofs.lemmas.Bool.{cases_eq}
+use Rattle.std.proofs.lemmas.Option.{none-some}
 use Rattle.prgr_core.proofs.Parts.{some_same}
 use Rattle.term_core.specs.declared.area.AreaRef.{AreaRef}
 use Rattle.shared_words.specs.declared.view.WriterView.{WriterView}
@@ -13,9 +14,6 @@ use Rattle.literal_areas.specs.declared.taking.Take.TheVariants.{Area, AllLive, 
 use Rattle.literal_areas.specs.Blocks.{use_of, serial_at, IsLast, HasTaken, HasAnswered, with_area, without_last}
 use Rattle.literal_areas.specs.Owned.{AreOf, IsPast, HasRetired, IsUnpublished}
 use Rattle.literal_areas.proofs.Serials.{serial_here, serial_other, use_after, sound_taken, sound_given}
-
-none_some : (n : ℕ) → None ≡ Some n → ⊥
-none_some n e = (cc)
 
 free_live : (n : ℕ) → Live n ≡ Free → ⊥
 free_live n e = (cc)
@@ -37,7 +35,7 @@ module _ (s : Areas) (w : WriterView) (own : AreOf s w) (block : ℕ) (free : us
 
   -- the block was no area's
   unused : (b n : ℕ) → serial_at s b ≡ Some n → b ≡ block → ⊥
-  unused b n at same = none_some n (sym (serial_here s block Free free) ∙ ap (serial_at s) (sym same) ∙ at)
+  unused b n at same = none-some n (sym (serial_here s block Free free) ∙ ap (serial_at s) (sym same) ∙ at)
 
   still : (b n : ℕ) → serial_at s b ≡ Some n → serial_at taken b ≡ Some n
   still b n at = serial_other (record s { next = s.next + 1 }) block b Free (Live s.next) free (unused b n at) ∙ at

@@ -1,8 +1,8 @@
 -- What a block is used for, before and after one of them has another use.
 use Rattle.std.proofs.Common.{◌≡◌, ℕ, zero, suc, ◌-◌, ◌<◌, ◌≤◌, inl, inr, List, [], ◌∷◌, length, length-set, refl, sym, ap, ◌∙◌, arith}
-use Rattle.std.specs.Prelude.{Option, Some, None, slice_get, slice_set}
+use Rattle.std.specs.Prelude.{Some, None, slice_get, slice_set}
 use Rattle.std.proofs.lemmas.Bool.{cases_lt, lt-ltb, le-ltb}
-use Rattle.std.proofs.lemmas.Option.{slice_get_within}
+use Rattle.std.proofs.lemmas.Option.{none-some, slice_get_within}
 use Rattle.literal_areas.specs.declared.blocks.BlockUse.{BlockUse}
 use Rattle.literal_areas.specs.declared.areas.Areas.{Areas}
 use Rattle.literal_areas.specs.Blocks.{use_of, with_use, HasSizes}
@@ -37,14 +37,11 @@ use_small s block high =
 pub use_none : (s : Areas) (block : ℕ) → block < 9 → use_of s block ≡ None
 use_none s block low = rw (lt-ltb block 9 low) refl
 
-none_some : (o : Option BlockUse) (used : BlockUse) → o ≡ None → o ≡ Some used → ⊥
-none_some o used none some = (cc)
-
 -- a block with a use is one for areas
 pub use_there : (s : Areas) (block : ℕ) (used : BlockUse) → use_of s block ≡ Some used → 9 ≤ block
 use_there s block used is =
     elim (cases_lt block 9) as (λ _. 9 ≤ block) [
-      | inl low ↦ absurd (none_some (use_of s block) used (use_none s block low) is)
+      | inl low ↦ absurd (none-some used (sym (use_none s block low) ∙ is))
       | inr high ↦ high
     ]
 

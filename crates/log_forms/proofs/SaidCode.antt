@@ -57,19 +57,12 @@ module _ (names : List (List ℕ)) where
   -- an instruction of a module whose atoms have names
   said_instr : (fs : List Function) (len : ℕ) (i : Instr) → IsInstr fs len i → HasAtomsAmong (length names) i → IsSaidInstr names i
   said_instr fs len (instrs.Move from to) h k = said_operand from h.0 k
-  said_instr fs len (instrs.Add a b to) h k = tt
-  said_instr fs len (instrs.Sub a b to) h k = tt
-  said_instr fs len (instrs.Eq a b target) h k = tt
-  said_instr fs len (instrs.Less a b target) h k = tt
-  said_instr fs len (instrs.Jump target) h k = tt
-  said_instr fs len (instrs.Call function at) h k = tt
   said_instr fs len (instrs.CallExt to at) h k = (record { module_named = k.0; name_named = k.1; few = h.0.arity }, h.1.arguments)
   said_instr fs len (instrs.Ret value) h k = said_operand value h k
-  said_instr fs len (instrs.Pget key to) h k = tt
   said_instr fs len (instrs.PgetOr key other to) h k = said_operand other h.1 k.1
   said_instr fs len (instrs.Elem index from to) h k = said_operand from h.1 k.1
   said_instr fs len (instrs.Print value) h k = said_operand value h k
-  said_instr fs len instrs.Yield h k = tt
+  said_instr fs len i h k = tt
 
   placed_said : (place : ℕ → ℕ) (i : Instr) → IsSaidInstr names i → IsSaidInstr names (placed place i)
   placed_said place (instrs.Move from to) h = h

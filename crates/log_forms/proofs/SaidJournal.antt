@@ -48,13 +48,7 @@ module _ (names : List (List ℕ)) (texts : List Module) (loaders : ℕ) where
     half_by half who (cmds.CheckOld name) m r h next = next refl
     half_by half who (cmds.Spawn target args) m r h next = next refl
     half_by half who (cmds.Release serial) m r h next = next refl
-    half_by half who (cmds.Load refs) m r h next = absurd m
-    half_by half who (cmds.Delete name) m r h next = absurd m
-    half_by half who (cmds.SoftPurge name lingers) m r h next = absurd m
-    half_by half who (cmds.Doom name) m r h next = absurd m
-    half_by half who (cmds.Put key term) m r h next = absurd m
-    half_by half who (cmds.Erase key) m r h next = absurd m
-    half_by half who (cmds.Trace target on) m r h next = absurd m
+    half_by half who cmd m r h next = absurd m
 
     half_goes : (s : ServerState) (half : HalfPurge) (journal : List Entry) → Replays texts s journal → PurgesGo texts s (Some half) journal None → AllByRecursion (λ e. HoldsOf IsDone e.who e.cmd) journal → IsNamedHalf half
     half_goes s half [] r go h = absurd cc
@@ -75,16 +69,7 @@ module _ (names : List (List ℕ)) (texts : List Module) (loaders : ℕ) where
     command_said : (known : AllByRecursion (IsKnownModule names) texts) (who : Who) (cmd : Cmd) → is_runtime who ≡ is_release cmd → HoldsOf IsDone who cmd → ((name : AtomId) → cmd ≡ cmds.Doom name → IsNamedHalf (record { who = who; «module» = name })) → ((serial : ℕ) → cmd ≡ cmds.Release serial → IsWide serial)
         → IsSaidCommand who cmd
     command_said known Runtime (cmds.Release serial) r h doom release = record { by_whom = tt; command = release serial refl }
-    command_said known Runtime (cmds.Load refs) r h doom release = absurd cc
-    command_said known Runtime (cmds.Delete name) r h doom release = absurd cc
-    command_said known Runtime (cmds.SoftPurge name lingers) r h doom release = absurd cc
-    command_said known Runtime (cmds.Doom name) r h doom release = absurd cc
-    command_said known Runtime (cmds.Purge name killed) r h doom release = absurd cc
-    command_said known Runtime (cmds.CheckOld name) r h doom release = absurd cc
-    command_said known Runtime (cmds.Put key term) r h doom release = absurd cc
-    command_said known Runtime (cmds.Erase key) r h doom release = absurd cc
-    command_said known Runtime (cmds.Trace target on) r h doom release = absurd cc
-    command_said known Runtime (cmds.Spawn target args) r h doom release = absurd cc
+    command_said known Runtime cmd r h doom release = absurd cc
     command_said known (Loader n) (cmds.Release serial) r h doom release = absurd cc
     command_said known (Loader n) (cmds.Load refs) r h doom release = let load = h.0.0 in record { by_whom = narrow n h.0.1; command = (load.some, references_said names texts refs known load.given) }
     command_said known (Loader n) (cmds.Delete name) r h doom release = record { by_whom = narrow n h.0.1; command = h.0.0 }

@@ -119,16 +119,20 @@ fn call_within<V: CodeView>(
     lines: &mut LineList,
 ) -> Result<Outcome, NoMemory>
     requires room { top.old.place + 1 ≤ 1024 }
+    // the view is lawful, what the topmost frame names is held, and all that the frames refer to stands in its block
     requires lawful { IsLawful (V.shown view.old) }
     requires ready { IsReadyFrame (V.shown view.old) (V.held view.old) top.old }
     requires values { HasValues (V.shown view.old) top.old }
     requires below { AreValues (V.shown view.old) below.old }
+    // what is called is there; the areas kept beside the frames are those that are held
     requires tracked { V.held view.old ≡ area_holds areas.old }
     requires callee { HasCallee (V.shown view.old).reads (frame_of (V.shown view.old).words top.old) (instr_shown ((V.shown view.old).words top.old.code.area.serial) (Op.Call function at)) }
+    // process, holds and lines are what the definition of the instruction says
     ensures ok { IfOk result (λ outcome.
         stand_after (V.held view.old) lines.old (executed (V.shown view.old).reads (frame_of (V.shown view.old).words top.old) (frames_of (V.shown view.old).words below.old) (V.held view.old)
         (instr_shown ((V.shown view.old).words top.old.code.area.serial) (Op.Call function at)))
         ≡ stand_of outcome (frame_of (V.shown view.old).words top.new ∷ frames_of (V.shown view.old).words below.new) (V.held view.new) lines.new) }
+    // all that the frames refer to stands in its block still, and the areas kept beside them are those that are held
     ensures values { OnOk result (HasValues (V.shown view.old) top.new) }
     ensures below { OnOk result (AreValues (V.shown view.old) below.new) }
     ensures tracked { OnOk result (V.held view.new ≡ area_holds areas.new) }
@@ -160,15 +164,19 @@ fn call_out<V: CodeView>(
     lines: &mut LineList,
 ) -> Result<Outcome, NoMemory>
     requires room { top.old.place + 1 ≤ 1024 }
+    // the view is lawful, what the topmost frame names is held, and all that the frames refer to stands in its block
     requires lawful { IsLawful (V.shown view.old) }
     requires ready { IsReadyFrame (V.shown view.old) (V.held view.old) top.old }
     requires values { HasValues (V.shown view.old) top.old }
     requires below { AreValues (V.shown view.old) below.old }
+    // the areas kept beside the frames are those that are held
     requires tracked { V.held view.old ≡ area_holds areas.old }
+    // process, holds and lines are what the definition of the instruction says
     ensures ok { IfOk result (λ outcome.
         stand_after (V.held view.old) lines.old (executed (V.shown view.old).reads (frame_of (V.shown view.old).words top.old) (frames_of (V.shown view.old).words below.old) (V.held view.old)
         (instr_shown ((V.shown view.old).words top.old.code.area.serial) (Op.CallExt to at)))
         ≡ stand_of outcome (frame_of (V.shown view.old).words top.new ∷ frames_of (V.shown view.old).words below.new) (V.held view.new) lines.new) }
+    // all that the frames refer to stands in its block still, and the areas kept beside them are those that are held
     ensures values { OnOk result (HasValues (V.shown view.old) top.new) }
     ensures below { OnOk result (AreValues (V.shown view.old) below.new) }
     ensures tracked { OnOk result (V.held view.new ≡ area_holds areas.new) }
@@ -196,16 +204,20 @@ fn leave<V: CodeView>(
     view: &mut V,
     areas: &mut HeldAreas,
 ) -> Result<Outcome, NoMemory>
+    // the view is lawful, what the topmost frame names is held, and all that the frames refer to stands in its block
     requires lawful { IsLawful (V.shown view.old) }
     requires ready { IsReadyFrame (V.shown view.old) (V.held view.old) top.old }
     requires values { HasValues (V.shown view.old) top.old }
     requires below { AreValues (V.shown view.old) below.old }
+    // the value is there; the areas kept beside the frames are those that are held
     requires source { IsSource (V.shown view.old) top.old.code.area value.now }
     requires tracked { V.held view.old ≡ area_holds areas.old }
+    // process, holds and lines are what the definition of the instruction says
     ensures ok { (made : List Line) → IfOk result (λ outcome.
         stand_after (V.held view.old) made (executed (V.shown view.old).reads (frame_of (V.shown view.old).words top.old) (frames_of (V.shown view.old).words below.old) (V.held view.old)
         (instr_shown ((V.shown view.old).words top.old.code.area.serial) (Op.Ret value.now)))
         ≡ stand_of outcome (frame_of (V.shown view.old).words top.new ∷ frames_of (V.shown view.old).words below.new) (V.held view.new) made) }
+    // all that the frames refer to stands in its block still, and the areas kept beside them are those that are held
     ensures values { OnOk result (HasValues (V.shown view.old) top.new) }
     ensures below { OnOk result (AreValues (V.shown view.old) below.new) }
     ensures tracked { OnOk result (V.held view.new ≡ area_holds areas.new) }

@@ -21,14 +21,9 @@ both_second false b e = absurd (true≢false (sym e))
 -- whether two codes are one
 abbrev same_code : Gv → Gv → Bool
 same_code gnil gnil = true
-same_code gnil (gnum n) = false
-same_code gnil (gcons c d) = false
-same_code (gnum m) gnil = false
 same_code (gnum m) (gnum n) = eqb m n
-same_code (gnum m) (gcons c d) = false
-same_code (gcons a b) gnil = false
-same_code (gcons a b) (gnum n) = false
 same_code (gcons a b) (gcons c d) = both (same_code a c) (same_code b d)
+same_code x y = false
 
 num_is : (m n : ℕ) → ((eqb m n ≡ true) × (m ≡ n)) ⊎ ((eqb m n ≡ false) × (m ≢ n)) → eqb m n ≡ true → m ≡ n
 num_is m n (inl same) e = same.1
@@ -40,14 +35,9 @@ num_self n (inr other) = absurd (other.1 refl)
 
 same_code_is : (x y : Gv) → same_code x y ≡ true → x ≡ y
 same_code_is gnil gnil e = refl
-same_code_is gnil (gnum n) e = absurd (true≢false (sym e))
-same_code_is gnil (gcons c d) e = absurd (true≢false (sym e))
-same_code_is (gnum m) gnil e = absurd (true≢false (sym e))
 same_code_is (gnum m) (gnum n) e = ap gnum (num_is m n (eqb_tells m n) e)
-same_code_is (gnum m) (gcons c d) e = absurd (true≢false (sym e))
-same_code_is (gcons a b) gnil e = absurd (true≢false (sym e))
-same_code_is (gcons a b) (gnum n) e = absurd (true≢false (sym e))
 same_code_is (gcons a b) (gcons c d) e = let p = same_code_is a c (both_first (same_code a c) (same_code b d) e) in let q = same_code_is b d (both_second (same_code a c) (same_code b d) e) in λ i. gcons (p i) (q i)
+same_code_is x y e = absurd (true≢false (sym e))
 
 same_code_self : (x : Gv) → same_code x x ≡ true
 same_code_self gnil = refl
