@@ -4,4 +4,8 @@
 #[cfg(test)]
 mod commands;
 #[cfg(test)]
+mod instrs;
+#[cfg(test)]
+mod steps;
+#[cfg(test)]
 mod turns;

@@ -1,15 +1,18 @@
+//! Processes that run to their ends.
+
 ghost use Rattle.std.specs.Prelude.{◌≡◌, ◌<◌, ◌^◌, [], IfOk, IfSome, length};
 ghost use Rattle.mod_core.specs.Module.{IsModule};
 ghost use Rattle.server_core.specs.CommandTable.{AreTexts, IsOfText};
 ghost use Rattle.machine_core.specs.Process.{Words, process_of};
 
+use crate::instrs::{Arg, Step, args_of, code_of, lines_of};
 use machine_core::*;
-use mod_core::{Function, FunctionList, Instr, InstrList, Module, ModuleList, Operand, validate};
+use mod_core::{Function, FunctionList, InstrList, Module, ModuleList, validate};
 use server_core::{Cmd, ModRef, RefList, Server};
 use std::alloc::Global;
 use std::process::Abort;
 use std::test::Fail;
-use term_core::{AtomId, Mfa, NoMemory, Term, TermList, read_image};
+use term_core::{AtomId, Mfa, NoMemory, TermList, read_image};
 
 /// The module, its function and a name that nothing has.
 const M: AtomId = AtomId(3);
@@ -28,29 +31,6 @@ const TUPLE: &[u64] = &[19, 17];
 
 /// The image of 7.
 const SEVEN: &[u64] = &[113];
-
-/// A term of an instruction, of an argument or of a line.
-#[derive(Clone, Copy, Debug)]
-enum Arg {
-    Reg(u32),
-    Int(i64),
-    /// `{1}`
-    One,
-    /// `{3,{1}}`
-    Nested,
-}
-
-/// An instruction, short enough for a row of a table.
-#[derive(Clone, Copy, Debug)]
-enum Step {
-    Move(Arg, u32),
-    Add(Arg, Arg, u32),
-    Pget(u32, u32),
-    PgetOr(u32, Arg, u32),
-    Elem(Arg, Arg, u32),
-    Print(Arg),
-    Yield,
-}
 
 /// The turns of `m:main`, with these persistent terms, arguments and code.
 #[derive(Clone, Copy)]
@@ -202,93 +182,6 @@ fn run_to_end(
         }
     }
     Ok(None)
-}
-
-/// `{1}`.
-fn one(alloc: Global) -> Result<Term, NoMemory> {
-    let mut terms = TermList::new(alloc);
-    terms.push(Term::Int(1))?;
-    Ok(Term::Tuple(terms))
-}
-
-/// `{3,{1}}`.
-fn nested(alloc: Global) -> Result<Term, NoMemory> {
-    let mut terms = TermList::new(alloc);
-    terms.push(Term::Int(3))?;
-    terms.push(one(alloc)?)?;
-    Ok(Term::Tuple(terms))
-}
-
-fn term_of(arg: Arg, alloc: Global) -> Result<Term, NoMemory> {
-    match arg {
-        Arg::Int(number) => Ok(Term::Int(number)),
-        Arg::One => one(alloc),
-        Arg::Nested => nested(alloc),
-        Arg::Reg(_) => Ok(Term::Atom(AtomId::OK)),
-    }
-}
-
-fn operand_of(arg: Arg, alloc: Global) -> Result<Operand, NoMemory> {
-    match arg {
-        Arg::Reg(register) => Ok(Operand::Reg(register)),
-        _ => Ok(Operand::Const(term_of(arg, alloc)?)),
-    }
-}
-
-fn instr_of(step: Step, alloc: Global) -> Result<Instr, NoMemory> {
-    match step {
-        Step::Move(from, to) => Ok(Instr::Move {
-            from: operand_of(from, alloc)?,
-            to,
-        }),
-        Step::Add(a, b, to) => Ok(Instr::Add {
-            a: operand_of(a, alloc)?,
-            b: operand_of(b, alloc)?,
-            to,
-        }),
-        Step::Pget(key, to) => Ok(Instr::Pget {
-            key: AtomId(key),
-            to,
-        }),
-        Step::PgetOr(key, other, to) => Ok(Instr::PgetOr {
-            key: AtomId(key),
-            other: operand_of(other, alloc)?,
-            to,
-        }),
-        Step::Elem(index, from, to) => Ok(Instr::Elem {
-            index: operand_of(index, alloc)?,
-            from: operand_of(from, alloc)?,
-            to,
-        }),
-        Step::Print(value) => Ok(Instr::Print {
-            value: operand_of(value, alloc)?,
-        }),
-        Step::Yield => Ok(Instr::Yield),
-    }
-}
-
-fn code_of(steps: &[Step], alloc: Global) -> Result<InstrList, NoMemory> {
-    let mut code = InstrList::new(alloc);
-    for step in steps {
-        code.push(instr_of(*step, alloc)?)?;
-    }
-    Ok(code)
-}
-
-fn args_of(args: &[Arg], alloc: Global) -> Result<TermList, NoMemory> {
-    let mut terms = TermList::new(alloc);
-    for arg in args {
-        terms.push(term_of(*arg, alloc)?)?;
-    }
-    Ok(terms)
-}
-
-fn lines_of(prints: &[Arg], alloc: Global) -> Result<LineList, NoMemory> {
-    let mut lines = LineList::new(alloc);
-    for arg in prints {
-        lines.push(Line::Print(term_of(*arg, alloc)?))?;
-    }
-    Ok(lines)
 }
 
 fn expect(rt: &(impl AllocGlobal + Abort), case: Case) -> Result<(), Fail> {

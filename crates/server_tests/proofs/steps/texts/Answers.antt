@@ -5,7 +5,7 @@ use Rattle.std.proofs.lemmas.Option.{none-some, same_Some}
 use Rattle.mod_core.specs.declared.code.Module.{Module}
 use Rattle.mod_core.specs.Module.{IsModule}
 use Rattle.server_core.specs.CommandTable.{AreTexts}
-use Rattle.server_tests.proofs.commands.texts.Goals as goal
+use Rattle.server_tests.proofs.steps.texts.Goals as goal
 
 placed_push : (P : ℕ → Module → Type 0) (xs : List Module) (x : Module) → ((i : ℕ) (m : Module) → slice_get xs i ≡ Some m → P i m) → P (length xs) x
     → (i : ℕ) (m : Module) → slice_get (xs ++ x ∷ []) i ≡ Some m → P i m

@@ -4,7 +4,7 @@ use Rattle.std.proofs.lemmas.Int.{ints}
 use Rattle.term_core.specs.PlainTerm.{integer_leaf, row_of, tuple_of}
 use Rattle.term_core.specs.Written.{IsTermInteger}
 use Rattle.server_core.specs.ServerState.{IsShortTerm}
-use Rattle.server_tests.proofs.commands.tuple_of_seven.Goals as goal
+use Rattle.server_tests.proofs.steps.tuple_of_seven.Goals as goal
 
 seven : IsTermInteger (pos 7)
 seven = record { low = omega (arith, ints); high = omega (arith, ints) }

@@ -8,7 +8,7 @@ use Rattle.mod_core.specs.declared.code.Function.{Function}
 use Rattle.mod_core.specs.declared.code.Module.{Module}
 use Rattle.mod_core.specs.Module.{IsInstr, IsModule}
 use Rattle.mod_core.proofs.OneFunction.{is_module_of_one}
-use Rattle.server_tests.proofs.commands.text.Goals as goal
+use Rattle.server_tests.proofs.steps.text.Goals as goal
 
 abbrev main : Bool → List Instr → Function
 main exported code = record { name = record { 0 = 900 }; arity = 1; exported = exported; code = code }
