@@ -8,7 +8,7 @@ use Rattle.term_core.proofs.Text.Cuts.{lacks}
 use Rattle.script_maker.specs.MadeScript.{made_commands, made_names, made_script, made_versions, subject_of}
 use Rattle.script_text.specs.Canonical.{IsTooLongToPrint, block_form, canonical, canonical_text, code_form, is_long_line, script_line_bytes}
 use Rattle.script_text.specs.ScriptLine.{ScriptLine, go, script_line_written}
-use Rattle.script_text.proofs.LinesJoined.{lines_of_bytes}
+use Rattle.script_text.proofs.PrintedText.{lines_of_bytes}
 use Rattle.std.proofs.lemmas.Grind.{flat_map-append}
 use Rattle.mod_text.specs.ModuleLine.{line_written}
 use Rattle.maker_text.proofs.BriefTexts.{IsBrief}

@@ -1,39 +1,129 @@
--- The parts of canonical lines, atoms, numbers, labels and operands, and what they are read back as.
-use Rattle.std.proofs.Common.{◌≡◌, ℕ, zero, suc, ◌+◌, ◌<◌, ◌≤◌, ◌^◌, Bool, true, false, cond, ◌&&◌, nat_le, nat_lt, List, [], ◌∷◌, ◌++◌, length, decimal, drop, ℤ, pos, negsuc, Option, Some, option_map, is_some, unwrap_or, position, bytes_eq, slice_get, refl, sym, ap, ◌∙◌, arith, add-one}
+-- The parts of canonical lines, constants too, and what they are read back as.
+use Rattle.std.proofs.Common.{◌≡◌, ℕ, ◌<◌, Bool, true, false, cond, not, ◌&&◌, ◌||◌, ◌==◌, nat_lt, List, [], ◌∷◌, length, ℤ, refl}
+use Rattle.std.proofs.Common.{sym, ap, ◌∙◌, subst, arith, zero, suc, ◌+◌, ◌≤◌, ◌^◌, nat_le, ◌++◌, decimal, drop, pos, negsuc}
+use Rattle.std.proofs.Common.{Option, Some, option_map, is_some, unwrap_or, position, bytes_eq, slice_get, add-one}
+use Rattle.mod_text.proofs.Common.{list_all, list_any, IsTrue, IsSome, is_ascii_digit, is_ascii_lowercase}
+use Rattle.mod_text.proofs.Common.{is_in_range, and_parts, and_from, or_from, lt-ltb, le-leb, not_from_true, Texts}
+use Rattle.mod_text.proofs.Common.{false_from_ne_true, nat_tests, decimal_injective}
+use Rattle.mod_text.proofs.Common.{length-decimal-le, slice_get-get_or, unwrap_or-slice_get}
+use Rattle.term_core.specs.Image.{is_immediate}
+use Rattle.mod_text.proofs.Texts.{is_atom_text, is_name_byte, number_of, IsNames, plain, term_of, number_in}
+use Rattle.mod_text.proofs.Texts.{IsTerm, atom_text, names_with_all, term_text, IsTermInteger}
+use Rattle.mod_text.proofs.Texts.{is_integer_text, is_positive_text, integer_of, is_term_integer}
+use Rattle.mod_text.proofs.Texts.{plain-term_of, term_of-plain, is_term_byte, name_bytes-decimal, range_pos}
+use Rattle.mod_text.proofs.Texts.{range_negsuc, signed_decimal-says, texts_are_atoms, position-cons}
+use Rattle.mod_text.proofs.Texts.{number_value, is_number_text, decimal-writes, same_bytes, bytes_are}
+use Rattle.term_core.specs.PlainTerm.{PlainTerm, EachLeaf, map_leaves, term_words}
+use Rattle.term_core.specs.TermForms.{is_term_text, is_bracketed, is_complex_text, tree_of, term_atoms, text_words, is_wide_text, term_in}
+use Rattle.term_core.specs.Tokens.{Token, leaf, tokens_in, atoms_among}
+use Rattle.term_core.proofs.LeafFacts.{EachLeaf-weaker, EachLeaf-both, EachLeaf-map, term_words-map}
+use Rattle.term_core.proofs.Ranges.{fits_of_none}
+use Rattle.term_core.proofs.TermForms.{tree_is, none_outside_if, is_immediate-term_in, term_bytes-is_term_text, printed_is}
+use Rattle.term_core.proofs.TextForms.{text_outside}
+use Rattle.mod_core.specs.Module.{IsConstant, IsOperand}
+use Rattle.mod_core.specs.ModuleImage.{constants_len, operand_constants}
+use Rattle.mod_text.proofs.Forms.{operand_form_words, OperandForm, complex, is_operand_form, LineForm}
+use Rattle.mod_text.proofs.Forms.{is_line_form, is_arity_text, is_version_text, operand_in, atom_in}
+use Rattle.mod_text.proofs.Forms.{label_text, written_operand, is_high, has_high_operand, is_wide_operand, is_long_operand, operand_atoms}
 use Rattle.std.specs.Fmt.{signed_decimal}
-use Rattle.std.specs.List.{list_all, list_any}
-use Rattle.std.proofs.lemmas.Bool.{and_from, or_from, lt-ltb, le-leb, not_from_true, false_from_ne_true}
-use Rattle.std.proofs.lemmas.Bool.Decides.{nat_tests}
-use Rattle.std.proofs.lemmas.Fmt.{decimal_injective, length-decimal-le}
-use Rattle.std.proofs.lemmas.Option.{slice_get-get_or, unwrap_or-slice_get}
-use Rattle.term_core.specs.declared.atom.AtomId.{AtomId}
-use Rattle.std.specs.Prelude.{IsSome}
+use Rattle.mod_text.proofs.Types.{AtomId, Operand}
 use Rattle.term_core.specs.declared.term.Term.{Term}
 use Rattle.term_core.specs.declared.term.Term.TheVariants.{Int, Atom, Tuple, List as ListOf}
-use Rattle.term_core.specs.Names.{is_atom_text, is_name_byte, number_of, IsNames}
-use Rattle.term_core.specs.Plain.{plain, term_of}
-use Rattle.term_core.specs.PlainTerm.{term_words}
-use Rattle.term_core.specs.TermForms.{is_bracketed, is_term_text}
-use Rattle.term_core.specs.TermText.{IsTerm, atom_text, names_with_all, term_text}
-use Rattle.term_core.proofs.LeafFacts.{EachLeaf-weaker, EachLeaf-both}
-use Rattle.term_core.proofs.PlainTerms.{term_of-plain}
-use Rattle.term_core.proofs.TermForms.{printed_is}
-use Rattle.term_core.specs.Written.{IsTermInteger, is_term_integer, integer_of}
-use Rattle.term_core.proofs.IntegerTexts.{range_pos, range_negsuc, signed_decimal-says}
-use Rattle.term_core.proofs.NameTables.{texts_are_atoms}
-use Rattle.term_core.proofs.Places.{position-cons}
-use Rattle.mod_core.specs.declared.code.Operand.{Operand}
 use Rattle.mod_core.specs.declared.code.Operand.TheVariants.{Reg, Const}
-use Rattle.mod_text.specs.Canonical.{label_text, written_operand}
 use Rattle.mod_core.specs.HeldNames.{IsConstantAmong, IsOperandAmong}
-use Rattle.mod_text.specs.LineFaults.{is_high, has_high_operand, is_wide_operand, is_long_operand, operand_atoms}
-use Rattle.mod_core.specs.Module.{IsOperand, IsConstant}
-use Rattle.term_core.specs.Text.Numbers.{number_value, is_number_text}
-use Rattle.mod_text.specs.ModuleLine.{OperandForm, complex, is_arity_text, is_version_text, is_operand_form}
-use Rattle.mod_text.specs.ModuleValue.{atom_in, operand_in}
-use Rattle.term_core.proofs.Text.Numbers.{decimal-writes}
-use Rattle.term_core.proofs.Text.Options.{same_bytes, bytes_are}
-use Rattle.term_core.proofs.TermBytes.{name_bytes-decimal}
+
+-- a line whose parts are of their forms
+abbrev pub IsSound : LineForm → Type 0
+IsSound line = is_line_form line ≡ true
+
+-- ---- brackets
+
+bracket_is_other : (c : ℕ) → (c == 123 || c == 91) ≡ true → (is_ascii_lowercase c ≡ false) × (is_in_range 49 57 c ≡ false) × ((c == 48) ≡ false) × ((c == 45) ≡ false) × ((c == 36) ≡ false)
+bracket_is_other c h = (grind (arith, nat_tests), grind (arith, nat_tests), grind (arith, nat_tests), grind (arith, nat_tests), grind (arith, nat_tests))
+
+-- no atom begins with a bracket
+pub no_atom : (text : List ℕ) → is_bracketed text ≡ true → is_atom_text text ≡ false
+no_atom [] h = absurd cc
+no_atom (c ∷ rest) h = ap (λ t. t && (list_all is_name_byte rest && nat_lt (length rest) 32)) (bracket_is_other c h).0
+
+-- and no integer
+pub no_integer : (text : List ℕ) → is_bracketed text ≡ true → is_integer_text text ≡ false
+no_integer [] h = absurd cc
+no_integer (c ∷ rest) h =
+    let tests = bracket_is_other c h in
+    ap (λ t. cond t (length rest == 0) (cond (c == 45) (is_positive_text rest) (is_positive_text (c ∷ rest)))) tests.2
+    ∙ ap (λ t. cond t (is_positive_text rest) (is_positive_text (c ∷ rest))) tests.3
+    ∙ ap (λ t. t && list_all is_ascii_digit rest) tests.1
+
+-- and no register
+pub no_register : (c : ℕ) (rest : List ℕ) → is_bracketed (c ∷ rest) ≡ true → (c == 36) ≡ false
+no_register c rest h = (bracket_is_other c h).4
+
+-- ---- the bytes
+
+-- no byte of a term's text is one that no term has
+pub complex_bytes : (text : List ℕ) → is_complex_text text ≡ true → list_all is_term_byte text ≡ true
+complex_bytes text h = term_bytes-is_term_text text (and_parts (is_bracketed text) (is_term_text text) h).1
+
+-- ---- atoms
+
+one_atom_by : (text : List ℕ) (t : Bool) (rest : Texts) → is_atom_text text ≡ t → list_all is_atom_text rest ≡ true → list_all is_atom_text (cond t (text ∷ rest) rest) ≡ true
+one_atom_by text true rest is h = and_from (is_atom_text text) (list_all is_atom_text rest) is h
+one_atom_by text false rest is h = h
+
+among_are_atoms : (tokens : List Token) → list_all is_atom_text (atoms_among tokens) ≡ true
+among_are_atoms [] = refl
+among_are_atoms (leaf text ∷ tokens) = one_atom_by text (is_atom_text text) (atoms_among tokens) refl (among_are_atoms tokens)
+among_are_atoms (one ∷ tokens) = among_are_atoms tokens
+
+-- the atoms of a term's text are atoms' texts
+pub term_atoms_are : (text : List ℕ) → list_all is_atom_text (term_atoms text) ≡ true
+unfolding term_atoms
+term_atoms_are text = among_are_atoms (tokens_in false text)
+
+-- ---- the constant
+
+-- what is said of the constant of a text
+pub record Says (names : Texts) (text : List ℕ) : Type 0 where
+  pub words : term_words (plain (term_of (term_in names text))) ≡ text_words text
+  pub complex : is_immediate (plain (term_of (term_in names text))) ≡ false
+  pub fits : is_wide_text text ≡ false → EachLeaf {A = ℕ} IsTermInteger (λ _. Unit {0}) (plain (term_of (term_in names text)))
+  pub held : (bound : ℕ) → ((t : List ℕ) → number_in names t < bound) → EachLeaf {Z = ℤ} (λ _. Unit {0}) (λ a. a < bound) (plain (term_of (term_in names text)))
+
+pub says : (names : Texts) (text : List ℕ) → is_complex_text text ≡ true → Says names text
+says names text h =
+    let parts = and_parts (is_bracketed text) (is_term_text text) h in
+    let form = tree_is text parts.1 in
+    let value : plain (term_of (term_in names text)) ≡ map_leaves integer_of (number_in names) (tree_of text) = plain-term_of (term_in names text) ∙ form.value names in
+    record {
+      words = ap (λ (t : PlainTerm). term_words t) value ∙ term_words-map integer_of (number_in names) (tree_of text) ∙ sym form.words;
+      complex = ap is_immediate (plain-term_of (term_in names text)) ∙ is_immediate-term_in names text parts.1 ∙ ap not parts.0;
+      fits = λ narrow. subst (EachLeaf {A = ℕ} IsTermInteger (λ _. Unit {0})) (sym value)
+          (EachLeaf-map IsTermInteger (λ _. Unit {0}) integer_of (number_in names) (tree_of text) (fits_of_none (tree_of text) (sym (text_outside text (tree_of text) form.is_text) ∙ none_outside_if text narrow)));
+      held = λ bound every. subst (EachLeaf {Z = ℤ} (λ _. Unit {0}) (λ a. a < bound)) (sym value)
+          (EachLeaf-map (λ _. Unit {0}) (λ a. a < bound) integer_of (number_in names) (tree_of text)
+          (EachLeaf-weaker (λ t. IsTrue (is_integer_text t)) (λ _. Unit {0}) (λ t. IsTrue (is_atom_text t)) (λ t. number_in names t < bound) (λ t _. tt) (λ t _. every t) (tree_of text) form.is_text.leaves));
+    }
+
+-- the words of an operand's constant
+pub operand_constant_words : (names : Texts) (o : OperandForm) → is_operand_form o ≡ true → constants_len (operand_constants (operand_in names o)) ≡ operand_form_words o
+operand_constant_words names (complex text) h =
+    let s = says names text h in
+    ap (λ t. constants_len (cond t [] (plain (term_of (term_in names text)) ∷ []))) s.complex ∙ omega (arith, s.words)
+operand_constant_words names o h = refl
+
+-- a constant within its limits
+pub constant_is : (names : Texts) (text : List ℕ) → is_complex_text text ≡ true → is_wide_text text ≡ false → nat_lt 64 (text_words text) ≡ false → ((t : List ℕ) → number_in names t < 4096) → IsConstant (term_of (term_in names text))
+constant_is names text h narrow short small =
+    let s = says names text h in
+    let words = s.words in
+    record {
+      leaves = EachLeaf-weaker (λ z. IsTermInteger z × Unit {0}) IsTermInteger (λ a. Unit {0} × (a < 4096)) (λ a. a < 4096) (λ z p. p.0) (λ a p. p.1) (plain (term_of (term_in names text)))
+          (EachLeaf-both IsTermInteger (λ _. Unit {0}) (λ _. Unit {0}) (λ a. a < 4096) (plain (term_of (term_in names text))) (s.fits narrow) (s.held 4096 small));
+      short = grind (arith, nat_tests);
+    }
+
+-- ---- the parts of canonical lines, atoms, numbers, labels and operands, and what they are read back as
 
 -- ---- lists
 
@@ -56,12 +146,12 @@ list_any-none p (x ∷ xs) each = or_from (p x) (list_any p xs) (each 0 x refl) 
 -- ---- atoms
 
 -- the text of an atom that a table of names holds
-pub record IsHeldAtom (names : List (List ℕ)) (text : List ℕ) (atom : ℕ) : Type 0 where
+pub record IsHeldAtom (names : Texts) (text : List ℕ) (atom : ℕ) : Type 0 where
   pub form : is_atom_text text ≡ true
   pub stands : slice_get names atom ≡ Some text
   pub number : number_of names text ≡ Some atom
 
-pub held_atom : (names : List (List ℕ)) (atom : ℕ) → IsNames names → atom < length names → IsHeldAtom names (atom_text names atom) atom
+pub held_atom : (names : Texts) (atom : ℕ) → IsNames names → atom < length names → IsHeldAtom names (atom_text names atom) atom
 held_atom names atom sound held =
     let text = atom_text names atom in
     let stands : slice_get names atom ≡ Some text = slice_get-get_or names atom [] held ∙ ap (λ t. Some t) (sym (unwrap_or-slice_get names atom [])) in
@@ -72,14 +162,14 @@ held_atom names atom sound held =
     }
 
 -- its text is read as that atom
-pub atom_back : (names : List (List ℕ)) (atom : AtomId) → IsNames names → atom.0 < length names → atom_in names (atom_text names atom.0) ≡ atom
+pub atom_back : (names : Texts) (atom : AtomId) → IsNames names → atom.0 < length names → atom_in names (atom_text names atom.0) ≡ atom
 atom_back names atom sound held = ap (λ (o : Option ℕ). record { 0 = unwrap_or o 0 }) (held_atom names atom.0 sound held).number
 
 -- and adds no name
-pub no_new_name : (names : List (List ℕ)) (text : List ℕ) (atom : ℕ) → IsHeldAtom names text atom → names_with_all names (text ∷ []) ≡ names
+pub no_new_name : (names : Texts) (text : List ℕ) (atom : ℕ) → IsHeldAtom names text atom → names_with_all names (text ∷ []) ≡ names
 no_new_name names text atom held = ap (λ (o : Option ℕ). cond (is_some o) names (names ++ text ∷ [])) held.number
 
-pub held_apart : (names : List (List ℕ)) (a b : ℕ) → IsNames names → a < length names → b < length names → atom_text names a ≡ atom_text names b → a ≡ b
+pub held_apart : (names : Texts) (a b : ℕ) → IsNames names → a < length names → b < length names → atom_text names a ≡ atom_text names b → a ≡ b
 held_apart names a b sound first second same =
     let numbers : ◌≡◌ {A = Option ℕ} (Some a) (Some b) = sym (held_atom names a sound first).number ∙ ap (number_of names) same ∙ (held_atom names b sound second).number in
     cc
@@ -128,7 +218,7 @@ fits_by (pos n) range = lt-ltb n 576460752303423488 (omega (arith, range_pos n r
 fits_by (negsuc n) range = lt-ltb n 576460752303423488 (omega (arith, range_negsuc n range))
 
 -- an operand as it is written has its form, passes no limit, adds no name, and is read as that operand
-pub record IsOperandBack (names : List (List ℕ)) (form : OperandForm) (o : Operand) : Type 0 where
+pub record IsOperandBack (names : Texts) (form : OperandForm) (o : Operand) : Type 0 where
   pub sound : is_operand_form form ≡ true
   pub low : has_high_operand form ≡ false
   pub narrow : is_wide_operand form ≡ false
@@ -137,7 +227,7 @@ pub record IsOperandBack (names : List (List ℕ)) (form : OperandForm) (o : Ope
   pub value : operand_in names form ≡ o
 
 -- a constant in brackets as it is written
-complex_back : (names : List (List ℕ)) (term : Term) → is_bracketed (term_text names term) ≡ true → IsNames names → IsConstant term → IsConstantAmong (length names) term → IsOperandBack names (complex (term_text names term)) (Const term)
+complex_back : (names : Texts) (term : Term) → is_bracketed (term_text names term) ≡ true → IsNames names → IsConstant term → IsConstantAmong (length names) term → IsOperandBack names (complex (term_text names term)) (Const term)
 complex_back names term brackets sound is held =
     let leaves = EachLeaf-both IsTermInteger (λ _. Unit {0}) (λ a. a < 4096) (λ a. a < length names) (plain term) is.leaves held in
     let term_is : IsTerm names term =
@@ -154,7 +244,7 @@ complex_back names term brackets sound is held =
       value = ap (λ t. Const (term_of t)) p.value ∙ ap (λ t. Const t) (term_of-plain term);
     }
 
-pub operand_back : (names : List (List ℕ)) (o : Operand) → IsNames names → IsOperand o → IsOperandAmong (length names) o → IsOperandBack names (written_operand names o) o
+pub operand_back : (names : Texts) (o : Operand) → IsNames names → IsOperand o → IsOperandAmong (length names) o → IsOperandBack names (written_operand names o) o
 operand_back names (Reg number) sound is held =
     let w = register_writes number is in
     record { sound = w.form; low = w.low; narrow = refl; short = refl; known = refl; value = ap (λ n. Reg n) w.value }

@@ -1,25 +1,20 @@
 -- Each clause on a text that was read, by the ways to end.
-use Rattle.std.proofs.Common.{◌≡◌, ℕ, ◌+◌, ◌≤◌, length, List, [], Option, Some, None, Result, Ok, Err, refl, sym, ap, ◌∙◌, subst, ◌⊎◌, inl, inr}
-use Rattle.std.specs.Prelude.{IfOk, IfErr}
+use Rattle.mod_text.proofs.Common.{◌≡◌, ℕ, ◌+◌, ◌≤◌, length, List, [], Option, Some, None, Result, Ok, Err}
+use Rattle.mod_text.proofs.Common.{refl, sym, ap, ◌∙◌, subst, ◌⊎◌, inl, inr, IfOk, IfErr, Texts}
 use Rattle.term_core.specs.Gives.{GivesUnless, RefusesUnless}
-use Rattle.mod_core.specs.declared.code.Module.{Module}
-use Rattle.mod_text.specs.declared.fault.FinishFault.{FinishFault}
-use Rattle.mod_text.specs.declared.fault.FinishFault.TheVariants as finish_faults
-use Rattle.mod_text.specs.declared.fault.LineFault.{LineFault}
-use Rattle.mod_text.specs.declared.fault.LineFault.TheVariants as faults
-use Rattle.mod_text.specs.declared.fault.LineStop.{LineStop}
-use Rattle.mod_text.specs.declared.fault.ModFault.{ModFault}
-use Rattle.mod_text.specs.declared.fault.ModFault.TheVariants as mod_faults
-use Rattle.mod_text.specs.Ending.{Ends, read, missing, stopped, no_memory, IsFaultOr, IsLabelFault}
-use Rattle.mod_text.specs.ModuleLine.{LineForm}
-use Rattle.mod_text.specs.ModuleText.{ModuleText, FirstFault, MissingAt, HasModFault, mod_fault, names_behind}
-use Rattle.mod_text.specs.ModuleValue.{module_of, unsettled_line, IsTitled, IsMissing}
-use Rattle.mod_text.specs.Reading.{Read, stop_at, bytes_on, UnlessNoMemory, StopsSo}
+use Rattle.mod_text.proofs.Types.{Module, FinishFault, LineFault, LineStop, ModFault}
+use Rattle.mod_text.proofs.Forms.{Ends, read, missing, stopped, no_memory, IsFaultOr, IsLabelFault}
+use Rattle.mod_text.proofs.Forms.{LineForm, ModuleText, FirstFault, MissingAt, HasModFault, mod_fault}
+use Rattle.mod_text.proofs.Forms.{names_behind, module_of, unsettled_line, IsTitled, IsMissing}
+use Rattle.mod_text.proofs.Forms.{Read, stop_at, bytes_on, UnlessNoMemory, StopsSo}
 use Rattle.mod_core.specs.Module.{IsModule}
 use Rattle.mod_text.proofs.ModuleSound.{module_is_sound}
 use Rattle.mod_text.proofs.TextLaws.{ok_is, bytes_are_read, lines_again, first_fault, fault_again, titled_is}
+use Rattle.mod_text.specs.declared.fault.ModFault.TheVariants as mod_faults
+use Rattle.mod_text.specs.declared.fault.LineFault.TheVariants as faults
+use Rattle.mod_text.specs.declared.fault.FinishFault.TheVariants as finish_faults
 
-module _ (before : List (List ℕ)) (bytes : List ℕ) (first : ℕ) (after : List (List ℕ)) where
+module _ (before : Texts) (bytes : List ℕ) (first : ℕ) (after : Texts) where
   -- ---- how it ends
 
   -- a reader that was closed begins with its title
@@ -53,21 +48,21 @@ module _ (before : List (List ℕ)) (bytes : List ℕ) (first : ℕ) (after : Li
 
   -- ---- each text of a module is read
 
-  same_read : (forms others : List LineForm) (names named : List (List ℕ)) → bytes_on before [] bytes ≡ Ok (names, forms) → bytes_on before [] bytes ≡ Ok (named, others) → (names ≡ named) × (forms ≡ others)
+  same_read : (forms others : List LineForm) (names named : Texts) → bytes_on before [] bytes ≡ Ok (names, forms) → bytes_on before [] bytes ≡ Ok (named, others) → (names ≡ named) × (forms ≡ others)
   same_read forms others names named e f =
       let whole : ◌≡◌ {A = Read} (Ok (names, forms)) (Ok (named, others)) = sym e ∙ f in
-      let same : ◌≡◌ {A = List (List ℕ) × List LineForm} (names, forms) (named, others) = ok_is (names, forms) (named, others) whole in
+      let same : ◌≡◌ {A = Texts × List LineForm} (names, forms) (named, others) = ok_is (names, forms) (named, others) whole in
       (ap (λ p. p.0) same, ap (λ p. p.1) same)
 
-  stop_by : (stop : LineStop) (fault : LineFault) (forms : List LineForm) (named : List (List ℕ)) → UnlessNoMemory fault (bytes_on before [] bytes ≡ Err stop) → bytes_on before [] bytes ≡ Ok (named, forms) → fault ≡ faults.NoMemory
+  stop_by : (stop : LineStop) (fault : LineFault) (forms : List LineForm) (named : Texts) → UnlessNoMemory fault (bytes_on before [] bytes ≡ Err stop) → bytes_on before [] bytes ≡ Ok (named, forms) → fault ≡ faults.NoMemory
   stop_by stop faults.NoMemory forms named so e = refl
   stop_by stop fault forms named so e = absurd cc
 
   -- where the lines are read, no line stops the reading
-  never_stops : (stop : LineStop) (fault : ModFault) (forms : List LineForm) (named : List (List ℕ)) → StopsSo (bytes_on before [] bytes) stop → fault ≡ mod_fault (first + stop.number) stop.fault → bytes_on before [] bytes ≡ Ok (named, forms) → fault ≡ mod_faults.NoMemory
+  never_stops : (stop : LineStop) (fault : ModFault) (forms : List LineForm) (named : Texts) → StopsSo (bytes_on before [] bytes) stop → fault ≡ mod_fault (first + stop.number) stop.fault → bytes_on before [] bytes ≡ Ok (named, forms) → fault ≡ mod_faults.NoMemory
   never_stops stop fault forms named so is e = is ∙ ap (mod_fault (first + stop.number)) (stop_by stop stop.fault forms named so e)
 
-  pub only_read : (r : Result Module ModFault) → Ends before bytes first after r → (m : Module) (named : List (List ℕ)) → ModuleText before bytes m named → GivesUnless mod_faults.NoMemory r m
+  pub only_read : (r : Result Module ModFault) → Ends before bytes first after r → (m : Module) (named : Texts) → ModuleText before bytes m named → GivesUnless mod_faults.NoMemory r m
   only_read r ends m named text =
       by_end r ends (ap (bytes_on before []) text.spelled ∙ lines_again before text.lines text.faultless text.closed ∙ ap (λ ns. Ok (ns, text.lines)) (sym text.named))
     where

@@ -1,24 +1,22 @@
 -- What a reader keeps after one line more.
-use Rattle.std.proofs.Common.{◌≡◌, ℕ, ◌<◌, ◌≤◌, length-append, Bool, true, false, cond, List, [], ◌∷◌, ◌++◌, length, Option, Some, None, Result, Ok, Err, bytes_eq, refl, sym, ap, ◌∙◌, subst, arith}
-use Rattle.std.specs.Prelude.{All, OnOk, IfErr, is_err, not, nat_le, unwrap_or}
-use Rattle.std.specs.Borrow.{Bor}
-use Rattle.std.specs.List.{list_any}
-use Rattle.std.proofs.lemmas.List.{append-nil, length-map, map-append}
-use Rattle.std.proofs.lemmas.List.Elements.{All-push}
+use Rattle.mod_text.proofs.Common.{fold-append, ◌≡◌, ℕ, ◌<◌, ◌≤◌, length-append, Bool, true, false, cond, List, [], ◌∷◌}
+use Rattle.mod_text.proofs.Common.{◌++◌, length, Option, Some, None, Result, Ok, Err, bytes_eq, refl, sym, Texts}
+use Rattle.mod_text.proofs.Common.{ap, ◌∙◌, subst, arith, All, OnOk, IfErr, is_err, Bor}
+use Rattle.mod_text.proofs.Common.{list_any, append-nil, length-map, map-append, All-push}
+use Rattle.std.specs.Prelude.{not, nat_le, unwrap_or}
 use Rattle.term_core.proofs.Lists.{any_map}
-use Rattle.mod_text.specs.declared.fault.LineFault.{LineFault}
-use Rattle.mod_text.specs.declared.fault.LineFault.TheVariants as faults
+use Rattle.mod_text.proofs.Types.{LineFault}
 use Rattle.mod_text.specs.declared.written.WrittenLine.{WrittenLine}
 use Rattle.mod_text.specs.LineViews.{line_form, text_form, form_of, forms_of, headers_of, words_of}
-use Rattle.mod_text.specs.ModuleLine.{LineForm, header, label, end}
-use Rattle.mod_text.specs.ModuleValue.{HeaderForm, headers_in}
-use Rattle.mod_text.specs.LineReading.{line_split, line_reading}
-use Rattle.mod_text.specs.LineFaults.{may_follow, last_line, has_high_register, has_wide_integer, has_long_term, line_atoms, names_after, overfills_names, labels_after, labels_on, open_labels, ends_too_long, place_fault}
-use Rattle.mod_text.specs.Keeping.{IsKept, RowFrom, AreKept, naming, judged_behind, judged_alone, keeping_by, keeping, lines_words}
-use Rattle.mod_text.specs.Reading.{Step, kept, judged, line_step, Fails, Gives}
+use Rattle.mod_text.specs.declared.fault.LineFault.TheVariants as faults
+use Rattle.mod_text.proofs.Forms.{LineForm, header, label, end, HeaderForm, headers_in, line_split}
+use Rattle.mod_text.proofs.Forms.{line_reading, may_follow, last_line, has_high_register, has_wide_integer}
+use Rattle.mod_text.proofs.Forms.{has_long_term, line_atoms, names_after, overfills_names, labels_after}
+use Rattle.mod_text.proofs.Forms.{open_labels, ends_too_long, place_fault, IsKept, RowFrom}
+use Rattle.mod_text.proofs.Forms.{AreKept, naming, judged_behind, judged_alone, keeping_by, keeping}
+use Rattle.mod_text.proofs.Forms.{lines_words, Step, kept, judged, line_step, Fails, Gives}
 use Rattle.mod_text.proofs.LineLaws.{soundly}
-use Rattle.mod_text.proofs.LineWords.{too_long_is, kept_sound}
-use Rattle.mod_text.proofs.LineNames.{ok_fails}
+use Rattle.mod_text.proofs.LineNames.{too_long_is, kept_sound, ok_fails}
 
 -- ---- lists
 
@@ -26,10 +24,6 @@ pub headers_in-append : (xs ys : List LineForm) → headers_in (xs ++ ys) ≡ he
 headers_in-append [] ys = refl
 headers_in-append (header exported name arity ∷ xs) ys = ap (λ l. (name, arity) ∷ l) (headers_in-append xs ys)
 headers_in-append (line ∷ xs) ys = headers_in-append xs ys
-
-pub labels_on-append : (labels : List (List ℕ)) (xs ys : List LineForm) → labels_on labels (xs ++ ys) ≡ labels_on (labels_on labels xs) ys
-labels_on-append labels [] ys = refl
-labels_on-append labels (x ∷ xs) ys = labels_on-append (labels_after labels x) xs ys
 
 -- the last line after one more
 pub last_line-push : (lines : List LineForm) (line : LineForm) → last_line (lines ++ line ∷ []) ≡ Some line
@@ -62,40 +56,41 @@ row_more before (first ∷ lines) line row place = (row.0, row_more (Some first)
 -- ---- one line more
 
 -- what is kept after a line of any form
-pub kept_more : (lines after : List LineForm) (last new_last : Option LineForm) (line : LineForm) (headers new_headers : List HeaderForm) (labels new_labels : List (List ℕ)) → AreKept lines last headers labels → IsKept line → may_follow (last_line lines) line ≡ true → after ≡ lines ++ line ∷ [] → new_last ≡ Some line → new_headers ≡ headers ++ headers_in (line ∷ []) → new_labels ≡ labels_after labels line → length new_headers ≤ 16 → AreKept after new_last new_headers new_labels
+pub kept_more : (lines after : List LineForm) (last new_last : Option LineForm) (line : LineForm) (headers new_headers : List HeaderForm) (labels new_labels : Texts) → AreKept lines last headers labels → IsKept line → may_follow (last_line lines) line ≡ true → after ≡ lines ++ line ∷ [] → new_last ≡ Some line → new_headers ≡ headers ++ headers_in (line ∷ []) → new_labels ≡ labels_after labels line → length new_headers ≤ 16 → AreKept after new_last new_headers new_labels
 kept_more lines after last new_last line headers new_headers labels new_labels kept is place pushed ended headed labelled few = record {
   row = subst (RowFrom None) (sym pushed) (row_more None lines line kept.row (ap (λ o. may_follow o line) (last_behind-none lines) ∙ place));
   last_is = ended ∙ sym (last_line-push lines line) ∙ ap last_line (sym pushed);
   each = subst (All IsKept) (sym pushed) (All-push IsKept lines line kept.each is);
   few = few;
   functions = headed ∙ ap (λ hs. hs ++ headers_in (line ∷ [])) kept.functions ∙ sym (headers_in-append lines (line ∷ [])) ∙ ap headers_in (sym pushed);
-  labelled = labelled ∙ ap (λ ls. labels_after ls line) kept.labelled ∙ sym (labels_on-append [] lines (line ∷ [])) ∙ ap open_labels (sym pushed);
+  labelled = labelled ∙ ap (λ ls. labels_after ls line) kept.labelled ∙ sym (fold-append labels_after [] lines (line ∷ [])) ∙ ap open_labels (sym pushed);
 }
 
 forms_pushed : (lines after : List (Bor (List ℕ))) (text : Bor (List ℕ)) (line : LineForm) → form_of text ≡ line → after ≡ lines ++ text ∷ [] → forms_of after ≡ forms_of lines ++ line ∷ []
 forms_pushed lines after text line said pushed = ap forms_of pushed ∙ map-append form_of lines (text ∷ []) ∙ ap (λ l. forms_of lines ++ l ∷ []) said
 
--- after the header of a function
-pub kept_header : (lines after : List (Bor (List ℕ))) (text : Bor (List ℕ)) (last : Option LineForm) (line : WrittenLine) (functions new_functions : List (Bor (List ℕ) × Bor (List ℕ))) (labels new_labels : List (Bor (List ℕ))) (name arity : Bor (List ℕ)) → AreKept (forms_of lines) last (headers_of functions) (words_of labels) → IsKept (line_form line) → may_follow (last_line (forms_of lines)) (line_form line) ≡ true → (exported : Bool) × (line_form line ≡ header exported name.now arity.now) → form_of text ≡ line_form line → after ≡ lines ++ text ∷ [] → new_functions ≡ functions ++ (name, arity) ∷ [] → new_labels ≡ [] → length functions < 16 → AreKept (forms_of after) (Some (line_form line)) (headers_of new_functions) (words_of new_labels)
-kept_header lines after text last line functions new_functions labels new_labels name arity kept is place form said pushed headed cleared few =
-    kept_more (forms_of lines) (forms_of after) last (Some (line_form line)) (line_form line) (headers_of functions) (headers_of new_functions) (words_of labels) (words_of new_labels) kept is place (forms_pushed lines after text (line_form line) said pushed) refl
-    (ap headers_of headed ∙ map-append (λ h. (h.0.now, h.1.now)) functions ((name, arity) ∷ []) ∙ ap (λ l. headers_of functions ++ headers_in (l ∷ [])) (sym form.1))
-    (ap words_of cleared ∙ ap (labels_after (words_of labels)) (sym form.1))
-    (omega (arith, few, length-map {B = List ℕ × List ℕ} new_functions (λ h. (h.0.now, h.1.now)), ap length headed, length-append functions ((name, arity) ∷ [])))
+module _ (lines after : List (Bor (List ℕ))) (text : Bor (List ℕ)) (last : Option LineForm) (line : WrittenLine) (functions : List (Bor (List ℕ) × Bor (List ℕ))) where
+  -- after the header of a function
+  pub kept_header : (new_functions : List (Bor (List ℕ) × Bor (List ℕ))) (labels new_labels : List (Bor (List ℕ))) (name arity : Bor (List ℕ)) → AreKept (forms_of lines) last (headers_of functions) (words_of labels) → IsKept (line_form line) → may_follow (last_line (forms_of lines)) (line_form line) ≡ true → (exported : Bool) × (line_form line ≡ header exported name.now arity.now) → form_of text ≡ line_form line → after ≡ lines ++ text ∷ [] → new_functions ≡ functions ++ (name, arity) ∷ [] → new_labels ≡ [] → length functions < 16 → AreKept (forms_of after) (Some (line_form line)) (headers_of new_functions) (words_of new_labels)
+  kept_header new_functions labels new_labels name arity kept is place form said pushed headed cleared few =
+      kept_more (forms_of lines) (forms_of after) last (Some (line_form line)) (line_form line) (headers_of functions) (headers_of new_functions) (words_of labels) (words_of new_labels) kept is place (forms_pushed lines after text (line_form line) said pushed) refl
+      (ap headers_of headed ∙ map-append (λ h. (h.0.now, h.1.now)) functions ((name, arity) ∷ []) ∙ ap (λ l. headers_of functions ++ headers_in (l ∷ [])) (sym form.1))
+      (ap words_of cleared ∙ ap (labels_after (words_of labels)) (sym form.1))
+      (omega (arith, few, length-map {B = List ℕ × List ℕ} new_functions (λ h. (h.0.now, h.1.now)), ap length headed, length-append functions ((name, arity) ∷ [])))
 
--- after a label
-pub kept_label : (lines after : List (Bor (List ℕ))) (text : Bor (List ℕ)) (last : Option LineForm) (line : WrittenLine) (functions : List (Bor (List ℕ) × Bor (List ℕ))) (labels new_labels : List (Bor (List ℕ))) (name : Bor (List ℕ)) → AreKept (forms_of lines) last (headers_of functions) (words_of labels) → IsKept (line_form line) → may_follow (last_line (forms_of lines)) (line_form line) ≡ true → line_form line ≡ label name.now → form_of text ≡ line_form line → after ≡ lines ++ text ∷ [] → words_of new_labels ≡ words_of labels ++ name.now ∷ [] → AreKept (forms_of after) (Some (line_form line)) (headers_of functions) (words_of new_labels)
-kept_label lines after text last line functions labels new_labels name kept is place form said pushed labelled =
-    kept_more (forms_of lines) (forms_of after) last (Some (line_form line)) (line_form line) (headers_of functions) (headers_of functions) (words_of labels) (words_of new_labels) kept is place (forms_pushed lines after text (line_form line) said pushed) refl
-    (sym (append-nil (headers_of functions)) ∙ ap (λ l. headers_of functions ++ headers_in (l ∷ [])) (sym form))
-    (labelled ∙ ap (labels_after (words_of labels)) (sym form)) kept.few
+  -- after a label
+  pub kept_label : (labels new_labels : List (Bor (List ℕ))) (name : Bor (List ℕ)) → AreKept (forms_of lines) last (headers_of functions) (words_of labels) → IsKept (line_form line) → may_follow (last_line (forms_of lines)) (line_form line) ≡ true → line_form line ≡ label name.now → form_of text ≡ line_form line → after ≡ lines ++ text ∷ [] → words_of new_labels ≡ words_of labels ++ name.now ∷ [] → AreKept (forms_of after) (Some (line_form line)) (headers_of functions) (words_of new_labels)
+  kept_label labels new_labels name kept is place form said pushed labelled =
+      kept_more (forms_of lines) (forms_of after) last (Some (line_form line)) (line_form line) (headers_of functions) (headers_of functions) (words_of labels) (words_of new_labels) kept is place (forms_pushed lines after text (line_form line) said pushed) refl
+      (sym (append-nil (headers_of functions)) ∙ ap (λ l. headers_of functions ++ headers_in (l ∷ [])) (sym form))
+      (labelled ∙ ap (labels_after (words_of labels)) (sym form)) kept.few
 
--- after a line of another form
-pub kept_other : (lines after : List (Bor (List ℕ))) (text : Bor (List ℕ)) (last : Option LineForm) (line : WrittenLine) (functions : List (Bor (List ℕ) × Bor (List ℕ))) (labels : List (Bor (List ℕ))) → AreKept (forms_of lines) last (headers_of functions) (words_of labels) → IsKept (line_form line) → may_follow (last_line (forms_of lines)) (line_form line) ≡ true → (headers_in (line_form line ∷ []) ≡ []) × ((ls : List (List ℕ)) → labels_after ls (line_form line) ≡ ls) → form_of text ≡ line_form line → after ≡ lines ++ text ∷ [] → AreKept (forms_of after) (Some (line_form line)) (headers_of functions) (words_of labels)
-kept_other lines after text last line functions labels kept is place form said pushed =
-    kept_more (forms_of lines) (forms_of after) last (Some (line_form line)) (line_form line) (headers_of functions) (headers_of functions) (words_of labels) (words_of labels) kept is place (forms_pushed lines after text (line_form line) said pushed) refl
-    (sym (append-nil (headers_of functions)) ∙ ap (λ hs. headers_of functions ++ hs) (sym form.0))
-    (sym (form.1 (words_of labels))) kept.few
+  -- after a line of another form
+  pub kept_other : (labels : List (Bor (List ℕ))) → AreKept (forms_of lines) last (headers_of functions) (words_of labels) → IsKept (line_form line) → may_follow (last_line (forms_of lines)) (line_form line) ≡ true → (headers_in (line_form line ∷ []) ≡ []) × ((ls : Texts) → labels_after ls (line_form line) ≡ ls) → form_of text ≡ line_form line → after ≡ lines ++ text ∷ [] → AreKept (forms_of after) (Some (line_form line)) (headers_of functions) (words_of labels)
+  kept_other labels kept is place form said pushed =
+      kept_more (forms_of lines) (forms_of after) last (Some (line_form line)) (line_form line) (headers_of functions) (headers_of functions) (words_of labels) (words_of labels) kept is place (forms_pushed lines after text (line_form line) said pushed) refl
+      (sym (append-nil (headers_of functions)) ∙ ap (λ hs. headers_of functions ++ hs) (sym form.0))
+      (sym (form.1 (words_of labels))) kept.few
 
 -- ---- labels
 
@@ -116,21 +111,22 @@ pub on_ok : {X E : Type 0} (r : Result X E) (P : Type 0) → OnOk r P → is_err
 on_ok (Ok x) P h e = h
 on_ok (Err f) P h e = absurd cc
 
-keeping_end : (names : List (List ℕ)) (lines : List LineForm) (t : Bool) → ends_too_long names lines end ≡ t → keeping names lines end ≡ cond t (Err faults.TooLong) (Ok (lines ++ end ∷ []))
+keeping_end : (names : Texts) (lines : List LineForm) (t : Bool) → ends_too_long names lines end ≡ t → keeping names lines end ≡ cond t (Err faults.TooLong) (Ok (lines ++ end ∷ []))
 keeping_end names lines true e = ap (λ t. keeping_by lines end (cond t (Some faults.TooLong) None)) e
 keeping_end names lines false e = ap (λ t. keeping_by lines end (cond t (Some faults.TooLong) None)) e
 
--- the end of a module that is too long
-pub end_refused : (lines : List LineForm) (items : List (Bor (List ℕ))) (short : Bool) → RowFrom None (forms_of items) → All IsKept (forms_of items) → forms_of items ≡ lines → short ≡ nat_le (lines_words (forms_of items)) 1024 → short ≡ false → (names : List (List ℕ)) → keeping names lines end ≡ Err faults.TooLong
-end_refused lines items short row kept view is long names =
-    let over : ends_too_long names (forms_of items) end ≡ true = too_long_is names (forms_of items) row (kept_sound (forms_of items) kept) ∙ ap not (sym is ∙ long) in
-    ap (λ ls. keeping names ls end) (sym view) ∙ keeping_end names (forms_of items) true over
+module _ (lines : List LineForm) (items : List (Bor (List ℕ))) (short : Bool) (row : RowFrom None (forms_of items)) (kept : All IsKept (forms_of items)) (view : forms_of items ≡ lines) (is : short ≡ nat_le (lines_words (forms_of items)) 1024) where
+  -- the end of a module that is too long
+  pub end_refused : short ≡ false → (names : Texts) → keeping names lines end ≡ Err faults.TooLong
+  end_refused long names =
+      let over : ends_too_long names (forms_of items) end ≡ true = too_long_is names (forms_of items) row (kept_sound (forms_of items) kept) ∙ ap not (sym is ∙ long) in
+      ap (λ ls. keeping names ls end) (sym view) ∙ keeping_end names (forms_of items) true over
 
--- the end of a module that is short enough
-pub end_kept : (lines : List LineForm) (items : List (Bor (List ℕ))) (short : Bool) → RowFrom None (forms_of items) → All IsKept (forms_of items) → forms_of items ≡ lines → short ≡ nat_le (lines_words (forms_of items)) 1024 → short ≡ true → (names : List (List ℕ)) → keeping names lines end ≡ Ok (lines ++ end ∷ [])
-end_kept lines items short row kept view is fits names =
-    let within : ends_too_long names (forms_of items) end ≡ false = too_long_is names (forms_of items) row (kept_sound (forms_of items) kept) ∙ ap not (sym is ∙ fits) in
-    ap (λ ls. keeping names ls end) (sym view) ∙ keeping_end names (forms_of items) false within ∙ ap (λ ls. Ok (ls ++ end ∷ [])) view
+  -- the end of a module that is short enough
+  pub end_kept : short ≡ true → (names : Texts) → keeping names lines end ≡ Ok (lines ++ end ∷ [])
+  end_kept fits names =
+      let within : ends_too_long names (forms_of items) end ≡ false = too_long_is names (forms_of items) row (kept_sound (forms_of items) kept) ∙ ap not (sym is ∙ fits) in
+      ap (λ ls. keeping names ls end) (sym view) ∙ keeping_end names (forms_of items) false within ∙ ap (λ ls. Ok (ls ++ end ∷ [])) view
 
 -- an answer whose only error is want of memory
 pub gives_kept : {X : Type 0} (view : X → List LineForm) (r : Result X LineFault) (step : Result (List LineForm) LineFault) (new whole : List LineForm) (Same : Type 0) → OnOk r (new ≡ whole) → IfErr r (λ fault. (fault ≡ faults.NoMemory) × Same) → step ≡ Ok whole → ((x : X) → view x ≡ new) → Gives view r step
@@ -168,7 +164,7 @@ pub then_stage : {A B : Type 0} → Result A LineFault → (A → Result B LineF
 then_stage (Ok x) more = more x
 then_stage (Err fault) more = Err fault
 
-alone_stage : (names : List (List ℕ)) (lines : List LineForm) (line : LineForm) (later : LineForm → Option LineFault) (follows high wide long : Bool) →
+alone_stage : (names : Texts) (lines : List LineForm) (line : LineForm) (later : LineForm → Option LineFault) (follows high wide long : Bool) →
     cond {A = Step} follows (kept names lines line (cond high (Some faults.Register) (cond wide (Some faults.Int) (cond long (Some faults.Term) (later line))))) (Err faults.Syntax)
     ≡ then_stage (cond {A = Result LineForm LineFault} follows (cond high (Err faults.Register) (cond wide (Err faults.Int) (cond long (Err faults.Term) (Ok line)))) (Err faults.Syntax)) (λ l. kept names lines l (later l))
 unfolding then_stage
@@ -178,19 +174,19 @@ alone_stage names lines line later true false true long = refl
 alone_stage names lines line later true false false true = refl
 alone_stage names lines line later true false false false = refl
 
-naming_stage : (names : List (List ℕ)) (lines : List LineForm) (line : LineForm) (over : Bool) (place : Option LineFault) →
+naming_stage : (names : Texts) (lines : List LineForm) (line : LineForm) (over : Bool) (place : Option LineFault) →
     kept names lines line (cond over (Some faults.Names) place)
-    ≡ then_stage (cond {A = Result (List (List ℕ)) LineFault} over (Err faults.Names) (Ok (names_after names line))) (λ named. then_stage (keeping_by lines line place) (λ ls. Ok (named, ls)))
+    ≡ then_stage (cond {A = Result Texts LineFault} over (Err faults.Names) (Ok (names_after names line))) (λ named. then_stage (keeping_by lines line place) (λ ls. Ok (named, ls)))
 unfolding then_stage
 naming_stage names lines line true place = refl
 naming_stage names lines line false None = refl
 naming_stage names lines line false (Some fault) = refl
 
 -- the stages of a line that stands alone in its limits
-pub later_stages : List (List ℕ) → List LineForm → LineForm → Step
+pub later_stages : Texts → List LineForm → LineForm → Step
 later_stages names lines line = then_stage (naming names (line_atoms line)) (λ named. then_stage (keeping names lines line) (λ ls. Ok (named, ls)))
 
-staged_by : (names : List (List ℕ)) (lines : List LineForm) (o : Option LineForm) → judged names lines o ≡ then_stage (judged_alone lines o) (later_stages names lines)
+staged_by : (names : Texts) (lines : List LineForm) (o : Option LineForm) → judged names lines o ≡ then_stage (judged_alone lines o) (later_stages names lines)
 unfolding then_stage later_stages
 staged_by names lines None = refl
 staged_by names lines (Some line) =
@@ -198,7 +194,7 @@ staged_by names lines (Some line) =
     ∙ ap (then_stage (judged_behind (last_line lines) line)) (λ i l. naming_stage names lines l (overfills_names names l) (place_fault names lines l) i)
 
 -- a line is judged in stages
-pub staged : (names : List (List ℕ)) (lines : List LineForm) (text : List ℕ) → line_step names lines text ≡ then_stage (judged_alone lines (line_reading text)) (later_stages names lines)
+pub staged : (names : Texts) (lines : List LineForm) (text : List ℕ) → line_step names lines text ≡ then_stage (judged_alone lines (line_reading text)) (later_stages names lines)
 staged names lines text = staged_by names lines (line_reading text)
 
 pub fails_first : {A B : Type 0} (r : Result A LineFault) (more : A → Result B LineFault) (fault : LineFault) → Fails r fault → Fails (then_stage r more) fault
@@ -210,32 +206,33 @@ fails_first {A} {B} (Err e) more fault h = same_fault A B e fault h
     same_fault A B e faults.NoMemory h = tt
     same_fault A B e fault h = ap (λ f. Err f) (err_is e fault h)
 
--- a fault of what the line is alone
-pub line_fails_alone : (names : List (List ℕ)) (lines : List LineForm) (text : List ℕ) (fault : LineFault) → Fails (judged_alone lines (line_reading text)) fault → Fails (line_step names lines text) fault
-line_fails_alone names lines text fault h =
-    subst (λ (step : Step). Fails step fault) (sym (staged names lines text)) (fails_first (judged_alone lines (line_reading text)) (later_stages names lines) fault h)
+module _ (names : Texts) (lines : List LineForm) (text : List ℕ) where
+  -- a fault of what the line is alone
+  pub line_fails_alone : (fault : LineFault) → Fails (judged_alone lines (line_reading text)) fault → Fails (line_step names lines text) fault
+  line_fails_alone fault h =
+      subst (λ (step : Step). Fails step fault) (sym (staged names lines text)) (fails_first (judged_alone lines (line_reading text)) (later_stages names lines) fault h)
 
--- behind a line that is within its limits
-behind_alone : (names : List (List ℕ)) (lines : List LineForm) (text : List ℕ) (line : LineForm) → judged_alone lines (line_reading text) ≡ Ok line → line_step names lines text ≡ later_stages names lines line
-unfolding then_stage
-behind_alone names lines text line is = staged names lines text ∙ ap (λ r. then_stage r (later_stages names lines)) is
+  -- behind a line that is within its limits
+  behind_alone : (line : LineForm) → judged_alone lines (line_reading text) ≡ Ok line → line_step names lines text ≡ later_stages names lines line
+  unfolding then_stage
+  behind_alone line is = staged names lines text ∙ ap (λ r. then_stage r (later_stages names lines)) is
 
--- a fault of its names
-pub line_fails_named : (names : List (List ℕ)) (lines : List LineForm) (text : List ℕ) (line : LineForm) (fault : LineFault) → judged_alone lines (line_reading text) ≡ Ok line → Fails (naming names (line_atoms line)) fault → Fails (line_step names lines text) fault
-unfolding later_stages
-line_fails_named names lines text line fault is h =
-    subst (λ (step : Step). Fails step fault) (sym (behind_alone names lines text line is))
-    (fails_first (naming names (line_atoms line)) (λ named. then_stage (keeping names lines line) (λ ls. Ok (named, ls))) fault h)
+  -- a fault of its names
+  pub line_fails_named : (line : LineForm) (fault : LineFault) → judged_alone lines (line_reading text) ≡ Ok line → Fails (naming names (line_atoms line)) fault → Fails (line_step names lines text) fault
+  unfolding later_stages
+  line_fails_named line fault is h =
+      subst (λ (step : Step). Fails step fault) (sym (behind_alone line is))
+      (fails_first (naming names (line_atoms line)) (λ named. then_stage (keeping names lines line) (λ ls. Ok (named, ls))) fault h)
 
-kept_on : {X : Type 0} (view : X → List LineForm) (named : List (List ℕ)) (r : Result X LineFault) (step : Result (List LineForm) LineFault) → Gives view r step → Gives {A = List (List ℕ) × List LineForm} (λ x. (named, view x)) r (then_stage step (λ ls. Ok (named, ls)))
+kept_on : {X : Type 0} (view : X → List LineForm) (named : Texts) (r : Result X LineFault) (step : Result (List LineForm) LineFault) → Gives view r step → Gives {A = Texts × List LineForm} (λ x. (named, view x)) r (then_stage step (λ ls. Ok (named, ls)))
 unfolding then_stage
 kept_on view named (Ok x) step h = ap (λ s. then_stage s (λ ls. Ok (named, ls))) h
 kept_on view named (Err fault) step h = fails_first step (λ ls. Ok (named, ls)) fault h
 
 -- the rest is as the lines are kept
-pub line_gives : {X : Type 0} (view : X → List LineForm) (names named : List (List ℕ)) (lines : List LineForm) (text : List ℕ) (line : LineForm) (r : Result X LineFault) → judged_alone lines (line_reading text) ≡ Ok line → naming names (line_atoms line) ≡ Ok named → Gives view r (keeping names lines line) → Gives {A = List (List ℕ) × List LineForm} (λ x. (named, view x)) r (line_step names lines text)
+pub line_gives : {X : Type 0} (view : X → List LineForm) (names named : Texts) (lines : List LineForm) (text : List ℕ) (line : LineForm) (r : Result X LineFault) → judged_alone lines (line_reading text) ≡ Ok line → naming names (line_atoms line) ≡ Ok named → Gives view r (keeping names lines line) → Gives {A = Texts × List LineForm} (λ x. (named, view x)) r (line_step names lines text)
 unfolding later_stages then_stage
 line_gives view names named lines text line r alone naming_is h =
     let is : line_step names lines text ≡ then_stage (keeping names lines line) (λ ls. Ok (named, ls)) =
     behind_alone names lines text line alone ∙ ap (λ n. then_stage n (λ k. then_stage (keeping names lines line) (λ ls. Ok (k, ls)))) naming_is in
-    subst (Gives {A = List (List ℕ) × List LineForm} (λ x. (named, view x)) r) (sym is) (kept_on view named r (keeping names lines line) h)
+    subst (Gives {A = Texts × List LineForm} (λ x. (named, view x)) r) (sym is) (kept_on view named r (keeping names lines line) h)

@@ -1,299 +1,71 @@
--- A line is read as the form whose text it has, and no other text is read.
-use Rattle.std.proofs.Common.{◌≡◌, ℕ, Bool, true, false, cond, ◌&&◌, ◌==◌, List, [], ◌∷◌, Option, Some, None, option_map, bytes_eq, codes, refl, sym, ap, ◌∙◌, subst}
-use Rattle.std.proofs.lemmas.Bool.{and_parts, and_from}
-use Rattle.std.proofs.lemmas.Bool.Decides.{Decides-eqb}
-use Rattle.term_core.specs.Names.{is_atom_text}
-use Rattle.term_core.specs.TermForms.{is_bracketed, is_term_text}
-use Rattle.term_core.specs.Written.{is_integer_text}
-use Rattle.term_core.specs.Text.Numbers.{is_number_text}
-use Rattle.mod_text.specs.ModuleLine.{OperandForm, register, integer, atom, complex, InstrForm, move, add, sub, eq, less, jump, call, call_ext, ret, pget, pget_or, elem, print, yield, LineForm, title, header, label, instr, end, parted_by, spaced, register_written, operand_written, instr_written, header_word, line_written, is_version_text, is_arity_text, is_operand_form, is_instr_form, is_line_form, LineText}
-use Rattle.std.specs.Prelude.{IfSome, IsTrue}
+-- A line is read as the form whose text it has, and no other text is read; the text of each line is read as that line.
+use Rattle.mod_text.proofs.Common.{◌≡◌, ℕ, Bool, true, false, cond, ◌&&◌, List, ◌∷◌, ◌++◌, Option, Some, None}
+use Rattle.mod_text.proofs.Common.{option_map, codes, refl, sym, ◌∙◌, subst, ap, and_parts, and_from}
+use Rattle.mod_text.proofs.Common.{[], IfSome, IsTrue}
 use Rattle.mod_text.specs.declared.written.WrittenLine.{WrittenLine}
-use Rattle.mod_text.specs.LineViews.{line_form}
-use Rattle.term_core.specs.Text.Steps.{◌>>=◌, tested, numbered_reading}
-use Rattle.term_core.specs.Text.Cuts.{cut_at}
-use Rattle.mod_text.specs.LineReading.{register_reading, constant_reading, operand_reading, operands_reading, sum_reading, branch_reading, move_reading, call_reading, call_ext_reading, add_reading, sub_reading, eq_reading, less_reading, jump_reading, ret_reading, pget_reading, pget_or_reading, elem_reading, print_reading, instr_reading, lone_reading, label_reading, title_reading, header_reading, instr_line_reading, keyed_reading, parts_reading, line_split, is_sound_operand, has_sound_operands, has_sound_terms, sound_reading, line_reading}
-use Rattle.term_core.proofs.Text.Options.{some_is, bind_some, map_some, guarded, bytes_are, tested_is}
-use Rattle.term_core.proofs.Text.Cuts.{cut_is}
+use Rattle.mod_text.proofs.Forms.{line_form, instr_reading, lone_reading, instr_line_reading, keyed_reading, parts_reading}
+use Rattle.mod_text.proofs.Forms.{line_split, is_sound_operand, has_sound_operands, operands_of, each_operand}
+use Rattle.mod_text.proofs.Forms.{has_sound_terms, sound_reading, line_reading}
+use Rattle.mod_text.proofs.Texts.{◌>>=◌, cut_at, some_is, map_some, some, passed, cut_is, atom_lacks, number_lacks}
+use Rattle.mod_text.proofs.Texts.{lacks, lacks-append, lacks-cons, IsItem, is_atom_text, is_bracketed}
+use Rattle.mod_text.proofs.Texts.{is_term_text, is_number_text}
+use Rattle.mod_text.specs.ModuleLine.{OperandForm, InstrForm, move, add, sub, eq, less, jump, call, call_ext, ret, pget}
+use Rattle.mod_text.specs.ModuleLine.{pget_or, elem, print, yield, LineForm, title, header, label, instr, end, instr_written}
+use Rattle.mod_text.specs.ModuleLine.{line_written, is_operand_form, is_instr_form, is_line_form, LineText, complex, parted_by}
+use Rattle.mod_text.specs.ModuleLine.{spaced, function_written, is_version_text, is_arity_text, is_function_form}
+use Rattle.mod_text.proofs.Readers.{Reader, name_is, word_is, made_again}
+use Rattle.mod_text.proofs.LineReaders.{IsSplit as IsSplitOperand, operand, name, function, titled, one_operand, two_operands, branch}
+use Rattle.mod_text.proofs.LineReaders.{local_call, external_call, one_key, key_or, line_feed_apart, line_feed_outside, slot, operand_name}
+use Rattle.mod_text.proofs.LineReaders.{external, operands_form, operand_lacks, function_lacks, external_lacks, version_number}
 
 -- ---- what is read has this text
 
-register_is : (text digits : List ℕ) → register_reading text ≡ Some digits → (text ≡ register_written digits) × (is_number_text digits ≡ true)
-register_is [] digits e = absurd cc
-register_is (c ∷ rest) digits e =
-    let g = guarded (c == 36) (tested is_number_text rest) digits e in
-    let t = tested_is is_number_text rest digits g.1 in
-    (ap (λ (k : ℕ). k ∷ rest) ((Decides-eqb c 36).0 g.0) ∙ ap (λ (k : List ℕ). 36 ∷ k) t.0, t.1)
+-- what is known of an instruction
+abbrev IsKnown : InstrForm → Type 0
+IsKnown i = has_sound_operands i ≡ true → is_instr_form i ≡ true
 
--- an operand with its text, whose tuple or list was not looked into
-abbrev IsOperand : List ℕ → OperandForm → Type 0
-IsOperand text o = (text ≡ operand_written o) × (is_sound_operand o ≡ true → is_operand_form o ≡ true)
+operands_known : (a b : OperandForm) (last : Bool) → IsSplitOperand a → IsSplitOperand b → last ≡ true → (is_sound_operand a && is_sound_operand b) ≡ true → (is_operand_form a && (is_operand_form b && last)) ≡ true
+operands_known a b last h k l sound = let both = and_parts (is_sound_operand a) (is_sound_operand b) sound in and_from _ _ (h both.0) (and_from _ _ (k both.1) l)
 
-complex_is : (text : List ℕ) (o : OperandForm) → option_map (λ x. complex x) (tested is_bracketed text) ≡ Some o → IsOperand text o
-complex_is text o e =
-    let m = map_some (λ x. complex x) (tested is_bracketed text) o e in
-    let t = tested_is is_bracketed text m.0 m.1 in
-    subst (IsOperand text) m.2 (t.0, λ sound. and_from (is_bracketed m.0) (is_term_text m.0) t.1 sound)
-
-number_by : (text : List ℕ) (o : OperandForm) (t : Bool) → is_integer_text text ≡ t → cond t (Some (integer text)) (option_map (λ x. complex x) (tested is_bracketed text)) ≡ Some o → IsOperand text o
-number_by text o true is e = subst (IsOperand text) (some_is (integer text) o e) (refl, λ _. is)
-number_by text o false is e = complex_is text o e
-
-constant_by : (text : List ℕ) (o : OperandForm) (t : Bool) → is_atom_text text ≡ t → cond t (Some (atom text)) (cond (is_integer_text text) (Some (integer text)) (option_map (λ x. complex x) (tested is_bracketed text))) ≡ Some o → IsOperand text o
-constant_by text o true is e = subst (IsOperand text) (some_is (atom text) o e) (refl, λ _. is)
-constant_by text o false is e = number_by text o (is_integer_text text) refl e
-
-operand_by : (c : ℕ) (rest : List ℕ) (o : OperandForm) (t : Bool) → (c == 36) ≡ t → cond t (option_map (λ digits. register digits) (tested is_number_text rest)) (constant_reading (c ∷ rest)) ≡ Some o → IsOperand (c ∷ rest) o
-operand_by c rest o true is e =
-    let m = map_some (λ digits. register digits) (tested is_number_text rest) o e in
-    let t = tested_is is_number_text rest m.0 m.1 in
-    subst (IsOperand (c ∷ rest)) m.2 (ap (λ (k : ℕ). k ∷ rest) ((Decides-eqb c 36).0 is) ∙ ap (λ (k : List ℕ). 36 ∷ k) t.0, λ _. t.1)
-operand_by c rest o false is e = constant_by (c ∷ rest) o (is_atom_text (c ∷ rest)) refl e
-
-operand_is : (text : List ℕ) (o : OperandForm) → operand_reading text ≡ Some o → IsOperand text o
-operand_is [] o e = absurd cc
-operand_is (c ∷ rest) o e = operand_by c rest o (c == 36) refl e
-
--- a name and a number with their text
-record IsNumbered (byte : ℕ) (test : List ℕ → Bool) (text : List ℕ) (x : List ℕ × List ℕ) : Type 0 where
-  whole : text ≡ parted_by byte x.0 x.1
-  name : is_atom_text x.0 ≡ true
-  number : test x.1 ≡ true
-
-numbered_is : (byte : ℕ) (test : List ℕ → Bool) (text : List ℕ) (x : List ℕ × List ℕ) → numbered_reading byte test text ≡ Some x → IsNumbered byte test text x
-numbered_is byte test text x e =
-    let a = bind_some (cut_at byte text) (λ parts. tested is_atom_text parts.0 >>= λ name. tested test parts.1 >>= λ number. Some (name, number)) x e in
-    let b = bind_some (tested is_atom_text a.0.0) (λ name. tested test a.0.1 >>= λ number. Some (name, number)) x a.2 in
-    let c = bind_some (tested test a.0.1) (λ number. Some (b.0, number)) x b.2 in
-    let name = tested_is is_atom_text a.0.0 b.0 b.1 in
-    let number = tested_is test a.0.1 c.0 c.1 in
-    subst (IsNumbered byte test text) (some_is (b.0, c.0) x c.2)
-    (record { whole = (cut_is byte text a.0 a.1).whole ∙ (λ i. parted_by byte (name.0 i) (number.0 i)); name = name.1; number = number.1 })
-
--- two operands and a word, with their text
-record AreOperands (words : List ℕ) (x : OperandForm × OperandForm × List ℕ) : Type 0 where
-  whole : words ≡ spaced (operand_written x.0) (spaced (operand_written x.1) x.2)
-  first : is_sound_operand x.0 ≡ true → is_operand_form x.0 ≡ true
-  second : is_sound_operand x.1 ≡ true → is_operand_form x.1 ≡ true
-
-operands_are : (words : List ℕ) (x : OperandForm × OperandForm × List ℕ) → operands_reading words ≡ Some x → AreOperands words x
-operands_are words x e =
-    let a = bind_some (cut_at 32 words) (λ first. cut_at 32 first.1 >>= λ second. operand_reading first.0 >>= λ p. operand_reading second.0 >>= λ q. Some (p, q, second.1)) x e in
-    let b = bind_some (cut_at 32 a.0.1) (λ second. operand_reading a.0.0 >>= λ p. operand_reading second.0 >>= λ q. Some (p, q, second.1)) x a.2 in
-    let c = bind_some (operand_reading a.0.0) (λ p. operand_reading b.0.0 >>= λ q. Some (p, q, b.0.1)) x b.2 in
-    let d = bind_some (operand_reading b.0.0) (λ q. Some (c.0, q, b.0.1)) x c.2 in
-    let first = operand_is a.0.0 c.0 c.1 in
-    let second = operand_is b.0.0 d.0 d.1 in
-    subst (AreOperands words) (some_is (c.0, d.0, b.0.1) x d.2)
-    (record {
-      whole = (cut_is 32 words a.0 a.1).whole ∙ ap (spaced a.0.0) (cut_is 32 a.0.1 b.0 b.1).whole ∙ (λ i. spaced (first.0 i) (spaced (second.0 i) b.0.1));
-      first = first.1;
-      second = second.1;
-    })
-
--- two operands and a register
-record IsSum (words : List ℕ) (x : OperandForm × OperandForm × List ℕ) : Type 0 where
-  whole : words ≡ spaced (operand_written x.0) (spaced (operand_written x.1) (register_written x.2))
-  sound : (is_sound_operand x.0 && is_sound_operand x.1) ≡ true → (is_operand_form x.0 && (is_operand_form x.1 && is_number_text x.2)) ≡ true
-
-sum_is : (words : List ℕ) (x : OperandForm × OperandForm × List ℕ) → sum_reading words ≡ Some x → IsSum words x
-sum_is words x e =
-    let a = bind_some (operands_reading words) (λ parts. register_reading parts.2 >>= λ to. Some (parts.0, parts.1, to)) x e in
-    let b = bind_some (register_reading a.0.2) (λ to. Some (a.0.0, a.0.1, to)) x a.2 in
-    let parts = operands_are words a.0 a.1 in
-    let to = register_is a.0.2 b.0 b.1 in
-    subst (IsSum words) (some_is (a.0.0, a.0.1, b.0) x b.2)
-    (record { whole = parts.whole ∙ ap (λ t. spaced (operand_written a.0.0) (spaced (operand_written a.0.1) t)) to.0; sound = λ h. let both = and_parts (is_sound_operand a.0.0) (is_sound_operand a.0.1) h in and_from _ _ (parts.first both.0) (and_from _ _ (parts.second both.1) to.1) })
-
--- two operands and a label
-record IsBranch (words : List ℕ) (x : OperandForm × OperandForm × List ℕ) : Type 0 where
-  whole : words ≡ spaced (operand_written x.0) (spaced (operand_written x.1) x.2)
-  sound : (is_sound_operand x.0 && is_sound_operand x.1) ≡ true → (is_operand_form x.0 && (is_operand_form x.1 && is_atom_text x.2)) ≡ true
-
-branch_is : (words : List ℕ) (x : OperandForm × OperandForm × List ℕ) → branch_reading words ≡ Some x → IsBranch words x
-branch_is words x e =
-    let a = bind_some (operands_reading words) (λ parts. tested is_atom_text parts.2 >>= λ target. Some (parts.0, parts.1, target)) x e in
-    let b = bind_some (tested is_atom_text a.0.2) (λ target. Some (a.0.0, a.0.1, target)) x a.2 in
-    let parts = operands_are words a.0 a.1 in
-    let target = tested_is is_atom_text a.0.2 b.0 b.1 in
-    subst (IsBranch words) (some_is (a.0.0, a.0.1, b.0) x b.2)
-    (record { whole = parts.whole ∙ ap (λ t. spaced (operand_written a.0.0) (spaced (operand_written a.0.1) t)) target.0; sound = λ h. let both = and_parts (is_sound_operand a.0.0) (is_sound_operand a.0.1) h in and_from _ _ (parts.first both.0) (and_from _ _ (parts.second both.1) target.1) })
-
--- an instruction whose text begins with this word and goes on so
-abbrev Says : List ℕ → List ℕ → InstrForm → Type 0
-Says word rest i = (spaced word rest ≡ instr_written i) × (has_sound_operands i ≡ true → is_instr_form i ≡ true)
-
-move_is : (words : List ℕ) (i : InstrForm) → move_reading words ≡ Some i → Says (codes "move") words i
-move_is words i e =
-    let a = bind_some (cut_at 32 words) (λ parts. operand_reading parts.0 >>= λ from. register_reading parts.1 >>= λ to. Some (move from to)) i e in
-    let b = bind_some (operand_reading a.0.0) (λ from. register_reading a.0.1 >>= λ to. Some (move from to)) i a.2 in
-    let c = bind_some (register_reading a.0.1) (λ to. Some (move b.0 to)) i b.2 in
-    let from = operand_is a.0.0 b.0 b.1 in
-    let to = register_is a.0.1 c.0 c.1 in
-    subst (Says (codes "move") words) (some_is (move b.0 c.0) i c.2)
-    (ap (spaced (codes "move")) ((cut_is 32 words a.0 a.1).whole ∙ (λ j. spaced (from.0 j) (to.0 j))), λ h. and_from _ _ (from.1 h) to.1)
-
-add_is : (words : List ℕ) (i : InstrForm) → add_reading words ≡ Some i → Says (codes "add") words i
-add_is words i e =
-    let m = map_some (λ x. add x.0 x.1 x.2) (sum_reading words) i e in
-    let s = sum_is words m.0 m.1 in
-    subst (Says (codes "add") words) m.2 (ap (spaced (codes "add")) s.whole, s.sound)
-
-sub_is : (words : List ℕ) (i : InstrForm) → sub_reading words ≡ Some i → Says (codes "sub") words i
-sub_is words i e =
-    let m = map_some (λ x. sub x.0 x.1 x.2) (sum_reading words) i e in
-    let s = sum_is words m.0 m.1 in
-    subst (Says (codes "sub") words) m.2 (ap (spaced (codes "sub")) s.whole, s.sound)
-
-eq_is : (words : List ℕ) (i : InstrForm) → eq_reading words ≡ Some i → Says (codes "eq") words i
-eq_is words i e =
-    let m = map_some (λ x. eq x.0 x.1 x.2) (branch_reading words) i e in
-    let s = branch_is words m.0 m.1 in
-    subst (Says (codes "eq") words) m.2 (ap (spaced (codes "eq")) s.whole, s.sound)
-
-less_is : (words : List ℕ) (i : InstrForm) → less_reading words ≡ Some i → Says (codes "less") words i
-less_is words i e =
-    let m = map_some (λ x. less x.0 x.1 x.2) (branch_reading words) i e in
-    let s = branch_is words m.0 m.1 in
-    subst (Says (codes "less") words) m.2 (ap (spaced (codes "less")) s.whole, s.sound)
-
-jump_is : (words : List ℕ) (i : InstrForm) → jump_reading words ≡ Some i → Says (codes "jump") words i
-jump_is words i e =
-    let m = map_some (λ target. jump target) (tested is_atom_text words) i e in
-    let t = tested_is is_atom_text words m.0 m.1 in
-    subst (Says (codes "jump") words) m.2 (ap (spaced (codes "jump")) t.0, λ _. t.1)
-
-call_is : (words : List ℕ) (i : InstrForm) → call_reading words ≡ Some i → Says (codes "call") words i
-call_is words i e =
-    let a = bind_some (cut_at 32 words) (λ parts. numbered_reading 47 is_arity_text parts.0 >>= λ function. register_reading parts.1 >>= λ at. Some (call function.0 function.1 at)) i e in
-    let b = bind_some (numbered_reading 47 is_arity_text a.0.0) (λ function. register_reading a.0.1 >>= λ at. Some (call function.0 function.1 at)) i a.2 in
-    let c = bind_some (register_reading a.0.1) (λ at. Some (call b.0.0 b.0.1 at)) i b.2 in
-    let function = numbered_is 47 is_arity_text a.0.0 b.0 b.1 in
-    let at = register_is a.0.1 c.0 c.1 in
-    subst (Says (codes "call") words) (some_is (call b.0.0 b.0.1 c.0) i c.2)
-    (ap (spaced (codes "call")) ((cut_is 32 words a.0 a.1).whole ∙ (λ j. spaced (function.whole j) (at.0 j))), λ _. and_from _ _ (and_from _ _ function.name function.number) at.1)
-
-call_ext_is : (words : List ℕ) (i : InstrForm) → call_ext_reading words ≡ Some i → Says (codes "call_ext") words i
-call_ext_is words i e =
-    let a = bind_some (cut_at 32 words) (λ parts. cut_at 58 parts.0 >>= λ names. tested is_atom_text names.0 >>= λ name. numbered_reading 47 is_arity_text names.1 >>= λ function. register_reading parts.1 >>= λ at. Some (call_ext name function.0 function.1 at)) i e in
-    let b = bind_some (cut_at 58 a.0.0) (λ names. tested is_atom_text names.0 >>= λ name. numbered_reading 47 is_arity_text names.1 >>= λ function. register_reading a.0.1 >>= λ at. Some (call_ext name function.0 function.1 at)) i a.2 in
-    let c = bind_some (tested is_atom_text b.0.0) (λ name. numbered_reading 47 is_arity_text b.0.1 >>= λ function. register_reading a.0.1 >>= λ at. Some (call_ext name function.0 function.1 at)) i b.2 in
-    let d = bind_some (numbered_reading 47 is_arity_text b.0.1) (λ function. register_reading a.0.1 >>= λ at. Some (call_ext c.0 function.0 function.1 at)) i c.2 in
-    let f = bind_some (register_reading a.0.1) (λ at. Some (call_ext c.0 d.0.0 d.0.1 at)) i d.2 in
-    let name = tested_is is_atom_text b.0.0 c.0 c.1 in
-    let function = numbered_is 47 is_arity_text b.0.1 d.0 d.1 in
-    let at = register_is a.0.1 f.0 f.1 in
-    subst (Says (codes "call_ext") words) (some_is (call_ext c.0 d.0.0 d.0.1 f.0) i f.2)
-    (ap (spaced (codes "call_ext")) ((cut_is 32 words a.0 a.1).whole ∙ ap (λ t. spaced t a.0.1) (cut_is 58 a.0.0 b.0 b.1).whole ∙ (λ j. spaced (parted_by 58 (name.0 j) (function.whole j)) (at.0 j))), λ _. and_from _ _ name.1 (and_from _ _ (and_from _ _ function.name function.number) at.1))
-
-ret_is : (words : List ℕ) (i : InstrForm) → ret_reading words ≡ Some i → Says (codes "ret") words i
-ret_is words i e =
-    let m = map_some (λ value. ret value) (operand_reading words) i e in
-    let o = operand_is words m.0 m.1 in
-    subst (Says (codes "ret") words) m.2 (ap (spaced (codes "ret")) o.0, o.1)
-
-pget_is : (words : List ℕ) (i : InstrForm) → pget_reading words ≡ Some i → Says (codes "pget") words i
-pget_is words i e =
-    let a = bind_some (cut_at 32 words) (λ parts. tested is_atom_text parts.0 >>= λ key. register_reading parts.1 >>= λ to. Some (pget key to)) i e in
-    let b = bind_some (tested is_atom_text a.0.0) (λ key. register_reading a.0.1 >>= λ to. Some (pget key to)) i a.2 in
-    let c = bind_some (register_reading a.0.1) (λ to. Some (pget b.0 to)) i b.2 in
-    let key = tested_is is_atom_text a.0.0 b.0 b.1 in
-    let to = register_is a.0.1 c.0 c.1 in
-    subst (Says (codes "pget") words) (some_is (pget b.0 c.0) i c.2)
-    (ap (spaced (codes "pget")) ((cut_is 32 words a.0 a.1).whole ∙ (λ j. spaced (key.0 j) (to.0 j))), λ _. and_from _ _ key.1 to.1)
-
-pget_or_is : (words : List ℕ) (i : InstrForm) → pget_or_reading words ≡ Some i → Says (codes "pget_or") words i
-pget_or_is words i e =
-    let a = bind_some (cut_at 32 words) (λ parts. tested is_atom_text parts.0 >>= λ key. cut_at 32 parts.1 >>= λ rest. operand_reading rest.0 >>= λ other. register_reading rest.1 >>= λ to. Some (pget_or key other to)) i e in
-    let b = bind_some (tested is_atom_text a.0.0) (λ key. cut_at 32 a.0.1 >>= λ rest. operand_reading rest.0 >>= λ other. register_reading rest.1 >>= λ to. Some (pget_or key other to)) i a.2 in
-    let c = bind_some (cut_at 32 a.0.1) (λ rest. operand_reading rest.0 >>= λ other. register_reading rest.1 >>= λ to. Some (pget_or b.0 other to)) i b.2 in
-    let d = bind_some (operand_reading c.0.0) (λ other. register_reading c.0.1 >>= λ to. Some (pget_or b.0 other to)) i c.2 in
-    let f = bind_some (register_reading c.0.1) (λ to. Some (pget_or b.0 d.0 to)) i d.2 in
-    let key = tested_is is_atom_text a.0.0 b.0 b.1 in
-    let other = operand_is c.0.0 d.0 d.1 in
-    let to = register_is c.0.1 f.0 f.1 in
-    subst (Says (codes "pget_or") words) (some_is (pget_or b.0 d.0 f.0) i f.2) (
-      ap (spaced (codes "pget_or")) ((cut_is 32 words a.0 a.1).whole ∙ ap (spaced a.0.0) (cut_is 32 a.0.1 c.0 c.1).whole ∙ (λ j. spaced (key.0 j) (spaced (other.0 j) (to.0 j)))),
-      λ h. and_from _ _ key.1 (and_from _ _ (other.1 h) to.1),
-    )
-
-elem_is : (words : List ℕ) (i : InstrForm) → elem_reading words ≡ Some i → Says (codes "elem") words i
-elem_is words i e =
-    let m = map_some (λ x. elem x.0 x.1 x.2) (sum_reading words) i e in
-    let s = sum_is words m.0 m.1 in
-    subst (Says (codes "elem") words) m.2 (ap (spaced (codes "elem")) s.whole, s.sound)
-
-print_is : (words : List ℕ) (i : InstrForm) → print_reading words ≡ Some i → Says (codes "print") words i
-print_is words i e =
-    let m = map_some (λ value. print value) (operand_reading words) i e in
-    let o = operand_is words m.0 m.1 in
-    subst (Says (codes "print") words) m.2 (ap (spaced (codes "print")) o.0, o.1)
-
--- by the word in front
-by_word : {A : Type 0} (S : List ℕ → A → Type 0) (word key : List ℕ) (o others : Option A) (i : A) → (o ≡ Some i → S key i) → (others ≡ Some i → S word i) → cond (bytes_eq word key) o others ≡ Some i → S word i
-by_word S word key o others i here there e =
-    elim (bytes_eq word key) as (λ (t : Bool). bytes_eq word key ≡ t → cond t o others ≡ Some i → S word i) [
-      | true ↦ λ is h. subst (λ w. S w i) (sym (bytes_are word key is)) (here h)
-      | false ↦ λ _ h. there h
-    ] refl e
-
-instr_is : (word rest : List ℕ) (i : InstrForm) → instr_reading word rest ≡ Some i → Says word rest i
+instr_is : (word rest : List ℕ) (i : InstrForm) → instr_reading word rest ≡ Some i → IsItem instr_written IsKnown (word ++ 32 ∷ rest) i
 instr_is word rest i e =
-    let S : List ℕ → InstrForm → Type 0 = λ w j. Says w rest j in
-    by_word S word (codes "move") (move_reading rest) _ i (move_is rest i)
-    (by_word S word (codes "add") (add_reading rest) _ i (add_is rest i)
-    (by_word S word (codes "sub") (sub_reading rest) _ i (sub_is rest i)
-    (by_word S word (codes "eq") (eq_reading rest) _ i (eq_is rest i)
-    (by_word S word (codes "less") (less_reading rest) _ i (less_is rest i)
-    (by_word S word (codes "jump") (jump_reading rest) _ i (jump_is rest i)
-    (by_word S word (codes "call") (call_reading rest) _ i (call_is rest i)
-    (by_word S word (codes "call_ext") (call_ext_reading rest) _ i (call_ext_is rest i)
-    (by_word S word (codes "ret") (ret_reading rest) _ i (ret_is rest i)
-    (by_word S word (codes "pget") (pget_reading rest) _ i (pget_is rest i)
-    (by_word S word (codes "pget_or") (pget_or_reading rest) _ i (pget_or_is rest i)
-    (by_word S word (codes "elem") (elem_reading rest) _ i (elem_is rest i)
-    (by_word S word (codes "print") (print_reading rest) None i (print_is rest i) (λ h. absurd cc))))))))))))) e
+    word_is one_operand (λ p. move p.0 p.1) instr_written IsKnown (codes "move") (λ p h. refl) (λ p h. λ s. and_from _ _ (h.0 s) h.1) word rest _ i e
+    (λ e1. word_is two_operands (λ x. add x.0 x.1.0 x.1.1) instr_written IsKnown (codes "add") (λ p h. refl) (λ x h. operands_known x.0 x.1.0 _ h.0 h.1.0 h.1.1) word rest _ i e1
+    (λ e2. word_is two_operands (λ x. sub x.0 x.1.0 x.1.1) instr_written IsKnown (codes "sub") (λ p h. refl) (λ x h. operands_known x.0 x.1.0 _ h.0 h.1.0 h.1.1) word rest _ i e2
+    (λ e3. word_is branch (λ x. eq x.0 x.1.0 x.1.1) instr_written IsKnown (codes "eq") (λ p h. refl) (λ x h. operands_known x.0 x.1.0 _ h.0 h.1.0 h.1.1) word rest _ i e3
+    (λ e4. word_is branch (λ x. less x.0 x.1.0 x.1.1) instr_written IsKnown (codes "less") (λ p h. refl) (λ x h. operands_known x.0 x.1.0 _ h.0 h.1.0 h.1.1) word rest _ i e4
+    (λ e5. word_is name (λ t. jump t) instr_written IsKnown (codes "jump") (λ p h. refl) (λ t h. λ _. h) word rest _ i e5
+    (λ e6. word_is local_call (λ p. call p.0.0 p.0.1 p.1) instr_written IsKnown (codes "call") (λ p h. refl) (λ p h. λ _. and_from _ _ (and_from _ _ h.0.0 h.0.1) h.1) word rest _ i e6
+    (λ e7. word_is external_call (λ p. call_ext p.0.0 p.0.1.0 p.0.1.1 p.1) instr_written IsKnown (codes "call_ext") (λ p h. refl) (λ p h. λ _. and_from _ _ h.0.0 (and_from _ _ (and_from _ _ h.0.1.0 h.0.1.1) h.1)) word rest _ i e7
+    (λ e8. word_is operand (λ o. ret o) instr_written IsKnown (codes "ret") (λ p h. refl) (λ o h. h) word rest _ i e8
+    (λ e9. word_is one_key (λ p. pget p.0 p.1) instr_written IsKnown (codes "pget") (λ p h. refl) (λ p h. λ _. and_from _ _ h.0 h.1) word rest _ i e9
+    (λ e10. word_is key_or (λ p. pget_or p.0 p.1.0 p.1.1) instr_written IsKnown (codes "pget_or") (λ p h. refl) (λ p h. λ s. and_from _ _ h.0 (and_from _ _ (h.1.0 s) h.1.1)) word rest _ i e10
+    (λ e11. word_is two_operands (λ x. elem x.0 x.1.0 x.1.1) instr_written IsKnown (codes "elem") (λ p h. refl) (λ x h. operands_known x.0 x.1.0 _ h.0 h.1.0 h.1.1) word rest _ i e11
+    (λ e12. word_is operand (λ o. print o) instr_written IsKnown (codes "print") (λ p h. refl) (λ o h. h) word rest None i e12
+    (λ no. absurd cc)))))))))))))
 
--- a line whose text begins with this word and goes on so
-abbrev SaysLine : List ℕ → List ℕ → LineForm → Type 0
-SaysLine word rest line = (spaced word rest ≡ line_written line) × (has_sound_terms line ≡ true → is_line_form line ≡ true)
+-- what is known of a line
+abbrev IsKnownLine : LineForm → Type 0
+IsKnownLine line = has_sound_terms line ≡ true → is_line_form line ≡ true
 
-label_is : (rest : List ℕ) (line : LineForm) → label_reading rest ≡ Some line → SaysLine (codes "label") rest line
-label_is rest line e =
-    let m = map_some (λ name. label name) (tested is_atom_text rest) line e in
-    let t = tested_is is_atom_text rest m.0 m.1 in
-    subst (SaysLine (codes "label") rest) m.2 (ap (spaced (codes "label")) t.0, λ _. t.1)
-
-title_is : (rest : List ℕ) (line : LineForm) → title_reading rest ≡ Some line → SaysLine (codes "module") rest line
-title_is rest line e =
-    let m = map_some (λ x. title x.0 x.1) (numbered_reading 46 is_version_text rest) line e in
-    let n = numbered_is 46 is_version_text rest m.0 m.1 in
-    subst (SaysLine (codes "module") rest) m.2 (ap (spaced (codes "module")) n.whole, λ _. and_from _ _ n.name n.number)
-
-header_is : (exported : Bool) (rest : List ℕ) (line : LineForm) → header_reading exported rest ≡ Some line → SaysLine (header_word exported) rest line
-header_is exported rest line e =
-    let m = map_some (λ x. header exported x.0 x.1) (numbered_reading 47 is_arity_text rest) line e in
-    let n = numbered_is 47 is_arity_text rest m.0 m.1 in
-    subst (SaysLine (header_word exported) rest) m.2 (ap (spaced (header_word exported)) n.whole, λ _. and_from _ _ n.name n.number)
-
-instr_line_is : (word rest : List ℕ) (line : LineForm) → instr_line_reading word rest ≡ Some line → SaysLine word rest line
+instr_line_is : (word rest : List ℕ) (line : LineForm) → instr_line_reading word rest ≡ Some line → IsItem line_written IsKnownLine (word ++ 32 ∷ rest) line
 instr_line_is word rest line e =
     let m = map_some (λ i. instr i) (instr_reading word rest) line e in
-    subst (SaysLine word rest) m.2 (instr_is word rest m.0 m.1)
+    let is = instr_is word rest m.0 m.1 in
+    subst (IsItem line_written IsKnownLine (word ++ 32 ∷ rest)) m.2 (record { text_is = is.text_is; fits = is.fits })
 
-keyed_is : (word rest : List ℕ) (line : LineForm) → keyed_reading word rest ≡ Some line → SaysLine word rest line
+keyed_is : (word rest : List ℕ) (line : LineForm) → keyed_reading word rest ≡ Some line → IsItem line_written IsKnownLine (word ++ 32 ∷ rest) line
 keyed_is word rest line e =
-    let S : List ℕ → LineForm → Type 0 = λ w l. SaysLine w rest l in
-    by_word S word (codes "label") (label_reading rest) _ line (label_is rest line)
-    (by_word S word (codes "module") (title_reading rest) _ line (title_is rest line)
-    (by_word S word (codes "export") (header_reading true rest) _ line (header_is true rest line)
-    (by_word S word (codes "local") (header_reading false rest) _ line (header_is false rest line) (instr_line_is word rest line)))) e
+    word_is name (λ n. label n) line_written IsKnownLine (codes "label") (λ n h. refl) (λ n h. λ _. h) word rest _ line e
+    (λ e1. word_is titled (λ x. title x.0 x.1) line_written IsKnownLine (codes "module") (λ x h. refl) (λ x h. λ _. and_from _ _ h.0 h.1) word rest _ line e1
+    (λ e2. word_is function (λ x. header true x.0 x.1) line_written IsKnownLine (codes "export") (λ x h. refl) (λ x h. λ _. and_from _ _ h.0 h.1) word rest _ line e2
+    (λ e3. word_is function (λ x. header false x.0 x.1) line_written IsKnownLine (codes "local") (λ x h. refl) (λ x h. λ _. and_from _ _ h.0 h.1) word rest _ line e3
+    (instr_line_is word rest line))))
 
-lone_is : (word : List ℕ) (line : LineForm) → lone_reading word ≡ Some line → (word ≡ line_written line) × (has_sound_terms line ≡ true → is_line_form line ≡ true)
+lone_is : (word : List ℕ) (line : LineForm) → lone_reading word ≡ Some line → IsItem line_written IsKnownLine word line
 lone_is word line e =
-    let S : List ℕ → LineForm → Type 0 = λ w l. (w ≡ line_written l) × (has_sound_terms l ≡ true → is_line_form l ≡ true) in
-    by_word S word (codes "yield") (Some (instr yield)) _ line (λ h. subst (S (codes "yield")) (some_is (instr yield) line h) (refl, λ _. refl))
-    (by_word S word (codes "end") (Some end) None line (λ h. subst (S (codes "end")) (some_is end line h) (refl, λ _. refl)) (λ h. absurd cc)) e
+    name_is (λ w. w) line_written IsKnownLine (codes "yield") (instr yield) refl (λ _. refl) word _ line e
+    (λ e1. name_is (λ w. w) line_written IsKnownLine (codes "end") end refl (λ _. refl) word None line e1 (λ no. absurd cc))
 
 -- what is known of a line whose tuples and lists were not looked into
 IsSplit : List ℕ → LineForm → Type 0
@@ -301,10 +73,10 @@ IsSplit text line = (text ≡ line_written line) × (has_sound_terms line ≡ tr
 
 parts_are : (text : List ℕ) (o : Option (List ℕ × List ℕ)) (line : LineForm) → cut_at 32 text ≡ o → parts_reading text o ≡ Some line → IsSplit text line
 unfolding IsSplit
-parts_are text None line cut e = lone_is text line e
+parts_are text None line cut e = let is = lone_is text line e in (is.text_is, is.fits)
 parts_are text (Some parts) line cut e =
     let is = keyed_is parts.0 parts.1 line e in
-    ((cut_is 32 text parts cut).whole ∙ is.0, is.1)
+    ((cut_is 32 text parts cut).whole ∙ is.text_is, is.fits)
 
 -- what is cut as a line has the line's text
 split_is : (text : List ℕ) (line : LineForm) → line_split text ≡ Some line → IsSplit text line
@@ -336,3 +108,126 @@ pub sound_by : (text : List ℕ) (result : Option WrittenLine) → option_map li
 unfolding IsSplit
 sound_by text None e = tt
 sound_by text (Some line) e = (split_is text (line_form line) (sym e)).1
+
+-- ---- the text of each line is read as that line
+
+-- ---- lines
+
+-- three tests in a row
+three : (a b c : Bool) → (a && (b && c)) ≡ true → (a ≡ true) × ((b ≡ true) × (c ≡ true))
+three a b c h = let p = and_parts a (b && c) h in (p.0, and_parts b c p.1)
+
+as_line : {o : Option InstrForm} {i : InstrForm} → o ≡ Some i → option_map (λ j. instr j) o ≡ Some (instr i)
+as_line e = ap (option_map (λ j. instr j)) e
+
+-- ---- bytes: no line feed is among them
+
+lacks_word : (word rest : List ℕ) → lacks 10 word ≡ true → lacks 10 rest ≡ true → lacks 10 (spaced word rest) ≡ true
+lacks_word word rest h k = lacks-append 10 word (32 ∷ rest) h (lacks-cons 10 32 rest refl k)
+
+-- what a reader writes of what fits has none
+abbrev Lacks : {A : Type 0} → Reader A → Type 0
+Lacks r = (x : _) → r.Fits x → lacks 10 (r.write x) ≡ true
+
+beside : {A B : Type 0} (a : Reader A) (b : Reader B) → Lacks a → Lacks b → (p : A × B) → a.Fits p.0 × b.Fits p.1 → lacks 10 (a.write p.0 ++ 32 ∷ b.write p.1) ≡ true
+beside a b h k p fits = lacks_word (a.write p.0) (b.write p.1) (h p.0 fits.0) (k p.1 fits.1)
+
+name_lacks : Lacks name
+name_lacks n h = atom_lacks 10 n refl h
+
+any_lacks : Lacks operand
+any_lacks o h = operand_lacks 10 o line_feed_outside h
+
+slot_lacks : Lacks slot
+slot_lacks digits h = lacks-cons 10 36 digits refl (number_lacks 10 digits refl h)
+
+one_lacks : Lacks one_operand
+one_lacks = beside operand slot any_lacks slot_lacks
+
+two_lacks : Lacks two_operands
+two_lacks = beside operand one_operand any_lacks one_lacks
+
+branch_lacks : Lacks branch
+branch_lacks = beside operand operand_name any_lacks (beside operand name any_lacks name_lacks)
+
+local_lacks : Lacks local_call
+local_lacks = beside function slot (λ f h. function_lacks 10 f.0 f.1 line_feed_apart refl (and_from _ _ h.0 h.1)) slot_lacks
+
+away_lacks : Lacks external_call
+away_lacks = beside external slot (λ f h. external_lacks 10 f.0 f.1.0 f.1.1 line_feed_apart refl refl h.0 (and_from _ _ h.1.0 h.1.1)) slot_lacks
+
+key_lacks : Lacks one_key
+key_lacks = beside name slot name_lacks slot_lacks
+
+or_lacks : Lacks key_or
+or_lacks = beside name one_operand name_lacks one_lacks
+
+-- the line of an instruction is cut from its text, in which there is no line feed
+record IsSaid (i : InstrForm) : Type 0 where
+  again : line_split (instr_written i) ≡ Some (instr i)
+  apart : lacks 10 (instr_written i) ≡ true
+
+said : {A : Type 0} (r : Reader A) (make : A → InstrForm) (word : List ℕ) (x : A) → Lacks r → lacks 10 word ≡ true → instr_written (make x) ≡ word ++ 32 ∷ r.write x → line_split (instr_written (make x)) ≡ option_map (λ j. instr j) (r.read (r.write x) >>= λ y. Some (make y)) → r.Fits x → IsSaid (make x)
+said r make word x apart lacking shape split fits = record { again = split ∙ as_line (made_again r make x fits); apart = ap (lacks 10) shape ∙ lacks_word word (r.write x) lacking (apart x fits) }
+
+instr_said : (i : InstrForm) → is_instr_form i ≡ true → IsSaid i
+instr_said (move from to) h = said one_operand (λ p. move p.0 p.1) (codes "move") (from, to) one_lacks refl refl refl (and_parts (is_operand_form from) (is_number_text to) h)
+instr_said (add a b to) h = said two_operands (λ x. add x.0 x.1.0 x.1.1) (codes "add") (a, (b, to)) two_lacks refl refl refl (three (is_operand_form a) (is_operand_form b) (is_number_text to) h)
+instr_said (sub a b to) h = said two_operands (λ x. sub x.0 x.1.0 x.1.1) (codes "sub") (a, (b, to)) two_lacks refl refl refl (three (is_operand_form a) (is_operand_form b) (is_number_text to) h)
+instr_said (eq a b target) h = said branch (λ x. eq x.0 x.1.0 x.1.1) (codes "eq") (a, (b, target)) branch_lacks refl refl refl (three (is_operand_form a) (is_operand_form b) (is_atom_text target) h)
+instr_said (less a b target) h = said branch (λ x. less x.0 x.1.0 x.1.1) (codes "less") (a, (b, target)) branch_lacks refl refl refl (three (is_operand_form a) (is_operand_form b) (is_atom_text target) h)
+instr_said (jump target) h = said name (λ t. jump t) (codes "jump") target name_lacks refl refl refl h
+instr_said (call f arity at) h =
+    let q = and_parts (is_function_form f arity) (is_number_text at) h in
+    said local_call (λ p. call p.0.0 p.0.1 p.1) (codes "call") ((f, arity), at) local_lacks refl refl refl (and_parts (is_atom_text f) (is_arity_text arity) q.0, q.1)
+instr_said (call_ext m f arity at) h =
+    let q = three (is_atom_text m) (is_function_form f arity) (is_number_text at) h in
+    said external_call (λ p. call_ext p.0.0 p.0.1.0 p.0.1.1 p.1) (codes "call_ext") ((m, (f, arity)), at) away_lacks refl refl refl ((q.0, and_parts (is_atom_text f) (is_arity_text arity) q.1.0), q.1.1)
+instr_said (ret value) h = said operand (λ o. ret o) (codes "ret") value any_lacks refl refl refl h
+instr_said (pget key to) h = said one_key (λ p. pget p.0 p.1) (codes "pget") (key, to) key_lacks refl refl refl (and_parts (is_atom_text key) (is_number_text to) h)
+instr_said (pget_or key other to) h = said key_or (λ p. pget_or p.0 p.1.0 p.1.1) (codes "pget_or") (key, (other, to)) or_lacks refl refl refl (three (is_atom_text key) (is_operand_form other) (is_number_text to) h)
+instr_said (elem index from to) h = said two_operands (λ x. elem x.0 x.1.0 x.1.1) (codes "elem") (index, (from, to)) two_lacks refl refl refl (three (is_operand_form index) (is_operand_form from) (is_number_text to) h)
+instr_said (print value) h = said operand (λ o. print o) (codes "print") value any_lacks refl refl refl h
+instr_said yield h = record { again = refl; apart = refl }
+
+-- each line is cut from its text
+split_again : (line : LineForm) → is_line_form line ≡ true → line_split (line_written line) ≡ Some line
+split_again (title n version) h = made_again titled (λ x. title x.0 x.1) (n, version) (and_parts (is_atom_text n) (is_version_text version) h)
+split_again (header true n arity) h = made_again function (λ x. header true x.0 x.1) (n, arity) (and_parts (is_atom_text n) (is_arity_text arity) h)
+split_again (header false n arity) h = made_again function (λ x. header false x.0 x.1) (n, arity) (and_parts (is_atom_text n) (is_arity_text arity) h)
+split_again (label n) h = made_again name (λ x. label x) n h
+split_again (instr i) h = (instr_said i h).again
+split_again end h = refl
+
+-- the terms of a line are terms
+sound_operand : (o : OperandForm) → is_operand_form o ≡ true → is_sound_operand o ≡ true
+sound_operand (complex text) h = (and_parts (is_bracketed text) (is_term_text text) h).1
+sound_operand o h = refl
+
+sound_each : (os : List OperandForm) → each_operand is_operand_form os ≡ true → each_operand is_sound_operand os ≡ true
+sound_each [] h = refl
+sound_each (o ∷ []) h = sound_operand o h
+sound_each (o ∷ p ∷ os) h = let both = and_parts (is_operand_form o) (each_operand is_operand_form (p ∷ os)) h in and_from _ _ (sound_operand o both.0) (sound_each (p ∷ os) both.1)
+
+pub sound_terms : (line : LineForm) → is_line_form line ≡ true → has_sound_terms line ≡ true
+sound_terms (instr i) h = sound_each (operands_of i) (operands_form i h)
+sound_terms line h = refl
+
+-- each line is read from its text
+pub line_again : (line : LineForm) → is_line_form line ≡ true → line_reading (line_written line) ≡ Some line
+line_again line h = ap sound_reading (split_again line h) ∙ passed (has_sound_terms line) (some line) None (sound_terms line h)
+
+-- a text is read as the line that it is
+pub text_again : (text : List ℕ) (line : LineForm) → LineText text line → line_reading text ≡ Some line
+text_again text line is = ap line_reading is.text_is ∙ line_again line is.sound
+
+-- no line has a line feed in its text
+pub line_lacks : (line : LineForm) → is_line_form line ≡ true → lacks 10 (line_written line) ≡ true
+line_lacks (title name version) h =
+    let parts = and_parts (is_atom_text name) (is_version_text version) h in
+    lacks_word (codes "module") (parted_by 46 name version) refl (lacks-append 10 name (46 ∷ version) (atom_lacks 10 name refl parts.0) (lacks-cons 10 46 version refl (number_lacks 10 version refl (version_number version parts.1))))
+line_lacks (header true name arity) h = lacks_word (codes "export") (function_written name arity) refl (function_lacks 10 name arity line_feed_apart refl h)
+line_lacks (header false name arity) h = lacks_word (codes "local") (function_written name arity) refl (function_lacks 10 name arity line_feed_apart refl h)
+line_lacks (label name) h = lacks_word (codes "label") name refl (atom_lacks 10 name refl h)
+line_lacks (instr i) h = (instr_said i h).apart
+line_lacks end h = refl

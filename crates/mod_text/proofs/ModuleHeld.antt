@@ -1,31 +1,24 @@
 -- The atoms of the module that lines say are held by the names it was read with.
-use Rattle.std.proofs.Common.{◌≡◌, ℕ, ◌<◌, Bool, true, ◌&&◌, List, [], ◌∷◌, ◌++◌, length, map, Option, Some, None, unwrap_or, refl, ap, subst, sym, arith}
-use Rattle.std.specs.Prelude.{All, IfOk, Result}
-use Rattle.std.proofs.lemmas.Option.{slice_get_within}
-use Rattle.std.proofs.lemmas.List.{length-take}
-use Rattle.std.proofs.lemmas.Bool.{and_parts}
-use Rattle.std.proofs.lemmas.List.Elements.{All-nil, All-cons, All-head, All-tail}
-use Rattle.term_core.specs.Names.{IsNames, is_atom_text, number_of, given_names}
-use Rattle.term_core.specs.TermText.{number_in}
-use Rattle.term_core.proofs.NameTables.{slice_get-number_of}
-use Rattle.mod_core.specs.declared.code.Module.{Module}
-use Rattle.mod_text.specs.declared.fault.ModFault.{ModFault}
+use Rattle.mod_text.proofs.Common.{◌≡◌, ℕ, ◌<◌, Bool, true, ◌&&◌, List, [], ◌∷◌, ◌++◌, length, map, Option}
+use Rattle.mod_text.proofs.Common.{Some, None, unwrap_or, refl, ap, subst, sym, arith, All, IfOk, Texts}
+use Rattle.mod_text.proofs.Common.{slice_get_within, length-take, and_parts, All-nil, All-cons, All-head, All-tail}
+use Rattle.std.specs.Prelude.{Result}
+use Rattle.mod_text.proofs.Texts.{IsNames, is_atom_text, number_of, given_names, number_in, slice_get-number_of, is_number_text}
+use Rattle.mod_text.proofs.Types.{Module, ModFault}
 use Rattle.mod_core.specs.HeldNames.{IsOperandAmong, HasAtomsAmong, IsFunctionHeld, IsModuleHeld}
-use Rattle.mod_text.specs.Ending.{Ends, read}
-use Rattle.term_core.specs.Text.Numbers.{is_number_text}
-use Rattle.mod_text.specs.ModuleLine.{OperandForm, atom, complex, InstrForm, move, add, sub, eq, less, call_ext, ret, pget, pget_or, elem, print, LineForm, is_operand_form, is_instr_form}
-use Rattle.mod_text.specs.ModuleValue.{FunctionForm, HeaderForm, functions_in, headers_in, instrs_in, operand_in, instr_in, function_in, module_of}
-use Rattle.mod_text.specs.LineFaults.{names_after}
-use Rattle.mod_text.specs.ModuleText.{FollowOn}
-use Rattle.mod_text.proofs.Constants.{IsSound, says}
-use Rattle.mod_text.proofs.LineWords.{IsSoundInstr, IsSoundFunction, instrs_sound, functions_sound}
+use Rattle.mod_text.proofs.Forms.{Ends, read, OperandForm, atom, complex, InstrForm, move, add, sub, eq, less}
+use Rattle.mod_text.proofs.Forms.{call_ext, ret, pget, pget_or, elem, print, LineForm, is_operand_form}
+use Rattle.mod_text.proofs.Forms.{is_instr_form, FunctionForm, HeaderForm, functions_in, headers_in, instrs_in}
+use Rattle.mod_text.proofs.Forms.{operand_in, instr_in, function_in, module_of, names_after, FollowOn}
+use Rattle.mod_text.proofs.CanonicalParts.{IsSound, says}
+use Rattle.mod_text.proofs.LineNames.{IsSoundInstr, IsSoundFunction, instrs_sound, functions_sound}
 use Rattle.mod_text.proofs.TextLaws.{bytes_are_read}
 
 -- a table of names is not empty
-pub some_names : (names : List (List ℕ)) → IsNames names → 0 < length names
+pub some_names : (names : Texts) → IsNames names → 0 < length names
 some_names names sound = omega (arith, ap length sound.given, length-take (length given_names) names)
 
-module _ (names : List (List ℕ)) (some : 0 < length names) where
+module _ (names : Texts) (some : 0 < length names) where
   number_by : (text : List ℕ) (o : Option ℕ) → number_of names text ≡ o → unwrap_or o 0 < length names
   number_by text None is = some
   number_by text (Some n) is = slice_get_within names n text (slice_get-number_of names text n is)
@@ -76,12 +69,12 @@ module _ (names : List (List ℕ)) (some : 0 < length names) where
   module_held lines sound = record { name = number_held _; functions = functions_held (headers_in lines) (functions_in lines) (functions_sound lines sound) }
 
 -- lines that follow on are of their forms
-pub sound_lines : (names : List (List ℕ)) (before lines : List LineForm) → FollowOn names before lines → All IsSound lines
+pub sound_lines : (names : Texts) (before lines : List LineForm) → FollowOn names before lines → All IsSound lines
 sound_lines names before [] follow = All-nil IsSound
 sound_lines names before (line ∷ lines) follow = All-cons IsSound line lines follow.0.stands.is_text.sound (sound_lines (names_after names line) (before ++ line ∷ []) lines follow.1)
 
 -- the atoms of a module that was read
-pub held_is : (before : List (List ℕ)) (bytes : List ℕ) (first : ℕ) (after : List (List ℕ)) (r : Result Module ModFault) → IsNames after → Ends before bytes first after r → IfOk r (λ m. IsModuleHeld after m)
+pub held_is : (before : Texts) (bytes : List ℕ) (first : ℕ) (after : Texts) (r : Result Module ModFault) → IsNames after → Ends before bytes first after r → IfOk r (λ m. IsModuleHeld after m)
 held_is before bytes first after _ sound (read forms m e value settled) =
     subst (IsModuleHeld after) (sym value) (module_held after (some_names after sound) forms (sound_lines before [] forms (bytes_are_read before bytes after forms e).faultless))
 held_is before bytes first after _ sound _ = tt

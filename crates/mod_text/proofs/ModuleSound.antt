@@ -1,45 +1,41 @@
 -- The module that a text says is one: within every limit, and each name in it stands for something.
-use Rattle.std.proofs.Common.{◌≡◌, ℕ, zero, suc, ◌+◌, ◌<◌, ◌≤◌, Bool, true, false, cond, not, ◌&&◌, ◌||◌, ◌^◌, nat_lt, nat_le, List, [], ◌∷◌, ◌++◌, length, map, Option, Some, None, option_map, is_some, position, unwrap_or, bytes_eq, decimal, ℤ, pos, negsuc, ◌⊎◌, inl, inr, add-one, refl, sym, ap, ◌∙◌, subst, arith, length-append, append_assoc}
-use Rattle.std.specs.Prelude.{All, slice_get, IsSomeAnd}
-use Rattle.std.specs.List.{list_any}
-use Rattle.std.proofs.lemmas.Bool.{and_parts, and_from, or_parts, or_cases, or_right}
+use Rattle.std.proofs.Common.{◌≡◌, ℕ, zero, suc, ◌+◌, ◌<◌, ◌≤◌, Bool, true, false, cond, not, ◌&&◌, ◌||◌, ◌^◌, nat_lt, nat_le, List, [], ◌∷◌}
+use Rattle.std.proofs.Common.{◌++◌, length, map, Option, Some, None, option_map, is_some, position, unwrap_or, bytes_eq, decimal, ℤ, pos}
+use Rattle.std.proofs.Common.{negsuc, ◌⊎◌, inl, inr, add-one, refl, sym, ap, ◌∙◌, subst, arith, length-append, append_assoc}
+use Rattle.mod_text.proofs.Common.{All, IsSomeAnd, list_any, and_parts, and_from, or_parts, or_cases}
+use Rattle.mod_text.proofs.Common.{or_right, decimal_digit, decimal-digits_value, slice_get_within, Texts}
+use Rattle.mod_text.proofs.Common.{slice_get-map, list_any-append, nat_tests, append-nil, length-map, All-nil, All-cons, All-head, All-tail}
+use Rattle.std.specs.Prelude.{slice_get}
 use Rattle.std.proofs.lemmas.Int.{ints}
-use Rattle.std.proofs.lemmas.Fmt.{decimal_digit, decimal-digits_value}
-use Rattle.std.proofs.lemmas.Option.{slice_get_within, slice_get-map}
-use Rattle.std.proofs.lemmas.List.Folds.{list_any-append}
-use Rattle.std.proofs.lemmas.Bool.Decides.{nat_tests}
-use Rattle.std.proofs.lemmas.List.{append-nil, length-map}
-use Rattle.std.proofs.lemmas.List.Elements.{All-nil, All-cons, All-head, All-tail}
-use Rattle.term_core.specs.declared.atom.AtomId.{AtomId}
-use Rattle.term_core.specs.Names.{number_of, names_with, is_atom_text}
-use Rattle.term_core.specs.TermText.{number_in, names_with_all}
-use Rattle.term_core.specs.Written.{IsTermInteger, integer_of, is_term_integer, is_positive_text}
-use Rattle.term_core.proofs.IntegerTexts.{own, Positive-from}
-use Rattle.term_core.proofs.NameTables.{slice_get-number_of}
-use Rattle.term_core.proofs.Places.{position-cons, is_some-position, all_at}
+use Rattle.mod_text.proofs.Types.{AtomId, Function, Module}
+use Rattle.mod_text.proofs.Texts.{number_of, names_with, is_atom_text, number_in, names_with_all, IsTermInteger}
+use Rattle.mod_text.proofs.Texts.{integer_of, is_term_integer, is_positive_text, own, Positive-from}
+use Rattle.mod_text.proofs.Texts.{slice_get-number_of, position-cons, is_some-position, all_at}
+use Rattle.mod_text.proofs.Texts.{is_number_text, number_value, some_is, same_bytes, bytes_are}
 use Rattle.term_core.proofs.Truths.{not_both}
-use Rattle.mod_core.specs.declared.code.Function.{Function}
-use Rattle.mod_core.specs.declared.code.Module.{Module}
-use Rattle.mod_text.specs.declared.fault.LineFault.TheVariants as faults
 use Rattle.mod_core.specs.Module.{IsOperand, IsCallPlace, IsInstr, IsFunction, SameFunction, IsModule}
 use Rattle.mod_core.specs.ModuleImage.{module_image}
-use Rattle.term_core.specs.Text.Numbers.{is_number_text, number_value}
-use Rattle.mod_text.specs.ModuleLine.{OperandForm, register, integer, atom, complex, InstrForm, move, add, sub, eq, less, jump, call, call_ext, ret, pget, pget_or, elem, print, yield, LineForm, title, header, label, instr, end, is_version_text, is_arity_text, is_operand_form, is_function_form}
-use Rattle.mod_text.specs.ModuleValue.{FunctionForm, HeaderForm, body_of, functions_in, headers_in, instrs_in, is_header, label_number, function_number, atom_in, operand_in, target_in, instr_in, function_in, title_of, module_of, IsTitled, is_settled, unsettled_at, unsettled_in, earlier, first_unsettled}
-use Rattle.mod_text.specs.LineFaults.{last_line, is_high, has_high_operand, is_high_call, has_high_register, is_wide_operand, has_wide_integer, is_long_operand, has_long_term, names_after, overfills_names, is_seventeenth, ends_too_long, is_repeated, fault_of_line, line_atoms}
-use Rattle.mod_text.specs.ModuleText.{FollowOn, names_behind, AreLines, ModuleText}
-use Rattle.mod_text.specs.Keeping.{RowFrom, IsKept, IsKeptInstr}
-use Rattle.mod_text.proofs.Constants.{IsSound, constant_is}
-use Rattle.mod_text.proofs.LineWords.{image_words, kept_sound}
+use Rattle.mod_text.specs.ModuleLine.{OperandForm, register, integer, atom, complex, InstrForm, move, add, sub, eq, less, jump}
+use Rattle.mod_text.specs.ModuleLine.{call, call_ext, ret, pget, pget_or, elem, print, yield, LineForm, title, header, label}
+use Rattle.mod_text.specs.ModuleLine.{instr, end, is_version_text, is_arity_text, is_operand_form, is_function_form}
+use Rattle.mod_text.specs.ModuleValue.{FunctionForm, HeaderForm, body_of, functions_in, headers_in, instrs_in, is_header}
+use Rattle.mod_text.specs.ModuleValue.{label_number, function_number, operand_in, target_in, instr_in, function_in, title_of}
+use Rattle.mod_text.specs.ModuleValue.{module_of, IsTitled, is_settled, unsettled_at, unsettled_in, earlier, first_unsettled}
+use Rattle.mod_text.specs.LineFaults.{last_line, is_high, has_high_operand, is_high_call, has_high_register}
+use Rattle.mod_text.specs.LineFaults.{is_wide_operand, has_wide_integer, is_long_operand, has_long_term, names_after}
+use Rattle.mod_text.specs.LineFaults.{overfills_names, is_seventeenth, ends_too_long, is_repeated, fault_of_line, line_atoms}
+use Rattle.mod_text.specs.declared.fault.LineFault.TheVariants as faults
+use Rattle.mod_text.proofs.Forms.{FollowOn, names_behind, AreLines, ModuleText, RowFrom, IsKept, IsKeptInstr}
+use Rattle.mod_text.proofs.CanonicalParts.{IsSound, constant_is}
+use Rattle.mod_text.proofs.LineNames.{image_words, kept_sound}
 use Rattle.mod_text.proofs.Keepings.{headers_in-append, last_line-push}
-use Rattle.term_core.proofs.Text.Options.{some_is, same_bytes, bytes_are}
 use Rattle.mod_text.proofs.Settles.{kept_body}
 use Rattle.mod_text.proofs.TextLaws.{titled_is}
 
 -- ---- the limits that a line was within
 
 -- the tests of a line that has no fault
-pub record PassesAll (names : List (List ℕ)) (before : List LineForm) (line : LineForm) : Type 0 where
+pub record PassesAll (names : Texts) (before : List LineForm) (line : LineForm) : Type 0 where
   pub low : has_high_register line ≡ false
   pub narrow : has_wide_integer line ≡ false
   pub long : has_long_term line ≡ false
@@ -48,17 +44,18 @@ pub record PassesAll (names : List (List ℕ)) (before : List LineForm) (line : 
   pub short : ends_too_long names before line ≡ false
   pub new : is_repeated before line ≡ false
 
-passes_by : (names : List (List ℕ)) (before : List LineForm) (line : LineForm) (a b l c d e f : Bool) → has_high_register line ≡ a → has_wide_integer line ≡ b → has_long_term line ≡ l → overfills_names names line ≡ c → is_seventeenth before line ≡ d → ends_too_long names before line ≡ e → is_repeated before line ≡ f → cond a (Some faults.Register) (cond b (Some faults.Int) (cond l (Some faults.Term) (cond c (Some faults.Names) (cond d (Some faults.TooManyFunctions) (cond e (Some faults.TooLong) (cond f (Some faults.Duplicate) None)))))) ≡ None → PassesAll names before line
-passes_by names before line false false false false false false false ha hb hl hc hd he hf none = record { low = ha; narrow = hb; long = hl; room = hc; few = hd; short = he; new = hf }
-passes_by names before line a b l c d e f ha hb hl hc hd he hf none = absurd cc
+module _ (names : Texts) (before : List LineForm) (line : LineForm) where
+  passes_by : (a b l c d e f : Bool) → has_high_register line ≡ a → has_wide_integer line ≡ b → has_long_term line ≡ l → overfills_names names line ≡ c → is_seventeenth before line ≡ d → ends_too_long names before line ≡ e → is_repeated before line ≡ f → cond a (Some faults.Register) (cond b (Some faults.Int) (cond l (Some faults.Term) (cond c (Some faults.Names) (cond d (Some faults.TooManyFunctions) (cond e (Some faults.TooLong) (cond f (Some faults.Duplicate) None)))))) ≡ None → PassesAll names before line
+  passes_by false false false false false false false ha hb hl hc hd he hf none = record { low = ha; narrow = hb; long = hl; room = hc; few = hd; short = he; new = hf }
+  passes_by a b l c d e f ha hb hl hc hd he hf none = absurd cc
 
-pub passes : (names : List (List ℕ)) (before : List LineForm) (line : LineForm) → fault_of_line names before line ≡ None → PassesAll names before line
-passes names before line none = passes_by names before line (has_high_register line) (has_wide_integer line) (has_long_term line) (overfills_names names line) (is_seventeenth before line) (ends_too_long names before line) (is_repeated before line) refl refl refl refl refl refl refl none
+  pub passes : fault_of_line names before line ≡ None → PassesAll names before line
+  passes none = passes_by (has_high_register line) (has_wide_integer line) (has_long_term line) (overfills_names names line) (is_seventeenth before line) (ends_too_long names before line) (is_repeated before line) refl refl refl refl refl refl refl none
 
 -- ---- names
 
 -- the names after lines are no more than there is room for
-pub names_room : (names : List (List ℕ)) (before lines : List LineForm) → length names ≤ 4096 → FollowOn names before lines → length (names_behind names lines) ≤ 4096
+pub names_room : (names : Texts) (before lines : List LineForm) → length names ≤ 4096 → FollowOn names before lines → length (names_behind names lines) ≤ 4096
 names_room names before [] room follow = room
 names_room names before (line ∷ lines) room follow =
     let tests = passes names before line follow.0.within in
@@ -66,12 +63,12 @@ names_room names before (line ∷ lines) room follow =
     let more : length (names_after names line) ≤ 4096 = grind (arith, nat_tests) in
     names_room (names_after names line) (before ++ line ∷ []) lines more follow.1
 
-number_by : (names : List (List ℕ)) (text : List ℕ) (o : Option ℕ) → number_of names text ≡ o → length names ≤ 4096 → unwrap_or o 0 < 4096
+number_by : (names : Texts) (text : List ℕ) (o : Option ℕ) → number_of names text ≡ o → length names ≤ 4096 → unwrap_or o 0 < 4096
 number_by names text None is room = omega arith
 number_by names text (Some n) is room = let within = slice_get_within names n text (slice_get-number_of names text n is) in omega (arith, within, room)
 
 -- each atom is one of 4,096
-pub atom_small : (names : List (List ℕ)) (text : List ℕ) → length names ≤ 4096 → number_in names text < 4096
+pub atom_small : (names : Texts) (text : List ℕ) → length names ≤ 4096 → number_in names text < 4096
 atom_small names text room = number_by names text (number_of names text) refl room
 
 -- ---- operands and instructions
@@ -83,7 +80,7 @@ term_integer : (z : ℤ) → not (is_term_integer z) ≡ false → IsTermInteger
 term_integer (pos n) h = let below : n < 576460752303423488 = grind (arith, nat_tests) in record { low = omega (arith, ints); high = omega (arith, ints) }
 term_integer (negsuc n) h = let below : n < 576460752303423488 = grind (arith, nat_tests) in record { low = omega (arith, ints); high = omega (arith, ints) }
 
-operand_is : (names : List (List ℕ)) (o : OperandForm) → length names ≤ 4096 → is_operand_form o ≡ true → has_high_operand o ≡ false → is_wide_operand o ≡ false → is_long_operand o ≡ false → IsOperand (operand_in names o)
+operand_is : (names : Texts) (o : OperandForm) → length names ≤ 4096 → is_operand_form o ≡ true → has_high_operand o ≡ false → is_wide_operand o ≡ false → is_long_operand o ≡ false → IsOperand (operand_in names o)
 operand_is names (register digits) room sound low narrow short = low_register digits low
 operand_is names (integer text) room sound low narrow short = record { leaves = term_integer (integer_of text) narrow; short = omega arith }
 operand_is names (atom text) room sound low narrow short = record { leaves = atom_small names text room; short = omega arith }
@@ -127,30 +124,26 @@ suc_by : (o : Option ℕ) (n bound : ℕ) → ((k : ℕ) → o ≡ Some k → k 
 suc_by (Some k) n bound more e = let next : suc k ≡ n = cc in omega (arith, more k refl, next)
 suc_by None n bound more e = absurd cc
 
--- a label's instruction is one of its function's, or the place behind them
-pub label_within : (wanted : List ℕ) (body : List LineForm) (n : ℕ) → label_number wanted body ≡ Some n → n ≤ length (instrs_in body)
-label_within wanted [] n e = absurd cc
-label_within wanted (label name ∷ lines) n e = label_by (bytes_eq name wanted) (label_number wanted lines) n (length (instrs_in lines)) (label_within wanted lines n) e
-label_within wanted (instr i ∷ lines) n e = suc_by (label_number wanted lines) n (length (instrs_in lines)) (label_within wanted lines) e
-label_within wanted (line ∷ lines) n e = label_within wanted lines n e
+module _ (wanted : List ℕ) where
+  -- a label's instruction is one of its function's, or the place behind them
+  pub label_within : (body : List LineForm) (n : ℕ) → label_number wanted body ≡ Some n → n ≤ length (instrs_in body)
+  label_within [] n e = absurd cc
+  label_within (label name ∷ lines) n e = label_by (bytes_eq name wanted) (label_number wanted lines) n (length (instrs_in lines)) (label_within lines n) e
+  label_within (instr i ∷ lines) n e = suc_by (label_number wanted lines) n (length (instrs_in lines)) (label_within lines) e
+  label_within (line ∷ lines) n e = label_within lines n e
 
-target_by : (wanted : List ℕ) (body : List LineForm) (o : Option ℕ) → label_number wanted body ≡ o → unwrap_or o 0 ≤ length (instrs_in body)
-target_by wanted body None is = omega arith
-target_by wanted body (Some n) is = label_within wanted body n is
+  target_by : (body : List LineForm) (o : Option ℕ) → label_number wanted body ≡ o → unwrap_or o 0 ≤ length (instrs_in body)
+  target_by body None is = omega arith
+  target_by body (Some n) is = label_within body n is
 
-target_within : (wanted : List ℕ) (body : List LineForm) → target_in body wanted ≤ length (instrs_in body)
-target_within wanted body = target_by wanted body (label_number wanted body) refl
+  target_within : (body : List LineForm) → target_in body wanted ≤ length (instrs_in body)
+  target_within body = target_by body (label_number wanted body) refl
 
 -- ---- functions
 
 -- the header of a function's form
 abbrev pub head_of : FunctionForm → HeaderForm
 head_of f = (f.name, f.arity)
-
-pub heads_are : (lines : List LineForm) → headers_in lines ≡ map head_of (functions_in lines)
-heads_are [] = refl
-heads_are (header exported name arity ∷ lines) = ap (λ hs. (name, arity) ∷ hs) (heads_are lines)
-heads_are (line ∷ lines) = heads_are lines
 
 -- what each function of a text has
 pub record IsForm (headers : List HeaderForm) (f : FunctionForm) : Type 0 where
@@ -173,7 +166,7 @@ forms_are headers (header exported name arity ∷ lines) kept none =
 forms_are headers (line ∷ lines) kept none = forms_are headers lines (All-tail IsKept line lines kept) (both_none None (first_unsettled headers lines) none).1
 
 -- each line was within its own limits
-pub kept_lines : (names : List (List ℕ)) (before lines : List LineForm) → FollowOn names before lines → All IsKept lines
+pub kept_lines : (names : Texts) (before lines : List LineForm) → FollowOn names before lines → All IsKept lines
 kept_lines names before [] follow = All-nil IsKept
 kept_lines names before (line ∷ lines) follow =
     let tests = passes names before line follow.0.within in
@@ -181,22 +174,29 @@ kept_lines names before (line ∷ lines) follow =
 
 -- ---- in a module of these functions
 
-module _ (names : List (List ℕ)) (forms : List FunctionForm) (room : length names ≤ 4096) where
-  call_found : (name arity at : List ℕ) (k : ℕ) → IsCallPlace (number_value at) (number_value arity) → function_number name arity (map head_of forms) ≡ Some k → IsSomeAnd (slice_get (map (function_in names (map head_of forms)) forms) k) (λ f. IsCallPlace (number_value at) f.arity)
+module _ (names : Texts) (forms : List FunctionForm) (room : length names ≤ 4096) where
+  abbrev heads : List HeaderForm
+  heads = map head_of forms
+
+  -- the functions that the forms say
+  abbrev made : List Function
+  made = map (function_in names heads) forms
+
+  call_found : (name arity at : List ℕ) (k : ℕ) → IsCallPlace (number_value at) (number_value arity) → function_number name arity heads ≡ Some k → IsSomeAnd (slice_get made k) (λ f. IsCallPlace (number_value at) f.arity)
   call_found name arity at k place e =
-      let found = position-found (is_header name arity) (map head_of forms) k e in
+      let found = position-found (is_header name arity) heads k e in
       by_form (slice_get forms k) refl found (sym (slice_get-map head_of forms k) ∙ found.at)
     where
-      by_form : (o : Option FunctionForm) → slice_get forms k ≡ o → (found : FoundAt (is_header name arity) (map head_of forms) k) → option_map head_of (slice_get forms k) ≡ Some found.value → IsSomeAnd (slice_get (map (function_in names (map head_of forms)) forms) k) (λ f. IsCallPlace (number_value at) f.arity)
+      by_form : (o : Option FunctionForm) → slice_get forms k ≡ o → (found : FoundAt (is_header name arity) heads k) → option_map head_of (slice_get forms k) ≡ Some found.value → IsSomeAnd (slice_get made k) (λ f. IsCallPlace (number_value at) f.arity)
       by_form None is found same = absurd (let none : option_map head_of None ≡ Some found.value = ap (option_map head_of) (sym is) ∙ same in cc)
       by_form (Some f) is found same =
           let head : ◌≡◌ {A = Option HeaderForm} (Some (head_of f)) (Some found.value) = ap (option_map head_of) (sym is) ∙ same in
           let head_is : head_of f ≡ found.value = some_is (head_of f) found.value head in
           let arity_is : f.arity ≡ arity = ap (λ h. h.1) head_is ∙ bytes_are found.value.1 arity (and_parts (bytes_eq found.value.0 name) (bytes_eq found.value.1 arity) found.passed).1 in
-          let at_k : slice_get (map (function_in names (map head_of forms)) forms) k ≡ Some (function_in names (map head_of forms) f) = slice_get-map (function_in names (map head_of forms)) forms k ∙ ap (option_map (function_in names (map head_of forms))) is in
+          let at_k : slice_get made k ≡ Some (function_in names heads f) = slice_get-map (function_in names heads) forms k ∙ ap (option_map (function_in names heads)) is in
           subst (λ o. IsSomeAnd o (λ g. IsCallPlace (number_value at) g.arity)) (sym at_k) (subst (λ a. IsCallPlace (number_value at) (number_value a)) (sym arity_is) place)
 
-  call_by : (name arity at : List ℕ) (o : Option ℕ) → IsCallPlace (number_value at) (number_value arity) → function_number name arity (map head_of forms) ≡ o → is_some o ≡ true → IsSomeAnd (slice_get (map (function_in names (map head_of forms)) forms) (unwrap_or o 0)) (λ f. IsCallPlace (number_value at) f.arity)
+  call_by : (name arity at : List ℕ) (o : Option ℕ) → IsCallPlace (number_value at) (number_value arity) → function_number name arity heads ≡ o → is_some o ≡ true → IsSomeAnd (slice_get made (unwrap_or o 0)) (λ f. IsCallPlace (number_value at) f.arity)
   call_by name arity at None place is some = absurd cc
   call_by name arity at (Some k) place is some = call_found name arity at k place is
 
@@ -215,7 +215,7 @@ module _ (names : List (List ℕ)) (forms : List FunctionForm) (room : length na
       let short = or_parts (is_long_operand a) (is_long_operand b) long in
       (operand_is names a room first.0 low_a narrow.0 short.0, operand_is names b room second.0 low_b narrow.1 short.1)
 
-  instr_is : (body : List LineForm) (i : InstrForm) → IsKeptInstr i → is_settled (map head_of forms) body i ≡ true → IsInstr (map (function_in names (map head_of forms)) forms) (length (instrs_in body)) (instr_in names (map head_of forms) body i)
+  instr_is : (body : List LineForm) (i : InstrForm) → IsKeptInstr i → is_settled heads body i ≡ true → IsInstr made (length (instrs_in body)) (instr_in names heads body i)
   instr_is body (move from to) kept settled =
       let low = or_parts (has_high_operand from) (is_high to) kept.low in
       (operand_is names from room (and_parts (is_operand_form from) (is_number_text to) kept.sound).0 low.0 kept.narrow kept.short, low_register to low.1)
@@ -236,7 +236,7 @@ module _ (names : List (List ℕ)) (forms : List FunctionForm) (room : length na
       let both = two_are a b (is_atom_text target) kept.sound low.0 low.1 kept.narrow kept.short in
       (both.0, both.1, target_within target body)
   instr_is body (jump target) kept settled = target_within target body
-  instr_is body (call name arity at) kept settled = call_by name arity at (function_number name arity (map head_of forms)) (call_place arity at kept.low) refl settled
+  instr_is body (call name arity at) kept settled = call_by name arity at (function_number name arity heads) (call_place arity at kept.low) refl settled
   instr_is body (call_ext name function arity at) kept settled =
       let first = and_parts (is_atom_text name) (is_function_form function arity && is_number_text at) kept.sound in
       let second = and_parts (is_function_form function arity) (is_number_text at) first.1 in
@@ -259,31 +259,31 @@ module _ (names : List (List ℕ)) (forms : List FunctionForm) (room : length na
   settled_by true None h = (refl, refl)
   settled_by t o h = absurd cc
 
-  code_is : (body rest : List LineForm) → All IsKept rest → unsettled_at (map head_of forms) body rest ≡ None → All (IsInstr (map (function_in names (map head_of forms)) forms) (length (instrs_in body))) (map (instr_in names (map head_of forms) body) (instrs_in rest))
-  code_is body [] kept none = All-nil (IsInstr (map (function_in names (map head_of forms)) forms) (length (instrs_in body)))
+  code_is : (body rest : List LineForm) → All IsKept rest → unsettled_at heads body rest ≡ None → All (IsInstr made (length (instrs_in body))) (map (instr_in names heads body) (instrs_in rest))
+  code_is body [] kept none = All-nil (IsInstr made (length (instrs_in body)))
   code_is body (instr i ∷ rest) kept none =
-      let both = settled_by (is_settled (map head_of forms) body i) (unsettled_at (map head_of forms) body rest) none in
+      let both = settled_by (is_settled heads body i) (unsettled_at heads body rest) none in
       let is = All-head IsKept (instr i) rest kept in
-      All-cons (IsInstr (map (function_in names (map head_of forms)) forms) (length (instrs_in body))) (instr_in names (map head_of forms) body i) (map (instr_in names (map head_of forms) body) (instrs_in rest))
+      All-cons (IsInstr made (length (instrs_in body))) (instr_in names heads body i) (map (instr_in names heads body) (instrs_in rest))
       (instr_is body i (record { sound = is.sound; low = is.low; narrow = is.narrow; short = is.short }) both.0)
       (code_is body rest (All-tail IsKept (instr i) rest kept) both.1)
-  code_is body (line ∷ rest) kept none = code_is body rest (All-tail IsKept line rest kept) (settled_by true (unsettled_at (map head_of forms) body rest) none).1
+  code_is body (line ∷ rest) kept none = code_is body rest (All-tail IsKept line rest kept) (settled_by true (unsettled_at heads body rest) none).1
 
-  function_is : (f : FunctionForm) → IsForm (map head_of forms) f → IsFunction (map (function_in names (map head_of forms)) forms) (function_in names (map head_of forms) f)
+  function_is : (f : FunctionForm) → IsForm heads f → IsFunction made (function_in names heads f)
   function_is f is =
       let parts = and_parts (is_atom_text f.name) (is_arity_text f.arity) is.sound in
-      let code = map (instr_in names (map head_of forms) f.body) (instrs_in f.body) in
+      let code = map (instr_in names heads f.body) (instrs_in f.body) in
       record {
         named = atom_small names f.name room;
         arity = arity_small f.arity parts.1;
-        code = subst (λ (n : ℕ). All (IsInstr (map (function_in names (map head_of forms)) forms) n) code) (sym (length-map (instrs_in f.body) (instr_in names (map head_of forms) f.body))) (code_is f.body f.body is.kept is.settled);
+        code = subst (λ (n : ℕ). All (IsInstr made n) code) (sym (length-map (instrs_in f.body) (instr_in names heads f.body))) (code_is f.body f.body is.kept is.settled);
       }
 
-  all_functions : (fs : List FunctionForm) → All (IsForm (map head_of forms)) fs → All (IsFunction (map (function_in names (map head_of forms)) forms)) (map (function_in names (map head_of forms)) fs)
-  all_functions [] all = All-nil (IsFunction (map (function_in names (map head_of forms)) forms))
+  all_functions : (fs : List FunctionForm) → All (IsForm heads) fs → All (IsFunction made) (map (function_in names heads) fs)
+  all_functions [] all = All-nil (IsFunction made)
   all_functions (f ∷ fs) all =
-      All-cons (IsFunction (map (function_in names (map head_of forms)) forms)) (function_in names (map head_of forms) f) (map (function_in names (map head_of forms)) fs)
-      (function_is f (All-head (IsForm (map head_of forms)) f fs all)) (all_functions fs (All-tail (IsForm (map head_of forms)) f fs all))
+      All-cons (IsFunction made) (function_in names heads f) (map (function_in names heads) fs)
+      (function_is f (All-head (IsForm heads) f fs all)) (all_functions fs (All-tail (IsForm heads) f fs all))
 
 -- ---- how many functions there are, and that no two are one
 
@@ -295,7 +295,7 @@ few_after before (header exported name arity) h few =
     omega (arith, one_more, length-append (headers_in before) ((name, arity) ∷ []))
 few_after before line h few = omega (arith, few, length-append (headers_in before) [])
 
-pub heads_few : (names : List (List ℕ)) (before lines : List LineForm) → FollowOn names before lines → length (headers_in before) ≤ 16 → length (headers_in (before ++ lines)) ≤ 16
+pub heads_few : (names : Texts) (before lines : List LineForm) → FollowOn names before lines → length (headers_in before) ≤ 16 → length (headers_in (before ++ lines)) ≤ 16
 heads_few names before [] follow few = subst (λ ls. length (headers_in ls) ≤ 16) (sym (append-nil before)) few
 heads_few names before (line ∷ lines) follow few =
     let tests = passes names before line follow.0.within in
@@ -351,7 +351,7 @@ apart_after : (before : List LineForm) (line : LineForm) → is_repeated before 
 apart_after before (header exported name arity) new apart = apart_more (headers_in before) (name, arity) apart new
 apart_after before line new apart = subst HeadsApart (sym (append-nil (headers_in before))) apart
 
-pub heads_apart : (names : List (List ℕ)) (before lines : List LineForm) → FollowOn names before lines → HeadsApart (headers_in before) → HeadsApart (headers_in (before ++ lines))
+pub heads_apart : (names : Texts) (before lines : List LineForm) → FollowOn names before lines → HeadsApart (headers_in before) → HeadsApart (headers_in (before ++ lines))
 heads_apart names before [] follow apart = subst (λ ls. HeadsApart (headers_in ls)) (sym (append-nil before)) apart
 heads_apart names before (line ∷ lines) follow apart =
     let tests = passes names before line follow.0.within in
@@ -361,33 +361,34 @@ heads_apart names before (line ∷ lines) follow apart =
 -- ---- names that are held
 
 -- a text is among the names
-abbrev pub IsNamed : List (List ℕ) → List ℕ → Type 0
+abbrev pub IsNamed : Texts → List ℕ → Type 0
 IsNamed names text = is_some (number_of names text) ≡ true
 
-named_by : (names : List (List ℕ)) (text other : List ℕ) (t : Bool) → is_some (number_of names other) ≡ t → IsNamed names text → IsNamed (cond t names (names ++ other ∷ [])) text
-named_by names text other true is named = named
-named_by names text other false is named =
-    is_some-position (bytes_eq text) (names ++ other ∷ []) ∙ list_any-append (bytes_eq text) names (other ∷ [])
-    ∙ ap (λ t. t || list_any (bytes_eq text) (other ∷ [])) (sym (is_some-position (bytes_eq text) names) ∙ named)
+module _ (names : Texts) (text other : List ℕ) where
+  named_by : (t : Bool) → is_some (number_of names other) ≡ t → IsNamed names text → IsNamed (cond t names (names ++ other ∷ [])) text
+  named_by true is named = named
+  named_by false is named =
+      is_some-position (bytes_eq text) (names ++ other ∷ []) ∙ list_any-append (bytes_eq text) names (other ∷ [])
+      ∙ ap (λ t. t || list_any (bytes_eq text) (other ∷ [])) (sym (is_some-position (bytes_eq text) names) ∙ named)
 
-named_after : (names : List (List ℕ)) (text other : List ℕ) → IsNamed names text → IsNamed (names_with names other) text
-named_after names text other named = named_by names text other (is_some (number_of names other)) refl named
+  named_after : IsNamed names text → IsNamed (names_with names other) text
+  named_after named = named_by (is_some (number_of names other)) refl named
 
-named_new : (names : List (List ℕ)) (text : List ℕ) (t : Bool) → is_some (number_of names text) ≡ t → IsNamed (cond t names (names ++ text ∷ [])) text
+named_new : (names : Texts) (text : List ℕ) (t : Bool) → is_some (number_of names text) ≡ t → IsNamed (cond t names (names ++ text ∷ [])) text
 named_new names text true is = is
 named_new names text false is =
     is_some-position (bytes_eq text) (names ++ text ∷ []) ∙ list_any-append (bytes_eq text) names (text ∷ [])
     ∙ ap (λ t. list_any (bytes_eq text) names || (t || false)) (same_bytes text) ∙ or_right (list_any (bytes_eq text) names) true refl
 
-named_all : (names texts : List (List ℕ)) (text : List ℕ) → IsNamed names text → IsNamed (names_with_all names texts) text
+named_all : (names texts : Texts) (text : List ℕ) → IsNamed names text → IsNamed (names_with_all names texts) text
 named_all names [] text named = named
 named_all names (other ∷ texts) text named = named_all (names_with names other) texts text (named_after names text other named)
 
-pub named_behind : (names : List (List ℕ)) (lines : List LineForm) (text : List ℕ) → IsNamed names text → IsNamed (names_behind names lines) text
+pub named_behind : (names : Texts) (lines : List LineForm) (text : List ℕ) → IsNamed names text → IsNamed (names_behind names lines) text
 named_behind names [] text named = named
 named_behind names (line ∷ lines) text named = named_behind (names_after names line) lines text (named_all names (line_atoms line) text named)
 
-pub heads_named : (names : List (List ℕ)) (lines : List LineForm) → All (λ h. IsNamed (names_behind names lines) h.0) (headers_in lines)
+pub heads_named : (names : Texts) (lines : List LineForm) → All (λ h. IsNamed (names_behind names lines) h.0) (headers_in lines)
 heads_named names [] = All-nil (λ h. IsNamed names h.0)
 heads_named names (title name version ∷ lines) = heads_named (names_after names (title name version)) lines
 heads_named names (header exported name arity ∷ lines) =
@@ -398,13 +399,13 @@ heads_named names (label name ∷ lines) = heads_named names lines
 heads_named names (instr i ∷ lines) = heads_named (names_after names (instr i)) lines
 heads_named names (end ∷ lines) = heads_named names lines
 
-one_name : (names : List (List ℕ)) (a b : List ℕ) (o p : Option ℕ) → number_of names a ≡ o → number_of names b ≡ p → is_some o ≡ true → is_some p ≡ true → unwrap_or o 0 ≡ unwrap_or p 0 → a ≡ b
+one_name : (names : Texts) (a b : List ℕ) (o p : Option ℕ) → number_of names a ≡ o → number_of names b ≡ p → is_some o ≡ true → is_some p ≡ true → unwrap_or o 0 ≡ unwrap_or p 0 → a ≡ b
 one_name names a b (Some n) (Some k) is_a is_b some_a some_b same =
     some_is a b (sym (slice_get-number_of names a n is_a) ∙ ap (slice_get names) same ∙ slice_get-number_of names b k is_b)
 one_name names a b o p is_a is_b some_a some_b same = absurd cc
 
 -- texts with one number are one
-pub names_one : (names : List (List ℕ)) (a b : List ℕ) → IsNamed names a → IsNamed names b → number_in names a ≡ number_in names b → a ≡ b
+pub names_one : (names : Texts) (a b : List ℕ) → IsNamed names a → IsNamed names b → number_in names a ≡ number_in names b → a ≡ b
 names_one names a b named_a named_b same = one_name names a b (number_of names a) (number_of names b) refl refl named_a named_b same
 
 -- ---- numbers that are one have one text
@@ -428,19 +429,19 @@ arities_one a b is_a is_b same =
 
 -- ---- the image
 
-row_of : (names : List (List ℕ)) (before lines : List LineForm) → FollowOn names before lines → RowFrom (last_line before) lines
+row_of : (names : Texts) (before lines : List LineForm) → FollowOn names before lines → RowFrom (last_line before) lines
 row_of names before [] follow = tt
 row_of names before (line ∷ lines) follow =
     (follow.0.stands.place, subst (λ o. RowFrom o lines) (last_line-push before line) (row_of (names_after names line) (before ++ line ∷ []) lines follow.1))
 
 -- the test of the end line
 record ShortAt (whole : List LineForm) : Type 0 where
-  names : List (List ℕ)
+  names : Texts
   before : List LineForm
   short : ends_too_long names before end ≡ false
   lines_are : before ++ end ∷ [] ≡ whole
 
-short_of : (names : List (List ℕ)) (before : List LineForm) (line : LineForm) (lines : List LineForm) → FollowOn names before (line ∷ lines) → last_line (before ++ line ∷ lines) ≡ Some end → ShortAt (before ++ line ∷ lines)
+short_of : (names : Texts) (before : List LineForm) (line : LineForm) (lines : List LineForm) → FollowOn names before (line ∷ lines) → last_line (before ++ line ∷ lines) ≡ Some end → ShortAt (before ++ line ∷ lines)
 short_of names before line [] follow closed =
     let is_end_line : line ≡ end = some_is line end (sym (last_line-push before line) ∙ closed) in
     let tests = passes names before line follow.0.within in
@@ -449,7 +450,7 @@ short_of names before line (next ∷ lines) follow closed =
     let whole = append_assoc before (line ∷ []) (next ∷ lines) in
     subst ShortAt whole (short_of (names_after names line) (before ++ line ∷ []) next lines follow.1 (ap last_line whole ∙ closed))
 
-image_short : (names after : List (List ℕ)) (lines : List LineForm) → RowFrom None lines → All IsSound lines → ShortAt lines → length (module_image (module_of after lines)) ≤ 1024
+image_short : (names after : Texts) (lines : List LineForm) → RowFrom None lines → All IsSound lines → ShortAt lines → length (module_image (module_of after lines)) ≤ 1024
 image_short names after lines row sound short =
     let over : nat_lt 1024 (length (module_image (module_of short.names (short.before ++ end ∷ [])))) ≡ false = short.short in
     let small : length (module_image (module_of short.names (short.before ++ end ∷ []))) ≤ 1024 = grind (arith, nat_tests) in
@@ -469,7 +470,7 @@ version_is (title name version ∷ lines) titled kept =
     (grind (arith, nat_tests), grind (arith, nat_tests))
 version_is lines titled kept = absurd titled
 
-functions_apart : (names : List (List ℕ)) (headers : List HeaderForm) (forms : List FunctionForm) → All (IsForm headers) forms → All (λ h. IsNamed names h.0) (map head_of forms) → HeadsApart (map head_of forms) → (i j : ℕ) → i < j → SameFunction (map (function_in names headers) forms) i j → ⊥
+functions_apart : (names : Texts) (headers : List HeaderForm) (forms : List FunctionForm) → All (IsForm headers) forms → All (λ h. IsNamed names h.0) (map head_of forms) → HeadsApart (map head_of forms) → (i j : ℕ) → i < j → SameFunction (map (function_in names headers) forms) i j → ⊥
 unfolding HeadsApart
 functions_apart names headers forms are named apart i j below same =
     by_forms (slice_get forms i) refl (slice_get forms j) refl
@@ -490,7 +491,7 @@ functions_apart names headers forms are named apart i j below same =
         let arities_are = arities_one f.arity g.arity (and_parts (is_atom_text f.name) (is_arity_text f.arity) form_f.sound).1 (and_parts (is_atom_text g.name) (is_arity_text g.arity) form_g.sound).1 arity_is in
         apart i j (head_of f) (head_of g) below head_i head_j (λ k. (names_are k, arities_are k))
 
-lines_closed : (names : List (List ℕ)) (lines : List LineForm) → AreLines names lines → last_line lines ≡ Some end → ShortAt lines
+lines_closed : (names : Texts) (lines : List LineForm) → AreLines names lines → last_line lines ≡ Some end → ShortAt lines
 lines_closed names [] follow closed = absurd cc
 lines_closed names (line ∷ lines) follow closed = short_of names [] line lines follow closed
 
@@ -499,29 +500,27 @@ unfolding HeadsApart
 no_heads = λ i j a b below at_i at_j same. absurd cc
 
 -- the module of a text is one
-pub module_is_sound : (before : List (List ℕ)) (bytes : List ℕ) (m : Module) (after : List (List ℕ)) → length before ≤ 4096 → ModuleText before bytes m after → IsModule m
+pub module_is_sound : (before : Texts) (bytes : List ℕ) (m : Module) (after : Texts) → length before ≤ 4096 → ModuleText before bytes m after → IsModule m
 module_is_sound before bytes m after room text =
     let lines = text.lines in
     let follow = text.faultless in
     let kept = kept_lines before [] lines follow in
     let forms = functions_in lines in
-    let heads_is = heads_are lines in
     let behind : length (names_behind before lines) ≤ 4096 = names_room before [] lines room follow in
     let room_after : length after ≤ 4096 = subst (λ ns. length ns ≤ 4096) (sym text.named) behind in
     let titled = titled_is before lines follow text.closed in
     let version = version_is lines titled kept in
-    let are : All (IsForm (map head_of forms)) forms = subst (λ hs. All (IsForm hs) forms) heads_is (forms_are (headers_in lines) lines kept text.settled) in
-    let whole : module_of after lines ≡ record { name = atom_in after (title_of lines).0; version = number_value (title_of lines).1; functions = map (function_in after (map head_of forms)) forms } = λ k. record { name = atom_in after (title_of lines).0; version = number_value (title_of lines).1; functions = map (function_in after (heads_is k)) forms } in
-    let few : length (headers_in lines) ≤ 16 = heads_few before [] lines follow (omega arith) in
-    let apart : HeadsApart (map head_of forms) = subst HeadsApart heads_is (heads_apart before [] lines follow no_heads) in
-    let named : All (λ h. IsNamed after h.0) (map head_of forms) = subst (λ hs. All (λ h. IsNamed after h.0) hs) heads_is (subst (λ ns. All (λ h. IsNamed ns h.0) (headers_in lines)) (sym text.named) (heads_named before lines)) in
-    subst IsModule (sym (text.value ∙ whole))
+    let are : All (IsForm (map head_of forms)) forms = forms_are (headers_in lines) lines kept text.settled in
+    let few : length (map head_of forms) ≤ 16 = heads_few before [] lines follow (omega arith) in
+    let apart : HeadsApart (map head_of forms) = heads_apart before [] lines follow no_heads in
+    let named : All (λ h. IsNamed after h.0) (map head_of forms) = subst (λ ns. All (λ h. IsNamed ns h.0) (headers_in lines)) (sym text.named) (heads_named before lines) in
+    subst IsModule (sym text.value)
     (record {
       named = atom_small after (title_of lines).0 room_after;
       least_version = version.0;
       greatest_version = version.1;
       functions = all_functions after forms room_after forms are;
-      few = omega (arith, few, ap length heads_is, length-map forms head_of, length-map forms (function_in after (map head_of forms)));
+      few = omega (arith, few, length-map forms head_of, length-map forms (function_in after (map head_of forms)));
       apart = functions_apart after (map head_of forms) forms are named apart;
-      short = subst (λ x. length (module_image x) ≤ 1024) whole (image_short before after lines (row_of before [] lines follow) (kept_sound lines kept) (lines_closed before lines follow text.closed));
+      short = image_short before after lines (row_of before [] lines follow) (kept_sound lines kept) (lines_closed before lines follow text.closed);
     })

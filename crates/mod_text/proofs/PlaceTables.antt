@@ -1,15 +1,14 @@
 -- The labels of a function, line by line.
-use Rattle.std.proofs.Common.{◌≡◌, ℕ, suc, ◌+◌, ◌<◌, Bool, true, false, cond, List, [], ◌∷◌, ◌++◌, length, take, get_or, Option, Some, None, option_map, is_some, bytes_eq, refl, sym, ap, ◌∙◌, subst, arith}
-use Rattle.std.specs.Borrow.{Bor}
+use Rattle.mod_text.proofs.Common.{◌≡◌, ℕ, suc, ◌+◌, ◌<◌, Bool, true, false, cond, List, [], ◌∷◌, ◌++◌, length}
+use Rattle.mod_text.proofs.Common.{take, get_or, Option, Some, None, option_map, is_some, bytes_eq}
+use Rattle.mod_text.proofs.Common.{refl, sym, ap, ◌∙◌, subst, arith, Bor, take_more, map-append}
 use Rattle.std.specs.HashMap.{UpdatesBy}
 use Rattle.std.proofs.lemmas.Map.Text.{hash_map_updates_str}
-use Rattle.std.proofs.lemmas.List.{take_more, map-append}
 use Rattle.std.proofs.lemmas.Slice.Eq.{bytes_eq-Decides}
 use Rattle.term_core.proofs.Truths.{none_by}
-use Rattle.mod_text.specs.LineViews.{form_of, forms_of}
-use Rattle.mod_text.specs.ModuleLine.{LineForm, title, label, instr}
-use Rattle.mod_text.specs.ModuleValue.{instrs_in, label_number, earlier}
-use Rattle.mod_text.specs.Settling.{Places, place_in, ArePlaces, HasPlace, label_at, TakesLine, number_after}
+use Rattle.mod_text.proofs.Forms.{form_of, forms_of, LineForm, title, label, instr, instrs_in, label_number}
+use Rattle.mod_text.proofs.Forms.{earlier, Places, place_in, ArePlaces, HasPlace, label_at, TakesLine}
+use Rattle.mod_text.proofs.Forms.{number_after}
 
 earlier-none : (o : Option ℕ) → earlier o None ≡ o
 earlier-none None = refl

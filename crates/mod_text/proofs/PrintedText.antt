@@ -1,21 +1,16 @@
 -- How a text grows by the lines of a function's code, and what a text begins with.
-use Rattle.std.proofs.Common.{◌≡◌, ℕ, ◌<◌, ◌≤◌, List, [], ◌∷◌, ◌++◌, length, drop, refl, Result, OnOk, decimal, All, subst, sym, ap, ◌∙◌, arith, append_assoc}
+use Rattle.std.proofs.Common.{◌≡◌, ℕ, ◌<◌, ◌≤◌, List, [], ◌∷◌, ◌++◌, length, drop, refl, Result}
+use Rattle.std.proofs.Common.{OnOk, decimal, All, subst, sym, ap, ◌∙◌, arith, append_assoc}
 use Rattle.std.proofs.lemmas.Grind.{flat_map-append}
-use Rattle.std.proofs.lemmas.Result.{IfOk-equal}
-use Rattle.std.specs.Io.{StartsWith}
-use Rattle.std.specs.List.{flat_map}
-use Rattle.term_core.specs.TermText.{atom_text}
-use Rattle.mod_core.specs.declared.code.Instr.{Instr}
-use Rattle.mod_core.specs.declared.code.Function.{Function}
-use Rattle.mod_core.specs.declared.code.Module.{Module}
+use Rattle.mod_text.proofs.Common.{IfOk-equal, StartsWith, flat_map, All-weaker, Texts}
+use Rattle.mod_text.proofs.Texts.{atom_text}
+use Rattle.mod_text.proofs.Types.{Instr, Function, Module}
 use Rattle.mod_core.specs.Module.{IsModule}
 use Rattle.mod_core.proofs.ImageWords.{few_instrs}
-use Rattle.std.proofs.lemmas.List.Elements.{All-weaker}
-use Rattle.mod_text.specs.ModuleLine.{title, end, line_bytes, lines_written}
-use Rattle.mod_text.specs.Canonical.{lines_from, function_lines, canonical}
+use Rattle.mod_text.proofs.Forms.{title, end, line_bytes, lines_written, lines_from, function_lines, canonical}
 
 -- what is written of a function's code, and what is left of it
-pub record CodeWritten (names : List (List ℕ)) (fs : List Function) (code : List Instr) (number : ℕ) (out start : List ℕ) : Type 0 where
+pub record CodeWritten (names : Texts) (fs : List Function) (code : List Instr) (number : ℕ) (out start : List ℕ) : Type 0 where
   pub left : out ++ lines_written (lines_from names fs code number (drop number code)) ≡ start ++ lines_written (lines_from names fs code 0 code)
   pub kept : StartsWith out start
 
@@ -24,14 +19,14 @@ goes_on : (out labelled more a b rest : List ℕ) → labelled ≡ out ++ a → 
 goes_on out labelled more a b rest e f = rw (f, e) (simp append_assoc)
 
 -- the text of the lines of some functions, function by function
-lines_of_functions : (names : List (List ℕ)) (fs gs : List Function) → lines_written (flat_map (function_lines names fs) gs) ≡ flat_map (λ f. lines_written (function_lines names fs f)) gs
+lines_of_functions : (names : Texts) (fs gs : List Function) → lines_written (flat_map (function_lines names fs) gs) ≡ flat_map (λ f. lines_written (function_lines names fs f)) gs
 lines_of_functions names fs [] = refl
 lines_of_functions names fs (g ∷ gs) =
     flat_map-append line_bytes (function_lines names fs g) (flat_map (function_lines names fs) gs)
     ∙ ap (λ t. lines_written (function_lines names fs g) ++ t) (lines_of_functions names fs gs)
 
 -- a module's text, part by part
-pub module_written : {T E : Type 0} (r : Result T E) (names : List (List ℕ)) (m : Module) (start titled functions whole : List ℕ) →
+pub module_written : {T E : Type 0} (r : Result T E) (names : Texts) (m : Module) (start titled functions whole : List ℕ) →
     titled ≡ start ++ line_bytes (title (atom_text names m.name.0) (decimal m.version)) →
     functions ≡ titled ++ flat_map (λ f. lines_written (function_lines names m.functions f)) m.functions →
     OnOk r (whole ≡ functions ++ line_bytes end) → OnOk r (whole ≡ start ++ lines_written (canonical names m))

@@ -1,35 +1,32 @@
 -- The code and the functions that lines say, line by line.
-use Rattle.std.proofs.Common.{◌≡◌, ℕ, suc, ◌+◌, ◌-◌, ◌<◌, ◌≤◌, Bool, true, false, cond, ◌&&◌, ◌^◌, nat_le, List, [], ◌∷◌, ◌++◌, length, take, drop, get_or, map, Option, Some, None, option_map, refl, sym, ap, ◌∙◌, subst, arith, add-one, add-zero, append_assoc, drop-cons, length-drop}
-use Rattle.std.specs.Borrow.{Bor}
-use Rattle.std.specs.Prelude.{All}
-use Rattle.std.proofs.lemmas.List.{append-nil, length-map, get_or-map, drop-map, take_more, take_all, drop_all, map-append}
-use Rattle.std.proofs.lemmas.List.Elements.{All-get_or, All-drop, All-nil, All-cons, All-head, All-tail}
-use Rattle.std.proofs.lemmas.Bool.{and_parts}
-use Rattle.std.proofs.lemmas.Bool.Decides.{nat_tests}
+use Rattle.std.proofs.Common.{◌≡◌, ℕ, suc, ◌+◌, ◌-◌, ◌<◌, ◌≤◌, Bool, true, false, cond, ◌&&◌, ◌^◌, nat_le, List, [], ◌∷◌}
+use Rattle.std.proofs.Common.{◌++◌, length, take, drop, get_or, map, Option, Some, None, option_map, refl, sym, ap, ◌∙◌}
+use Rattle.std.proofs.Common.{subst, arith, add-one, add-zero, append_assoc, drop-cons, length-drop}
+use Rattle.mod_text.proofs.Common.{Bor, All, append-nil, length-map, get_or-map, drop-map, take_more, take_all}
+use Rattle.mod_text.proofs.Common.{drop_all, map-append, All-get_or, All-drop, All-nil, All-cons, Texts}
+use Rattle.mod_text.proofs.Common.{All-head, All-tail, and_parts, nat_tests}
 use Rattle.std.specs.Bool.{OnTrue}
-use Rattle.term_core.specs.Names.{is_atom_text}
-use Rattle.term_core.specs.declared.atom.AtomId.{AtomId}
-use Rattle.mod_core.specs.declared.code.Instr.{Instr}
-use Rattle.mod_core.specs.declared.code.Function.{Function}
-use Rattle.mod_text.specs.declared.fault.FinishFault.{FinishFault}
+use Rattle.mod_text.proofs.Texts.{is_atom_text, is_number_text, number_value}
+use Rattle.mod_text.proofs.Types.{AtomId, Instr, Function, FinishFault}
 use Rattle.mod_text.specs.declared.fault.FinishFault.TheVariants.{Missing, NoMemory}
-use Rattle.mod_text.specs.LineViews.{form_of, forms_of}
-use Rattle.term_core.specs.Text.Numbers.{is_number_text, number_value}
-use Rattle.mod_text.specs.ModuleLine.{InstrForm, LineForm, title, header, label, instr, is_line_form, is_version_text}
-use Rattle.mod_text.specs.ModuleValue.{HeaderForm, body_of, functions_in, instrs_in, instr_in, function_in, is_settled, is_settled_line, unsettled_at, unsettled_in, unsettled_below, earlier, first_unsettled, atom_in, title_of, IsTitled}
-use Rattle.mod_text.specs.Keeping.{IsKept}
-use Rattle.mod_text.specs.Settling.{settled_instr, later_by, function_at, is_body_line, IsUnsettled, IsUnsettledBelow, IsLater}
+use Rattle.mod_text.proofs.Forms.{form_of, forms_of, InstrForm, LineForm, title, header, label, instr}
+use Rattle.mod_text.proofs.Forms.{is_line_form, is_version_text, HeaderForm, body_of, functions_in, instrs_in}
+use Rattle.mod_text.proofs.Forms.{instr_in, function_in, is_settled, is_settled_line, unsettled_at}
+use Rattle.mod_text.proofs.Forms.{unsettled_in, unsettled_below, earlier, first_unsettled, atom_in, title_of}
+use Rattle.mod_text.proofs.Forms.{IsTitled, IsKept, settled_instr, later_by, function_at}
+use Rattle.mod_text.proofs.Forms.{is_body_line, IsUnsettled, IsUnsettledBelow, IsLater}
 
 -- ---- lines
 
--- the lines from a place on
-pub forms_at : (lines : List (Bor (List ℕ))) (i : ℕ) (d : Bor (List ℕ)) → i < length lines → forms_of (drop i lines) ≡ form_of (get_or lines i d) ∷ forms_of (drop (i + 1) lines)
-forms_at lines i d within = ap forms_of (drop-cons lines i d within) ∙ ap (λ n. form_of (get_or lines i d) ∷ forms_of (drop n lines)) (sym (add-one i))
+module _ (lines : List (Bor (List ℕ))) (i : ℕ) (d : Bor (List ℕ)) (within : i < length lines) where
+  -- the lines from a place on
+  pub forms_at : forms_of (drop i lines) ≡ form_of (get_or lines i d) ∷ forms_of (drop (i + 1) lines)
+  forms_at = ap forms_of (drop-cons lines i d within) ∙ ap (λ n. form_of (get_or lines i d) ∷ forms_of (drop n lines)) (sym (add-one i))
 
--- each line that was kept is within its limits
-pub kept_at : (lines : List (Bor (List ℕ))) (i : ℕ) (d : Bor (List ℕ)) → i < length lines → All IsKept (forms_of lines) → IsKept (form_of (get_or lines i d))
-kept_at lines i d within kept =
-    subst IsKept (get_or-map form_of lines i d (form_of d) within) (All-get_or IsKept (forms_of lines) i (form_of d) (omega (arith, within, length-map lines form_of)) kept)
+  -- each line that was kept is within its limits
+  pub kept_at : All IsKept (forms_of lines) → IsKept (form_of (get_or lines i d))
+  kept_at kept =
+      subst IsKept (get_or-map form_of lines i d (form_of d) within) (All-get_or IsKept (forms_of lines) i (form_of d) (omega (arith, within, length-map lines form_of)) kept)
 
 pub kept_behind : (lines : List (Bor (List ℕ))) (i : ℕ) → All IsKept (forms_of lines) → All IsKept (forms_of (drop i lines))
 kept_behind lines i kept = subst (All IsKept) (drop-map form_of i lines) (All-drop IsKept i (forms_of lines) kept)
@@ -45,18 +42,19 @@ body_ends (label name) lines h = absurd cc
 body_ends (instr i) lines h = absurd cc
 body_ends line lines h = refl
 
--- the body so far, where the next line is none of it
-pub body_stops : (lines : List (Bor (List ℕ))) (i : ℕ) (d : Bor (List ℕ)) → i < length lines → body_of (forms_of lines) ≡ forms_of (take i lines) ++ body_of (forms_of (drop i lines)) → false ≡ is_body_line (form_of (get_or lines i d)) → forms_of (take i lines) ≡ body_of (forms_of lines)
-body_stops lines i d within so_far here =
-    sym (so_far ∙ ap (λ ls. forms_of (take i lines) ++ body_of ls) (forms_at lines i d within) ∙ ap (λ ls. forms_of (take i lines) ++ ls) (body_ends (form_of (get_or lines i d)) (forms_of (drop (i + 1) lines)) (sym here)) ∙ append-nil (forms_of (take i lines)))
+module _ (lines : List (Bor (List ℕ))) (i : ℕ) (d : Bor (List ℕ)) (within : i < length lines) (so_far : body_of (forms_of lines) ≡ forms_of (take i lines) ++ body_of (forms_of (drop i lines))) where
+  -- the body so far, where the next line is none of it
+  pub body_stops : false ≡ is_body_line (form_of (get_or lines i d)) → forms_of (take i lines) ≡ body_of (forms_of lines)
+  body_stops here =
+      sym (so_far ∙ ap (λ ls. forms_of (take i lines) ++ body_of ls) (forms_at lines i d within) ∙ ap (λ ls. forms_of (take i lines) ++ ls) (body_ends (form_of (get_or lines i d)) (forms_of (drop (i + 1) lines)) (sym here)) ∙ append-nil (forms_of (take i lines)))
 
-pub body_more : (lines : List (Bor (List ℕ))) (i : ℕ) (d : Bor (List ℕ)) → i < length lines → body_of (forms_of lines) ≡ forms_of (take i lines) ++ body_of (forms_of (drop i lines)) → true ≡ is_body_line (form_of (get_or lines i d)) → body_of (forms_of lines) ≡ forms_of (take (i + 1) lines) ++ body_of (forms_of (drop (i + 1) lines))
-body_more lines i d within so_far here =
-    let line = form_of (get_or lines i d) in
-    let rest = forms_of (drop (i + 1) lines) in
-    so_far ∙ ap (λ ls. forms_of (take i lines) ++ body_of ls) (forms_at lines i d within) ∙ ap (λ ls. forms_of (take i lines) ++ ls) (body_goes_on line rest (sym here))
-    ∙ sym (append_assoc (forms_of (take i lines)) (line ∷ []) (body_of rest))
-    ∙ ap (λ ls. ls ++ body_of rest) (sym (ap forms_of (take_more lines i d within) ∙ map-append form_of (take i lines) (get_or lines i d ∷ [])))
+  pub body_more : true ≡ is_body_line (form_of (get_or lines i d)) → body_of (forms_of lines) ≡ forms_of (take (i + 1) lines) ++ body_of (forms_of (drop (i + 1) lines))
+  body_more here =
+      let line = form_of (get_or lines i d) in
+      let rest = forms_of (drop (i + 1) lines) in
+      so_far ∙ ap (λ ls. forms_of (take i lines) ++ body_of ls) (forms_at lines i d within) ∙ ap (λ ls. forms_of (take i lines) ++ ls) (body_goes_on line rest (sym here))
+      ∙ sym (append_assoc (forms_of (take i lines)) (line ∷ []) (body_of rest))
+      ∙ ap (λ ls. ls ++ body_of rest) (sym (ap forms_of (take_more lines i d within) ∙ map-append form_of (take i lines) (get_or lines i d ∷ [])))
 
 pub body_is_whole : (lines : List (Bor (List ℕ))) (i : ℕ) → length lines ≤ i → body_of (forms_of lines) ≡ forms_of (take i lines) ++ body_of (forms_of (drop i lines)) → forms_of lines ≡ body_of (forms_of lines)
 body_is_whole lines i past so_far =
@@ -103,10 +101,11 @@ title_version (title name version ∷ lines) titled kept =
     record { number = (and_parts (is_number_text version) (nat_le 1 (number_value version) && nat_le (number_value version) 999999) (and_parts (is_atom_text name) (is_version_text version) sound).1).0; small = version_small name version sound }
 title_version lines titled kept = absurd titled
 
--- the function of a header
-pub header_function : (names : List (List ℕ)) (headers : List HeaderForm) (behind : List LineForm) (body : List LineForm) (exported : Bool) (name arity : List ℕ) (atom : AtomId) (number : ℕ) (code : List Instr) → atom ≡ atom_in names name → number ≡ number_value arity → code ≡ map (instr_in names headers body) (instrs_in body) → body ≡ body_of behind → ◌≡◌ {A = List Function} (record { name = atom; arity = number; exported = exported; code = code } ∷ []) (map (function_in names headers) (function_at (header exported name arity) behind))
-header_function names headers behind body exported name arity atom number code atom_is number_is code_is body_is = λ j.
-    record { name = atom_is j; arity = number_is j; exported = exported; code = (code_is ∙ ap (λ b. map (instr_in names headers b) (instrs_in b)) body_is) j } ∷ []
+module _ (names : Texts) (headers : List HeaderForm) (behind body : List LineForm) (exported : Bool) (name arity : List ℕ) (atom : AtomId) (number : ℕ) (code : List Instr) where
+  -- the function of a header
+  pub header_function : atom ≡ atom_in names name → number ≡ number_value arity → code ≡ map (instr_in names headers body) (instrs_in body) → body ≡ body_of behind → ◌≡◌ {A = List Function} (record { name = atom; arity = number; exported = exported; code = code } ∷ []) (map (function_in names headers) (function_at (header exported name arity) behind))
+  header_function atom_is number_is code_is body_is = λ j.
+      record { name = atom_is j; arity = number_is j; exported = exported; code = (code_is ∙ ap (λ b. map (instr_in names headers b) (instrs_in b)) body_is) j } ∷ []
 
 -- ---- the code of a function
 
@@ -116,47 +115,48 @@ instrs_in-append (instr i ∷ xs) ys = ap (λ l. i ∷ l) (instrs_in-append xs y
 instrs_in-append (line ∷ xs) ys = instrs_in-append xs ys
 
 -- what the loop over a body keeps
-pub record CodeSoFar (names : List (List ℕ)) (headers : List HeaderForm) (body : List (Bor (List ℕ))) (i : ℕ) (code : List Instr) : Type 0 where
+pub record CodeSoFar (names : Texts) (headers : List HeaderForm) (body : List (Bor (List ℕ))) (i : ℕ) (code : List Instr) : Type 0 where
   pub code_is : code ≡ map (instr_in names headers (forms_of body)) (instrs_in (forms_of (take i body)))
   pub settled : unsettled_in headers (forms_of body) ≡ later_by i (unsettled_at headers (forms_of body) (forms_of (drop i body)))
 
-pub code_starts : (names : List (List ℕ)) (headers : List HeaderForm) (body : List (Bor (List ℕ))) (code : List Instr) → code ≡ [] → CodeSoFar names headers body 0 code
-code_starts names headers body code none = record { code_is = none; settled = later-zero (unsettled_in headers (forms_of body)) }
+module _ (names : Texts) (headers : List HeaderForm) (body : List (Bor (List ℕ))) where
+  pub code_starts : (code : List Instr) → code ≡ [] → CodeSoFar names headers body 0 code
+  code_starts code none = record { code_is = none; settled = later-zero (unsettled_in headers (forms_of body)) }
 
-pub code_more : (names : List (List ℕ)) (headers : List HeaderForm) (body : List (Bor (List ℕ))) (i : ℕ) (d : Bor (List ℕ)) (code new : List Instr) → i < length body → CodeSoFar names headers body i code → true ≡ is_settled_line headers (forms_of body) (form_of (get_or body i d)) → new ≡ code ++ map (instr_in names headers (forms_of body)) (instrs_in (form_of (get_or body i d) ∷ [])) → CodeSoFar names headers body (i + 1) new
-code_more names headers body i d code new within so_far here pushed =
-    let line = form_of (get_or body i d) in
-    let f = instr_in names headers (forms_of body) in
-    let rest = forms_of (drop (i + 1) body) in
-    record {
-      code_is =
-          pushed ∙ ap (λ c. c ++ map f (instrs_in (line ∷ []))) so_far.code_is ∙ sym (map-append f (instrs_in (forms_of (take i body))) (instrs_in (line ∷ [])))
-          ∙ ap (map f) (sym (instrs_in-append (forms_of (take i body)) (line ∷ [])))
-          ∙ ap (λ ls. map f (instrs_in ls)) (sym (ap forms_of (take_more body i d within) ∙ map-append form_of (take i body) (get_or body i d ∷ [])));
-      settled =
-          so_far.settled ∙ ap (λ ls. later_by i (unsettled_at headers (forms_of body) ls)) (forms_at body i d within)
-          ∙ ap (λ t. later_by i (cond t (option_map suc (unsettled_at headers (forms_of body) rest)) (Some 0))) (sym here)
-          ∙ later-suc i (unsettled_at headers (forms_of body) rest);
-    }
+  pub code_more : (i : ℕ) (d : Bor (List ℕ)) (code new : List Instr) → i < length body → CodeSoFar names headers body i code → true ≡ is_settled_line headers (forms_of body) (form_of (get_or body i d)) → new ≡ code ++ map (instr_in names headers (forms_of body)) (instrs_in (form_of (get_or body i d) ∷ [])) → CodeSoFar names headers body (i + 1) new
+  code_more i d code new within so_far here pushed =
+      let line = form_of (get_or body i d) in
+      let f = instr_in names headers (forms_of body) in
+      let rest = forms_of (drop (i + 1) body) in
+      record {
+        code_is =
+            pushed ∙ ap (λ c. c ++ map f (instrs_in (line ∷ []))) so_far.code_is ∙ sym (map-append f (instrs_in (forms_of (take i body))) (instrs_in (line ∷ [])))
+            ∙ ap (map f) (sym (instrs_in-append (forms_of (take i body)) (line ∷ [])))
+            ∙ ap (λ ls. map f (instrs_in ls)) (sym (ap forms_of (take_more body i d within) ∙ map-append form_of (take i body) (get_or body i d ∷ [])));
+        settled =
+            so_far.settled ∙ ap (λ ls. later_by i (unsettled_at headers (forms_of body) ls)) (forms_at body i d within)
+            ∙ ap (λ t. later_by i (cond t (option_map suc (unsettled_at headers (forms_of body) rest)) (Some 0))) (sym here)
+            ∙ later-suc i (unsettled_at headers (forms_of body) rest);
+      }
 
-pub code_stops : (names : List (List ℕ)) (headers : List HeaderForm) (body : List (Bor (List ℕ))) (i : ℕ) (d : Bor (List ℕ)) (code : List Instr) → i < length body → CodeSoFar names headers body i code → false ≡ is_settled_line headers (forms_of body) (form_of (get_or body i d)) → unsettled_in headers (forms_of body) ≡ Some i
-code_stops names headers body i d code within so_far here =
-    so_far.settled ∙ ap (λ ls. later_by i (unsettled_at headers (forms_of body) ls)) (forms_at body i d within)
-    ∙ ap (λ t. later_by i (cond t (option_map suc (unsettled_at headers (forms_of body) (forms_of (drop (i + 1) body)))) (Some 0))) (sym here)
-    ∙ ap (λ k. Some k) (add-zero i)
+  pub code_stops : (i : ℕ) (d : Bor (List ℕ)) (code : List Instr) → i < length body → CodeSoFar names headers body i code → false ≡ is_settled_line headers (forms_of body) (form_of (get_or body i d)) → unsettled_in headers (forms_of body) ≡ Some i
+  code_stops i d code within so_far here =
+      so_far.settled ∙ ap (λ ls. later_by i (unsettled_at headers (forms_of body) ls)) (forms_at body i d within)
+      ∙ ap (λ t. later_by i (cond t (option_map suc (unsettled_at headers (forms_of body) (forms_of (drop (i + 1) body)))) (Some 0))) (sym here)
+      ∙ ap (λ k. Some k) (add-zero i)
 
-pub code_is_whole : (names : List (List ℕ)) (headers : List HeaderForm) (body : List (Bor (List ℕ))) (i : ℕ) (code : List Instr) → length body ≤ i → CodeSoFar names headers body i code → code ≡ map (instr_in names headers (forms_of body)) (instrs_in (forms_of body))
-code_is_whole names headers body i code past so_far = so_far.code_is ∙ ap (λ ls. map (instr_in names headers (forms_of body)) (instrs_in (forms_of ls))) (take_all i body past)
+  pub code_is_whole : (i : ℕ) (code : List Instr) → length body ≤ i → CodeSoFar names headers body i code → code ≡ map (instr_in names headers (forms_of body)) (instrs_in (forms_of body))
+  code_is_whole i code past so_far = so_far.code_is ∙ ap (λ ls. map (instr_in names headers (forms_of body)) (instrs_in (forms_of ls))) (take_all i body past)
 
-pub code_is_settled : (names : List (List ℕ)) (headers : List HeaderForm) (body : List (Bor (List ℕ))) (i : ℕ) (code : List Instr) → length body ≤ i → CodeSoFar names headers body i code → unsettled_in headers (forms_of body) ≡ None
-code_is_settled names headers body i code past so_far = so_far.settled ∙ ap (λ ls. later_by i (unsettled_at headers (forms_of body) (forms_of ls))) (drop_all i body past)
+  pub code_is_settled : (i : ℕ) (code : List Instr) → length body ≤ i → CodeSoFar names headers body i code → unsettled_in headers (forms_of body) ≡ None
+  code_is_settled i code past so_far = so_far.settled ∙ ap (λ ls. later_by i (unsettled_at headers (forms_of body) (forms_of ls))) (drop_all i body past)
 
 some_if : {X : Type 0} (t : Bool) (x y : X) → Some x ≡ cond t (Some y) None → (t ≡ true) × (x ≡ y)
 some_if true x y e = (refl, cc)
 some_if false x y e = absurd cc
 
 -- an instruction that is settled
-pub settled_is : (names : List (List ℕ)) (headers : List HeaderForm) (body : List LineForm) (i : InstrForm) (x : Instr) → Some x ≡ settled_instr names headers body i → (is_settled headers body i ≡ true) × (x ≡ instr_in names headers body i)
+pub settled_is : (names : Texts) (headers : List HeaderForm) (body : List LineForm) (i : InstrForm) (x : Instr) → Some x ≡ settled_instr names headers body i → (is_settled headers body i ≡ true) × (x ≡ instr_in names headers body i)
 settled_is names headers body i x is = some_if (is_settled headers body i) x (instr_in names headers body i) is
 
 -- ---- the functions of a module
@@ -166,59 +166,60 @@ functions_at (title name version) lines = refl
 functions_at line lines = refl
 
 -- what the loop over the lines keeps
-pub record FunctionsSoFar (names : List (List ℕ)) (headers : List HeaderForm) (lines : List (Bor (List ℕ))) (i : ℕ) (list : List Function) : Type 0 where
+pub record FunctionsSoFar (names : Texts) (headers : List HeaderForm) (lines : List (Bor (List ℕ))) (i : ℕ) (list : List Function) : Type 0 where
   pub functions : list ++ map (function_in names headers) (functions_in (forms_of (drop i lines))) ≡ map (function_in names headers) (functions_in (forms_of lines))
   pub settled : first_unsettled headers (forms_of lines) ≡ later_by i (first_unsettled headers (forms_of (drop i lines)))
 
-pub functions_start : (names : List (List ℕ)) (headers : List HeaderForm) (lines : List (Bor (List ℕ))) (list : List Function) → list ≡ [] → FunctionsSoFar names headers lines 0 list
-functions_start names headers lines list none = record {
-  functions = ap (λ l. l ++ map (function_in names headers) (functions_in (forms_of lines))) none;
-  settled = later-zero (first_unsettled headers (forms_of lines));
-}
+module _ (names : Texts) (headers : List HeaderForm) (lines : List (Bor (List ℕ))) where
+  pub functions_start : (list : List Function) → list ≡ [] → FunctionsSoFar names headers lines 0 list
+  functions_start list none = record {
+    functions = ap (λ l. l ++ map (function_in names headers) (functions_in (forms_of lines))) none;
+    settled = later-zero (first_unsettled headers (forms_of lines));
+  }
 
-pub functions_more : (names : List (List ℕ)) (headers : List HeaderForm) (lines : List (Bor (List ℕ))) (i : ℕ) (d : Bor (List ℕ)) (list new : List Function) → i < length lines → FunctionsSoFar names headers lines i list → unsettled_below headers (form_of (get_or lines i d)) (forms_of (drop (i + 1) lines)) ≡ None → new ≡ list ++ map (function_in names headers) (function_at (form_of (get_or lines i d)) (forms_of (drop (i + 1) lines))) → FunctionsSoFar names headers lines (i + 1) new
-functions_more names headers lines i d list new within so_far here pushed =
-    let line = form_of (get_or lines i d) in
-    let f = function_in names headers in
-    let rest = forms_of (drop (i + 1) lines) in
-    record {
-      functions =
-          ap (λ l. l ++ map f (functions_in rest)) pushed ∙ append_assoc list (map f (function_at line rest)) (map f (functions_in rest))
-          ∙ ap (λ l. list ++ l) (sym (map-append f (function_at line rest) (functions_in rest)) ∙ ap (map f) (sym (functions_at line rest)))
-          ∙ ap (λ ls. list ++ map f (functions_in ls)) (sym (forms_at lines i d within)) ∙ so_far.functions;
-      settled =
-          so_far.settled ∙ ap (λ ls. later_by i (first_unsettled headers ls)) (forms_at lines i d within)
-          ∙ ap (λ o. later_by i (option_map suc (earlier o (first_unsettled headers rest)))) here ∙ later-suc i (first_unsettled headers rest);
-    }
+  pub functions_more : (i : ℕ) (d : Bor (List ℕ)) (list new : List Function) → i < length lines → FunctionsSoFar names headers lines i list → unsettled_below headers (form_of (get_or lines i d)) (forms_of (drop (i + 1) lines)) ≡ None → new ≡ list ++ map (function_in names headers) (function_at (form_of (get_or lines i d)) (forms_of (drop (i + 1) lines))) → FunctionsSoFar names headers lines (i + 1) new
+  functions_more i d list new within so_far here pushed =
+      let line = form_of (get_or lines i d) in
+      let f = function_in names headers in
+      let rest = forms_of (drop (i + 1) lines) in
+      record {
+        functions =
+            ap (λ l. l ++ map f (functions_in rest)) pushed ∙ append_assoc list (map f (function_at line rest)) (map f (functions_in rest))
+            ∙ ap (λ l. list ++ l) (sym (map-append f (function_at line rest) (functions_in rest)) ∙ ap (map f) (sym (functions_at line rest)))
+            ∙ ap (λ ls. list ++ map f (functions_in ls)) (sym (forms_at lines i d within)) ∙ so_far.functions;
+        settled =
+            so_far.settled ∙ ap (λ ls. later_by i (first_unsettled headers ls)) (forms_at lines i d within)
+            ∙ ap (λ o. later_by i (option_map suc (earlier o (first_unsettled headers rest)))) here ∙ later-suc i (first_unsettled headers rest);
+      }
 
-pub functions_stop : (names : List (List ℕ)) (headers : List HeaderForm) (lines : List (Bor (List ℕ))) (i : ℕ) (d : Bor (List ℕ)) (list : List Function) (n : ℕ) → i < length lines → FunctionsSoFar names headers lines i list → unsettled_below headers (form_of (get_or lines i d)) (forms_of (drop (i + 1) lines)) ≡ Some n → first_unsettled headers (forms_of lines) ≡ Some (i + 1 + n)
-functions_stop names headers lines i d list n within so_far here =
-    so_far.settled ∙ ap (λ ls. later_by i (first_unsettled headers ls)) (forms_at lines i d within)
-    ∙ ap (λ o. later_by i (option_map suc (earlier o (first_unsettled headers (forms_of (drop (i + 1) lines)))))) here ∙ ap (λ k. Some k) (omega arith)
+  pub functions_stop : (i : ℕ) (d : Bor (List ℕ)) (list : List Function) (n : ℕ) → i < length lines → FunctionsSoFar names headers lines i list → unsettled_below headers (form_of (get_or lines i d)) (forms_of (drop (i + 1) lines)) ≡ Some n → first_unsettled headers (forms_of lines) ≡ Some (i + 1 + n)
+  functions_stop i d list n within so_far here =
+      so_far.settled ∙ ap (λ ls. later_by i (first_unsettled headers ls)) (forms_at lines i d within)
+      ∙ ap (λ o. later_by i (option_map suc (earlier o (first_unsettled headers (forms_of (drop (i + 1) lines)))))) here ∙ ap (λ k. Some k) (omega arith)
 
-pub functions_are_whole : (names : List (List ℕ)) (headers : List HeaderForm) (lines : List (Bor (List ℕ))) (i : ℕ) (list : List Function) → length lines ≤ i → FunctionsSoFar names headers lines i list → list ≡ map (function_in names headers) (functions_in (forms_of lines))
-functions_are_whole names headers lines i list past so_far =
-    sym (ap (λ ls. list ++ map (function_in names headers) (functions_in (forms_of ls))) (drop_all i lines past) ∙ append-nil list) ∙ so_far.functions
+  pub functions_are_whole : (i : ℕ) (list : List Function) → length lines ≤ i → FunctionsSoFar names headers lines i list → list ≡ map (function_in names headers) (functions_in (forms_of lines))
+  functions_are_whole i list past so_far =
+      sym (ap (λ ls. list ++ map (function_in names headers) (functions_in (forms_of ls))) (drop_all i lines past) ∙ append-nil list) ∙ so_far.functions
 
-pub functions_are_settled : (names : List (List ℕ)) (headers : List HeaderForm) (lines : List (Bor (List ℕ))) (i : ℕ) (list : List Function) → length lines ≤ i → FunctionsSoFar names headers lines i list → first_unsettled headers (forms_of lines) ≡ None
-functions_are_settled names headers lines i list past so_far = so_far.settled ∙ ap (λ ls. later_by i (first_unsettled headers (forms_of ls))) (drop_all i lines past)
+  pub functions_are_settled : (i : ℕ) (list : List Function) → length lines ≤ i → FunctionsSoFar names headers lines i list → first_unsettled headers (forms_of lines) ≡ None
+  functions_are_settled i list past so_far = so_far.settled ∙ ap (λ ls. later_by i (first_unsettled headers (forms_of ls))) (drop_all i lines past)
 
--- the same where the lines behind have a name
-pub functions_go_on : (names : List (List ℕ)) (headers : List HeaderForm) (lines : List (Bor (List ℕ))) (i : ℕ) (d : Bor (List ℕ)) (list new : List Function) (behind : List (Bor (List ℕ))) → i < length lines → FunctionsSoFar names headers lines i list → behind ≡ drop (i + 1) lines → unsettled_below headers (form_of (get_or lines i d)) (forms_of behind) ≡ None → new ≡ list ++ map (function_in names headers) (function_at (form_of (get_or lines i d)) (forms_of behind)) → FunctionsSoFar names headers lines (i + 1) new
-functions_go_on names headers lines i d list new behind within so_far is here pushed =
-    functions_more names headers lines i d list new within so_far
-    (ap (λ ls. unsettled_below headers (form_of (get_or lines i d)) (forms_of ls)) (sym is) ∙ here)
-    (pushed ∙ ap (λ ls. list ++ map (function_in names headers) (function_at (form_of (get_or lines i d)) (forms_of ls))) is)
+  -- the same where the lines behind have a name
+  pub functions_go_on : (i : ℕ) (d : Bor (List ℕ)) (list new : List Function) (behind : List (Bor (List ℕ))) → i < length lines → FunctionsSoFar names headers lines i list → behind ≡ drop (i + 1) lines → unsettled_below headers (form_of (get_or lines i d)) (forms_of behind) ≡ None → new ≡ list ++ map (function_in names headers) (function_at (form_of (get_or lines i d)) (forms_of behind)) → FunctionsSoFar names headers lines (i + 1) new
+  functions_go_on i d list new behind within so_far is here pushed =
+      functions_more i d list new within so_far
+      (ap (λ ls. unsettled_below headers (form_of (get_or lines i d)) (forms_of ls)) (sym is) ∙ here)
+      (pushed ∙ ap (λ ls. list ++ map (function_in names headers) (function_at (form_of (get_or lines i d)) (forms_of ls))) is)
 
-pub functions_stop_at : (names : List (List ℕ)) (headers : List HeaderForm) (lines : List (Bor (List ℕ))) (i : ℕ) (d : Bor (List ℕ)) (list : List Function) (n : ℕ) (behind : List (Bor (List ℕ))) → i < length lines → FunctionsSoFar names headers lines i list → behind ≡ drop (i + 1) lines → unsettled_below headers (form_of (get_or lines i d)) (forms_of behind) ≡ Some n → first_unsettled headers (forms_of lines) ≡ Some (i + 1 + n)
-functions_stop_at names headers lines i d list n behind within so_far is here =
-    functions_stop names headers lines i d list n within so_far (ap (λ ls. unsettled_below headers (form_of (get_or lines i d)) (forms_of ls)) (sym is) ∙ here)
+  pub functions_stop_at : (i : ℕ) (d : Bor (List ℕ)) (list : List Function) (n : ℕ) (behind : List (Bor (List ℕ))) → i < length lines → FunctionsSoFar names headers lines i list → behind ≡ drop (i + 1) lines → unsettled_below headers (form_of (get_or lines i d)) (forms_of behind) ≡ Some n → first_unsettled headers (forms_of lines) ≡ Some (i + 1 + n)
+  functions_stop_at i d list n behind within so_far is here =
+      functions_stop i d list n within so_far (ap (λ ls. unsettled_below headers (form_of (get_or lines i d)) (forms_of ls)) (sym is) ∙ here)
 
-pub functions_stop_later : (names : List (List ℕ)) (headers : List HeaderForm) (lines : List (Bor (List ℕ))) (i : ℕ) (d : Bor (List ℕ)) (list : List Function) (fault later : FinishFault) (behind : List (Bor (List ℕ))) → i < length lines → FunctionsSoFar names headers lines i list → behind ≡ drop (i + 1) lines → IsUnsettled (unsettled_below headers (form_of (get_or lines i d)) (forms_of behind)) fault → IsLater (i + 1) fault later → IsUnsettled (first_unsettled headers (forms_of lines)) later
-functions_stop_later names headers lines i d list (Missing n) later behind within so_far is here is_later =
-    subst (IsUnsettled (first_unsettled headers (forms_of lines))) (sym is_later) (functions_stop_at names headers lines i d list n behind within so_far is here)
-functions_stop_later names headers lines i d list NoMemory later behind within so_far is here is_later =
-    subst (IsUnsettled (first_unsettled headers (forms_of lines))) (sym is_later) tt
+  pub functions_stop_later : (i : ℕ) (d : Bor (List ℕ)) (list : List Function) (fault later : FinishFault) (behind : List (Bor (List ℕ))) → i < length lines → FunctionsSoFar names headers lines i list → behind ≡ drop (i + 1) lines → IsUnsettled (unsettled_below headers (form_of (get_or lines i d)) (forms_of behind)) fault → IsLater (i + 1) fault later → IsUnsettled (first_unsettled headers (forms_of lines)) later
+  functions_stop_later i d list (Missing n) later behind within so_far is here is_later =
+      subst (IsUnsettled (first_unsettled headers (forms_of lines))) (sym is_later) (functions_stop_at i d list n behind within so_far is here)
+  functions_stop_later i d list NoMemory later behind within so_far is here is_later =
+      subst (IsUnsettled (first_unsettled headers (forms_of lines))) (sym is_later) tt
 
 -- the number of a line behind a place fits
 pub later_fits : (lines : List (Bor (List ℕ))) (i : ℕ) (behind : List (Bor (List ℕ))) (fault : FinishFault) → length lines < 2 ^ 64 → i < length lines → behind ≡ drop (i + 1) lines → IsUnsettledBelow (length behind) fault → IsUnsettledBelow (2 ^ 64 - (i + 1)) fault

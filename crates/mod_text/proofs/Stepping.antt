@@ -1,16 +1,14 @@
 -- A text read line by line.
-use Rattle.std.proofs.Common.{◌≡◌, ℕ, suc, ◌<◌, Bool, true, false, cond, not, ◌&&◌, ◌==◌, List, [], ◌∷◌, length, Some, None, Ok, Err, bytes_eq, codes, refl, sym, ap, ◌∙◌, subst, arith, length-append}
-use Rattle.std.proofs.lemmas.Bool.Decides.{nat_tests}
-use Rattle.mod_text.specs.declared.fault.LineFault.{LineFault}
+use Rattle.mod_text.proofs.Common.{◌≡◌, ℕ, suc, ◌<◌, Bool, true, false, cond, not, ◌&&◌, ◌==◌, List, [], ◌∷◌}
+use Rattle.mod_text.proofs.Common.{length, Some, None, Ok, Err, bytes_eq, codes, refl, sym, ap, ◌∙◌, Texts}
+use Rattle.mod_text.proofs.Common.{subst, arith, length-append, nat_tests}
+use Rattle.mod_text.proofs.Types.{LineFault, LineStop}
+use Rattle.mod_text.proofs.Forms.{LineForm, line_step, Fails, Read, stop_at, is_end, go_on, text_on, bytes_on, read_behind, StopsSo}
+use Rattle.mod_text.proofs.Texts.{cut_at, Lines, lines, before_lines, lines_of, passed}
+use Rattle.mod_text.proofs.Texts.{failed, cut_is, uncut_is, lines_of_cut, lines_of_tail}
 use Rattle.mod_text.specs.declared.fault.LineFault.TheVariants as faults
-use Rattle.mod_text.specs.declared.fault.LineStop.{LineStop}
-use Rattle.mod_text.specs.ModuleLine.{LineForm}
-use Rattle.term_core.specs.Text.Cuts.{cut_at, Lines, lines, before_lines, lines_of}
-use Rattle.mod_text.specs.Reading.{line_step, Fails, Read, stop_at, is_end, go_on, text_on, bytes_on, read_behind, StopsSo}
-use Rattle.term_core.proofs.Text.Options.{passed, failed}
-use Rattle.term_core.proofs.Text.Cuts.{cut_is, uncut_is, lines_of_cut, lines_of_tail}
 
-end_of_before : (b : ℕ) (ended : List (List ℕ)) (tail : List ℕ) → is_end (before_lines b ended tail).ended (before_lines b ended tail).tail ≡ false
+end_of_before : (b : ℕ) (ended : Texts) (tail : List ℕ) → is_end (before_lines b ended tail).ended (before_lines b ended tail).tail ≡ false
 end_of_before b [] tail = refl
 end_of_before b (line ∷ others) tail = refl
 
@@ -25,18 +23,19 @@ is_end-lines (b ∷ bs) =
     ]
 
 -- the reading of a line at the front, and of what is behind it
-abbrev pub front_read : List (List ℕ) → List LineForm → List ℕ → List ℕ → Read
+abbrev pub front_read : Texts → List LineForm → List ℕ → List ℕ → Read
 front_read names before text behind =
     cond ((length behind == 0) && not (bytes_eq text (codes "end"))) (stop_at (length before) faults.Syntax)
     (go_on (length before) (line_step names before text) (λ named read. read_behind named read behind))
 
-pub bytes_on-cut : (names : List (List ℕ)) (before : List LineForm) (bytes text behind : List ℕ) → cut_at 10 bytes ≡ Some (text, behind) → bytes_on names before bytes ≡ front_read names before text behind
-bytes_on-cut names before bytes text behind cut =
-    ap (λ (w : Lines). text_on names before w.ended w.tail) (lines_of_cut bytes (text, behind) cut)
-    ∙ ap (λ (t : Bool). cond (t && not (bytes_eq text (codes "end"))) (stop_at (length before) faults.Syntax) (go_on (length before) (line_step names before text) (λ named read. cond t (Ok (named, read)) (bytes_on named read behind)))) (is_end-lines behind)
+module _ (names : Texts) (before : List LineForm) (bytes : List ℕ) where
+  pub bytes_on-cut : (text behind : List ℕ) → cut_at 10 bytes ≡ Some (text, behind) → bytes_on names before bytes ≡ front_read names before text behind
+  bytes_on-cut text behind cut =
+      ap (λ (w : Lines). text_on names before w.ended w.tail) (lines_of_cut bytes (text, behind) cut)
+      ∙ ap (λ (t : Bool). cond (t && not (bytes_eq text (codes "end"))) (stop_at (length before) faults.Syntax) (go_on (length before) (line_step names before text) (λ named read. cond t (Ok (named, read)) (bytes_on named read behind)))) (is_end-lines behind)
 
-pub bytes_on-uncut : (names : List (List ℕ)) (before : List LineForm) (bytes : List ℕ) → cut_at 10 bytes ≡ None → bytes_on names before bytes ≡ stop_at (length before) faults.Syntax
-bytes_on-uncut names before bytes cut = ap (λ (w : Lines). text_on names before w.ended w.tail) (lines_of_tail bytes (uncut_is 10 bytes cut))
+  pub bytes_on-uncut : cut_at 10 bytes ≡ None → bytes_on names before bytes ≡ stop_at (length before) faults.Syntax
+  bytes_on-uncut cut = ap (λ (w : Lines). text_on names before w.ended w.tail) (lines_of_tail bytes (uncut_is 10 bytes cut))
 
 -- ---- one line
 
@@ -46,35 +45,36 @@ behind_shorter bytes text behind cut =
     let whole = ap length (cut_is 10 bytes (text, behind) cut).whole ∙ length-append text (10 ∷ behind) in
     omega (arith, whole)
 
--- the text goes on behind a line, or the line is `end`
-pub goes_on : (names : List (List ℕ)) (before : List LineForm) (bytes text behind : List ℕ) → cut_at 10 bytes ≡ Some (text, behind) → ((length behind == 0) && not (bytes_eq text (codes "end"))) ≡ false → bytes_on names before bytes ≡ go_on (length before) (line_step names before text) (λ named read. read_behind named read behind)
-goes_on names before bytes text behind cut further =
-    bytes_on-cut names before bytes text behind cut ∙ failed ((length behind == 0) && not (bytes_eq text (codes "end"))) (stop_at (length before) faults.Syntax) (go_on (length before) (line_step names before text) (λ named read. read_behind named read behind)) further
+module _ (names : Texts) (before : List LineForm) (bytes text behind : List ℕ) where
+  -- the text goes on behind a line, or the line is `end`
+  pub goes_on : cut_at 10 bytes ≡ Some (text, behind) → ((length behind == 0) && not (bytes_eq text (codes "end"))) ≡ false → bytes_on names before bytes ≡ go_on (length before) (line_step names before text) (λ named read. read_behind named read behind)
+  goes_on cut further =
+      bytes_on-cut names before bytes text behind cut ∙ failed ((length behind == 0) && not (bytes_eq text (codes "end"))) (stop_at (length before) faults.Syntax) (go_on (length before) (line_step names before text) (λ named read. read_behind named read behind)) further
 
--- a line that was read leads on
-pub line_leads : (names : List (List ℕ)) (before : List LineForm) (bytes text behind : List ℕ) (named : List (List ℕ)) (read : List LineForm) → cut_at 10 bytes ≡ Some (text, behind) → ((length behind == 0) && not (bytes_eq text (codes "end"))) ≡ false → line_step names before text ≡ Ok (named, read) → bytes_on names before bytes ≡ read_behind named read behind
-line_leads names before bytes text behind named read cut further step =
-    goes_on names before bytes text behind cut further ∙ ap (λ s. go_on (length before) s (λ n r. read_behind n r behind)) step
+  -- a line that was read leads on
+  pub line_leads : (named : Texts) (read : List LineForm) → cut_at 10 bytes ≡ Some (text, behind) → ((length behind == 0) && not (bytes_eq text (codes "end"))) ≡ false → line_step names before text ≡ Ok (named, read) → bytes_on names before bytes ≡ read_behind named read behind
+  line_leads named read cut further step =
+      goes_on cut further ∙ ap (λ s. go_on (length before) s (λ n r. read_behind n r behind)) step
 
-stop_by : (names : List (List ℕ)) (before : List LineForm) (bytes text behind : List ℕ) (fault : LineFault) → cut_at 10 bytes ≡ Some (text, behind) → ((length behind == 0) && not (bytes_eq text (codes "end"))) ≡ false → line_step names before text ≡ Err fault → bytes_on names before bytes ≡ stop_at (length before) fault
-stop_by names before bytes text behind fault cut further step =
-    goes_on names before bytes text behind cut further ∙ ap (λ s. go_on (length before) s (λ n r. read_behind n r behind)) step
+  stop_by : (fault : LineFault) → cut_at 10 bytes ≡ Some (text, behind) → ((length behind == 0) && not (bytes_eq text (codes "end"))) ≡ false → line_step names before text ≡ Err fault → bytes_on names before bytes ≡ stop_at (length before) fault
+  stop_by fault cut further step =
+      goes_on cut further ∙ ap (λ s. go_on (length before) s (λ n r. read_behind n r behind)) step
 
--- a line that was refused stops the reading
-pub line_stops : (names : List (List ℕ)) (before : List LineForm) (bytes text behind : List ℕ) (number : ℕ) (fault : LineFault) → cut_at 10 bytes ≡ Some (text, behind) → ((length behind == 0) && not (bytes_eq text (codes "end"))) ≡ false → number ≡ length before → Fails (line_step names before text) fault → StopsSo (bytes_on names before bytes) (record { number = number; fault = fault })
-line_stops names before bytes text behind number faults.NoMemory cut further counted step = tt
-line_stops names before bytes text behind number fault cut further counted step = stop_by names before bytes text behind fault cut further step ∙ ap (λ n. stop_at n fault) (sym counted)
+  -- a line that was refused stops the reading
+  pub line_stops : (number : ℕ) (fault : LineFault) → cut_at 10 bytes ≡ Some (text, behind) → ((length behind == 0) && not (bytes_eq text (codes "end"))) ≡ false → number ≡ length before → Fails (line_step names before text) fault → StopsSo (bytes_on names before bytes) (record { number = number; fault = fault })
+  line_stops number faults.NoMemory cut further counted step = tt
+  line_stops number fault cut further counted step = stop_by fault cut further step ∙ ap (λ n. stop_at n fault) (sym counted)
 
 syntax_stops : (read : Read) (number at : ℕ) (stop : LineStop) → number ≡ at → stop ≡ record { number = number; fault = faults.Syntax } → read ≡ stop_at at faults.Syntax → StopsSo read stop
 syntax_stops read number at stop counted is stops =
     subst (StopsSo read) (sym is) (stops ∙ ap (λ n. stop_at n faults.Syntax) (sym counted))
 
 -- a line without its line feed
-pub unended_stops : (names : List (List ℕ)) (before : List LineForm) (bytes : List ℕ) (number : ℕ) (stop : LineStop) → number ≡ length before → stop ≡ record { number = number; fault = faults.Syntax } → cut_at 10 bytes ≡ None → StopsSo (bytes_on names before bytes) stop
+pub unended_stops : (names : Texts) (before : List LineForm) (bytes : List ℕ) (number : ℕ) (stop : LineStop) → number ≡ length before → stop ≡ record { number = number; fault = faults.Syntax } → cut_at 10 bytes ≡ None → StopsSo (bytes_on names before bytes) stop
 unended_stops names before bytes number stop counted is cut = syntax_stops (bytes_on names before bytes) number (length before) stop counted is (bytes_on-uncut names before bytes cut)
 
 -- a last line that is not `end`
-pub early_stops : (names : List (List ℕ)) (before : List LineForm) (bytes text behind : List ℕ) (number : ℕ) (stop : LineStop) → number ≡ length before → stop ≡ record { number = number; fault = faults.Syntax } → cut_at 10 bytes ≡ Some (text, behind) → ((length behind == 0) && not (bytes_eq text (codes "end"))) ≡ true → StopsSo (bytes_on names before bytes) stop
+pub early_stops : (names : Texts) (before : List LineForm) (bytes text behind : List ℕ) (number : ℕ) (stop : LineStop) → number ≡ length before → stop ≡ record { number = number; fault = faults.Syntax } → cut_at 10 bytes ≡ Some (text, behind) → ((length behind == 0) && not (bytes_eq text (codes "end"))) ≡ true → StopsSo (bytes_on names before bytes) stop
 early_stops names before bytes text behind number stop counted is cut early =
     syntax_stops (bytes_on names before bytes) number (length before) stop counted is
     (bytes_on-cut names before bytes text behind cut ∙ passed ((length behind == 0) && not (bytes_eq text (codes "end"))) (stop_at (length before) faults.Syntax) (go_on (length before) (line_step names before text) (λ named read. read_behind named read behind)) early)

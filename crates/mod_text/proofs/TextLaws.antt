@@ -1,25 +1,20 @@
 -- What is read is the text of its lines, and the text of lines is read.
-use Rattle.std.proofs.Common.{◌≡◌, ℕ, suc, Bool, true, false, cond, not, ◌&&◌, ◌==◌, List, [], ◌∷◌, ◌++◌, length, map, Option, Some, None, Result, Ok, Err, bytes_eq, codes, refl, sym, ap, ◌∙◌, subst, arith, append_assoc}
-use Rattle.std.proofs.lemmas.Bool.{eqb-true}
-use Rattle.std.proofs.lemmas.Bool.Decides.{nat_tests}
-use Rattle.std.proofs.lemmas.List.{append-nil}
+use Rattle.mod_text.proofs.Common.{◌≡◌, ℕ, suc, Bool, true, false, cond, not, ◌&&◌, ◌==◌, List, [], ◌∷◌, ◌++◌}
+use Rattle.mod_text.proofs.Common.{length, map, Option, Some, None, Result, Ok, Err, bytes_eq, codes, Texts}
+use Rattle.mod_text.proofs.Common.{refl, sym, ap, ◌∙◌, subst, arith, append_assoc, eqb-true, nat_tests, append-nil}
 use Rattle.std.proofs.lemmas.List.Concat.{flat_map-cons}
-use Rattle.mod_text.specs.declared.fault.LineFault.{LineFault}
-use Rattle.mod_text.specs.declared.fault.LineFault.TheVariants as faults
-use Rattle.mod_text.specs.declared.fault.LineStop.{LineStop}
-use Rattle.mod_text.specs.ModuleValue.{IsTitled}
-use Rattle.mod_text.specs.ModuleLine.{LineForm, title, end, line_written, lines_written, LineText}
-use Rattle.term_core.specs.Text.Cuts.{cut_at, Lines, lines, before_lines, lines_of}
-use Rattle.mod_text.specs.LineReading.{line_reading}
-use Rattle.mod_text.specs.LineFaults.{may_follow, last_line, names_after, fault_of_line, StandsBehind, HasLineFault, of_no_form, over_limit, IsNext}
-use Rattle.mod_text.specs.ModuleText.{FollowOn, names_behind, AreLines, FaultAtFront, unended, stops, faulty, FirstFault}
-use Rattle.mod_text.specs.Reading.{Step, kept, judged, line_step, Read, stop_at, is_end, go_on, text_on, bytes_on, read_behind}
-use Rattle.term_core.proofs.Text.Options.{some_is, passed, bytes_are}
-use Rattle.term_core.proofs.Text.Cuts.{lacks, lacks-cons, cut_here, lines_behind, lines_of_tail}
+use Rattle.mod_text.proofs.Types.{LineFault, LineStop}
+use Rattle.mod_text.proofs.Forms.{IsTitled, LineForm, title, end, line_written, lines_written, LineText}
+use Rattle.mod_text.proofs.Forms.{line_reading, may_follow, last_line, names_after, fault_of_line}
+use Rattle.mod_text.proofs.Forms.{StandsBehind, HasLineFault, of_no_form, over_limit, IsNext, FollowOn}
+use Rattle.mod_text.proofs.Forms.{names_behind, AreLines, FaultAtFront, unended, stops, faulty, FirstFault}
+use Rattle.mod_text.proofs.Forms.{Step, kept, judged, line_step, Read, stop_at, is_end, go_on, text_on, bytes_on, read_behind}
+use Rattle.mod_text.proofs.Texts.{cut_at, Lines, lines, before_lines, lines_of, some_is, passed}
+use Rattle.mod_text.proofs.Texts.{bytes_are, lacks, lacks-cons, cut_here, lines_behind, lines_of_tail}
 use Rattle.mod_text.proofs.Stepping.{front_read, bytes_on-cut}
 use Rattle.mod_text.proofs.Keepings.{last_line-push}
-use Rattle.mod_text.proofs.LineLaws.{line_is}
-use Rattle.mod_text.proofs.LineAgain.{text_again, line_lacks}
+use Rattle.mod_text.proofs.LineLaws.{line_is, text_again, line_lacks}
+use Rattle.mod_text.specs.declared.fault.LineFault.TheVariants as faults
 
 -- ---- one line
 
@@ -28,7 +23,7 @@ pub same_line : (text : List ℕ) (line other : LineForm) → LineText text line
 same_line text line other is too = some_is line other (sym (text_again text line is) ∙ text_again text other too)
 
 -- what a step that was made tells
-pub record IsStep (names : List (List ℕ)) (before : List LineForm) (text : List ℕ) (named : List (List ℕ)) (read : List LineForm) : Type 0 where
+pub record IsStep (names : Texts) (before : List LineForm) (text : List ℕ) (named : Texts) (read : List LineForm) : Type 0 where
   pub line : LineForm
   pub next : IsNext names before text line
   pub lines_are : read ≡ before ++ line ∷ []
@@ -38,39 +33,42 @@ pub record IsStep (names : List (List ℕ)) (before : List LineForm) (text : Lis
 pub ok_is : {A : Type 0} {E : Type 0} (x y : A) → ◌≡◌ {A = Result A E} (Ok x) (Ok y) → x ≡ y
 ok_is x y e = cc
 
-kept_is : (names : List (List ℕ)) (before : List LineForm) (text : List ℕ) (line : LineForm) (o : Option LineFault) (named : List (List ℕ)) (read : List LineForm) → LineText text line → may_follow (last_line before) line ≡ true → fault_of_line names before line ≡ o → kept names before line o ≡ Ok (named, read) → IsStep names before text named read
-kept_is names before text line None named read is place none e =
-    let same : ◌≡◌ {A = List (List ℕ) × List LineForm} (names_after names line, before ++ line ∷ []) (named, read) = ok_is (names_after names line, before ++ line ∷ []) (named, read) e in
-    record { line = line; next = record { stands = record { is_text = is; place = place }; within = none }; lines_are = sym (ap (λ p. p.1) same); names_are = sym (ap (λ p. p.0) same) }
-kept_is names before text line (Some fault) named read is place none e = absurd cc
+module _ (names : Texts) (before : List LineForm) (text : List ℕ) (line : LineForm) where
+  kept_is : (o : Option LineFault) (named : Texts) (read : List LineForm) → LineText text line → may_follow (last_line before) line ≡ true → fault_of_line names before line ≡ o → kept names before line o ≡ Ok (named, read) → IsStep names before text named read
+  kept_is None named read is place none e =
+      let same : ◌≡◌ {A = Texts × List LineForm} (names_after names line, before ++ line ∷ []) (named, read) = ok_is (names_after names line, before ++ line ∷ []) (named, read) e in
+      record { line = line; next = record { stands = record { is_text = is; place = place }; within = none }; lines_are = sym (ap (λ p. p.1) same); names_are = sym (ap (λ p. p.0) same) }
+  kept_is (Some fault) named read is place none e = absurd cc
 
-placed_is : (names : List (List ℕ)) (before : List LineForm) (text : List ℕ) (line : LineForm) (named : List (List ℕ)) (read : List LineForm) (t : Bool) → LineText text line → may_follow (last_line before) line ≡ t → cond {A = Step} t (kept names before line (fault_of_line names before line)) (Err faults.Syntax) ≡ Ok (named, read) → IsStep names before text named read
-placed_is names before text line named read true is place e = kept_is names before text line (fault_of_line names before line) named read is place refl e
-placed_is names before text line named read false is place e = absurd cc
+  placed_is : (named : Texts) (read : List LineForm) (t : Bool) → LineText text line → may_follow (last_line before) line ≡ t → cond {A = Step} t (kept names before line (fault_of_line names before line)) (Err faults.Syntax) ≡ Ok (named, read) → IsStep names before text named read
+  placed_is named read true is place e = kept_is (fault_of_line names before line) named read is place refl e
+  placed_is named read false is place e = absurd cc
 
-step_by : (names : List (List ℕ)) (before : List LineForm) (text : List ℕ) (named : List (List ℕ)) (read : List LineForm) (o : Option LineForm) → line_reading text ≡ o → judged names before o ≡ Ok (named, read) → IsStep names before text named read
-step_by names before text named read None is e = absurd cc
-step_by names before text named read (Some line) is e = placed_is names before text line named read (may_follow (last_line before) line) (line_is text line is) refl e
+module _ (names : Texts) (before : List LineForm) (text : List ℕ) (named : Texts) (read : List LineForm) where
+  step_by : (o : Option LineForm) → line_reading text ≡ o → judged names before o ≡ Ok (named, read) → IsStep names before text named read
+  step_by None is e = absurd cc
+  step_by (Some line) is e = placed_is names before text line named read (may_follow (last_line before) line) (line_is text line is) refl e
 
--- a line that was read may follow those before it
-pub step_is : (names : List (List ℕ)) (before : List LineForm) (text : List ℕ) (named : List (List ℕ)) (read : List LineForm) → line_step names before text ≡ Ok (named, read) → IsStep names before text named read
-step_is names before text named read e = step_by names before text named read (line_reading text) refl e
+  -- a line that was read may follow those before it
+  pub step_is : line_step names before text ≡ Ok (named, read) → IsStep names before text named read
+  step_is e = step_by (line_reading text) refl e
 
--- how a line of a form is judged
-judged_at : (names : List (List ℕ)) (before : List LineForm) (text : List ℕ) (line : LineForm) (o : Option LineFault) → StandsBehind before text line → fault_of_line names before line ≡ o → line_step names before text ≡ kept names before line o
-judged_at names before text line o stands is =
-    ap (judged names before) (text_again text line stands.is_text)
-    ∙ passed (may_follow (last_line before) line) (kept names before line (fault_of_line names before line)) (Err faults.Syntax) stands.place
-    ∙ ap (kept names before line) is
+module _ (names : Texts) (before : List LineForm) (text : List ℕ) (line : LineForm) where
+  -- how a line of a form is judged
+  judged_at : (o : Option LineFault) → StandsBehind before text line → fault_of_line names before line ≡ o → line_step names before text ≡ kept names before line o
+  judged_at o stands is =
+      ap (judged names before) (text_again text line stands.is_text)
+      ∙ passed (may_follow (last_line before) line) (kept names before line (fault_of_line names before line)) (Err faults.Syntax) stands.place
+      ∙ ap (kept names before line) is
 
--- a line that may follow is read
-pub step_again : (names : List (List ℕ)) (before : List LineForm) (text : List ℕ) (line : LineForm) → IsNext names before text line → line_step names before text ≡ Ok (names_after names line, before ++ line ∷ [])
-step_again names before text line next = judged_at names before text line None next.stands next.within
+  -- a line that may follow is read
+  pub step_again : IsNext names before text line → line_step names before text ≡ Ok (names_after names line, before ++ line ∷ [])
+  step_again next = judged_at None next.stands next.within
 
--- a step that was refused has its cause
-fault_by : (names : List (List ℕ)) (before : List LineForm) (text : List ℕ) (line : LineForm) (fault : LineFault) (o : Option LineFault) → StandsBehind before text line → fault_of_line names before line ≡ o → kept names before line o ≡ Err fault → HasLineFault names before text fault
-fault_by names before text line fault None stands is e = absurd cc
-fault_by names before text line fault (Some other) stands is e = let same : other ≡ fault = cc in over_limit line fault stands (is ∙ ap (λ f. Some f) same)
+  -- a step that was refused has its cause
+  fault_by : (fault : LineFault) (o : Option LineFault) → StandsBehind before text line → fault_of_line names before line ≡ o → kept names before line o ≡ Err fault → HasLineFault names before text fault
+  fault_by fault None stands is e = absurd cc
+  fault_by fault (Some other) stands is e = let same : other ≡ fault = cc in over_limit line fault stands (is ∙ ap (λ f. Some f) same)
 
 no_place : (before : List LineForm) (text : List ℕ) (line : LineForm) → LineText text line → may_follow (last_line before) line ≡ false → (other : LineForm) → StandsBehind before text other → ⊥
 no_place before text line is misplaced other stands =
@@ -78,41 +76,42 @@ no_place before text line is misplaced other stands =
     let place = stands.place in
     absurd cc
 
-place_fault_is : (names : List (List ℕ)) (before : List LineForm) (text : List ℕ) (line : LineForm) (fault : LineFault) (t : Bool) → LineText text line → may_follow (last_line before) line ≡ t → cond {A = Step} t (kept names before line (fault_of_line names before line)) (Err faults.Syntax) ≡ Err fault → HasLineFault names before text fault
+place_fault_is : (names : Texts) (before : List LineForm) (text : List ℕ) (line : LineForm) (fault : LineFault) (t : Bool) → LineText text line → may_follow (last_line before) line ≡ t → cond {A = Step} t (kept names before line (fault_of_line names before line)) (Err faults.Syntax) ≡ Err fault → HasLineFault names before text fault
 place_fault_is names before text line fault true is place e = fault_by names before text line fault (fault_of_line names before line) (record { is_text = is; place = place }) refl e
 place_fault_is names before text line fault false is place e = let same : faults.Syntax ≡ fault = cc in subst (HasLineFault names before text) same (of_no_form (no_place before text line is place))
 
 no_line : (text : List ℕ) (before : List LineForm) → line_reading text ≡ None → (line : LineForm) → StandsBehind before text line → ⊥
 no_line text before none line stands = let read = text_again text line stands.is_text in absurd cc
 
-step_fault_by : (names : List (List ℕ)) (before : List LineForm) (text : List ℕ) (fault : LineFault) (o : Option LineForm) → line_reading text ≡ o → judged names before o ≡ Err fault → HasLineFault names before text fault
-step_fault_by names before text fault None is e = let same : faults.Syntax ≡ fault = cc in subst (HasLineFault names before text) same (of_no_form (no_line text before is))
-step_fault_by names before text fault (Some line) is e = place_fault_is names before text line fault (may_follow (last_line before) line) (line_is text line is) refl e
+module _ (names : Texts) (before : List LineForm) (text : List ℕ) where
+  step_fault_by : (fault : LineFault) (o : Option LineForm) → line_reading text ≡ o → judged names before o ≡ Err fault → HasLineFault names before text fault
+  step_fault_by fault None is e = let same : faults.Syntax ≡ fault = cc in subst (HasLineFault names before text) same (of_no_form (no_line text before is))
+  step_fault_by fault (Some line) is e = place_fault_is names before text line fault (may_follow (last_line before) line) (line_is text line is) refl e
 
-pub step_fault : (names : List (List ℕ)) (before : List LineForm) (text : List ℕ) (fault : LineFault) → line_step names before text ≡ Err fault → HasLineFault names before text fault
-step_fault names before text fault e = step_fault_by names before text fault (line_reading text) refl e
+  pub step_fault : (fault : LineFault) → line_step names before text ≡ Err fault → HasLineFault names before text fault
+  step_fault fault e = step_fault_by fault (line_reading text) refl e
 
--- and each cause its refusal
-formless_by : (names : List (List ℕ)) (before : List LineForm) (text : List ℕ) (o : Option LineForm) → ((line : LineForm) → StandsBehind before text line → ⊥) → line_reading text ≡ o → judged names before o ≡ Err faults.Syntax
-formless_by names before text None never is = refl
-formless_by names before text (Some line) never is =
-    elim (may_follow (last_line before) line) as (λ t. may_follow (last_line before) line ≡ t → cond {A = Step} t (kept names before line (fault_of_line names before line)) (Err faults.Syntax) ≡ Err faults.Syntax) [
-      | true ↦ λ place. absurd (never line (record { is_text = line_is text line is; place = place }))
-      | false ↦ λ _. refl
-    ] refl
+  -- and each cause its refusal
+  formless_by : (o : Option LineForm) → ((line : LineForm) → StandsBehind before text line → ⊥) → line_reading text ≡ o → judged names before o ≡ Err faults.Syntax
+  formless_by None never is = refl
+  formless_by (Some line) never is =
+      elim (may_follow (last_line before) line) as (λ t. may_follow (last_line before) line ≡ t → cond {A = Step} t (kept names before line (fault_of_line names before line)) (Err faults.Syntax) ≡ Err faults.Syntax) [
+        | true ↦ λ place. absurd (never line (record { is_text = line_is text line is; place = place }))
+        | false ↦ λ _. refl
+      ] refl
 
-pub fault_step : (names : List (List ℕ)) (before : List LineForm) (text : List ℕ) (fault : LineFault) → HasLineFault names before text fault → line_step names before text ≡ Err fault
-fault_step names before text _ (of_no_form never) = formless_by names before text (line_reading text) never refl
-fault_step names before text _ (over_limit line fault stands is) = judged_at names before text line (Some fault) stands is
+  pub fault_step : (fault : LineFault) → HasLineFault names before text fault → line_step names before text ≡ Err fault
+  fault_step _ (of_no_form never) = formless_by (line_reading text) never refl
+  fault_step _ (over_limit line fault stands is) = judged_at names before text line (Some fault) stands is
 
 -- ---- the bytes of lines
 
 -- lines, each with its line feed, and what is behind them
-pub joined : List (List ℕ) → List ℕ → List ℕ
+pub joined : Texts → List ℕ → List ℕ
 joined [] tail = tail
 joined (text ∷ others) tail = text ++ 10 ∷ joined others tail
 
-joined_before : (b : ℕ) (ended : List (List ℕ)) (tail : List ℕ) → joined (before_lines b ended tail).ended (before_lines b ended tail).tail ≡ b ∷ joined ended tail
+joined_before : (b : ℕ) (ended : Texts) (tail : List ℕ) → joined (before_lines b ended tail).ended (before_lines b ended tail).tail ≡ b ∷ joined ended tail
 unfolding joined
 joined_before b [] tail = refl
 joined_before b (line ∷ others) tail = refl
@@ -127,7 +126,7 @@ joined_lines (b ∷ bs) =
       | false ↦ λ _. joined_before b (lines_of bs).ended (lines_of bs).tail ∙ ap (λ l. b ∷ l) (joined_lines bs)
     ] refl
 
-joined-append : (xs ys : List (List ℕ)) (tail : List ℕ) → joined (xs ++ ys) tail ≡ joined xs (joined ys tail)
+joined-append : (xs ys : Texts) (tail : List ℕ) → joined (xs ++ ys) tail ≡ joined xs (joined ys tail)
 unfolding joined
 joined-append [] ys tail = refl
 joined-append (x ∷ xs) ys tail = ap (λ l. x ++ 10 ∷ l) (joined-append xs ys tail)
@@ -141,7 +140,7 @@ joined_forms (line ∷ forms) tail =
     ∙ sym (ap (λ l. l ++ tail) (flat_map-cons (λ l. line_written l ++ 10 ∷ []) line forms) ∙ append_assoc (line_written line ++ 10 ∷ []) (lines_written forms) tail ∙ append_assoc (line_written line) (10 ∷ []) (lines_written forms ++ tail))
 
 -- the lines of the bytes of forms, and of what is behind them
-pub lines_of_forms : (names : List (List ℕ)) (before forms : List LineForm) (rest : List ℕ) → FollowOn names before forms → lines_of (lines_written forms ++ rest) ≡ lines (map line_written forms ++ (lines_of rest).ended) (lines_of rest).tail
+pub lines_of_forms : (names : Texts) (before forms : List LineForm) (rest : List ℕ) → FollowOn names before forms → lines_of (lines_written forms ++ rest) ≡ lines (map line_written forms ++ (lines_of rest).ended) (lines_of rest).tail
 lines_of_forms names before [] rest follow = refl
 lines_of_forms names before (line ∷ forms) rest follow =
     let text = line_written line in
@@ -153,7 +152,7 @@ lines_of_forms names before (line ∷ forms) rest follow =
 -- ---- what is read
 
 -- what a reading that came to the end tells
-pub record IsReadOn (names : List (List ℕ)) (before : List LineForm) (ended : List (List ℕ)) (tail : List ℕ) (named : List (List ℕ)) (read : List LineForm) : Type 0 where
+pub record IsReadOn (names : Texts) (before : List LineForm) (ended : Texts) (tail : List ℕ) (named : Texts) (read : List LineForm) : Type 0 where
   pub more : List LineForm
   pub whole : read ≡ before ++ more
   pub texts : ended ≡ map line_written more
@@ -165,7 +164,7 @@ pub record IsReadOn (names : List (List ℕ)) (before : List LineForm) (ended : 
 end_line : (text : List ℕ) (line : LineForm) → LineText text line → bytes_eq text (codes "end") ≡ true → line ≡ end
 end_line text line is ends = some_is line end (sym (text_again text line is) ∙ ap line_reading (bytes_are text (codes "end") ends))
 
-nothing_left : (ended : List (List ℕ)) (tail : List ℕ) → is_end ended tail ≡ true → (ended ≡ []) × (tail ≡ [])
+nothing_left : (ended : Texts) (tail : List ℕ) → is_end ended tail ≡ true → (ended ≡ []) × (tail ≡ [])
 nothing_left [] [] h = (refl, refl)
 nothing_left ended tail h = absurd cc
 
@@ -181,51 +180,52 @@ both_true_second : (a b : Bool) → (a && not b) ≡ true → b ≡ false
 both_true_second true false h = refl
 both_true_second a b h = absurd cc
 
-next_of_text : (names : List (List ℕ)) (before : List LineForm) (text : List ℕ) (line : LineForm) → IsNext names before text line → IsNext names before (line_written line) line
+next_of_text : (names : Texts) (before : List LineForm) (text : List ℕ) (line : LineForm) → IsNext names before text line → IsNext names before (line_written line) line
 next_of_text names before text line next = subst (λ t. IsNext names before t line) next.stands.is_text.text_is next
 
-pair_is : (n : List (List ℕ)) (r : List LineForm) (n' : List (List ℕ)) (r' : List LineForm) → n ≡ n' → r ≡ r' → ◌≡◌ {A = List (List ℕ) × List LineForm} (n, r) (n', r')
+pair_is : (n : Texts) (r : List LineForm) (n' : Texts) (r' : List LineForm) → n ≡ n' → r ≡ r' → ◌≡◌ {A = Texts × List LineForm} (n, r) (n', r')
 pair_is n r n' r' e f = λ i. (e i, f i)
 
-last_is_read : (names : List (List ℕ)) (before : List LineForm) (text : List ℕ) (others : List (List ℕ)) (tail : List ℕ) (named : List (List ℕ)) (read : List LineForm) (n : List (List ℕ)) (r : List LineForm) → IsStep names before text n r → is_end others tail ≡ true → bytes_eq text (codes "end") ≡ true → ◌≡◌ {A = Read} (Ok (n, r)) (Ok (named, read)) → IsReadOn names before (text ∷ others) tail named read
-last_is_read names before text others tail named read n r step last ends e =
-    let left = nothing_left others tail last in
-    let same : ◌≡◌ {A = List (List ℕ) × List LineForm} (n, r) (named, read) = ok_is (n, r) (named, read) e in
-    let reads : read ≡ before ++ step.line ∷ [] = sym (ap (λ p. p.1) same) ∙ step.lines_are in
-    record {
-      more = step.line ∷ [];
-      whole = reads;
-      texts = (λ i. step.next.stands.is_text.text_is i ∷ left.0 i);
-      no_tail = left.1;
-      follow = (next_of_text names before text step.line step.next, tt);
-      closed = ap last_line reads ∙ last_line-push before step.line ∙ ap (λ l. Some l) (end_line text step.line step.next.stands.is_text ends);
-      names_are = sym (ap (λ p. p.0) same) ∙ step.names_are;
-    }
+module _ (names : Texts) (before : List LineForm) (text : List ℕ) (others : Texts) (tail : List ℕ) (named : Texts) (read : List LineForm) where
+  last_is_read : (n : Texts) (r : List LineForm) → IsStep names before text n r → is_end others tail ≡ true → bytes_eq text (codes "end") ≡ true → ◌≡◌ {A = Read} (Ok (n, r)) (Ok (named, read)) → IsReadOn names before (text ∷ others) tail named read
+  last_is_read n r step last ends e =
+      let left = nothing_left others tail last in
+      let same : ◌≡◌ {A = Texts × List LineForm} (n, r) (named, read) = ok_is (n, r) (named, read) e in
+      let reads : read ≡ before ++ step.line ∷ [] = sym (ap (λ p. p.1) same) ∙ step.lines_are in
+      record {
+        more = step.line ∷ [];
+        whole = reads;
+        texts = (λ i. step.next.stands.is_text.text_is i ∷ left.0 i);
+        no_tail = left.1;
+        follow = (next_of_text names before text step.line step.next, tt);
+        closed = ap last_line reads ∙ last_line-push before step.line ∙ ap (λ l. Some l) (end_line text step.line step.next.stands.is_text ends);
+        names_are = sym (ap (λ p. p.0) same) ∙ step.names_are;
+      }
 
-more_is_read : (names : List (List ℕ)) (before : List LineForm) (text : List ℕ) (others : List (List ℕ)) (tail : List ℕ) (named : List (List ℕ)) (read : List LineForm) (n : List (List ℕ)) (r : List LineForm) → IsStep names before text n r → IsReadOn n r others tail named read → IsReadOn names before (text ∷ others) tail named read
-more_is_read names before text others tail named read n r step rest =
-    let follow : FollowOn (names_after names step.line) (before ++ step.line ∷ []) rest.more = subst (λ p. FollowOn p.0 p.1 rest.more) (pair_is n r (names_after names step.line) (before ++ step.line ∷ []) step.names_are step.lines_are) rest.follow in
-    record {
-      more = step.line ∷ rest.more;
-      whole = rest.whole ∙ ap (λ l. l ++ rest.more) step.lines_are ∙ append_assoc before (step.line ∷ []) rest.more;
-      texts = (λ i. step.next.stands.is_text.text_is i ∷ rest.texts i);
-      no_tail = rest.no_tail;
-      follow = (next_of_text names before text step.line step.next, follow);
-      closed = rest.closed;
-      names_are = rest.names_are ∙ ap (λ ns. names_behind ns rest.more) step.names_are;
-    }
+  more_is_read : (n : Texts) (r : List LineForm) → IsStep names before text n r → IsReadOn n r others tail named read → IsReadOn names before (text ∷ others) tail named read
+  more_is_read n r step rest =
+      let follow : FollowOn (names_after names step.line) (before ++ step.line ∷ []) rest.more = subst (λ p. FollowOn p.0 p.1 rest.more) (pair_is n r (names_after names step.line) (before ++ step.line ∷ []) step.names_are step.lines_are) rest.follow in
+      record {
+        more = step.line ∷ rest.more;
+        whole = rest.whole ∙ ap (λ l. l ++ rest.more) step.lines_are ∙ append_assoc before (step.line ∷ []) rest.more;
+        texts = (λ i. step.next.stands.is_text.text_is i ∷ rest.texts i);
+        no_tail = rest.no_tail;
+        follow = (next_of_text names before text step.line step.next, follow);
+        closed = rest.closed;
+        names_are = rest.names_are ∙ ap (λ ns. names_behind ns rest.more) step.names_are;
+      }
 
-step_is_read : (names : List (List ℕ)) (before : List LineForm) (text : List ℕ) (others : List (List ℕ)) (tail : List ℕ) (named : List (List ℕ)) (read : List LineForm) (s : Step) → ((n : List (List ℕ)) (r : List LineForm) → text_on n r others tail ≡ Ok (named, read) → IsReadOn n r others tail named read) → line_step names before text ≡ s → (is_end others tail && not (bytes_eq text (codes "end"))) ≡ false → go_on (length before) s (λ n r. cond (is_end others tail) (Ok (n, r)) (text_on n r others tail)) ≡ Ok (named, read) → IsReadOn names before (text ∷ others) tail named read
-step_is_read names before text others tail named read (Err fault) again is goes h = absurd cc
-step_is_read names before text others tail named read (Ok x) again is goes h =
-    let step = step_is names before text x.0 x.1 is in
-    elim (is_end others tail) as (λ t. is_end others tail ≡ t → cond {A = Read} t (Ok (x.0, x.1)) (text_on x.0 x.1 others tail) ≡ Ok (named, read) → IsReadOn names before (text ∷ others) tail named read) [
-      | true ↦ λ last k. last_is_read names before text others tail named read x.0 x.1 step last (both_false (is_end others tail) (bytes_eq text (codes "end")) last goes) k
-      | false ↦ λ _ k. more_is_read names before text others tail named read x.0 x.1 step (again x.0 x.1 k)
-    ] refl h
+  step_is_read : (s : Step) → ((n : Texts) (r : List LineForm) → text_on n r others tail ≡ Ok (named, read) → IsReadOn n r others tail named read) → line_step names before text ≡ s → (is_end others tail && not (bytes_eq text (codes "end"))) ≡ false → go_on (length before) s (λ n r. cond (is_end others tail) (Ok (n, r)) (text_on n r others tail)) ≡ Ok (named, read) → IsReadOn names before (text ∷ others) tail named read
+  step_is_read (Err fault) again is goes h = absurd cc
+  step_is_read (Ok x) again is goes h =
+      let step = step_is names before text x.0 x.1 is in
+      elim (is_end others tail) as (λ t. is_end others tail ≡ t → cond {A = Read} t (Ok (x.0, x.1)) (text_on x.0 x.1 others tail) ≡ Ok (named, read) → IsReadOn names before (text ∷ others) tail named read) [
+        | true ↦ λ last k. last_is_read x.0 x.1 step last (both_false (is_end others tail) (bytes_eq text (codes "end")) last goes) k
+        | false ↦ λ _ k. more_is_read x.0 x.1 step (again x.0 x.1 k)
+      ] refl h
 
 -- what was read to its end are lines in a row, the last of which is the end
-pub text_is_read : (names : List (List ℕ)) (before : List LineForm) (ended : List (List ℕ)) (tail : List ℕ) (named : List (List ℕ)) (read : List LineForm) → text_on names before ended tail ≡ Ok (named, read) → IsReadOn names before ended tail named read
+pub text_is_read : (names : Texts) (before : List LineForm) (ended : Texts) (tail : List ℕ) (named : Texts) (read : List LineForm) → text_on names before ended tail ≡ Ok (named, read) → IsReadOn names before ended tail named read
 text_is_read names before [] tail named read e = absurd cc
 text_is_read names before (text ∷ others) tail named read e =
     elim (is_end others tail && not (bytes_eq text (codes "end"))) as (λ t. (is_end others tail && not (bytes_eq text (codes "end"))) ≡ t → cond {A = Read} t (stop_at (length before) faults.Syntax) (go_on (length before) (line_step names before text) (λ n r. cond (is_end others tail) (Ok (n, r)) (text_on n r others tail))) ≡ Ok (named, read) → IsReadOn names before (text ∷ others) tail named read) [
@@ -234,7 +234,7 @@ text_is_read names before (text ∷ others) tail named read e =
     ] refl e
 
 -- the text of lines in a row is read, the last of which is the end
-more_again : (names : List (List ℕ)) (before : List LineForm) (line : LineForm) (rest : List LineForm) → FollowOn names before (line ∷ rest) → last_line (before ++ line ∷ rest) ≡ Some end → text_on names before (map line_written (line ∷ rest)) [] ≡ Ok (names_behind names (line ∷ rest), before ++ line ∷ rest)
+more_again : (names : Texts) (before : List LineForm) (line : LineForm) (rest : List LineForm) → FollowOn names before (line ∷ rest) → last_line (before ++ line ∷ rest) ≡ Some end → text_on names before (map line_written (line ∷ rest)) [] ≡ Ok (names_behind names (line ∷ rest), before ++ line ∷ rest)
 more_again names before line [] follow closed =
     let is_end_line : line ≡ end = some_is line end (sym (last_line-push before line) ∙ closed) in
     let ends : bytes_eq (line_written line) (codes "end") ≡ true = ap (λ l. bytes_eq (line_written l) (codes "end")) is_end_line in
@@ -247,7 +247,7 @@ more_again names before line (next ∷ rest) follow closed =
     ∙ more_again (names_after names line) after next rest follow.1 (ap last_line whole ∙ closed)
     ∙ ap (λ ls. Ok (names_behind names (line ∷ next ∷ rest), ls)) whole
 
-pub lines_again : (names : List (List ℕ)) (forms : List LineForm) → AreLines names forms → last_line forms ≡ Some end → bytes_on names [] (lines_written forms) ≡ Ok (names_behind names forms, forms)
+pub lines_again : (names : Texts) (forms : List LineForm) → AreLines names forms → last_line forms ≡ Some end → bytes_on names [] (lines_written forms) ≡ Ok (names_behind names forms, forms)
 lines_again names [] follow closed = absurd cc
 lines_again names (line ∷ forms) follow closed =
     let whole = line ∷ forms in
@@ -257,13 +257,13 @@ lines_again names (line ∷ forms) follow closed =
     ∙ more_again names [] line forms follow closed
 
 -- what is read of bytes
-pub record IsRead (names : List (List ℕ)) (bytes : List ℕ) (named : List (List ℕ)) (forms : List LineForm) : Type 0 where
+pub record IsRead (names : Texts) (bytes : List ℕ) (named : Texts) (forms : List LineForm) : Type 0 where
   pub spelled : bytes ≡ lines_written forms
   pub faultless : AreLines names forms
   pub closed : last_line forms ≡ Some end
   pub names_are : named ≡ names_behind names forms
 
-pub bytes_are_read : (names : List (List ℕ)) (bytes : List ℕ) (named : List (List ℕ)) (forms : List LineForm) → bytes_on names [] bytes ≡ Ok (named, forms) → IsRead names bytes named forms
+pub bytes_are_read : (names : Texts) (bytes : List ℕ) (named : Texts) (forms : List LineForm) → bytes_on names [] bytes ≡ Ok (named, forms) → IsRead names bytes named forms
 bytes_are_read names bytes named forms e =
     let is = text_is_read names [] (lines_of bytes).ended (lines_of bytes).tail named forms e in
     let same : is.more ≡ forms = sym is.whole in
@@ -277,15 +277,15 @@ bytes_are_read names bytes named forms e =
 -- ---- the first fault
 
 -- what stops a reading at a line
-data FrontFault (names : List (List ℕ)) (before : List LineForm) (tail : List ℕ) : List (List ℕ) → LineFault → Type 0 where
+data FrontFault (names : Texts) (before : List LineForm) (tail : List ℕ) : Texts → LineFault → Type 0 where
   no_line_feed : (is_end [] tail ≡ true → before ≡ []) → FrontFault names before tail [] faults.Syntax
-  no_end : (text : List ℕ) (others : List (List ℕ)) → is_end others tail ≡ true → bytes_eq text (codes "end") ≡ false → FrontFault names before tail (text ∷ others) faults.Syntax
-  refused : (text : List ℕ) (others : List (List ℕ)) (fault : LineFault) → (is_end others tail && not (bytes_eq text (codes "end"))) ≡ false → line_step names before text ≡ Err fault → FrontFault names before tail (text ∷ others) fault
+  no_end : (text : List ℕ) (others : Texts) → is_end others tail ≡ true → bytes_eq text (codes "end") ≡ false → FrontFault names before tail (text ∷ others) faults.Syntax
+  refused : (text : List ℕ) (others : Texts) (fault : LineFault) → (is_end others tail && not (bytes_eq text (codes "end"))) ≡ false → line_step names before text ≡ Err fault → FrontFault names before tail (text ∷ others) fault
 
 -- what a reading that stopped tells
-record IsStopped (names : List (List ℕ)) (before : List LineForm) (ended : List (List ℕ)) (tail : List ℕ) (stop : LineStop) : Type 0 where
+record IsStopped (names : Texts) (before : List LineForm) (ended : Texts) (tail : List ℕ) (stop : LineStop) : Type 0 where
   more : List LineForm
-  left : List (List ℕ)
+  left : Texts
   texts : ended ≡ map line_written more ++ left
   follow : FollowOn names before more
   counted : stop.number ≡ length (before ++ more)
@@ -294,7 +294,7 @@ record IsStopped (names : List (List ℕ)) (before : List LineForm) (ended : Lis
 err_is : {A : Type 0} {E : Type 0} (x y : E) → ◌≡◌ {A = Result A E} (Err x) (Err y) → x ≡ y
 err_is x y e = cc
 
-stops_here : (names : List (List ℕ)) (before : List LineForm) (ended : List (List ℕ)) (tail : List ℕ) (fault : LineFault) (stop : LineStop) → FrontFault names before tail ended fault → stop_at (length before) fault ≡ Err stop → IsStopped names before ended tail stop
+stops_here : (names : Texts) (before : List LineForm) (ended : Texts) (tail : List ℕ) (fault : LineFault) (stop : LineStop) → FrontFault names before tail ended fault → stop_at (length before) fault ≡ Err stop → IsStopped names before ended tail stop
 stops_here names before ended tail fault stop here e =
     let same : ◌≡◌ {A = LineStop} (record { number = length before; fault = fault }) stop = err_is (record { number = length before; fault = fault }) stop e in
     record {
@@ -306,32 +306,33 @@ stops_here names before ended tail fault stop here e =
       here = subst (λ b. FrontFault names b tail ended stop.fault) (sym (append-nil before)) (subst (FrontFault names before tail ended) (ap (λ (s : LineStop). s.fault) same) here);
     }
 
-stops_later : (names : List (List ℕ)) (before : List LineForm) (text : List ℕ) (others : List (List ℕ)) (tail : List ℕ) (stop : LineStop) (n : List (List ℕ)) (r : List LineForm) → IsStep names before text n r → IsStopped n r others tail stop → IsStopped names before (text ∷ others) tail stop
-stops_later names before text others tail stop n r step rest =
-    let whole : r ++ rest.more ≡ before ++ step.line ∷ rest.more = ap (λ l. l ++ rest.more) step.lines_are ∙ append_assoc before (step.line ∷ []) rest.more in
-    let follow : FollowOn (names_after names step.line) (before ++ step.line ∷ []) rest.more = subst (λ p. FollowOn p.0 p.1 rest.more) (pair_is n r (names_after names step.line) (before ++ step.line ∷ []) step.names_are step.lines_are) rest.follow in
-    record {
-      more = step.line ∷ rest.more;
-      left = rest.left;
-      texts = (λ i. step.next.stands.is_text.text_is i ∷ rest.texts i);
-      follow = (next_of_text names before text step.line step.next, follow);
-      counted = rest.counted ∙ ap length whole;
-      here = subst (λ p. FrontFault p.0 p.1 tail rest.left stop.fault) (pair_is (names_behind n rest.more) (r ++ rest.more) (names_behind (names_after names step.line) rest.more) (before ++ step.line ∷ rest.more) (ap (λ ns. names_behind ns rest.more) step.names_are) whole) rest.here;
-    }
-
-never_last : (before : List LineForm) (line : LineForm) (others : List (List ℕ)) (tail : List ℕ) → is_end others tail ≡ false → is_end others tail ≡ true → before ++ line ∷ [] ≡ []
+never_last : (before : List LineForm) (line : LineForm) (others : Texts) (tail : List ℕ) → is_end others tail ≡ false → is_end others tail ≡ true → before ++ line ∷ [] ≡ []
 never_last before line others tail further last = absurd cc
 
-step_stops : (names : List (List ℕ)) (before : List LineForm) (text : List ℕ) (others : List (List ℕ)) (tail : List ℕ) (stop : LineStop) (s : Step) → ((n : List (List ℕ)) (r : List LineForm) → (is_end others tail ≡ true → r ≡ []) → text_on n r others tail ≡ Err stop → IsStopped n r others tail stop) → line_step names before text ≡ s → (is_end others tail && not (bytes_eq text (codes "end"))) ≡ false → go_on (length before) s (λ n r. cond (is_end others tail) (Ok (n, r)) (text_on n r others tail)) ≡ Err stop → IsStopped names before (text ∷ others) tail stop
-step_stops names before text others tail stop (Err fault) again is goes h = stops_here names before (text ∷ others) tail fault stop (refused text others fault goes is) h
-step_stops names before text others tail stop (Ok x) again is goes h =
-    let step = step_is names before text x.0 x.1 is in
-    elim (is_end others tail) as (λ t. is_end others tail ≡ t → cond {A = Read} t (Ok (x.0, x.1)) (text_on x.0 x.1 others tail) ≡ Err stop → IsStopped names before (text ∷ others) tail stop) [
-      | true ↦ λ _ k. absurd cc
-      | false ↦ λ further k. stops_later names before text others tail stop x.0 x.1 step (again x.0 x.1 (λ yes. step.lines_are ∙ never_last before step.line others tail further yes) k)
-    ] refl h
+module _ (names : Texts) (before : List LineForm) (text : List ℕ) (others : Texts) (tail : List ℕ) (stop : LineStop) where
+  stops_later : (n : Texts) (r : List LineForm) → IsStep names before text n r → IsStopped n r others tail stop → IsStopped names before (text ∷ others) tail stop
+  stops_later n r step rest =
+      let whole : r ++ rest.more ≡ before ++ step.line ∷ rest.more = ap (λ l. l ++ rest.more) step.lines_are ∙ append_assoc before (step.line ∷ []) rest.more in
+      let follow : FollowOn (names_after names step.line) (before ++ step.line ∷ []) rest.more = subst (λ p. FollowOn p.0 p.1 rest.more) (pair_is n r (names_after names step.line) (before ++ step.line ∷ []) step.names_are step.lines_are) rest.follow in
+      record {
+        more = step.line ∷ rest.more;
+        left = rest.left;
+        texts = (λ i. step.next.stands.is_text.text_is i ∷ rest.texts i);
+        follow = (next_of_text names before text step.line step.next, follow);
+        counted = rest.counted ∙ ap length whole;
+        here = subst (λ p. FrontFault p.0 p.1 tail rest.left stop.fault) (pair_is (names_behind n rest.more) (r ++ rest.more) (names_behind (names_after names step.line) rest.more) (before ++ step.line ∷ rest.more) (ap (λ ns. names_behind ns rest.more) step.names_are) whole) rest.here;
+      }
 
-text_is_stopped : (names : List (List ℕ)) (before : List LineForm) (ended : List (List ℕ)) (tail : List ℕ) (stop : LineStop) → (is_end ended tail ≡ true → before ≡ []) → text_on names before ended tail ≡ Err stop → IsStopped names before ended tail stop
+  step_stops : (s : Step) → ((n : Texts) (r : List LineForm) → (is_end others tail ≡ true → r ≡ []) → text_on n r others tail ≡ Err stop → IsStopped n r others tail stop) → line_step names before text ≡ s → (is_end others tail && not (bytes_eq text (codes "end"))) ≡ false → go_on (length before) s (λ n r. cond (is_end others tail) (Ok (n, r)) (text_on n r others tail)) ≡ Err stop → IsStopped names before (text ∷ others) tail stop
+  step_stops (Err fault) again is goes h = stops_here names before (text ∷ others) tail fault stop (refused text others fault goes is) h
+  step_stops (Ok x) again is goes h =
+      let step = step_is names before text x.0 x.1 is in
+      elim (is_end others tail) as (λ t. is_end others tail ≡ t → cond {A = Read} t (Ok (x.0, x.1)) (text_on x.0 x.1 others tail) ≡ Err stop → IsStopped names before (text ∷ others) tail stop) [
+        | true ↦ λ _ k. absurd cc
+        | false ↦ λ further k. stops_later x.0 x.1 step (again x.0 x.1 (λ yes. step.lines_are ∙ never_last before step.line others tail further yes) k)
+      ] refl h
+
+text_is_stopped : (names : Texts) (before : List LineForm) (ended : Texts) (tail : List ℕ) (stop : LineStop) → (is_end ended tail ≡ true → before ≡ []) → text_on names before ended tail ≡ Err stop → IsStopped names before ended tail stop
 text_is_stopped names before [] tail stop opens e = stops_here names before [] tail faults.Syntax stop (no_line_feed opens) e
 text_is_stopped names before (text ∷ others) tail stop opens e =
     elim (is_end others tail && not (bytes_eq text (codes "end"))) as (λ t. (is_end others tail && not (bytes_eq text (codes "end"))) ≡ t → cond {A = Read} t (stop_at (length before) faults.Syntax) (go_on (length before) (line_step names before text) (λ n r. cond (is_end others tail) (Ok (n, r)) (text_on n r others tail))) ≡ Err stop → IsStopped names before (text ∷ others) tail stop) [
@@ -342,7 +343,7 @@ text_is_stopped names before (text ∷ others) tail stop opens e =
 -- ---- the lines of a text have no line feeds
 
 -- each text lacks a line feed
-abbrev AllLack : List (List ℕ) → Type 0
+abbrev AllLack : Texts → Type 0
 AllLack [] = Unit {0}
 AllLack (text ∷ others) = (lacks 10 text ≡ true) × AllLack others
 
@@ -350,7 +351,7 @@ record LinesLack (w : Lines) : Type 0 where
   ended : AllLack w.ended
   tail : lacks 10 w.tail ≡ true
 
-before_lack : (b : ℕ) (ended : List (List ℕ)) (tail : List ℕ) → (b == 10) ≡ false → AllLack ended → lacks 10 tail ≡ true → LinesLack (before_lines b ended tail)
+before_lack : (b : ℕ) (ended : Texts) (tail : List ℕ) → (b == 10) ≡ false → AllLack ended → lacks 10 tail ≡ true → LinesLack (before_lines b ended tail)
 before_lack b [] tail other all last = record { ended = tt; tail = lacks-cons 10 b tail other last }
 before_lack b (line ∷ others) tail other all last = record { ended = (lacks-cons 10 b line other all.0, all.1); tail = last }
 
@@ -363,7 +364,7 @@ lines_lack (b ∷ bs) =
       | false ↦ λ other. before_lack b (lines_of bs).ended (lines_of bs).tail other rest.ended rest.tail
     ] refl
 
-left_lack : (xs ys : List (List ℕ)) → AllLack (xs ++ ys) → AllLack ys
+left_lack : (xs ys : Texts) → AllLack (xs ++ ys) → AllLack ys
 left_lack [] ys all = all
 left_lack (x ∷ xs) ys all = left_lack xs ys all.1
 
@@ -372,7 +373,7 @@ left_lack (x ∷ xs) ys all = left_lack xs ys all.1
 ended_none : (tail : List ℕ) → tail ≡ [] → is_end [] tail ≡ true
 ended_none tail none = ap (is_end []) none
 
-nothing_joined : (others : List (List ℕ)) (tail : List ℕ) → joined others tail ≡ [] → is_end others tail ≡ true
+nothing_joined : (others : Texts) (tail : List ℕ) → joined others tail ≡ [] → is_end others tail ≡ true
 unfolding joined
 nothing_joined [] tail none = ended_none tail none
 nothing_joined ([] ∷ others) tail none = absurd cc
@@ -381,7 +382,7 @@ nothing_joined ((b ∷ text) ∷ others) tail none = absurd cc
 differs : (text : List ℕ) → bytes_eq text (codes "end") ≡ false → text ≡ codes "end" → ⊥
 differs text other same = let equal : bytes_eq text (codes "end") ≡ true = ap (λ t. bytes_eq t (codes "end")) same in absurd cc
 
-front_fault : (names : List (List ℕ)) (before : List LineForm) (tail : List ℕ) (left : List (List ℕ)) (fault : LineFault) → lacks 10 tail ≡ true → AllLack left → FrontFault names before tail left fault → FaultAtFront names before (joined left tail) fault
+front_fault : (names : Texts) (before : List LineForm) (tail : List ℕ) (left : Texts) (fault : LineFault) → lacks 10 tail ≡ true → AllLack left → FrontFault names before tail left fault → FaultAtFront names before (joined left tail) fault
 unfolding joined
 front_fault names before tail _ _ tail_lacks all (no_line_feed opens) = unended tail_lacks (λ none. opens (ended_none tail none))
 front_fault names before tail _ _ tail_lacks all (no_end text others last other) =
@@ -391,7 +392,7 @@ front_fault names before tail _ _ tail_lacks all (refused text others fault goes
     faulty text (joined others tail) fault all.0 refl (λ none. bytes_are text (codes "end") (both_false (is_end others tail) (bytes_eq text (codes "end")) (nothing_joined others tail none) goes)) (step_fault names before text fault step)
 
 -- what stops a reading is the first fault
-pub first_fault : (names : List (List ℕ)) (bytes : List ℕ) (stop : LineStop) → bytes_on names [] bytes ≡ Err stop → FirstFault names bytes stop.number stop.fault
+pub first_fault : (names : Texts) (bytes : List ℕ) (stop : LineStop) → bytes_on names [] bytes ≡ Err stop → FirstFault names bytes stop.number stop.fault
 first_fault names bytes stop e =
     let ended = (lines_of bytes).ended in
     let tail = (lines_of bytes).tail in
@@ -406,12 +407,12 @@ first_fault names bytes stop e =
       here = front_fault (names_behind names is.more) is.more tail is.left stop.fault lack.tail (left_lack (map line_written is.more) is.left (subst AllLack is.texts lack.ended)) is.here;
     }
 
-further_end : (more : List LineForm) (left : List (List ℕ)) (tail : List ℕ) → is_end left tail ≡ false → is_end (map line_written more ++ left) tail ≡ false
+further_end : (more : List LineForm) (left : Texts) (tail : List ℕ) → is_end left tail ≡ false → is_end (map line_written more ++ left) tail ≡ false
 further_end [] left tail h = h
 further_end (line ∷ more) left tail h = refl
 
 -- lines in a row are read, where more follows them
-run_on : (names : List (List ℕ)) (before more : List LineForm) (left : List (List ℕ)) (tail : List ℕ) → FollowOn names before more → is_end left tail ≡ false → text_on names before (map line_written more ++ left) tail ≡ text_on (names_behind names more) (before ++ more) left tail
+run_on : (names : Texts) (before more : List LineForm) (left : Texts) (tail : List ℕ) → FollowOn names before more → is_end left tail ≡ false → text_on names before (map line_written more ++ left) tail ≡ text_on (names_behind names more) (before ++ more) left tail
 run_on names before [] left tail follow further = ap (λ b. text_on names b left tail) (sym (append-nil before))
 run_on names before (line ∷ more) left tail follow further =
     let others = map line_written more ++ left in
@@ -420,28 +421,29 @@ run_on names before (line ∷ more) left tail follow further =
     ∙ run_on (names_after names line) (before ++ line ∷ []) more left tail follow.1 further
     ∙ ap (λ b. text_on (names_behind names (line ∷ more)) b left tail) (append_assoc before (line ∷ []) more)
 
-run_to : (names : List (List ℕ)) (forms : List LineForm) (bytes rest : List ℕ) → bytes ≡ lines_written forms ++ rest → AreLines names forms → bytes_on names [] bytes ≡ text_on names [] (map line_written forms ++ (lines_of rest).ended) (lines_of rest).tail
-run_to names forms bytes rest cut follow = ap (bytes_on names []) cut ∙ ap (λ (w : Lines). text_on names [] w.ended w.tail) (lines_of_forms names [] forms rest follow)
+module _ (names : Texts) (forms : List LineForm) (bytes : List ℕ) where
+  run_to : (rest : List ℕ) → bytes ≡ lines_written forms ++ rest → AreLines names forms → bytes_on names [] bytes ≡ text_on names [] (map line_written forms ++ (lines_of rest).ended) (lines_of rest).tail
+  run_to rest cut follow = ap (bytes_on names []) cut ∙ ap (λ (w : Lines). text_on names [] w.ended w.tail) (lines_of_forms names [] forms rest follow)
 
--- the reading of what follows lines in a row
-run_behind : (names : List (List ℕ)) (forms : List LineForm) (bytes rest : List ℕ) → bytes ≡ lines_written forms ++ rest → AreLines names forms → is_end (lines_of rest).ended (lines_of rest).tail ≡ false → bytes_on names [] bytes ≡ bytes_on (names_behind names forms) forms rest
-run_behind names forms bytes rest cut follow further = run_to names forms bytes rest cut follow ∙ run_on names [] forms (lines_of rest).ended (lines_of rest).tail follow further
+  -- the reading of what follows lines in a row
+  run_behind : (rest : List ℕ) → bytes ≡ lines_written forms ++ rest → AreLines names forms → is_end (lines_of rest).ended (lines_of rest).tail ≡ false → bytes_on names [] bytes ≡ bytes_on (names_behind names forms) forms rest
+  run_behind rest cut follow further = run_to rest cut follow ∙ run_on names [] forms (lines_of rest).ended (lines_of rest).tail follow further
 
-unended_again : (names : List (List ℕ)) (forms : List LineForm) (bytes rest : List ℕ) → bytes ≡ lines_written forms ++ rest → AreLines names forms → lacks 10 rest ≡ true → (rest ≡ [] → forms ≡ []) → bytes_on names [] bytes ≡ stop_at (length forms) faults.Syntax
-unended_again names forms bytes [] cut follow lacking opens =
-    let none = opens refl in
-    let empty : bytes ≡ [] = cut ∙ ap (λ fs. lines_written fs ++ []) none in
-    ap (bytes_on names []) empty ∙ ap (λ (fs : List LineForm). stop_at (length fs) faults.Syntax) (sym none)
-unended_again names forms bytes (b ∷ rest) cut follow lacking opens =
-    let tail = lines_of_tail (b ∷ rest) lacking in
-    run_behind names forms bytes (b ∷ rest) cut follow (ap (λ (w : Lines). is_end w.ended w.tail) tail)
-    ∙ ap (λ (w : Lines). text_on (names_behind names forms) forms w.ended w.tail) tail
+  unended_again : (rest : List ℕ) → bytes ≡ lines_written forms ++ rest → AreLines names forms → lacks 10 rest ≡ true → (rest ≡ [] → forms ≡ []) → bytes_on names [] bytes ≡ stop_at (length forms) faults.Syntax
+  unended_again [] cut follow lacking opens =
+      let none = opens refl in
+      let empty : bytes ≡ [] = cut ∙ ap (λ fs. lines_written fs ++ []) none in
+      ap (bytes_on names []) empty ∙ ap (λ (fs : List LineForm). stop_at (length fs) faults.Syntax) (sym none)
+  unended_again (b ∷ rest) cut follow lacking opens =
+      let tail = lines_of_tail (b ∷ rest) lacking in
+      run_behind (b ∷ rest) cut follow (ap (λ (w : Lines). is_end w.ended w.tail) tail)
+      ∙ ap (λ (w : Lines). text_on (names_behind names forms) forms w.ended w.tail) tail
 
-front_again : (names : List (List ℕ)) (forms : List LineForm) (bytes rest text behind : List ℕ) → bytes ≡ lines_written forms ++ rest → AreLines names forms → lacks 10 text ≡ true → rest ≡ text ++ 10 ∷ behind → bytes_on names [] bytes ≡ front_read (names_behind names forms) forms text behind
-front_again names forms bytes rest text behind cut follow lacking at =
-    let first = ap lines_of at ∙ lines_behind text behind lacking in
-    run_behind names forms bytes rest cut follow (ap (λ (w : Lines). is_end w.ended w.tail) first)
-    ∙ bytes_on-cut (names_behind names forms) forms rest text behind (ap (cut_at 10) at ∙ cut_here 10 text behind lacking)
+  front_again : (rest text behind : List ℕ) → bytes ≡ lines_written forms ++ rest → AreLines names forms → lacks 10 text ≡ true → rest ≡ text ++ 10 ∷ behind → bytes_on names [] bytes ≡ front_read (names_behind names forms) forms text behind
+  front_again rest text behind cut follow lacking at =
+      let first = ap lines_of at ∙ lines_behind text behind lacking in
+      run_behind rest cut follow (ap (λ (w : Lines). is_end w.ended w.tail) first)
+      ∙ bytes_on-cut (names_behind names forms) forms rest text behind (ap (cut_at 10) at ∙ cut_here 10 text behind lacking)
 
 other_text : (text : List ℕ) → (text ≡ codes "end" → ⊥) → bytes_eq text (codes "end") ≡ false
 other_text text differs_is = elim (bytes_eq text (codes "end")) as (λ t. bytes_eq text (codes "end") ≡ t → t ≡ false) [
@@ -453,7 +455,7 @@ goes_by : (text behind : List ℕ) → (behind ≡ [] → text ≡ codes "end") 
 goes_by text [] ends = ap (λ t. not (bytes_eq t (codes "end"))) (ends refl)
 goes_by text (b ∷ behind) ends = let some : (suc (length behind) == 0) ≡ false = grind (arith, nat_tests) in ap (λ t. t && not (bytes_eq text (codes "end"))) some
 
-fault_at_front : (names : List (List ℕ)) (forms : List LineForm) (bytes rest : List ℕ) (fault : LineFault) → bytes ≡ lines_written forms ++ rest → AreLines names forms → FaultAtFront (names_behind names forms) forms rest fault → bytes_on names [] bytes ≡ stop_at (length forms) fault
+fault_at_front : (names : Texts) (forms : List LineForm) (bytes rest : List ℕ) (fault : LineFault) → bytes ≡ lines_written forms ++ rest → AreLines names forms → FaultAtFront (names_behind names forms) forms rest fault → bytes_on names [] bytes ≡ stop_at (length forms) fault
 fault_at_front names forms bytes rest _ cut follow (unended lacking opens) = unended_again names forms bytes rest cut follow lacking opens
 fault_at_front names forms bytes rest _ cut follow (stops text lacking at other) =
     front_again names forms bytes rest text [] cut follow lacking at
@@ -464,11 +466,11 @@ fault_at_front names forms bytes rest _ cut follow (faulty text behind fault lac
     ∙ ap (λ s. go_on (length forms) s (λ n r. read_behind n r behind)) (fault_step (names_behind names forms) forms text fault has)
 
 -- the first fault stops the reading
-pub fault_again : (names : List (List ℕ)) (bytes : List ℕ) (number : ℕ) (fault : LineFault) → FirstFault names bytes number fault → bytes_on names [] bytes ≡ stop_at number fault
+pub fault_again : (names : Texts) (bytes : List ℕ) (number : ℕ) (fault : LineFault) → FirstFault names bytes number fault → bytes_on names [] bytes ≡ stop_at number fault
 fault_again names bytes number fault is = fault_at_front names is.lines bytes is.rest fault is.cut is.faultless is.here ∙ ap (λ n. stop_at n fault) (sym is.counted)
 
 -- the first line of a module is its title
-pub titled_is : (names : List (List ℕ)) (forms : List LineForm) → AreLines names forms → last_line forms ≡ Some end → IsTitled forms
+pub titled_is : (names : Texts) (forms : List LineForm) → AreLines names forms → last_line forms ≡ Some end → IsTitled forms
 titled_is names [] follow closed = absurd cc
 titled_is names (title name version ∷ lines) follow closed = tt
 titled_is names forms follow closed = absurd (let place = follow.0.stands.place in cc)

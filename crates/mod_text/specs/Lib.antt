@@ -5,6 +5,7 @@ pub mod LineFaults
 pub mod LineReading
 pub mod LineViews
 pub mod ModuleLine
+pub mod Sides
 pub mod ModuleText
 pub mod ModuleValue
 pub mod Reading

@@ -1,6 +1,6 @@
 -- What may be wrong with a line of a module's text, after the lines before it: whether it may stand there, and each limit.
 -- Source: this project's module text. The limits are counted over the lines before; the code counts as it goes.
-use Rattle.std.specs.Prelude.{◌≡◌, ℕ, ◌+◌, ◌||◌, not, nat_lt, nat_le, Bool, true, false, List, [], ◌∷◌, ◌++◌, length, Option, Some, None, is_none, bytes_eq, if◌then◌else◌}
+use Rattle.std.specs.Prelude.{◌≡◌, ℕ, ◌+◌, ◌||◌, not, fold, nat_lt, nat_le, Bool, true, false, List, [], ◌∷◌, ◌++◌, length, Option, Some, None, is_none, bytes_eq, if◌then◌else◌}
 use Rattle.std.specs.List.{list_any}
 use Rattle.term_core.specs.declared.atom.Mfa.{Mfa}
 use Rattle.term_core.specs.declared.names.TheConstants.{MOST_NAMES}
@@ -12,7 +12,7 @@ use Rattle.mod_core.specs.declared.code.TheConstants.{REGISTERS, MOST_FUNCTIONS,
 use Rattle.mod_text.specs.declared.fault.LineFault.{LineFault}
 use Rattle.mod_text.specs.declared.fault.LineFault.TheVariants as faults
 use Rattle.term_core.specs.Text.Numbers.{number_value}
-use Rattle.mod_text.specs.ModuleLine.{OperandForm, register, integer, atom, complex, InstrForm, move, add, sub, eq, less, jump, call, call_ext, ret, pget, pget_or, elem, print, yield, LineForm, title, header, label, instr, end, LineText, operands_of, some_operand}
+use Rattle.mod_text.specs.ModuleLine.{OperandForm, register, integer, atom, complex, InstrForm, move, add, sub, call, call_ext, pget, pget_or, elem, LineForm, title, header, label, instr, end, LineText, operands_of, some_operand}
 use Rattle.mod_text.specs.LineReading.{line_reading}
 use Rattle.mod_core.specs.ModuleImage.{module_image}
 use Rattle.mod_text.specs.ModuleValue.{headers_in, is_header, title_of, module_of, mfa_in}
@@ -37,9 +37,8 @@ is_in_function _ = false
 abbrev pub may_follow : Option LineForm → LineForm → Bool
 may_follow before (title name version) = is_none before
 may_follow before (header exported name arity) = is_open before
-may_follow before (label name) = is_in_function before
-may_follow before (instr i) = is_in_function before
 may_follow before end = is_open before
+may_follow before _ = is_in_function before
 
 -- the last line of some
 abbrev pub last_line : List LineForm → Option LineForm
@@ -67,17 +66,12 @@ abbrev pub has_high_instr : InstrForm → Bool
 has_high_instr (move from to) = has_high_operand from || is_high to
 has_high_instr (add a b to) = has_high_operand a || (has_high_operand b || is_high to)
 has_high_instr (sub a b to) = has_high_operand a || (has_high_operand b || is_high to)
-has_high_instr (eq a b target) = has_high_operand a || has_high_operand b
-has_high_instr (less a b target) = has_high_operand a || has_high_operand b
-has_high_instr (jump target) = false
 has_high_instr (call name arity at) = is_high_call arity at
 has_high_instr (call_ext name function arity at) = is_high_call arity at
-has_high_instr (ret value) = has_high_operand value
 has_high_instr (pget key to) = is_high to
 has_high_instr (pget_or key other to) = has_high_operand other || is_high to
 has_high_instr (elem index from to) = has_high_operand index || (has_high_operand from || is_high to)
-has_high_instr (print value) = has_high_operand value
-has_high_instr yield = false
+has_high_instr i = some_operand has_high_operand (operands_of i)
 
 -- the same of a line
 abbrev pub has_high_register : LineForm → Bool
@@ -88,10 +82,9 @@ has_high_register _ = false
 
 -- whether an operand has an integer of more than 60 bits
 abbrev pub is_wide_operand : OperandForm → Bool
-is_wide_operand (register digits) = false
 is_wide_operand (integer text) = not (is_term_integer (integer_of text))
-is_wide_operand (atom text) = false
 is_wide_operand (complex text) = is_wide_text text
+is_wide_operand _ = false
 
 -- whether an operand of an instruction is
 abbrev pub has_wide_instr : InstrForm → Bool
@@ -99,7 +92,7 @@ has_wide_instr i = some_operand is_wide_operand (operands_of i)
 
 -- whether a line has an integer of more than 60 bits
 abbrev pub has_wide_integer : LineForm → Bool
-has_wide_integer (instr i) = has_wide_instr i
+has_wide_integer (instr i) = some_operand is_wide_operand (operands_of i)
 has_wide_integer _ = false
 
 -- ---- sizes of terms
@@ -115,42 +108,37 @@ has_long_instr i = some_operand is_long_operand (operands_of i)
 
 -- whether a line has a term of more than 64 words
 abbrev pub has_long_term : LineForm → Bool
-has_long_term (instr i) = has_long_instr i
+has_long_term (instr i) = some_operand is_long_operand (operands_of i)
 has_long_term _ = false
 
 -- ---- names
 
 -- the atoms of an operand, in order
 abbrev pub operand_atoms : OperandForm → List (List ℕ)
-operand_atoms (register digits) = []
-operand_atoms (integer text) = []
 operand_atoms (atom text) = text ∷ []
 operand_atoms (complex text) = term_atoms text
+operand_atoms _ = []
+
+-- the atoms of operands, in order
+abbrev pub operands_atoms : List OperandForm → List (List ℕ)
+operands_atoms [] = []
+operands_atoms (o ∷ []) = operand_atoms o
+operands_atoms (o ∷ more) = operand_atoms o ++ operands_atoms more
 
 -- the atoms of an instruction, in order; labels are none
 abbrev pub instr_atoms : InstrForm → List (List ℕ)
 instr_atoms (call name arity at) = name ∷ []
 instr_atoms (call_ext name function arity at) = name ∷ function ∷ []
-instr_atoms (move from to) = operand_atoms from
-instr_atoms (add a b to) = operand_atoms a ++ operand_atoms b
-instr_atoms (sub a b to) = operand_atoms a ++ operand_atoms b
-instr_atoms (eq a b target) = operand_atoms a ++ operand_atoms b
-instr_atoms (less a b target) = operand_atoms a ++ operand_atoms b
-instr_atoms (jump target) = []
-instr_atoms (ret value) = operand_atoms value
 instr_atoms (pget key to) = key ∷ []
 instr_atoms (pget_or key other to) = key ∷ operand_atoms other
-instr_atoms (elem index from to) = operand_atoms index ++ operand_atoms from
-instr_atoms (print value) = operand_atoms value
-instr_atoms yield = []
+instr_atoms i = operands_atoms (operands_of i)
 
 -- the atoms of a line, in order
 abbrev pub line_atoms : LineForm → List (List ℕ)
 line_atoms (title name version) = name ∷ []
 line_atoms (header exported name arity) = name ∷ []
-line_atoms (label name) = []
 line_atoms (instr i) = instr_atoms i
-line_atoms end = []
+line_atoms _ = []
 
 -- the names after a line
 abbrev pub names_after : List (List ℕ) → LineForm → List (List ℕ)
@@ -168,14 +156,9 @@ labels_after labels (header exported name arity) = []
 labels_after labels (label name) = labels ++ name ∷ []
 labels_after labels _ = labels
 
--- the labels of the function at hand, after those so far and lines
-abbrev pub labels_on : List (List ℕ) → List LineForm → List (List ℕ)
-labels_on labels [] = labels
-labels_on labels (line ∷ lines) = labels_on (labels_after labels line) lines
-
 -- the labels of the function that is open behind lines
 abbrev pub open_labels : List LineForm → List (List ℕ)
-open_labels lines = labels_on [] lines
+open_labels lines = fold labels_after [] lines
 
 -- whether a line is a header behind sixteen others
 abbrev pub is_seventeenth : List LineForm → LineForm → Bool

@@ -6,13 +6,13 @@ use Rattle.term_core.specs.TermForms.{is_bracketed, is_term_text}
 use Rattle.term_core.specs.Written.{is_integer_text}
 use Rattle.term_core.specs.Text.Numbers.{is_number_text}
 use Rattle.term_core.specs.Text.Cuts.{cut_at}
+use Rattle.mod_text.specs.Sides.{paired, behind}
 use Rattle.term_core.specs.Text.Steps.{◌>>=◌, tested, numbered_reading}
 use Rattle.mod_text.specs.ModuleLine.{OperandForm, register, integer, atom, complex, InstrForm, move, add, sub, eq, less, jump, call, call_ext, ret, pget, pget_or, elem, print, yield, LineForm, title, header, label, instr, end, is_version_text, is_arity_text, operands_of, each_operand}
 
 -- the digits of a register
 abbrev pub register_reading : List ℕ → Option (List ℕ)
-register_reading [] = None
-register_reading (c ∷ digits) = if c == 36 then tested is_number_text digits else None
+register_reading text = behind 36 (tested is_number_text) text
 
 -- an operand that is a term; of a tuple or list its first bracket alone is looked at
 abbrev pub constant_reading : List ℕ → Option OperandForm
@@ -25,104 +25,69 @@ abbrev pub operand_reading : List ℕ → Option OperandForm
 operand_reading [] = None
 operand_reading (c ∷ rest) = if c == 36 then option_map (λ digits. register digits) (tested is_number_text rest) else constant_reading (c ∷ rest)
 
--- two operands, and the word behind them
-abbrev pub operands_reading : List ℕ → Option (OperandForm × OperandForm × List ℕ)
-operands_reading words = do
-  first ← cut_at 32 words
-  second ← cut_at 32 first.1
-  a ← operand_reading first.0
-  b ← operand_reading second.0
-  Some (a, b, second.1)
-
 -- two operands and a register
-abbrev pub sum_reading : List ℕ → Option (OperandForm × OperandForm × List ℕ)
-sum_reading words = do
-  parts ← operands_reading words
-  to ← register_reading parts.2
-  Some (parts.0, parts.1, to)
+abbrev pub sum_reading : List ℕ → Option (OperandForm × (OperandForm × List ℕ))
+sum_reading words = paired 32 operand_reading (paired 32 operand_reading register_reading) words
 
 -- two operands and a label
-abbrev pub branch_reading : List ℕ → Option (OperandForm × OperandForm × List ℕ)
-branch_reading words = do
-  parts ← operands_reading words
-  target ← tested is_atom_text parts.2
-  Some (parts.0, parts.1, target)
+abbrev pub branch_reading : List ℕ → Option (OperandForm × (OperandForm × List ℕ))
+branch_reading words = paired 32 operand_reading (paired 32 operand_reading (tested is_atom_text)) words
 
--- the operands of `move`
+-- a function of another module
+abbrev pub external_reading : List ℕ → Option (List ℕ × (List ℕ × List ℕ))
+external_reading text = paired 58 (tested is_atom_text) (numbered_reading 47 is_arity_text) text
+
+-- `move`, behind its word
 abbrev pub move_reading : List ℕ → Option InstrForm
-move_reading words = do
-  parts ← cut_at 32 words
-  from ← operand_reading parts.0
-  to ← register_reading parts.1
-  Some (move from to)
+move_reading rest = paired 32 operand_reading register_reading rest >>= λ p. Some (move p.0 p.1)
 
--- the operands of `call`
-abbrev pub call_reading : List ℕ → Option InstrForm
-call_reading words = do
-  parts ← cut_at 32 words
-  function ← numbered_reading 47 is_arity_text parts.0
-  at ← register_reading parts.1
-  Some (call function.0 function.1 at)
-
--- the operands of `call_ext`
-abbrev pub call_ext_reading : List ℕ → Option InstrForm
-call_ext_reading words = do
-  parts ← cut_at 32 words
-  names ← cut_at 58 parts.0
-  name ← tested is_atom_text names.0
-  function ← numbered_reading 47 is_arity_text names.1
-  at ← register_reading parts.1
-  Some (call_ext name function.0 function.1 at)
-
--- the operands of `add`
+-- `add`, behind its word
 abbrev pub add_reading : List ℕ → Option InstrForm
-add_reading words = option_map (λ x. add x.0 x.1 x.2) (sum_reading words)
+add_reading rest = sum_reading rest >>= λ x. Some (add x.0 x.1.0 x.1.1)
 
--- the operands of `sub`
+-- `sub`, behind its word
 abbrev pub sub_reading : List ℕ → Option InstrForm
-sub_reading words = option_map (λ x. sub x.0 x.1 x.2) (sum_reading words)
+sub_reading rest = sum_reading rest >>= λ x. Some (sub x.0 x.1.0 x.1.1)
 
--- the operands and the label of `eq`
+-- `eq`, behind its word
 abbrev pub eq_reading : List ℕ → Option InstrForm
-eq_reading words = option_map (λ x. eq x.0 x.1 x.2) (branch_reading words)
+eq_reading rest = branch_reading rest >>= λ x. Some (eq x.0 x.1.0 x.1.1)
 
--- the operands and the label of `less`
+-- `less`, behind its word
 abbrev pub less_reading : List ℕ → Option InstrForm
-less_reading words = option_map (λ x. less x.0 x.1 x.2) (branch_reading words)
+less_reading rest = branch_reading rest >>= λ x. Some (less x.0 x.1.0 x.1.1)
 
--- the label of `jump`
+-- `jump`, behind its word
 abbrev pub jump_reading : List ℕ → Option InstrForm
-jump_reading words = option_map (λ target. jump target) (tested is_atom_text words)
+jump_reading rest = tested is_atom_text rest >>= λ target. Some (jump target)
 
--- the operand of `ret`
+-- `call`, behind its word
+abbrev pub call_reading : List ℕ → Option InstrForm
+call_reading rest = paired 32 (numbered_reading 47 is_arity_text) register_reading rest >>= λ p. Some (call p.0.0 p.0.1 p.1)
+
+-- `call_ext`, behind its word
+abbrev pub call_ext_reading : List ℕ → Option InstrForm
+call_ext_reading rest = paired 32 external_reading register_reading rest >>= λ p. Some (call_ext p.0.0 p.0.1.0 p.0.1.1 p.1)
+
+-- `ret`, behind its word
 abbrev pub ret_reading : List ℕ → Option InstrForm
-ret_reading words = option_map (λ value. ret value) (operand_reading words)
+ret_reading rest = operand_reading rest >>= λ value. Some (ret value)
 
--- the key and the register of `pget`
+-- `pget`, behind its word
 abbrev pub pget_reading : List ℕ → Option InstrForm
-pget_reading words = do
-  parts ← cut_at 32 words
-  key ← tested is_atom_text parts.0
-  to ← register_reading parts.1
-  Some (pget key to)
+pget_reading rest = paired 32 (tested is_atom_text) register_reading rest >>= λ p. Some (pget p.0 p.1)
 
--- the key, the operand and the register of `pget_or`
+-- `pget_or`, behind its word
 abbrev pub pget_or_reading : List ℕ → Option InstrForm
-pget_or_reading words = do
-  parts ← cut_at 32 words
-  key ← tested is_atom_text parts.0
-  rest ← cut_at 32 parts.1
-  other ← operand_reading rest.0
-  to ← register_reading rest.1
-  Some (pget_or key other to)
+pget_or_reading rest = paired 32 (tested is_atom_text) (paired 32 operand_reading register_reading) rest >>= λ p. Some (pget_or p.0 p.1.0 p.1.1)
 
--- the operands of `elem`
+-- `elem`, behind its word
 abbrev pub elem_reading : List ℕ → Option InstrForm
-elem_reading words = option_map (λ x. elem x.0 x.1 x.2) (sum_reading words)
+elem_reading rest = sum_reading rest >>= λ x. Some (elem x.0 x.1.0 x.1.1)
 
--- the operand of `print`
+-- `print`, behind its word
 abbrev pub print_reading : List ℕ → Option InstrForm
-print_reading words = option_map (λ value. print value) (operand_reading words)
+print_reading rest = operand_reading rest >>= λ value. Some (print value)
 
 -- the instruction of this word
 abbrev pub instr_reading : List ℕ → List ℕ → Option InstrForm
@@ -148,15 +113,15 @@ lone_reading word = if bytes_eq word (codes "yield") then Some (instr yield) els
 
 -- the name of a label
 abbrev pub label_reading : List ℕ → Option LineForm
-label_reading rest = option_map (λ name. label name) (tested is_atom_text rest)
+label_reading rest = tested is_atom_text rest >>= λ name. Some (label name)
 
 -- a module's name and version, as `m.1`
 abbrev pub title_reading : List ℕ → Option LineForm
-title_reading rest = option_map (λ x. title x.0 x.1) (numbered_reading 46 is_version_text rest)
+title_reading rest = numbered_reading 46 is_version_text rest >>= λ x. Some (title x.0 x.1)
 
 -- a function's name and arity, as `main/0`, and whether `export` or `local` stands before them
 abbrev pub header_reading : Bool → List ℕ → Option LineForm
-header_reading exported rest = option_map (λ x. header exported x.0 x.1) (numbered_reading 47 is_arity_text rest)
+header_reading exported rest = numbered_reading 47 is_arity_text rest >>= λ x. Some (header exported x.0 x.1)
 
 -- an instruction as a line
 abbrev pub instr_line_reading : List ℕ → List ℕ → Option LineForm

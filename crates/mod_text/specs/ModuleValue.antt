@@ -45,9 +45,7 @@ HeaderForm = List ℕ × List ℕ
 
 -- the headers of lines, in order
 abbrev pub headers_in : List LineForm → List HeaderForm
-headers_in [] = []
-headers_in (header exported name arity ∷ lines) = (name, arity) ∷ headers_in lines
-headers_in (line ∷ lines) = headers_in lines
+headers_in lines = map (λ f. (f.name, f.arity)) (functions_in lines)
 
 -- the instructions below a header, in order
 abbrev pub instrs_in : List LineForm → List InstrForm

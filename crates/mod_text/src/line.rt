@@ -5,7 +5,7 @@ ghost use Rattle.mod_text.specs.LineViews.{operand_form, instr_form, line_form, 
 ghost use Rattle.term_core.specs.Text.Numbers.{is_number_text as is_number};
 ghost use Rattle.mod_text.specs.ModuleLine.{is_version_text as is_version, is_arity_text as is_arity, is_line_form};
 ghost use Rattle.term_core.specs.Text.Steps.{tested, numbered_reading};
-ghost use Rattle.mod_text.specs.LineReading.{register_reading, constant_reading, operand_reading, operands_reading, sum_reading, branch_reading, move_reading, call_reading, call_ext_reading, add_reading, sub_reading, eq_reading, less_reading, jump_reading, ret_reading, pget_reading, pget_or_reading, elem_reading, print_reading, instr_reading, label_reading, title_reading, header_reading, instr_line_reading, lone_reading, keyed_reading, line_split, line_reading, is_sound_operand as is_sound, has_sound_operands as are_sound, has_sound_terms as are_terms_sound};
+ghost use Rattle.mod_text.specs.LineReading.{register_reading, constant_reading, operand_reading, sum_reading, branch_reading, move_reading, call_reading, call_ext_reading, add_reading, sub_reading, eq_reading, less_reading, jump_reading, ret_reading, pget_reading, pget_or_reading, elem_reading, print_reading, instr_reading, label_reading, title_reading, header_reading, instr_line_reading, lone_reading, keyed_reading, line_split, line_reading, is_sound_operand as is_sound, has_sound_operands as are_sound, has_sound_terms as are_terms_sound};
 ghost use Rattle.term_core.specs.Names.{is_atom_text as is_atom};
 ghost use Rattle.term_core.specs.TermForms.{is_bracketed as begins_with_bracket};
 
@@ -101,32 +101,27 @@ fn read_title(text: &[u8]) -> Option<(&[u8], &[u8])>
     }
 }
 
-/// Two operands, and the word behind them.
-fn read_operands(words: &[u8]) -> Option<(WrittenOperand<'_>, WrittenOperand<'_>, &[u8])>
-    ensures { option_map (λ p. (operand_form p.0, operand_form p.1, p.2.now)) result ≡ operands_reading words.now }
-{
-    let (a, rest) = cut_at(words, b' ')?;
-    let (b, last) = cut_at(rest, b' ')?;
-    let a = read_operand(a)?;
-    let b = read_operand(b)?;
-    Some((a, b, last))
-}
-
 /// Two operands and a register.
 fn read_sum(words: &[u8]) -> Option<(WrittenOperand<'_>, WrittenOperand<'_>, &[u8])>
-    ensures { option_map (λ p. (operand_form p.0, operand_form p.1, p.2.now)) result ≡ sum_reading words.now }
+    ensures { option_map (λ p. (operand_form p.0, (operand_form p.1, p.2.now))) result ≡ sum_reading words.now }
 {
-    let (a, b, last) = read_operands(words)?;
-    let to = read_register(last)?;
+    let (a, rest) = cut_at(words, b' ')?;
+    let a = read_operand(a)?;
+    let (b, to) = cut_at(rest, b' ')?;
+    let b = read_operand(b)?;
+    let to = read_register(to)?;
     Some((a, b, to))
 }
 
 /// Two operands and a label.
 fn read_branch(words: &[u8]) -> Option<(WrittenOperand<'_>, WrittenOperand<'_>, &[u8])>
-    ensures { option_map (λ p. (operand_form p.0, operand_form p.1, p.2.now)) result ≡ branch_reading words.now }
+    ensures { option_map (λ p. (operand_form p.0, (operand_form p.1, p.2.now))) result ≡ branch_reading words.now }
 {
-    let (a, b, last) = read_operands(words)?;
-    let target = read_atom(last)?;
+    let (a, rest) = cut_at(words, b' ')?;
+    let a = read_operand(a)?;
+    let (b, target) = cut_at(rest, b' ')?;
+    let b = read_operand(b)?;
+    let target = read_atom(target)?;
     Some((a, b, target))
 }
 

@@ -15,11 +15,9 @@ use Rattle.script_text.specs.declared.reading.cause.LineCause.TheVariants as cau
 use Rattle.script_text.specs.declared.reading.reader.Place.{Place}
 use Rattle.script_text.specs.declared.reading.reader.Place.TheVariants.{Unread, Finished}
 use Rattle.script_text.specs.LineStep.{Known, opening, step_at, step, steps}
-use Rattle.script_text.proofs.Choices.{ok_is}
 use Rattle.script_text.proofs.OneLine.{one_line}
-use Rattle.script_text.proofs.StepEnds.{go_only}
-use Rattle.script_text.proofs.StepLaws.{bind_ok, go_ends}
-use Rattle.script_text.proofs.StepMoves.{moves}
+use Rattle.script_text.proofs.StepKept.{go_only}
+use Rattle.script_text.proofs.StepMoves.{ok_is, bind_ok, go_ends, moves}
 use Rattle.outside.specs.Parting.{lines_to_go, script_part, report_part}
 
 -- ---- line by line

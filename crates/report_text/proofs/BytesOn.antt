@@ -1,19 +1,13 @@
 -- The bytes of a text, from a line on: the next line is taken, or no line has ended.
-use Rattle.std.proofs.Common.{◌≡◌, ℕ, ◌+◌, false, List, Option, Some, None, Result, Ok, bytes_eq, codes, sym, ap, ◌∙◌, subst}
-use Rattle.term_core.specs.Text.Cuts.{cut_at, Lines}
-use Rattle.term_core.proofs.Text.Cuts.{lines_of_cut, lines_of_tail, uncut_is}
-use Rattle.term_core.proofs.Text.Options.{failed}
-use Rattle.run_log.specs.declared.logs.RunLog.{RunLog}
-use Rattle.report_text.specs.declared.fault.ReportFault.{ReportFault}
-use Rattle.report_text.specs.declared.fault.ReportFault.TheVariants as faults
+use Rattle.report_text.proofs.Common.{◌≡◌, ℕ, ◌+◌, false, List, Option, Some, None, Result, Ok, bytes_eq, codes, sym, ap, ◌∙◌, subst, Texts}
+use Rattle.report_text.proofs.Texts.{cut_at, Lines, lines_of_cut, lines_of_tail, uncut_is, failed}
+use Rattle.report_text.proofs.Types.{RunLog, ReportFault, ReportLine, ReportState}
 use Rattle.report_text.specs.declared.line_fault.LineFault.{LineFault}
-use Rattle.report_text.specs.declared.line.ReportLine.{ReportLine}
-use Rattle.report_text.specs.declared.state.ReportState.{ReportState}
-use Rattle.report_text.specs.WordReading.{Reads}
-use Rattle.report_text.specs.LineReading.{longer_line, line_reading}
-use Rattle.report_text.specs.Reading.{Fails, Gives, line_taken, numbered, text_ended, on_from, lines_on, bytes_on}
+use Rattle.report_text.proofs.Forms.{Reads, longer_line, line_reading, Fails, Gives, line_taken}
+use Rattle.report_text.proofs.Forms.{numbered, text_ended, on_from, lines_on, bytes_on}
+use Rattle.report_text.specs.declared.fault.ReportFault.TheVariants as faults
 
-on_cut : (names : List (List ℕ)) (s : ReportState) (number : ℕ) (rest line behind : List ℕ) → cut_at 10 rest ≡ Some (line, behind) → bytes_on names s number rest ≡ on_from number (line_taken names s line) (λ next. bytes_on names next (number + 1) behind)
+on_cut : (names : Texts) (s : ReportState) (number : ℕ) (rest line behind : List ℕ) → cut_at 10 rest ≡ Some (line, behind) → bytes_on names s number rest ≡ on_from number (line_taken names s line) (λ next. bytes_on names next (number + 1) behind)
 on_cut names s number rest line behind e = ap (λ (w : Lines). lines_on names s number w.ended w.tail) (lines_of_cut rest (line, behind) e)
 
 numbered_ok : (number : ℕ) (o : Option ReportState) (next : ReportState) → numbered number o ≡ Ok next → o ≡ Some next
@@ -21,7 +15,7 @@ numbered_ok number None next e = absurd cc
 numbered_ok number (Some s) next e = cc
 
 -- a line is taken
-pub next_line : (names : List (List ℕ)) (s next : ReportState) (number : ℕ) (rest line behind : List ℕ) (whole : Result RunLog ReportFault) → cut_at 10 rest ≡ Some (line, behind) → numbered number (line_taken names s line) ≡ Ok next → bytes_on names s number rest ≡ whole → bytes_on names next (number + 1) behind ≡ whole
+pub next_line : (names : Texts) (s next : ReportState) (number : ℕ) (rest line behind : List ℕ) (whole : Result RunLog ReportFault) → cut_at 10 rest ≡ Some (line, behind) → numbered number (line_taken names s line) ≡ Ok next → bytes_on names s number rest ≡ whole → bytes_on names next (number + 1) behind ≡ whole
 next_line names s next number rest line behind whole e is so_far =
     ap (λ o. on_from number o (λ t. bytes_on names t (number + 1) behind)) (sym (numbered_ok number (line_taken names s line) next is)) ∙ sym (on_cut names s number rest line behind e) ∙ so_far
 
@@ -31,17 +25,18 @@ fails_on number None more faults.NoMemory h = tt
 fails_on number (Some s) more (faults.Syntax line) h = absurd cc
 fails_on number (Some s) more faults.NoMemory h = tt
 
--- a line is not taken, or memory is refused
-pub line_fails : (names : List (List ℕ)) (s : ReportState) (number : ℕ) (rest line behind : List ℕ) (whole : Result RunLog ReportFault) (fault : ReportFault) → cut_at 10 rest ≡ Some (line, behind) → Fails (numbered number (line_taken names s line)) fault → bytes_on names s number rest ≡ whole → Fails whole fault
-line_fails names s number rest line behind whole fault e h so_far =
-    subst (λ r. Fails r fault) (sym (on_cut names s number rest line behind e) ∙ so_far) (fails_on number (line_taken names s line) (λ next. bytes_on names next (number + 1) behind) fault h)
+module _ (names : Texts) (s : ReportState) (number : ℕ) (rest : List ℕ) where
+  -- a line is not taken, or memory is refused
+  pub line_fails : (line behind : List ℕ) (whole : Result RunLog ReportFault) (fault : ReportFault) → cut_at 10 rest ≡ Some (line, behind) → Fails (numbered number (line_taken names s line)) fault → bytes_on names s number rest ≡ whole → Fails whole fault
+  line_fails line behind whole fault e h so_far =
+      subst (λ r. Fails r fault) (sym (on_cut names s number rest line behind e) ∙ so_far) (fails_on number (line_taken names s line) (λ next. bytes_on names next (number + 1) behind) fault h)
 
--- no line has ended
-pub no_line : (names : List (List ℕ)) (s : ReportState) (number : ℕ) (rest : List ℕ) (whole : Result RunLog ReportFault) → cut_at 10 rest ≡ None → bytes_on names s number rest ≡ whole → whole ≡ text_ended number s rest
-no_line names s number rest whole e so_far = sym so_far ∙ ap (λ (w : Lines). lines_on names s number w.ended w.tail) (lines_of_tail rest (uncut_is 10 rest e))
+  -- no line has ended
+  pub no_line : (whole : Result RunLog ReportFault) → cut_at 10 rest ≡ None → bytes_on names s number rest ≡ whole → whole ≡ text_ended number s rest
+  no_line whole e so_far = sym so_far ∙ ap (λ (w : Lines). lines_on names s number w.ended w.tail) (lines_of_tail rest (uncut_is 10 rest e))
 
 -- a line that is neither the first nor the last of a report
-pub longer : (names : List (List ℕ)) (text : List ℕ) (r : Result ReportLine LineFault) → bytes_eq text (codes "beam report 1") ≡ false → bytes_eq text (codes "end report") ≡ false → Reads (λ line. line) r (longer_line names text) → Reads (λ line. line) r (line_reading names text)
+pub longer : (names : Texts) (text : List ℕ) (r : Result ReportLine LineFault) → bytes_eq text (codes "beam report 1") ≡ false → bytes_eq text (codes "end report") ≡ false → Reads (λ line. line) r (longer_line names text) → Reads (λ line. line) r (line_reading names text)
 longer names text r h k read = subst (λ o. Reads (λ line. line) r o) (sym (failed (bytes_eq text (codes "beam report 1")) _ _ h ∙ failed (bytes_eq text (codes "end report")) _ (longer_line names text) k)) read
 
 -- the same is given

@@ -1,17 +1,10 @@
 -- The loops that read the parts of a line: a part of no form is a fault of the whole, and what is read of few parts is few.
-use Rattle.std.proofs.Common.{◌≡◌, ℕ, ◌+◌, ◌<◌, ◌≤◌, true, false, nat_le, IfOk, List, [], ◌∷◌, ◌++◌, length, Option, Some, Result, Ok, Err, sym, ap, ◌∙◌, arith}
-use Rattle.std.proofs.lemmas.Bool.Decides.{nat_tests}
-use Rattle.term_core.specs.PlainTerm.{PlainTerm}
-use Rattle.term_core.specs.TermParts.{parts_of_terms}
-use Rattle.term_core.specs.Text.Parts.{each_reading}
-use Rattle.term_core.specs.Text.Steps.{◌>>=◌}
-use Rattle.term_core.proofs.PartedTerms.{parts_by_cut}
-use Rattle.term_core.proofs.Text.Items.{each_count}
-use Rattle.term_core.proofs.Text.Reads.{with_read, split}
+use Rattle.report_text.proofs.Common.{◌≡◌, ℕ, ◌+◌, ◌<◌, ◌≤◌, true, false, nat_le, IfOk, List, [], ◌∷◌, ◌++◌}
+use Rattle.report_text.proofs.Common.{length, Option, Some, Result, Ok, Err, sym, ap, ◌∙◌, arith, nat_tests}
+use Rattle.report_text.proofs.Texts.{PlainTerm, parts_of_terms, each_reading, ◌>>=◌, parts_by_cut, each_count, with_read, split}
 use Rattle.report_text.specs.declared.line_fault.LineFault.{LineFault}
 use Rattle.report_text.specs.declared.line_fault.LineFault.TheVariants as faults
-use Rattle.report_text.specs.TermReading.{plain_reading}
-use Rattle.report_text.specs.WordReading.{Reads}
+use Rattle.report_text.proofs.Forms.{plain_reading, Reads}
 use Rattle.report_text.proofs.TermLaws.{few_is}
 
 -- a part is of no form, or memory is refused

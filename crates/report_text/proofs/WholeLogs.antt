@@ -1,28 +1,107 @@
--- The lines of a log are taken, one after another, and leave that log.
-use Rattle.std.proofs.Common.{◌≡◌, ◌≢◌, ℕ, ◌+◌, ◌-◌, ◌<◌, true, false, cond, ◌==◌, not, nat_lt, List, [], ◌∷◌, ◌++◌, length, Option, Some, None, is_some, refl, sym, ap, ◌∙◌, arith, append_assoc, append-nil, length-append}
-use Rattle.std.specs.Prelude.{map}
-use Rattle.std.specs.List.{AllByRecursion, flat_map}
-use Rattle.std.proofs.lemmas.Bool.{and_from}
-use Rattle.std.proofs.lemmas.Bool.Decides.{nat_tests, Decides-eqb}
-use Rattle.term_core.specs.declared.atom.Mfa.{Mfa}
-use Rattle.machine_core.specs.declared.process.Line.{Line}
-use Rattle.machine_core.specs.declared.process.End.{End}
-use Rattle.term_core.proofs.Text.Options.{some, bind_at, passed, failed}
-use Rattle.run_log.specs.declared.logs.Entry.{Entry}
-use Rattle.run_log.specs.declared.logs.Span.{Span}
-use Rattle.run_log.specs.declared.logs.ProcessLog.{ProcessLog}
-use Rattle.run_log.specs.declared.logs.Snapshot.{Snapshot}
-use Rattle.run_log.specs.declared.logs.RunLog.{RunLog}
-use Rattle.run_log.specs.Journal.{publishes, published_count}
-use Rattle.run_log.specs.WholeSpans.{AreApart, AreWhole}
-use Rattle.run_log.proofs.Journals.{count-cons}
-use Rattle.report_text.specs.declared.line.ReportLine.{ReportLine}
+-- The lines of a log are taken, one after another, and leave that log; its rendering is their text.
+use Rattle.report_text.proofs.Common.{◌≡◌, ℕ, ◌+◌, List, [], ◌∷◌, ◌++◌, refl, sym, ap, ◌∙◌, append_assoc, ◌≢◌, ◌-◌}
+use Rattle.report_text.proofs.Common.{◌<◌, true, false, cond, ◌==◌, not, nat_lt, length, Option, Some, Texts}
+use Rattle.report_text.proofs.Common.{None, is_some, arith, append-nil, length-append, map, flat_map}
+use Rattle.report_text.proofs.Common.{AllByRecursion, and_from, nat_tests, Decides-eqb}
+use Rattle.report_text.proofs.Types.{Line, Span, ProcessLog, Snapshot, RunLog, ReportLine, Mfa, End, Entry}
+use Rattle.report_text.proofs.Types.{Stage, Entries, Processes, Process, Observer, Done, ReportState}
+use Rattle.report_text.proofs.Logs.{published_count, publishes, line_of, entry_text, shown_text, span_text}
+use Rattle.report_text.proofs.Logs.{process_text, processes_text, export_text, snapshot_text, observer_text}
+use Rattle.report_text.proofs.Logs.{observers_text, rendering_of, AreApart, AreWhole, count-cons}
+use Rattle.report_text.proofs.Forms.{line_text, span_lines, process_lines, processes_lines, export_line}
+use Rattle.report_text.proofs.Forms.{snapshot_lines, observer_lines, observers_lines, log_lines, lines_text}
+use Rattle.report_text.proofs.Texts.{some, bind_at, passed, failed}
+use Rattle.report_text.specs.Taking.{at, empty_log, opening, count_after, with_entry, may_begin, begun, with_going, spans_closed}
+use Rattle.report_text.specs.Taking.{may_follow, with_line, with_process, with_observer, observers_closed, with_export, taken, all_taken}
 use Rattle.report_text.specs.declared.line.ReportLine.TheVariants as lines
-use Rattle.report_text.specs.declared.state.Stage.{Stage}
-use Rattle.report_text.specs.declared.state.Stage.TheVariants.{Entries, Processes, Process, Observer, Done}
-use Rattle.report_text.specs.declared.state.ReportState.{ReportState}
-use Rattle.report_text.specs.ReportLine.{span_lines, process_lines, processes_lines, export_line, snapshot_lines, observers_lines, log_lines}
-use Rattle.report_text.specs.Taking.{at, empty_log, opening, count_after, with_entry, may_begin, begun, with_going, spans_closed, may_follow, with_line, with_process, with_observer, observers_closed, with_export, taken, all_taken}
+use Rattle.machine_core.specs.declared.process.Line.TheVariants as shown
+
+pub lines_text-append : (names : Texts) (xs ys : List ReportLine) → lines_text names (xs ++ ys) ≡ lines_text names xs ++ lines_text names ys
+lines_text-append names [] ys = refl
+lines_text-append names (x ∷ xs) ys =
+    ap (λ (t : List ℕ). line_text names x ++ 10 ∷ t) (lines_text-append names xs ys) ∙ sym (append_assoc (line_text names x) (10 ∷ lines_text names xs) (lines_text names ys))
+
+-- one line, and more
+line_first : (text rest : List ℕ) → line_of text ++ rest ≡ text ++ 10 ∷ rest
+line_first text rest = append_assoc text (10 ∷ []) rest
+
+-- what is mapped
+texts_of : {X : Type 0} (names : Texts) (text : X → List ℕ) (rows : X → List ReportLine) → ((x : X) → text x ≡ lines_text names (rows x)) → (xs : List X) → flat_map text xs ≡ lines_text names (flat_map rows xs)
+texts_of names text rows one [] = refl
+texts_of names text rows one (x ∷ xs) = ap (λ (t : List ℕ). t ++ flat_map text xs) (one x) ∙ ap (λ (t : List ℕ). lines_text names (rows x) ++ t) (texts_of names text rows one xs) ∙ sym (lines_text-append names (rows x) (flat_map rows xs))
+
+texts_mapped : {X : Type 0} (names : Texts) (text : X → List ℕ) (row : X → ReportLine) → ((x : X) → text x ≡ line_of (line_text names (row x))) → (xs : List X) → flat_map text xs ≡ lines_text names (map row xs)
+texts_mapped names text row one [] = refl
+texts_mapped names text row one (x ∷ xs) =
+    ap (λ (t : List ℕ). t ++ flat_map text xs) (one x) ∙ line_first (line_text names (row x)) (flat_map text xs) ∙ ap (λ (t : List ℕ). line_text names (row x) ++ 10 ∷ t) (texts_mapped names text row one xs)
+
+module _ (names : Texts) where
+  shown_is : (line : Line) → shown_text names line ≡ line_of (line_text names (lines.Shown line))
+  shown_is (shown.Print term) = refl
+  shown_is (shown.Trace to args) = refl
+
+  span_is : (span : Span) → span_text names span ≡ lines_text names (span_lines span)
+  span_is span =
+      line_first (line_text names (lines.Span span.generation span.turns)) (flat_map (shown_text names) span.lines)
+      ∙ ap (λ (t : List ℕ). line_text names (lines.Span span.generation span.turns) ++ 10 ∷ t) (texts_mapped names (shown_text names) (λ line. lines.Shown line) shown_is span.lines)
+
+  process_said : (number : ℕ) (log : ProcessLog) → process_text names number log ≡ lines_text names (process_lines number log)
+  process_said number log =
+      let first = line_text names (lines.Process number log.target log.args) in
+      let last = line_text names (lines.End log.fin) in
+      let spans = texts_of names (span_text names) span_lines span_is log.spans in
+      append_assoc (line_of first) (flat_map (span_text names) log.spans) (line_of last)
+      ∙ line_first first (flat_map (span_text names) log.spans ++ line_of last)
+      ∙ ap (λ (t : List ℕ). first ++ 10 ∷ (t ++ line_of last)) spans
+      ∙ ap (λ (t : List ℕ). first ++ 10 ∷ t) (sym (lines_text-append names (flat_map span_lines log.spans) (lines.End log.fin ∷ [])))
+
+  processes_said : (number : ℕ) (logs : List ProcessLog) → processes_text names number logs ≡ lines_text names (processes_lines number logs)
+  processes_said number [] = refl
+  processes_said number (log ∷ logs) =
+      ap (λ (t : List ℕ). t ++ processes_text names (number + 1) logs) (process_said number log)
+      ∙ ap (λ (t : List ℕ). lines_text names (process_lines number log) ++ t) (processes_said (number + 1) logs)
+      ∙ sym (lines_text-append names (process_lines number log) (processes_lines (number + 1) logs))
+
+  snapshot_is : (shot : Snapshot) → snapshot_text names shot ≡ lines_text names (snapshot_lines shot)
+  snapshot_is shot =
+      line_first (line_text names (lines.Snapshot shot.generation)) (flat_map (export_text names) shot.exports)
+      ∙ ap (λ (t : List ℕ). line_text names (lines.Snapshot shot.generation) ++ 10 ∷ t) (texts_mapped names (export_text names) export_line (λ x. refl) shot.exports)
+
+  observer_is : (number : ℕ) (shots : List Snapshot) → observer_text names number shots ≡ lines_text names (observer_lines number shots)
+  observer_is number shots =
+      line_first (line_text names (lines.Observer number)) (flat_map (snapshot_text names) shots)
+      ∙ ap (λ (t : List ℕ). line_text names (lines.Observer number) ++ 10 ∷ t) (texts_of names (snapshot_text names) snapshot_lines snapshot_is shots)
+
+  observers_said : (number : ℕ) (observers : List (List Snapshot)) → observers_text names number observers ≡ lines_text names (observers_lines number observers)
+  observers_said number [] = refl
+  observers_said number (shots ∷ observers) =
+      ap (λ (t : List ℕ). t ++ observers_text names (number + 1) observers) (observer_is number shots)
+      ∙ ap (λ (t : List ℕ). lines_text names (observer_lines number shots) ++ t) (observers_said (number + 1) observers)
+      ∙ sym (lines_text-append names (observer_lines number shots) (observers_lines (number + 1) observers))
+
+-- parts grouped from the front
+six_parts : (a b c d e f : List ℕ) → ((((a ++ b) ++ c) ++ d) ++ e) ++ f ≡ a ++ (b ++ (c ++ (d ++ (e ++ f))))
+six_parts a b c d e f = simp append_assoc
+
+-- the rendering of a log is the text of its lines
+pub rendered : (names : Texts) (log : RunLog) → rendering_of names log ≡ lines_text names (log_lines log)
+rendered names log =
+    let first = line_text names lines.Head in
+    let count = line_text names (lines.Generations (published_count log.journal)) in
+    let es = texts_mapped names (entry_text names) (λ e. lines.Entry e) (λ e. refl) log.journal in
+    let ps = processes_said names 0 log.processes in
+    let os = observers_said names 0 log.observers in
+    let last = line_of (line_text names lines.Close) in
+    six_parts (line_of first) (line_of count) (flat_map (entry_text names) log.journal) (processes_text names 0 log.processes) (observers_text names 0 log.observers) last
+    ∙ line_first first (line_of count ++ (flat_map (entry_text names) log.journal ++ (processes_text names 0 log.processes ++ (observers_text names 0 log.observers ++ last))))
+    ∙ ap (λ (t : List ℕ). first ++ 10 ∷ t) (line_first count (flat_map (entry_text names) log.journal ++ (processes_text names 0 log.processes ++ (observers_text names 0 log.observers ++ last))))
+    ∙ ap (λ (t : List ℕ). first ++ 10 ∷ (count ++ 10 ∷ t)) (ap (λ (t : List ℕ). t ++ (processes_text names 0 log.processes ++ (observers_text names 0 log.observers ++ last))) es
+    ∙ ap (λ (t : List ℕ). lines_text names (map (λ e. lines.Entry e) log.journal) ++ t) (ap (λ (t : List ℕ). t ++ (observers_text names 0 log.observers ++ last)) ps
+    ∙ ap (λ (t : List ℕ). lines_text names (processes_lines 0 log.processes) ++ t) (ap (λ (t : List ℕ). t ++ last) os ∙ sym (lines_text-append names (observers_lines 0 log.observers) (lines.Close ∷ [])))
+    ∙ sym (lines_text-append names (processes_lines 0 log.processes) (observers_lines 0 log.observers ++ lines.Close ∷ [])))
+    ∙ sym (lines_text-append names (map (λ e. lines.Entry e) log.journal) (processes_lines 0 log.processes ++ (observers_lines 0 log.observers ++ lines.Close ∷ []))))
+
+-- ---- the lines of a log are taken, one after another, and leave that log
 
 -- ---- entries
 
@@ -105,16 +184,17 @@ spans_are log process going (span ∷ spans) fin rest turns apart =
     ∙ spans_are log (spans_closed process going) (Some span) spans fin rest turns.1 (behind_it going span spans apart)
     ∙ ap (λ ss. all_taken (at (with_process log (record process { spans = ss; fin = fin })) Processes) rest) (append_assoc (with_going process.spans going) (span ∷ []) spans)
 
-begins : (log : RunLog) (stage : Stage) (number : ℕ) (process : ProcessLog) → may_begin stage ≡ true → number ≡ length log.processes → taken (at log stage) (lines.Process number process.target process.args) ≡ Some (at log (Process (begun process.target process.args) None))
-begins log stage number process h e =
-    passed (may_begin stage) _ None h ∙ passed (number == length log.processes) (some (at log (Process (begun process.target process.args) None))) None ((Decides-eqb number (length log.processes)).1 e)
+module _ (log : RunLog) (stage : Stage) (number : ℕ) (process : ProcessLog) where
+  begins : may_begin stage ≡ true → number ≡ length log.processes → taken (at log stage) (lines.Process number process.target process.args) ≡ Some (at log (Process (begun process.target process.args) None))
+  begins h e =
+      passed (may_begin stage) _ None h ∙ passed (number == length log.processes) (some (at log (Process (begun process.target process.args) None))) None ((Decides-eqb number (length log.processes)).1 e)
 
-process_is : (log : RunLog) (stage : Stage) (number : ℕ) (process : ProcessLog) (rest : List ReportLine) → may_begin stage ≡ true → number ≡ length log.processes → AreWhole process.spans → all_taken (at log stage) (process_lines number process ++ rest) ≡ all_taken (at (with_process log process) Processes) rest
-process_is log stage number process rest h e whole =
-    bind_at (taken (at log stage) (lines.Process number process.target process.args)) (λ next. all_taken next ((flat_map span_lines process.spans ++ lines.End process.fin ∷ []) ++ rest)) (at log (Process (begun process.target process.args) None)) (all_taken (at (with_process log process) Processes) rest)
-    (begins log stage number process h e)
-    (ap (all_taken (at log (Process (begun process.target process.args) None))) (regroup (flat_map span_lines process.spans) (lines.End process.fin ∷ []) rest)
-    ∙ spans_are log (begun process.target process.args) None process.spans process.fin rest whole.turns whole.apart)
+  process_is : (rest : List ReportLine) → may_begin stage ≡ true → number ≡ length log.processes → AreWhole process.spans → all_taken (at log stage) (process_lines number process ++ rest) ≡ all_taken (at (with_process log process) Processes) rest
+  process_is rest h e whole =
+      bind_at (taken (at log stage) (lines.Process number process.target process.args)) (λ next. all_taken next ((flat_map span_lines process.spans ++ lines.End process.fin ∷ []) ++ rest)) (at log (Process (begun process.target process.args) None)) (all_taken (at (with_process log process) Processes) rest)
+      (begins h e)
+      (ap (all_taken (at log (Process (begun process.target process.args) None))) (regroup (flat_map span_lines process.spans) (lines.End process.fin ∷ []) rest)
+      ∙ spans_are log (begun process.target process.args) None process.spans process.fin rest whole.turns whole.apart)
 
 abbrev with_processes : RunLog → List ProcessLog → RunLog
 with_processes log ps = record log { processes = log.processes ++ ps }

@@ -1,6 +1,6 @@
 -- How terms, functions and calls of a report's line are read.
 -- Source: this project's report text. The texts stand in run_log; laws say that both agree.
-use Rattle.std.specs.Prelude.{ℕ, ◌==◌, ◌&&◌, not, nat_le, Bool, List, [], ◌∷◌, length, Option, Some, None, bytes_eq, if◌then◌else◌}
+use Rattle.std.specs.Prelude.{ℕ, ◌&&◌, not, nat_le, Bool, List, [], ◌∷◌, length, Option, Some, None, bytes_eq, if◌then◌else◌}
 use Rattle.term_core.specs.declared.atom.AtomId.{AtomId}
 use Rattle.term_core.specs.declared.atom.Mfa.{Mfa}
 use Rattle.term_core.specs.declared.term_text.TheConstants.{MOST_WORDS}
@@ -11,21 +11,10 @@ use Rattle.mod_core.specs.declared.code.TheConstants.{MOST_ARGUMENTS}
 use Rattle.term_core.specs.Text.Steps.{◌>>=◌}
 use Rattle.term_core.specs.Text.Cuts.{cut_at}
 use Rattle.term_core.specs.Text.Parts.{each_reading}
+pub use Rattle.mod_text.specs.Sides.{sided, paired, ended_reading, behind}
 use Rattle.run_log.specs.Report.{plain_text}
 use Rattle.report_text.specs.declared.terms.Call.{Call}
 use Rattle.report_text.specs.WordReading.{atom_reading, arity_reading}
-
--- the two sides of a cut, each read
-abbrev pub sided : {A B : Type 0} → Option (List ℕ × List ℕ) → (List ℕ → Option A) → (List ℕ → Option B) → Option (A × B)
-sided cut front behind = do
-  sides ← cut
-  a ← front sides.0
-  b ← behind sides.1
-  Some (a, b)
-
--- the two sides of a byte, each read
-abbrev pub paired : {A B : Type 0} → ℕ → (List ℕ → Option A) → (List ℕ → Option B) → List ℕ → Option (A × B)
-paired byte front behind text = sided (cut_at byte text) front behind
 
 -- whether a text is that of a term of at most 64 words, with integers of 60 bits
 abbrev pub is_short_text : List ℕ → Bool
@@ -47,15 +36,6 @@ some_terms names text = if nat_le (length (parts_of_terms text)) MOST_ARGUMENTS 
 abbrev pub terms_reading : List (List ℕ) → List ℕ → Option (List PlainTerm)
 terms_reading names [] = Some []
 terms_reading names (c ∷ text) = some_terms names (c ∷ text)
-
--- a text that nothing follows
-abbrev pub ended_reading : {A : Type 0} → (List ℕ → Option A) → List ℕ × List ℕ → Option A
-ended_reading read sides = if length sides.1 == 0 then read sides.0 else None
-
--- what stands behind this byte in front
-abbrev pub behind : {A : Type 0} → ℕ → (List ℕ → Option A) → List ℕ → Option A
-behind byte read [] = None
-behind byte read (c ∷ text) = if c == byte then read text else None
 
 -- the arguments in front of a bracket that ends the text
 abbrev pub closed_reading : List (List ℕ) → List ℕ → Option (List PlainTerm)

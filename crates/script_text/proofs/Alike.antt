@@ -1,14 +1,10 @@
 -- Lines that name the same atoms and functions in the same order; labels, and lines that only stand between others, name nothing.
-use Rattle.std.proofs.Common.{◌≡◌, ℕ, Bool, true, false, cond, List, [], ◌∷◌, ◌++◌, refl, sym, ap, ◌∙◌, subst, append-nil}
-use Rattle.std.specs.List.{flat_map}
-use Rattle.std.proofs.lemmas.Grind.{flat_map-append}
-use Rattle.std.proofs.lemmas.List.{map-append}
-use Rattle.mod_text.specs.ModuleLine.{LineForm, label}
-use Rattle.mod_text.specs.LineFaults.{line_atoms}
-use Rattle.script_text.specs.ScriptLine.{ScriptLine, code}
-use Rattle.script_text.specs.Counts.{script_line_atoms}
-use Rattle.script_text.specs.Canonical.{code_form}
-use Rattle.script_text.proofs.FunctionNames.{FunctionForm, line_functions, home_after_line, home_of, functions_named, functions_named-append, home_of-append}
+use Rattle.script_text.proofs.Common.{◌≡◌, ℕ, Bool, true, false, cond, List, [], ◌∷◌, ◌++◌, refl, sym, ap}
+use Rattle.script_text.proofs.Common.{◌∙◌, subst, append-nil, flat_map, flat_map-append, map-append}
+use Rattle.script_text.proofs.Modules.{LineForm, label, line_atoms}
+use Rattle.script_text.proofs.Forms.{ScriptLine, code, script_line_atoms, code_form}
+use Rattle.script_text.proofs.FunctionNames.{FunctionForm, line_functions, home_after_line, home_of}
+use Rattle.script_text.proofs.FunctionNames.{functions_named, functions_named-append, home_of-append}
 
 pub record Alike (xs ys : List ScriptLine) : Type 0 where
   pub atoms : flat_map script_line_atoms xs ≡ flat_map script_line_atoms ys

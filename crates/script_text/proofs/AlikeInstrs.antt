@@ -1,37 +1,26 @@
 -- An instruction of a module text is written as one that names the same.
-use Rattle.std.proofs.Common.{◌≡◌, ℕ, ◌+◌, Bool, true, false, cond, not, ◌&&◌, ◌||◌, List, [], ◌∷◌, ◌++◌, map, Option, Some, None, is_some, option_map, unwrap_or, slice_get, bytes_eq, refl, sym, ap, ◌∙◌, add-one}
-use Rattle.std.proofs.lemmas.Bool.{and_parts, or_parts}
-use Rattle.std.proofs.lemmas.Option.{slice_get-map}
-use Rattle.term_core.specs.declared.term.Term.{Term}
-use Rattle.term_core.specs.declared.term.Term.TheVariants.{Int, Atom, Tuple, List as ListOf}
+use Rattle.std.proofs.Common.{◌≡◌, ℕ, ◌+◌, Bool, true, false, cond, not, ◌&&◌, ◌||◌, List, [], ◌∷◌, ◌++◌, map, Option, Some}
+use Rattle.std.proofs.Common.{None, is_some, option_map, unwrap_or, slice_get, bytes_eq, refl, sym, ap, ◌∙◌, add-one}
+use Rattle.script_text.proofs.Common.{and_parts, or_parts, slice_get-map, Texts}
+use Rattle.script_text.proofs.Types.{Term, Int, Atom, Tuple}
+use Rattle.term_core.specs.declared.term.Term.TheVariants.{List as ListOf}
 use Rattle.term_core.specs.Image.{is_immediate}
-use Rattle.term_core.specs.Names.{is_atom_text}
-use Rattle.term_core.specs.Plain.{plain, term_of}
-use Rattle.term_core.specs.TermForms.{is_term_text, is_bracketed, term_atoms, term_in}
-use Rattle.term_core.specs.TermText.{atom_text, number_in, term_text}
-use Rattle.term_core.proofs.Places.{position-cons}
-use Rattle.term_core.proofs.PlainTerms.{plain-term_of}
-use Rattle.term_core.proofs.TermForms.{is_immediate-term_in}
+use Rattle.script_text.proofs.Texts.{is_atom_text, plain, term_of, is_term_text, is_bracketed, term_atoms}
+use Rattle.script_text.proofs.Texts.{term_in, atom_text, number_in, term_text, position-cons, plain-term_of}
+use Rattle.script_text.proofs.Texts.{is_immediate-term_in, number_value, is_number_text, map_some, some_is, bytes_are, HasNumber}
 use Rattle.mod_core.specs.declared.code.Function.{Function}
-use Rattle.mod_text.specs.Canonical.{written_constant, written_operand, written_call, written_instr}
-use Rattle.mod_text.specs.LineFaults.{operand_atoms, instr_atoms, is_wide_operand, has_wide_instr}
-use Rattle.term_core.specs.Text.Numbers.{number_value, is_number_text}
-use Rattle.mod_text.specs.ModuleLine.{OperandForm, register, integer, atom, complex, InstrForm, move, add, sub, eq, less, jump, call, call_ext, ret, pget, pget_or, elem, print, yield, LineForm, header, is_arity_text, is_operand_form, is_function_form, is_instr_form}
-use Rattle.mod_text.specs.ModuleValue.{FunctionForm, HeaderForm, functions_in, headers_in, is_header, function_number, callee_in, operand_in, instr_in, function_in, is_settled}
-use Rattle.mod_text.proofs.ModuleSound.{head_of}
-use Rattle.term_core.proofs.Text.Options.{map_some, some_is, bytes_are}
-use Rattle.term_core.proofs.GrownTerms.{HasNumber}
+use Rattle.script_text.proofs.Modules.{written_constant, written_operand, written_call, written_instr}
+use Rattle.script_text.proofs.Modules.{operand_atoms, instr_atoms, is_wide_operand, has_wide_instr, FunctionForm}
+use Rattle.script_text.proofs.Modules.{HeaderForm, is_header, function_number, callee_in}
+use Rattle.script_text.proofs.Modules.{operand_in, instr_in, function_in, is_settled, head_of}
+use Rattle.mod_text.specs.ModuleLine.{OperandForm, register, integer, atom, complex, InstrForm, move, add, sub, eq}
+use Rattle.mod_text.specs.ModuleLine.{less, jump, call, call_ext, ret, pget, pget_or, elem, print, yield, LineForm}
+use Rattle.mod_text.specs.ModuleLine.{is_arity_text, is_operand_form, is_function_form, is_instr_form}
 use Rattle.script_text.proofs.ModuleNames.{AreHeld, held_first, held_second}
-use Rattle.script_text.proofs.TermNames.{text_again}
-use Rattle.script_text.proofs.TextsBack.{atom_again, arity_again}
+use Rattle.script_text.proofs.TermLines.{text_again, atom_again, arity_again}
 use Rattle.script_text.proofs.FunctionNames.{instr_functions}
 
 -- ---- a function that is called
-
-pub headers_are : (lines : List LineForm) → headers_in lines ≡ map head_of (functions_in lines)
-headers_are [] = refl
-headers_are (header exported name arity ∷ lines) = ap (λ (hs : List HeaderForm). (name, arity) ∷ hs) (headers_are lines)
-headers_are (line ∷ lines) = headers_are lines
 
 -- the function at a place has this name
 record HasName (forms : List FunctionForm) (k : ℕ) (name : List ℕ) : Type 0 where
@@ -57,18 +46,6 @@ named_at [] name arity k is = absurd cc
 named_at (form ∷ forms) name arity k is =
     named_by forms form name arity k (is_header name arity (head_of form)) refl (sym (position-cons (is_header name arity) (head_of form) (map head_of forms)) ∙ is) (named_at forms name arity)
 
-called_by : (names : List (List ℕ)) (hs : List HeaderForm) (forms : List FunctionForm) (name arity : List ℕ) (at : ℕ) (o : Option ℕ) → function_number name arity (map head_of forms) ≡ o → is_some o ≡ true → HasNumber names name → instr_atoms (written_call names (slice_get (map (function_in names hs) forms) (unwrap_or o 0)) at) ≡ name ∷ []
-called_by names hs forms name arity at None is some held = absurd cc
-called_by names hs forms name arity at (Some k) is some held =
-    let found = named_at forms name arity k is in
-    ap (λ (f : Option Function). instr_atoms (written_call names f at)) (slice_get-map (function_in names hs) forms k ∙ ap (option_map (function_in names hs)) found.at)
-    ∙ ap (λ (n : List ℕ). atom_text names (number_in names n) ∷ []) found.name_is
-    ∙ ap (λ (t : List ℕ). t ∷ []) (atom_again names name held)
-
-no_functions : (names : List (List ℕ)) (o : Option Function) (at : ℕ) → instr_functions (written_call names o at) ≡ []
-no_functions names None at = refl
-no_functions names (Some f) at = refl
-
 -- ---- instructions
 
 -- two instructions name the same
@@ -77,49 +54,62 @@ pub record IsInstrLike (x y : InstrForm) : Type 0 where
   pub functions : instr_functions x ≡ instr_functions y
 
 -- what an instruction has that stands in a module's text
-pub record IsGoodInstr (names : List (List ℕ)) (hs : List HeaderForm) (body : List LineForm) (i : InstrForm) : Type 0 where
+pub record IsGoodInstr (names : Texts) (hs : List HeaderForm) (body : List LineForm) (i : InstrForm) : Type 0 where
   pub sound : is_instr_form i ≡ true
   pub narrow : has_wide_instr i ≡ false
   pub held : AreHeld names (instr_atoms i)
   pub settled : is_settled hs body i ≡ true
 
 -- the same of an operand
-record IsGoodOperand (names : List (List ℕ)) (o : OperandForm) : Type 0 where
+record IsGoodOperand (names : Texts) (o : OperandForm) : Type 0 where
   sound : is_operand_form o ≡ true
   narrow : is_wide_operand o ≡ false
   held : AreHeld names (operand_atoms o)
 
--- a tuple or a list is written as its text
-complex_again : (names : List (List ℕ)) (term : Term) (text : List ℕ) → is_immediate (plain term) ≡ false → term_text names term ≡ text → operand_atoms (written_constant names term) ≡ term_atoms text
-complex_again names (Int z) text inner is = absurd cc
-complex_again names (Atom a) text inner is = absurd cc
-complex_again names (Tuple ts) text inner is = ap term_atoms is
-complex_again names (ListOf ts) text inner is = ap term_atoms is
+module _ (names : Texts) where
+  called_by : (hs : List HeaderForm) (forms : List FunctionForm) (name arity : List ℕ) (at : ℕ) (o : Option ℕ) → function_number name arity (map head_of forms) ≡ o → is_some o ≡ true → HasNumber names name → instr_atoms (written_call names (slice_get (map (function_in names hs) forms) (unwrap_or o 0)) at) ≡ name ∷ []
+  called_by hs forms name arity at None is some held = absurd cc
+  called_by hs forms name arity at (Some k) is some held =
+      let found = named_at forms name arity k is in
+      ap (λ (f : Option Function). instr_atoms (written_call names f at)) (slice_get-map (function_in names hs) forms k ∙ ap (option_map (function_in names hs)) found.at)
+      ∙ ap (λ (n : List ℕ). atom_text names (number_in names n) ∷ []) found.name_is
+      ∙ ap (λ (t : List ℕ). t ∷ []) (atom_again names name held)
 
-operand_again : (names : List (List ℕ)) (o : OperandForm) → IsGoodOperand names o → operand_atoms (written_operand names (operand_in names o)) ≡ operand_atoms o
-operand_again names (register digits) g = refl
-operand_again names (integer text) g = refl
-operand_again names (atom text) g = ap (λ (t : List ℕ). t ∷ []) (atom_again names text g.held.0)
-operand_again names (complex text) g =
-    let parts = and_parts (is_bracketed text) (is_term_text text) g.sound in
-    let bracketed : not (is_bracketed text) ≡ false = ap not parts.0 in
-    let inner = ap is_immediate (plain-term_of (term_in names text)) ∙ is_immediate-term_in names text parts.1 ∙ bracketed in
-    complex_again names (term_of (term_in names text)) text inner (text_again names text parts.1 g.narrow g.held)
+  no_functions : (o : Option Function) (at : ℕ) → instr_functions (written_call names o at) ≡ []
+  no_functions None at = refl
+  no_functions (Some f) at = refl
 
-two_good : (names : List (List ℕ)) (a b : OperandForm) (rest : Bool) → (is_operand_form a && (is_operand_form b && rest)) ≡ true → (is_wide_operand a || is_wide_operand b) ≡ false → AreHeld names (operand_atoms a ++ operand_atoms b) → IsGoodOperand names a × IsGoodOperand names b
-two_good names a b rest sound narrow held =
-    let first = and_parts (is_operand_form a) (is_operand_form b && rest) sound in
-    let second = and_parts (is_operand_form b) rest first.1 in
-    let n = or_parts (is_wide_operand a) (is_wide_operand b) narrow in (
-      record { sound = first.0; narrow = n.0; held = held_first names (operand_atoms a) (operand_atoms b) held },
-      record { sound = second.0; narrow = n.1; held = held_second names (operand_atoms a) (operand_atoms b) held },
-    )
+  -- a tuple or a list is written as its text
+  complex_again : (term : Term) (text : List ℕ) → is_immediate (plain term) ≡ false → term_text names term ≡ text → operand_atoms (written_constant names term) ≡ term_atoms text
+  complex_again (Int z) text inner is = absurd cc
+  complex_again (Atom a) text inner is = absurd cc
+  complex_again (Tuple ts) text inner is = ap term_atoms is
+  complex_again (ListOf ts) text inner is = ap term_atoms is
 
-two_again : (names : List (List ℕ)) (a b : OperandForm) → IsGoodOperand names a × IsGoodOperand names b → operand_atoms (written_operand names (operand_in names a)) ++ operand_atoms (written_operand names (operand_in names b)) ≡ operand_atoms a ++ operand_atoms b
-two_again names a b g =
-    let p = operand_again names a g.0 in
-    let q = operand_again names b g.1 in
-    λ k. p k ++ q k
+  operand_again : (o : OperandForm) → IsGoodOperand names o → operand_atoms (written_operand names (operand_in names o)) ≡ operand_atoms o
+  operand_again (register digits) g = refl
+  operand_again (integer text) g = refl
+  operand_again (atom text) g = ap (λ (t : List ℕ). t ∷ []) (atom_again names text g.held.0)
+  operand_again (complex text) g =
+      let parts = and_parts (is_bracketed text) (is_term_text text) g.sound in
+      let bracketed : not (is_bracketed text) ≡ false = ap not parts.0 in
+      let inner = ap is_immediate (plain-term_of (term_in names text)) ∙ is_immediate-term_in names text parts.1 ∙ bracketed in
+      complex_again (term_of (term_in names text)) text inner (text_again names text parts.1 g.narrow g.held)
+
+  two_good : (a b : OperandForm) (rest : Bool) → (is_operand_form a && (is_operand_form b && rest)) ≡ true → (is_wide_operand a || is_wide_operand b) ≡ false → AreHeld names (operand_atoms a ++ operand_atoms b) → IsGoodOperand names a × IsGoodOperand names b
+  two_good a b rest sound narrow held =
+      let first = and_parts (is_operand_form a) (is_operand_form b && rest) sound in
+      let second = and_parts (is_operand_form b) rest first.1 in
+      let n = or_parts (is_wide_operand a) (is_wide_operand b) narrow in (
+        record { sound = first.0; narrow = n.0; held = held_first names (operand_atoms a) (operand_atoms b) held },
+        record { sound = second.0; narrow = n.1; held = held_second names (operand_atoms a) (operand_atoms b) held },
+      )
+
+  two_again : (a b : OperandForm) → IsGoodOperand names a × IsGoodOperand names b → operand_atoms (written_operand names (operand_in names a)) ++ operand_atoms (written_operand names (operand_in names b)) ≡ operand_atoms a ++ operand_atoms b
+  two_again a b g =
+      let p = operand_again a g.0 in
+      let q = operand_again b g.1 in
+      λ k. p k ++ q k
 
 external_arity : (name function arity at : List ℕ) → is_instr_form (call_ext name function arity at) ≡ true → is_arity_text arity ≡ true
 external_arity name function arity at h =
@@ -127,31 +117,32 @@ external_arity name function arity at h =
     let second = and_parts (is_function_form function arity) (is_number_text at) first.1 in
     (and_parts (is_atom_text function) (is_arity_text arity) second.0).1
 
--- an instruction is written as one that names the same
-pub instr_like : (names : List (List ℕ)) (hs : List HeaderForm) (forms : List FunctionForm) (body : List LineForm) (i : InstrForm) → hs ≡ map head_of forms → IsGoodInstr names hs body i → IsInstrLike (written_instr names (map (function_in names hs) forms) (instr_in names hs body i)) i
-instr_like names hs forms body (move from to) are g = record { atoms = operand_again names from (record { sound = (and_parts (is_operand_form from) (is_number_text to) g.sound).0; narrow = g.narrow; held = g.held }); functions = refl }
-instr_like names hs forms body (add a b to) are g = record { atoms = two_again names a b (two_good names a b (is_number_text to) g.sound g.narrow g.held); functions = refl }
-instr_like names hs forms body (sub a b to) are g = record { atoms = two_again names a b (two_good names a b (is_number_text to) g.sound g.narrow g.held); functions = refl }
-instr_like names hs forms body (eq a b target) are g = record { atoms = two_again names a b (two_good names a b (is_atom_text target) g.sound g.narrow g.held); functions = refl }
-instr_like names hs forms body (less a b target) are g = record { atoms = two_again names a b (two_good names a b (is_atom_text target) g.sound g.narrow g.held); functions = refl }
-instr_like names hs forms body (jump target) are g = record { atoms = refl; functions = refl }
-instr_like names hs forms body (call name arity at) are g = record {
-  atoms = called_by names hs forms name arity (number_value at) (function_number name arity hs) (ap (function_number name arity) (sym are)) g.settled g.held.0;
-  functions = no_functions names (slice_get (map (function_in names hs) forms) (callee_in hs name arity)) (number_value at);
-}
-instr_like names hs forms body (call_ext m function arity at) are g =
-    let p = atom_again names m g.held.0 in
-    let q = atom_again names function g.held.1.0 in
-    let n = ap number_value (arity_again arity (external_arity m function arity at g.sound)) in
-    record { atoms = λ k. p k ∷ q k ∷ []; functions = λ k. record { «module» = p k; name = q k; arity = n k } ∷ [] }
-instr_like names hs forms body (ret value) are g = record { atoms = operand_again names value (record { sound = g.sound; narrow = g.narrow; held = g.held }); functions = refl }
-instr_like names hs forms body (pget key to) are g = record { atoms = ap (λ (t : List ℕ). t ∷ []) (atom_again names key g.held.0); functions = refl }
-instr_like names hs forms body (pget_or key other to) are g =
-    let p = atom_again names key g.held.0 in
-    let rest = and_parts (is_atom_text key) (is_operand_form other && is_number_text to) g.sound in
-    let sound = and_parts (is_operand_form other) (is_number_text to) rest.1 in
-    let q = operand_again names other (record { sound = sound.0; narrow = g.narrow; held = g.held.1 }) in
-    record { atoms = λ k. p k ∷ q k; functions = refl }
-instr_like names hs forms body (elem index from to) are g = record { atoms = two_again names index from (two_good names index from (is_number_text to) g.sound g.narrow g.held); functions = refl }
-instr_like names hs forms body (print value) are g = record { atoms = operand_again names value (record { sound = g.sound; narrow = g.narrow; held = g.held }); functions = refl }
-instr_like names hs forms body yield are g = record { atoms = refl; functions = refl }
+module _ (names : Texts) (hs : List HeaderForm) (forms : List FunctionForm) (body : List LineForm) where
+  -- an instruction is written as one that names the same
+  pub instr_like : (i : InstrForm) → hs ≡ map head_of forms → IsGoodInstr names hs body i → IsInstrLike (written_instr names (map (function_in names hs) forms) (instr_in names hs body i)) i
+  instr_like (move from to) are g = record { atoms = operand_again names from (record { sound = (and_parts (is_operand_form from) (is_number_text to) g.sound).0; narrow = g.narrow; held = g.held }); functions = refl }
+  instr_like (add a b to) are g = record { atoms = two_again names a b (two_good names a b (is_number_text to) g.sound g.narrow g.held); functions = refl }
+  instr_like (sub a b to) are g = record { atoms = two_again names a b (two_good names a b (is_number_text to) g.sound g.narrow g.held); functions = refl }
+  instr_like (eq a b target) are g = record { atoms = two_again names a b (two_good names a b (is_atom_text target) g.sound g.narrow g.held); functions = refl }
+  instr_like (less a b target) are g = record { atoms = two_again names a b (two_good names a b (is_atom_text target) g.sound g.narrow g.held); functions = refl }
+  instr_like (jump target) are g = record { atoms = refl; functions = refl }
+  instr_like (call name arity at) are g = record {
+    atoms = called_by names hs forms name arity (number_value at) (function_number name arity hs) (ap (function_number name arity) (sym are)) g.settled g.held.0;
+    functions = no_functions names (slice_get (map (function_in names hs) forms) (callee_in hs name arity)) (number_value at);
+  }
+  instr_like (call_ext m function arity at) are g =
+      let p = atom_again names m g.held.0 in
+      let q = atom_again names function g.held.1.0 in
+      let n = ap number_value (arity_again arity (external_arity m function arity at g.sound)) in
+      record { atoms = λ k. p k ∷ q k ∷ []; functions = λ k. record { «module» = p k; name = q k; arity = n k } ∷ [] }
+  instr_like (ret value) are g = record { atoms = operand_again names value (record { sound = g.sound; narrow = g.narrow; held = g.held }); functions = refl }
+  instr_like (pget key to) are g = record { atoms = ap (λ (t : List ℕ). t ∷ []) (atom_again names key g.held.0); functions = refl }
+  instr_like (pget_or key other to) are g =
+      let p = atom_again names key g.held.0 in
+      let rest = and_parts (is_atom_text key) (is_operand_form other && is_number_text to) g.sound in
+      let sound = and_parts (is_operand_form other) (is_number_text to) rest.1 in
+      let q = operand_again names other (record { sound = sound.0; narrow = g.narrow; held = g.held.1 }) in
+      record { atoms = λ k. p k ∷ q k; functions = refl }
+  instr_like (elem index from to) are g = record { atoms = two_again names index from (two_good names index from (is_number_text to) g.sound g.narrow g.held); functions = refl }
+  instr_like (print value) are g = record { atoms = operand_again names value (record { sound = g.sound; narrow = g.narrow; held = g.held }); functions = refl }
+  instr_like yield are g = record { atoms = refl; functions = refl }

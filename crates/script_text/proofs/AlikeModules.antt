@@ -1,26 +1,24 @@
 -- The canonical lines of the module that lines say name the same as those lines.
-use Rattle.std.proofs.Common.{◌≡◌, ℕ, suc, ◌+◌, Bool, true, false, cond, List, [], ◌∷◌, ◌++◌, map, decimal, Option, Some, None, is_none, option_map, refl, sym, ap, ◌∙◌, subst, append_assoc, append-nil}
-use Rattle.std.specs.List.{AllByRecursion, flat_map, list_any}
-use Rattle.std.proofs.lemmas.Bool.{and_parts}
-use Rattle.term_core.specs.Names.{is_atom_text}
-use Rattle.term_core.specs.TermText.{atom_text, number_in}
+use Rattle.std.proofs.Common.{◌≡◌, ℕ, suc, ◌+◌, Bool, true, false, cond, List, [], ◌∷◌, ◌++◌, map, decimal, Option, Some}
+use Rattle.std.proofs.Common.{None, is_none, option_map, refl, sym, ap, ◌∙◌, subst, append_assoc, append-nil}
+use Rattle.script_text.proofs.Common.{AllByRecursion, flat_map, list_any, and_parts, Texts}
+use Rattle.script_text.proofs.Texts.{is_atom_text, atom_text, number_in, number_value, HasNumber}
 use Rattle.mod_core.specs.declared.code.Instr.{Instr}
-use Rattle.mod_text.specs.declared.fault.LineFault.{LineFault}
-use Rattle.mod_text.specs.declared.fault.LineFault.TheVariants as faults
-use Rattle.mod_text.specs.Canonical.{label_text, written_instr, goes_to, labels_at, lines_from, function_lines, canonical}
-use Rattle.mod_text.specs.LineFaults.{is_open, may_follow, last_line, has_high_register, has_wide_integer, names_after}
-use Rattle.term_core.specs.Text.Numbers.{number_value}
-use Rattle.term_core.proofs.GrownTerms.{HasNumber}
-use Rattle.mod_text.specs.ModuleLine.{InstrForm, LineForm, title, header, label, instr, end, is_version_text, is_arity_text, is_line_form}
-use Rattle.mod_text.specs.ModuleText.{FollowOn, names_behind}
-use Rattle.mod_text.specs.ModuleValue.{FunctionForm, HeaderForm, body_of, functions_in, headers_in, instrs_in, instr_in, function_in, module_of, IsTitled, is_settled_line, unsettled_at, unsettled_below, earlier, first_unsettled, unsettled_line}
-use Rattle.mod_text.proofs.Keepings.{last_line-push}
-use Rattle.mod_text.proofs.ModuleSound.{head_of}
+use Rattle.script_text.proofs.Types.{LineFault}
+use Rattle.script_text.proofs.Modules.{label_text, written_instr, goes_to, labels_at, lines_from, function_lines}
+use Rattle.script_text.proofs.Modules.{canonical, is_open, may_follow, last_line, has_high_register}
+use Rattle.script_text.proofs.Modules.{has_wide_integer, names_after, InstrForm, LineForm, title, header, label}
+use Rattle.script_text.proofs.Modules.{instr, end, is_version_text, is_arity_text, is_line_form, FollowOn}
+use Rattle.script_text.proofs.Modules.{names_behind, FunctionForm, HeaderForm, body_of, functions_in}
+use Rattle.script_text.proofs.Modules.{headers_in, instrs_in, instr_in, function_in, module_of, IsTitled}
+use Rattle.script_text.proofs.Modules.{is_settled_line, unsettled_at, unsettled_below, earlier}
+use Rattle.script_text.proofs.Modules.{first_unsettled, unsettled_line, last_line-push, head_of}
 use Rattle.script_text.proofs.ModuleNames.{HaveHeld, held_body}
-use Rattle.script_text.proofs.TextsBack.{atom_again, version_again, arity_again}
+use Rattle.script_text.proofs.TermLines.{atom_again, version_again, arity_again}
 use Rattle.script_text.proofs.Alike.{AreAlike, alike_same, alike_back, alike_then, alike_append, alike_label, alike_labels, alike_line}
-use Rattle.script_text.proofs.AlikeInstrs.{headers_are, IsGoodInstr, instr_like}
+use Rattle.script_text.proofs.AlikeInstrs.{IsGoodInstr, instr_like}
 use Rattle.script_text.proofs.TextLines.{IsClosed, titled, held_behind, have_held_in, unmapped}
+use Rattle.mod_text.specs.declared.fault.LineFault.TheVariants as faults
 
 -- ---- what the lines behind a title have
 
@@ -39,7 +37,7 @@ IsRest (title name version ∷ lines) = ⊥
 IsRest (end ∷ lines) = lines ≡ []
 IsRest (line ∷ lines) = IsRest lines
 
-nothing_behind : (names : List (List ℕ)) (before lines : List LineForm) → last_line before ≡ Some end → FollowOn names before lines → lines ≡ []
+nothing_behind : (names : Texts) (before lines : List LineForm) → last_line before ≡ Some end → FollowOn names before lines → lines ≡ []
 nothing_behind names before [] last follow = refl
 nothing_behind names before (line ∷ lines) last follow = absurd (never line (sym (ap (λ (l : Option LineForm). may_follow l line) last) ∙ follow.0.stands.place))
   where
@@ -54,7 +52,7 @@ closed_open last same opened = cc
 closed_behind : (before lines : List LineForm) (line : LineForm) → last_line (before ++ line ∷ lines) ≡ Some end → last_line ((before ++ line ∷ []) ++ lines) ≡ Some end
 closed_behind before lines line closed = ap last_line (append_assoc before (line ∷ []) lines) ∙ closed
 
-rest_of : (names : List (List ℕ)) (before lines : List LineForm) (last : LineForm) → last_line before ≡ Some last → is_open (Some last) ≡ true → FollowOn names before lines → last_line (before ++ lines) ≡ Some end → IsRest lines
+rest_of : (names : Texts) (before lines : List LineForm) (last : LineForm) → last_line before ≡ Some last → is_open (Some last) ≡ true → FollowOn names before lines → last_line (before ++ lines) ≡ Some end → IsRest lines
 rest_of names before [] last is opened follow closed = closed_open last (sym is ∙ ap last_line (sym (append-nil before)) ∙ closed) opened
 rest_of names before (title name version ∷ lines) last is opened follow closed =
     let no : is_none (Some last) ≡ true = sym (ap is_none is) ∙ follow.0.stands.place in
@@ -63,7 +61,7 @@ rest_of names before (end ∷ lines) last is opened follow closed = nothing_behi
 rest_of names before (line ∷ lines) last is opened follow closed = rest_of (names_after names line) (before ++ line ∷ []) lines line (last_line-push before line) refl follow.1 (closed_behind before lines line closed)
 
 -- what a function's lines begin with stands behind its header only
-no_instrs : (lines : List LineForm) (names : List (List ℕ)) (name version : List ℕ) → FollowOn names (title name version ∷ []) lines → instrs_in (body_of lines) ≡ []
+no_instrs : (lines : List LineForm) (names : Texts) (name version : List ℕ) → FollowOn names (title name version ∷ []) lines → instrs_in (body_of lines) ≡ []
 no_instrs (label n ∷ lines) names name version follow = let place = follow.0.stands.place in absurd cc
 no_instrs (instr i ∷ lines) names name version follow = let place = follow.0.stands.place in absurd cc
 no_instrs lines names name version follow = refl
@@ -73,7 +71,7 @@ narrow_by true wide rest none = absurd cc
 narrow_by false true rest none = absurd cc
 narrow_by false false rest none = refl
 
-sound_of : (names : List (List ℕ)) (before lines : List LineForm) → FollowOn names before lines → AreSound lines
+sound_of : (names : Texts) (before lines : List LineForm) → FollowOn names before lines → AreSound lines
 sound_of names before [] follow = tt
 sound_of names before (line ∷ lines) follow = (record { form = follow.0.stands.is_text.sound; narrow = narrow_by (has_high_register line) (has_wide_integer line) _ follow.0.within }, sound_of (names_after names line) (before ++ line ∷ []) lines follow.1)
 
@@ -92,7 +90,7 @@ settled_first : (t : Bool) (o : Option ℕ) → cond t (option_map suc o) (Some 
 settled_first true o none = (refl, unmapped suc o none)
 settled_first false o none = absurd cc
 
-good_instrs : (names : List (List ℕ)) (hs : List HeaderForm) (body lines : List LineForm) → AreSound lines → HaveHeld names lines → unsettled_at hs body lines ≡ None → AllByRecursion (IsGoodInstr names hs body) (instrs_in lines)
+good_instrs : (names : Texts) (hs : List HeaderForm) (body lines : List LineForm) → AreSound lines → HaveHeld names lines → unsettled_at hs body lines ≡ None → AllByRecursion (IsGoodInstr names hs body) (instrs_in lines)
 good_instrs names hs body [] sound held none = tt
 good_instrs names hs body (instr i ∷ lines) sound held none =
     let p = settled_first (is_settled_line hs body (instr i)) (unsettled_at hs body lines) none in
@@ -103,7 +101,7 @@ good_instrs names hs body (line ∷ lines) sound held none = good_instrs names h
 abbrev instr_lines : List InstrForm → List LineForm
 instr_lines is = map (λ i. instr i) is
 
-module _ (names : List (List ℕ)) (hs : List HeaderForm) (forms : List FunctionForm) (are : hs ≡ map head_of forms) where
+module _ (names : Texts) (hs : List HeaderForm) (forms : List FunctionForm) (are : hs ≡ map head_of forms) where
   instr_alike : (body : List LineForm) (i : InstrForm) → IsGoodInstr names hs body i → AreAlike (instr (written_instr names (map (function_in names hs) forms) (instr_in names hs body i)) ∷ []) (instr i ∷ [])
   instr_alike body i g =
       let like = instr_like names hs forms body i are g in
@@ -159,28 +157,29 @@ module _ (names : List (List ℕ)) (hs : List HeaderForm) (forms : List Function
 
 -- ---- modules
 
-title_alike : (names : List (List ℕ)) (name version : List ℕ) → is_line_form (title name version) ≡ true → HasNumber names name → AreAlike (title (atom_text names (number_in names name)) (decimal (number_value version)) ∷ []) (title name version ∷ [])
+title_alike : (names : Texts) (name version : List ℕ) → is_line_form (title name version) ≡ true → HasNumber names name → AreAlike (title (atom_text names (number_in names name)) (decimal (number_value version)) ∷ []) (title name version ∷ [])
 title_alike names name version sound held =
     let n = atom_again names name held in
     let v = version_again version (and_parts (is_atom_text name) (is_version_text version) sound).1 in
     subst (λ (line : LineForm). AreAlike (line ∷ []) (title name version ∷ [])) (λ k. title (sym n k) (sym v k)) (alike_same (title name version ∷ []))
 
-text_alike : (names before : List (List ℕ)) (text : List LineForm) → IsTitled text → FollowOn before [] text → last_line text ≡ Some end → HaveHeld names text → unsettled_line text ≡ None → AreAlike (canonical names (module_of names text)) text
+text_alike : (names before : Texts) (text : List LineForm) → IsTitled text → FollowOn before [] text → last_line text ≡ Some end → HaveHeld names text → unsettled_line text ≡ None → AreAlike (canonical names (module_of names text)) text
 text_alike names before (title name version ∷ lines) t follow closed held none =
     let first = title name version in
     let hs = headers_in lines in
     let after = names_after before first in
     let rest = rest_of after (first ∷ []) lines first refl refl follow.1 closed in
-    let more = rest_alike names hs (functions_in lines) (headers_are lines) lines rest (sound_of after (first ∷ []) lines follow.1) held.1 (both_none None (first_unsettled hs lines) (unmapped suc _ none)).1 in
-    let ends = to_end names hs (functions_in lines) (headers_are lines) (functions_in lines) in
+    let more = rest_alike names hs (functions_in lines) refl lines rest (sound_of after (first ∷ []) lines follow.1) held.1 (both_none None (first_unsettled hs lines) (unmapped suc _ none)).1 in
+    let ends = to_end names hs (functions_in lines) refl (functions_in lines) in
     let behind : AreAlike ends lines = subst (λ (is : List InstrForm). AreAlike (instr_lines is ++ ends) lines) (no_instrs lines after name version follow.1) more in
     alike_append (title (atom_text names (number_in names name)) (decimal (number_value version)) ∷ []) (first ∷ []) ends lines (title_alike names name version follow.0.stands.is_text.sound held.0.0) behind
 text_alike names before text t follow closed held none = absurd t
 
--- the atoms of a closed text are held
-pub text_held : (names : List (List ℕ)) (text : List LineForm) → IsClosed names text → HaveHeld names text
-text_held names text c = have_held_in (names_behind c.before text) names text c.among (held_behind c.before text)
+module _ (names : Texts) (text : List LineForm) (c : IsClosed names text) where
+  -- the atoms of a closed text are held
+  pub text_held : HaveHeld names text
+  text_held = have_held_in (names_behind c.before text) names text c.among (held_behind c.before text)
 
--- the canonical lines of the module that a text says name what the text names
-pub module_alike : (names : List (List ℕ)) (text : List LineForm) → IsClosed names text → unsettled_line text ≡ None → AreAlike (canonical names (module_of names text)) text
-module_alike names text c none = text_alike names c.before text (titled c.before text end c.follow c.closed) c.follow c.closed (text_held names text c) none
+  -- the canonical lines of the module that a text says name what the text names
+  pub module_alike : unsettled_line text ≡ None → AreAlike (canonical names (module_of names text)) text
+  module_alike none = text_alike names c.before text (titled c.before text end c.follow c.closed) c.follow c.closed text_held none

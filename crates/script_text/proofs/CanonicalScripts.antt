@@ -1,43 +1,24 @@
 -- The canonical text of a script is a text of it, unless it is too long.
-use Rattle.std.proofs.Common.{◌≡◌, ℕ, ◌<◌, ◌≤◌, ◌&&◌, true, false, nat_le, List, [], ◌∷◌, ◌++◌, length, map, All, inl, inr, refl, sym, ap, ◌∙◌, subst, arith, append-nil, append_assoc}
-use Rattle.std.specs.Prelude.{IsTrue}
+use Rattle.std.proofs.Common.{◌≡◌, ℕ, ◌<◌, ◌≤◌, ◌&&◌, true, false, nat_le, List, [], ◌∷◌, ◌++◌, length, map, All}
+use Rattle.std.proofs.Common.{inl, inr, refl, sym, ap, ◌∙◌, subst, arith, append-nil, append_assoc}
+use Rattle.script_text.proofs.Common.{IsTrue, AllByRecursion, flat_map, list_any, and_from, or_parts}
+use Rattle.script_text.proofs.Common.{false_from_ne_true, cases_lt, nat_tests, flat_map-append, map-append, Texts}
 use Rattle.std.specs.Fmt.{decimal}
-use Rattle.std.specs.List.{AllByRecursion, flat_map, list_any}
-use Rattle.std.proofs.lemmas.Bool.{and_from, or_parts, false_from_ne_true, cases_lt}
-use Rattle.std.proofs.lemmas.Bool.Decides.{nat_tests}
-use Rattle.std.proofs.lemmas.Grind.{flat_map-append}
-use Rattle.std.proofs.lemmas.List.{map-append}
-use Rattle.term_core.specs.Names.{given_names}
-use Rattle.term_core.specs.TermText.{names_with_all}
-use Rattle.term_core.specs.Text.Cuts.{Lines, lines_of}
-use Rattle.term_core.specs.Text.Numbers.{is_number_text, number_value}
-use Rattle.term_core.proofs.Lists.{each_append}
-use Rattle.term_core.proofs.Text.Cuts.{lacks, number_lacks}
-use Rattle.term_core.proofs.Text.Numbers.{decimal-writes}
-use Rattle.term_core.proofs.Truths.{test_not_lt}
-use Rattle.mod_core.specs.HeldNames.{IsModuleHeld}
-use Rattle.mod_core.specs.Module.{IsModule}
-use Rattle.mod_core.specs.declared.code.Module.{Module}
+use Rattle.script_text.proofs.Texts.{given_names, names_with_all, Lines, lines_of, is_number_text, number_value}
+use Rattle.script_text.proofs.Texts.{each_append, lacks, number_lacks, decimal-writes, test_not_lt}
+use Rattle.script_text.proofs.Modules.{IsModuleHeld, IsModule, names_after, LineForm, line_bytes, lines_written, FollowOn, line_lacks}
+use Rattle.script_text.proofs.Types.{Module, Script, ScriptCmd}
 use Rattle.mod_text.specs.Canonical.{canonical as module_lines}
-use Rattle.mod_text.specs.LineFaults.{names_after}
-use Rattle.mod_text.specs.ModuleLine.{LineForm, line_bytes, lines_written}
-use Rattle.mod_text.specs.ModuleText.{FollowOn}
-use Rattle.mod_text.proofs.LineAgain.{line_lacks}
-use Rattle.script_core.specs.declared.script.Script.{Script}
-use Rattle.script_core.specs.declared.script.ScriptCmd.{ScriptCmd}
-use Rattle.script_text.specs.ScriptLine.{ScriptLine, head, code, observer, go, script_line_written, is_script_line}
-use Rattle.script_text.specs.Counts.{names_of}
-use Rattle.script_text.specs.LineStep.{opening, script_of}
-use Rattle.script_text.specs.ScriptText.{IsShort, ScriptText}
-use Rattle.script_text.specs.Canonical.{IsOfSomeText, command_line, block_form, observer_form, code_form, canonical, script_line_bytes, canonical_text, is_long_line, IsTooLongToPrint}
+use Rattle.script_text.proofs.Forms.{ScriptLine, head, code, observer, go, script_line_written, is_script_line}
+use Rattle.script_text.proofs.Forms.{names_of, opening, script_of, IsShort, ScriptText, IsOfSomeText}
+use Rattle.script_text.proofs.Forms.{command_line, block_form, observer_form, code_form, canonical}
+use Rattle.script_text.proofs.Forms.{script_line_bytes, canonical_text, is_long_line, IsTooLongToPrint}
 use Rattle.script_text.proofs.Alike.{Alike, lines_same, lines_then, lines_back, lines_append, AreAlike, alike_back}
-use Rattle.script_text.proofs.CanonicalRuns.{lines_with, IsReady, script_runs}
-use Rattle.script_text.proofs.Commands.{IsToldBy}
+use Rattle.script_text.proofs.CanonicalRuns.{lines_with, IsReady, script_runs, Readings, readings, texts_alike}
+use Rattle.script_text.proofs.Commands.{IsToldBy, steps_names}
 use Rattle.script_text.proofs.FunctionNames.{functions_named, mfas_on}
-use Rattle.script_text.proofs.LinesJoined.{lines_of_bytes, codes_bytes, modules_written}
-use Rattle.script_text.proofs.ReadBack.{Readings, readings, texts_alike}
+use Rattle.script_text.proofs.PrintedText.{lines_of_bytes, codes_bytes, modules_written}
 use Rattle.script_text.proofs.Sound.{text_told, none_open, titles_are, script_is, sound_of}
-use Rattle.script_text.proofs.StepNames.{steps_names}
 use Rattle.script_text.proofs.TextLines.{AreClosed}
 use Rattle.script_text.proofs.Told.{AreApart, front_of}
 
@@ -51,13 +32,13 @@ record IsGood (line : ScriptLine) : Type 0 where
 abbrev AreGood : List ScriptLine → Type 0
 AreGood lines = AllByRecursion IsGood lines
 
-follow_good : (names : List (List ℕ)) (before text : List LineForm) → FollowOn names before text → AreGood (code_form text)
+follow_good : (names : Texts) (before text : List LineForm) → FollowOn names before text → AreGood (code_form text)
 follow_good names before [] follow = tt
 follow_good names before (line ∷ text) follow =
     let sound = follow.0.stands.is_text.sound in
     (record { sound = sound; lacks_feed = line_lacks line sound }, follow_good (names_after names line) (before ++ line ∷ []) text follow.1)
 
-texts_good : (names : List (List ℕ)) (texts : List (List LineForm)) (more : List ScriptLine) → AreClosed names texts → AreGood more → AreGood (code_form (flat_map (λ text. text) texts) ++ more)
+texts_good : (names : Texts) (texts : List (List LineForm)) (more : List ScriptLine) → AreClosed names texts → AreGood more → AreGood (code_form (flat_map (λ text. text) texts) ++ more)
 texts_good names [] more closed good = good
 texts_good names (text ∷ texts) more closed good =
     let others = flat_map (λ (t : List LineForm). t) texts in
@@ -79,13 +60,14 @@ observers_good (n ∷ counts) small =
       observers_good counts small.1,
     )
 
-commands_good : (names : List (List ℕ)) (ms : List Module) (cs : List ScriptCmd) → AllByRecursion (IsToldBy names ms) cs → AreGood (map (command_line names) cs)
-commands_good names ms [] told = tt
-commands_good names ms (c ∷ cs) told = (record { sound = told.0.line.sound; lacks_feed = told.0.lacks_feed }, commands_good names ms cs told.1)
+module _ (names : Texts) (ms : List Module) where
+  commands_good : (cs : List ScriptCmd) → AllByRecursion (IsToldBy names ms) cs → AreGood (map (command_line names) cs)
+  commands_good [] told = tt
+  commands_good (c ∷ cs) told = (record { sound = told.0.line.sound; lacks_feed = told.0.lacks_feed }, commands_good cs told.1)
 
-blocks_good : (names : List (List ℕ)) (ms : List Module) (ls : List (List ScriptCmd)) → AllByRecursion (AllByRecursion (IsToldBy names ms)) ls → AreGood (flat_map (block_form names) ls)
-blocks_good names ms [] told = tt
-blocks_good names ms (cs ∷ ls) told = each_append IsGood (block_form names cs) (flat_map (block_form names) ls) (record { sound = refl; lacks_feed = refl }, commands_good names ms cs told.0) (blocks_good names ms ls told.1)
+  blocks_good : (ls : List (List ScriptCmd)) → AllByRecursion (AllByRecursion (IsToldBy names ms)) ls → AreGood (flat_map (block_form names) ls)
+  blocks_good [] told = tt
+  blocks_good (cs ∷ ls) told = each_append IsGood (block_form names cs) (flat_map (block_form names) ls) (record { sound = refl; lacks_feed = refl }, commands_good cs told.0) (blocks_good ls told.1)
 
 all_good : (s : Script) → IsReady s → (r : Readings s.names s.modules) → AreGood (lines_with s (flat_map (λ text. text) r.texts))
 all_good s ready r =

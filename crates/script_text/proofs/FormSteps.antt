@@ -1,39 +1,100 @@
 -- What a line's text leaves is what its form leaves, in front of the loader blocks; a text of no form is refused.
-use Rattle.std.proofs.Common.{◌≡◌, ℕ, Bool, true, false, cond, nat_le, List, [], ◌∷◌, ◌++◌, length, Option, Some, None, option_map, Result, Ok, Err, bytes_eq, codes, refl, sym, ap, ◌∙◌}
-use Rattle.term_core.specs.Names.{number_of}
-use Rattle.term_core.specs.TermText.{number_in}
-use Rattle.term_core.specs.Text.Cuts.{cut_at}
-use Rattle.term_core.specs.Text.Numbers.{number_value}
-use Rattle.term_core.proofs.Text.Cuts.{cut_is, cut_here}
-use Rattle.term_core.proofs.Text.Options.{some_is, guarded, bytes_are}
-use Rattle.mod_text.specs.declared.fault.LineFault.{LineFault}
-use Rattle.mod_text.specs.declared.fault.LineFault.TheVariants as line_faults
-use Rattle.mod_text.specs.ModuleLine.{LineForm, title}
-use Rattle.mod_text.specs.LineReading.{line_reading}
-use Rattle.mod_text.specs.LineFaults.{last_line, may_follow, names_after, fault_of_line, counted_name, counted_by}
-use Rattle.mod_text.specs.Reading.{Step, judged, kept}
-use Rattle.mod_text.proofs.LineLaws.{line_is}
-use Rattle.mod_text.proofs.LineAgain.{text_again}
-use Rattle.script_text.specs.declared.fault.Which.TheVariants as which
-use Rattle.script_text.specs.declared.reading.cause.LineCause.{LineCause}
-use Rattle.script_text.specs.declared.reading.cause.LineCause.TheVariants as causes
-use Rattle.script_text.specs.declared.reading.reader.Place.{Place}
-use Rattle.script_text.specs.declared.reading.reader.Place.TheVariants.{Unread, Between, Within, Observing}
-use Rattle.script_text.specs.declared.reading.reader.ScriptReader.{ScriptReader}
-use Rattle.script_text.specs.ScriptLine.{RefForm, ScriptLine, head, code, observer, loader, go, is_snapshots_text, IsLine}
-use Rattle.script_text.specs.LineReading.{ref_reading, titled, title_reading}
-use Rattle.script_text.specs.Naming.{or_syntax}
-use Rattle.script_text.specs.WrittenLine.{ref_words}
-use Rattle.script_text.specs.Causes.{◌>>=◌}
-use Rattle.script_text.specs.Sets.{ref_added}
-use Rattle.script_text.specs.Adding.{counted_added}
-use Rattle.script_text.specs.LineStep.{by_code, step_titled, text_closed, code_judged, step_at}
+use Rattle.std.proofs.Common.{◌≡◌, ℕ, suc, ◌+◌, ◌<◌, ◌≤◌, Bool, true, false, cond, List, [], ◌∷◌, length, Option, Some, None, option_map}
+use Rattle.std.proofs.Common.{Ok, Err, subst, arith, length-append, nat_le, ◌++◌, Result, bytes_eq, codes, refl, sym, ap, ◌∙◌}
+use Rattle.script_text.proofs.Common.{Texts}
+use Rattle.script_text.proofs.Types.{LineFault, LineCause, Place, Unread, Between, Within, Observing, ScriptReader}
+use Rattle.script_text.proofs.Modules.{LineForm, header, label, instr, title, last_line, may_follow, fault_of_line}
+use Rattle.script_text.proofs.Modules.{names_after, counted_name, counted_by, line_reading, HeaderForm}
+use Rattle.script_text.proofs.Modules.{IsTitled, headers_in, body_of, earlier, is_settled_line, unsettled_at}
+use Rattle.script_text.proofs.Modules.{unsettled_below, first_unsettled, unsettled_line, kept, judged}
+use Rattle.script_text.proofs.Modules.{line_step, Step, line_is, text_again}
+use Rattle.script_text.proofs.TextLines.{titled_more}
+use Rattle.script_text.proofs.StepMoves.{ok_is}
+use Rattle.script_text.proofs.Texts.{number_of, number_in, cut_at, number_value, cut_is, cut_here, some_is, guarded, bytes_are}
+use Rattle.script_text.proofs.Forms.{RefForm, ScriptLine, head, code, observer, loader, go, is_snapshots_text}
+use Rattle.script_text.proofs.Forms.{IsLine, ref_reading, titled, title_reading, or_syntax, ref_words}
+use Rattle.script_text.proofs.Forms.{◌>>=◌, ref_added, counted_added, by_code, step_titled, text_closed, code_judged, step_at}
 use Rattle.script_text.specs.Reading.{head_step, title_step, line_added, within_step, observer_step, between_by, observing_by}
-use Rattle.script_text.proofs.CommandLaws.{ref_is, ref_again}
-use Rattle.script_text.proofs.ObserverLaws.{observer_cut}
+use Rattle.script_text.specs.declared.reading.cause.LineCause.TheVariants as causes
+use Rattle.script_text.specs.declared.fault.Which.TheVariants as which
+use Rattle.script_text.proofs.OneLine.{reference, by_word, form_reading, observer_reading, reads, form_is}
 use Rattle.script_text.proofs.HeldNames.{held_with, number_is}
-use Rattle.script_text.proofs.OneLine.{form_reading, observer_reading, reads}
-use Rattle.script_text.proofs.FormReadings.{form_is}
+use Rattle.mod_text.specs.declared.fault.LineFault.TheVariants as line_faults
+
+-- ---- the end of a text
+
+-- ---- what is lacking
+
+-- a number below a bound, if there is one
+abbrev Below : ℕ → Option ℕ → Type 0
+Below bound None = Unit {0}
+Below bound (Some k) = k < bound
+
+wider : (bound more : ℕ) (o : Option ℕ) → bound ≤ more → Below bound o → Below more o
+wider bound more None le h = tt
+wider bound more (Some k) le h = omega arith
+
+next : (bound : ℕ) (o : Option ℕ) → Below bound o → Below (suc bound) (option_map suc o)
+next bound None h = tt
+next bound (Some k) h = omega arith
+
+first_of : (bound : ℕ) (o p : Option ℕ) → Below bound o → Below bound p → Below bound (earlier o p)
+first_of bound None p h k = k
+first_of bound (Some i) p h k = h
+
+suc_le : (m n : ℕ) → m ≤ n → suc m ≤ suc n
+suc_le m n h = omega arith
+
+short_body : (lines : List LineForm) → length (body_of lines) ≤ length lines
+short_body (label name ∷ lines) = suc_le (length (body_of lines)) (length lines) (short_body lines)
+short_body (instr i ∷ lines) = suc_le (length (body_of lines)) (length lines) (short_body lines)
+short_body lines = omega arith
+
+module _ (headers : List HeaderForm) where
+  in_body : (body lines : List LineForm) → Below (length lines) (unsettled_at headers body lines)
+  in_body body [] = tt
+  in_body body (line ∷ lines) = by_test (is_settled_line headers body line) (in_body body lines)
+    where
+      by_test : (t : Bool) → Below (length lines) (unsettled_at headers body lines) → Below (suc (length lines)) (cond t (option_map suc (unsettled_at headers body lines)) (Some 0))
+      by_test true behind = next (length lines) _ behind
+      by_test false behind = omega arith
+
+  below_header : (line : LineForm) (lines : List LineForm) → Below (length lines) (unsettled_below headers line lines)
+  below_header (header exported name arity) lines = wider (length (body_of lines)) (length lines) _ (short_body lines) (in_body (body_of lines) (body_of lines))
+  below_header line lines = tt
+
+  in_lines : (lines : List LineForm) → Below (length lines) (first_unsettled headers lines)
+  in_lines [] = tt
+  in_lines (line ∷ lines) = next (length lines) _ (first_of (length lines) _ _ (below_header line lines) (in_lines lines))
+
+-- a line that names what is not there is one of the text
+pub unsettled_within : (lines : List LineForm) (number : ℕ) → unsettled_line lines ≡ Some number → number < length lines
+unsettled_within lines number e = subst (Below (length lines)) e (in_lines (headers_in lines) lines)
+
+-- ---- a line more
+
+-- what is behind a line that was read
+pub record GoesOn (lines after : List LineForm) : Type 0 where
+  pub titled : IsTitled lines → IsTitled after
+  pub longer : length after ≡ length lines + 1
+
+module _ (names : Texts) (lines : List LineForm) where
+  one_more : (line : LineForm) (o : Option LineFault) (x : Texts × List LineForm) → kept names lines line o ≡ Ok x → GoesOn lines x.1
+  one_more line None x e = subst (λ (y : Texts × List LineForm). GoesOn lines y.1) (ok_is _ x e) (record { titled = titled_more lines line; longer = simp length-append })
+  one_more line (Some fault) x e = absurd cc
+
+  by_place : (line : LineForm) (t : Bool) (x : Texts × List LineForm) → cond t (kept names lines line (fault_of_line names lines line)) (Err line_faults.Syntax) ≡ Ok x → GoesOn lines x.1
+  by_place line true x e = one_more line (fault_of_line names lines line) x e
+  by_place line false x e = absurd cc
+
+  by_form : (o : Option LineForm) (x : Texts × List LineForm) → judged names lines o ≡ Ok x → GoesOn lines x.1
+  by_form None x e = absurd cc
+  by_form (Some line) x e = by_place line (may_follow (last_line lines) line) x e
+
+  pub step_goes_on : (text : List ℕ) (x : Texts × List LineForm) → line_step names lines text ≡ Ok x → GoesOn lines x.1
+  step_goes_on text x e = by_form (line_reading text) x e
+
+-- ---- what a line's text leaves is what its form leaves, in front of the loader blocks; a text of no form is refused
 
 abbrev pub Stepped : Type 0
 Stepped = Result ScriptReader LineCause
@@ -95,19 +156,23 @@ observer_text r number p text rest cut same = by_test (is_snapshots_text rest) �
     by_test true = sym (same rest)
     by_test false = refl
 
--- a text whose first word is another is no observer's
-other_word : (text word rest : List ℕ) → cut_at 32 text ≡ Some (word, rest) → bytes_eq word (codes "observer") ≡ false → (count : List ℕ) → IsLine text (observer count) → ⊥
-other_word text word rest cut other count is =
-    let same = some_is (word, rest) (codes "observer", count) (sym cut ∙ observer_cut text count is) in
-    let yes : bytes_eq word (codes "observer") ≡ true = ap (λ (p : List ℕ × List ℕ). bytes_eq p.0 (codes "observer")) same in
-    cc
+observer_cut : (text count : List ℕ) → IsLine text (observer count) → cut_at 32 text ≡ Some (codes "observer", count)
+observer_cut text count is = ap (cut_at 32) is.text_is ∙ cut_here 32 (codes "observer") count refl
 
 -- nor is one without a space
 uncut : (text : List ℕ) → cut_at 32 text ≡ None → (count : List ℕ) → IsLine text (observer count) → ⊥
 uncut text none count is = let both = sym none ∙ observer_cut text count is in cc
 
-at_word : (text word rest : List ℕ) → cut_at 32 text ≡ Some (word, rest) → bytes_eq word (codes "observer") ≡ true → cut_at 32 text ≡ Some (codes "observer", rest)
-at_word text word rest cut e = cut ∙ ap (λ (w : List ℕ). let so : Option (List ℕ × List ℕ) = Some (w, rest) in so) (bytes_are word (codes "observer") e)
+module _ (text word rest : List ℕ) (cut : cut_at 32 text ≡ Some (word, rest)) where
+  -- a text whose first word is another is no observer's
+  other_word : bytes_eq word (codes "observer") ≡ false → (count : List ℕ) → IsLine text (observer count) → ⊥
+  other_word other count is =
+      let same = some_is (word, rest) (codes "observer", count) (sym cut ∙ observer_cut text count is) in
+      let yes : bytes_eq word (codes "observer") ≡ true = ap (λ (p : List ℕ × List ℕ). bytes_eq p.0 (codes "observer")) same in
+      cc
+
+  at_word : bytes_eq word (codes "observer") ≡ true → cut_at 32 text ≡ Some (codes "observer", rest)
+  at_word e = cut ∙ ap (λ (w : List ℕ). let so : Option (List ℕ × List ℕ) = Some (w, rest) in so) (bytes_are word (codes "observer") e)
 
 -- a text that is neither `loader` nor `go`
 pub record IsKeyed (text : List ℕ) : Type 0 where
@@ -148,19 +213,19 @@ title_is text t e = by_cut (cut_at 32 text) refl e
     by_cut None cut e = absurd cc
     by_cut (Some parts) cut e =
         let p = guarded (bytes_eq parts.0 (codes "module")) (ref_reading parts.1) t e in
-        let is = ref_is parts.1 t p.1 in
+        let is = reference.is parts.1 t p.1 in
         record {
           text_is = (cut_is 32 text parts cut).whole ∙ ap (λ (w : List ℕ). w ++ 32 ∷ parts.1) (bytes_are parts.0 (codes "module") p.0) ∙ ap (λ (w : List ℕ). codes "module" ++ 32 ∷ w) is.text_is;
-          sound = is.sound;
+          sound = is.fits;
         }
 
 title_again : (text name version : List ℕ) → IsLine text (code (title name version)) → title_reading text ≡ Some (record { name = name; version = version })
 title_again text name version is =
     let t : RefForm = record { name = name; version = version } in
-    ap titled (ap (cut_at 32) is.text_is ∙ cut_here 32 (codes "module") _ refl) ∙ ref_again t is.sound
+    ap titled (ap (cut_at 32) is.text_is ∙ cut_here 32 (codes "module") _ refl) ∙ reference.again t is.sound
 
 -- a title by the number of its name
-abbrev numbered : ScriptReader → ℕ → RefForm → List (List ℕ) × List LineForm → ℕ → Stepped
+abbrev numbered : ScriptReader → ℕ → RefForm → Texts × List LineForm → ℕ → Stepped
 numbered r number t x name = ref_added r.titles (record { name = record { 0 = name }; version = number_value t.version }) >>= λ titles. Ok (record r { names = x.0; lines = x.1; titles = titles; title = number; place = Within })
 
 -- a text that is no observer's, where a module's text may begin

@@ -1,30 +1,18 @@
 -- The functions that lines name, by their texts and by their numbers, and the table of them that grows line by line.
-use Rattle.std.proofs.Common.{◌≡◌, ℕ, ◌+◌, ◌≤◌, ◌&&◌, Bool, true, false, cond, not, nat_le, List, [], ◌∷◌, ◌++◌, map, length, Option, Some, None, Result, Ok, Err, refl, sym, ap, ◌∙◌, arith, append_assoc, append-nil, length-append}
-use Rattle.std.specs.Prelude.{fold, if◌then◌else◌}
-use Rattle.std.specs.List.{list_any}
-use Rattle.std.proofs.lemmas.Bool.Decides.{nat_tests}
-use Rattle.std.proofs.lemmas.List.{map-append}
-use Rattle.std.proofs.lemmas.List.Sums.{fold-append}
-use Rattle.term_core.specs.declared.atom.Mfa.{Mfa}
-use Rattle.term_core.specs.Names.{Extends}
-use Rattle.term_core.specs.Text.Numbers.{number_value}
-use Rattle.term_core.proofs.GrownTerms.{HasNumber}
-use Rattle.mod_text.specs.ModuleLine.{LineForm, InstrForm, move, call_ext, title, header, instr}
-use Rattle.mod_text.specs.ModuleValue.{atom_in, title_of}
-use Rattle.mod_text.specs.LineFaults.{line_atoms, called_name, counted_name}
+use Rattle.std.proofs.Common.{◌≡◌, ℕ, ◌+◌, ◌≤◌, ◌&&◌, Bool, true, false, cond, not, nat_le, List, [], ◌∷◌, ◌++◌, map, length, Option}
+use Rattle.std.proofs.Common.{Some, None, Result, Ok, Err, refl, sym, ap, ◌∙◌, arith, append_assoc, append-nil, length-append}
+use Rattle.script_text.proofs.Common.{fold, if◌then◌else◌, list_any, nat_tests, map-append, fold-append, Texts}
+use Rattle.script_text.proofs.Types.{Mfa, LineCause}
+use Rattle.script_text.proofs.Texts.{Extends, number_value, HasNumber}
+use Rattle.script_text.proofs.Modules.{LineForm, InstrForm, move, call_ext, title, header, instr}
+use Rattle.script_text.proofs.Modules.{atom_in, title_of, line_atoms, called_name, counted_name}
 use Rattle.server_core.specs.Generations.{is_same_name}
-use Rattle.script_text.specs.declared.fault.Which.TheVariants as which
-use Rattle.script_text.specs.declared.reading.cause.LineCause.{LineCause}
-use Rattle.script_text.specs.declared.reading.cause.LineCause.TheVariants as causes
-use Rattle.script_text.specs.ScriptLine.{ScriptLine, code, spawn}
-use Rattle.script_text.specs.Counts.{script_line_atoms}
-use Rattle.script_text.specs.Sets.{mfas_with}
-use Rattle.script_text.specs.Adding.{counted_added}
-use Rattle.script_text.specs.LineStep.{spawned_in}
-use Rattle.script_text.proofs.Choices.{ok_is}
+use Rattle.script_text.proofs.Forms.{ScriptLine, code, spawn, script_line_atoms, mfas_with, counted_added, spawned_in}
+use Rattle.script_text.proofs.StepMoves.{ok_is, IsCommand}
 use Rattle.script_text.proofs.HeldNames.{number_in-after}
 use Rattle.script_text.proofs.ModuleNames.{AreHeld}
-use Rattle.script_text.proofs.StepMoves.{IsCommand}
+use Rattle.script_text.specs.declared.reading.cause.LineCause.TheVariants as causes
+use Rattle.script_text.specs.declared.fault.Which.TheVariants as which
 
 -- ---- by their texts
 
@@ -83,18 +71,18 @@ home_of-append home (x ∷ xs) ys = home_of-append (home_after home x) xs ys
 
 -- ---- by their numbers
 
-abbrev pub mfa_named : List (List ℕ) → FunctionForm → Mfa
+abbrev pub mfa_named : Texts → FunctionForm → Mfa
 mfa_named names f = record { «module» = atom_in names f.«module»; name = atom_in names f.name; arity = f.arity }
 
 -- a table with functions more
-abbrev pub mfas_on : List (List ℕ) → List Mfa → List FunctionForm → List Mfa
+abbrev pub mfas_on : Texts → List Mfa → List FunctionForm → List Mfa
 mfas_on names fs forms = fold mfas_with fs (map (mfa_named names) forms)
 
-pub mfas_on-append : (names : List (List ℕ)) (fs : List Mfa) (xs ys : List FunctionForm) → mfas_on names fs (xs ++ ys) ≡ mfas_on names (mfas_on names fs xs) ys
+pub mfas_on-append : (names : Texts) (fs : List Mfa) (xs ys : List FunctionForm) → mfas_on names fs (xs ++ ys) ≡ mfas_on names (mfas_on names fs xs) ys
 mfas_on-append names fs xs ys = ap (λ (ms : List Mfa). fold mfas_with fs ms) (map-append (mfa_named names) xs ys) ∙ fold-append mfas_with fs (map (mfa_named names) xs) (map (mfa_named names) ys)
 
 -- the table of all functions that lines name, with a line more
-pub mfas_on-line : (names : List (List ℕ)) (fs : List Mfa) (home : List ℕ) (lines : List ScriptLine) (line : ScriptLine) → mfas_on names fs (functions_named home (lines ++ line ∷ [])) ≡ mfas_on names (mfas_on names fs (functions_named home lines)) (script_line_functions (home_of home lines) line)
+pub mfas_on-line : (names : Texts) (fs : List Mfa) (home : List ℕ) (lines : List ScriptLine) (line : ScriptLine) → mfas_on names fs (functions_named home (lines ++ line ∷ [])) ≡ mfas_on names (mfas_on names fs (functions_named home lines)) (script_line_functions (home_of home lines) line)
 mfas_on-line names fs home lines line =
     ap (mfas_on names fs) (functions_named-append home lines (line ∷ []) ∙ ap (λ (xs : List FunctionForm). functions_named home lines ++ xs) (append-nil (script_line_functions (home_of home lines) line)))
     ∙ mfas_on-append names fs (functions_named home lines) (script_line_functions (home_of home lines) line)
@@ -148,30 +136,31 @@ added_is fs (Some f) next e few = by_same (list_any (is_same_name f) fs) (nat_le
 
 -- ---- the function of a line, under names that grow
 
-named_after : (names after : List (List ℕ)) (m f : List ℕ) (arity : ℕ) → Extends names after → HasNumber names m → HasNumber names f → mfa_named names (record { «module» = m; name = f; arity = arity }) ≡ mfa_named after (record { «module» = m; name = f; arity = arity })
+named_after : (names after : Texts) (m f : List ℕ) (arity : ℕ) → Extends names after → HasNumber names m → HasNumber names f → mfa_named names (record { «module» = m; name = f; arity = arity }) ≡ mfa_named after (record { «module» = m; name = f; arity = arity })
 named_after names after m f arity e h k =
     let p = sym (number_in-after names after m e h) in
     let q = sym (number_in-after names after f e k) in
     λ i. record { «module» = record { 0 = p i }; name = record { 0 = q i }; arity = arity }
 
-header_counted : (names after : List (List ℕ)) (fs : List Mfa) (home name : List ℕ) (arity : ℕ) (exported : Bool) → Extends names after → HasNumber names home → HasNumber names name →
+header_counted : (names after : Texts) (fs : List Mfa) (home name : List ℕ) (arity : ℕ) (exported : Bool) → Extends names after → HasNumber names home → HasNumber names name →
     counted_with fs (cond exported (Some (mfa_named names (record { «module» = home; name = name; arity = arity }))) None) ≡ mfas_on after fs (cond exported (record { «module» = home; name = name; arity = arity } ∷ []) [])
 header_counted names after fs home name arity true e h k = ap (mfas_with fs) (named_after names after home name arity e h k)
 header_counted names after fs home name arity false e h k = refl
 
-instr_counted : (names after : List (List ℕ)) (fs : List Mfa) (i : InstrForm) → Extends names after → AreHeld names (line_atoms (instr i)) → counted_with fs (called_name names i) ≡ mfas_on after fs (instr_functions i)
-instr_counted names after fs (move from to) e held = refl
-instr_counted names after fs (call_ext m name arity at) e held = ap (mfas_with fs) (named_after names after m name (number_value arity) e held.0 held.1.0)
-instr_counted names after fs i e held = refl
+module _ (names after : Texts) (fs : List Mfa) where
+  instr_counted : (i : InstrForm) → Extends names after → AreHeld names (line_atoms (instr i)) → counted_with fs (called_name names i) ≡ mfas_on after fs (instr_functions i)
+  instr_counted (move from to) e held = refl
+  instr_counted (call_ext m name arity at) e held = ap (mfas_with fs) (named_after names after m name (number_value arity) e held.0 held.1.0)
+  instr_counted i e held = refl
 
--- the function that a line of a module's text is counted by is the one that it names
-pub counted_line : (names after : List (List ℕ)) (fs : List Mfa) (lines : List LineForm) (line : LineForm) → Extends names after → HasNumber names (title_of lines).0 → AreHeld names (line_atoms line) → counted_with fs (counted_name names lines line) ≡ mfas_on after fs (line_functions (title_of lines).0 line)
-counted_line names after fs lines (header exported name arity) e home held = header_counted names after fs (title_of lines).0 name (number_value arity) exported e home held.0
-counted_line names after fs lines (instr i) e home held = instr_counted names after fs i e held
-counted_line names after fs lines line e home held = refl
+  -- the function that a line of a module's text is counted by is the one that it names
+  pub counted_line : (lines : List LineForm) (line : LineForm) → Extends names after → HasNumber names (title_of lines).0 → AreHeld names (line_atoms line) → counted_with fs (counted_name names lines line) ≡ mfas_on after fs (line_functions (title_of lines).0 line)
+  counted_line lines (header exported name arity) e home held = header_counted names after fs (title_of lines).0 name (number_value arity) exported e home held.0
+  counted_line lines (instr i) e home held = instr_counted i e held
+  counted_line lines line e home held = refl
 
--- so is the function that a command spawns
-pub counted_command : (names after : List (List ℕ)) (fs : List Mfa) (home : List ℕ) (line : ScriptLine) → Extends names after → AreHeld names (script_line_atoms line) → IsCommand line → counted_with fs (spawned_in names line) ≡ mfas_on after fs (script_line_functions home line)
-counted_command names after fs home (spawn m f args) e held is = ap (mfas_with fs) (named_after names after m f (length args) e held.0 held.1.0)
-counted_command names after fs home (code line) e held is = absurd is
-counted_command names after fs home line e held is = refl
+  -- so is the function that a command spawns
+  pub counted_command : (home : List ℕ) (line : ScriptLine) → Extends names after → AreHeld names (script_line_atoms line) → IsCommand line → counted_with fs (spawned_in names line) ≡ mfas_on after fs (script_line_functions home line)
+  counted_command home (spawn m f args) e held is = ap (mfas_with fs) (named_after names after m f (length args) e held.0 held.1.0)
+  counted_command home (code line) e held is = absurd is
+  counted_command home line e held is = refl

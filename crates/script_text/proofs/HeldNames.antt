@@ -1,46 +1,44 @@
 -- Texts that a table of names holds: each keeps its number as the table grows, and no two have one number.
-use Rattle.std.proofs.Common.{◌≡◌, ℕ, cond, List, [], ◌∷◌, ◌++◌, length, Option, Some, None, is_some, unwrap_or, bytes_eq, refl, sym, ap, ◌∙◌, subst}
-use Rattle.std.specs.List.{AllByRecursion}
-use Rattle.term_core.specs.Names.{Extends, number_of, names_with}
-use Rattle.term_core.specs.TermText.{number_in, names_with_all}
-use Rattle.term_core.proofs.Places.{position-append_found, position-append_one}
-use Rattle.term_core.proofs.GrownNames.{Extends-refl, Extends-trans, names_with-Extends}
-use Rattle.term_core.proofs.Text.Options.{same_bytes}
-use Rattle.term_core.proofs.GrownTerms.{HasNumber}
+use Rattle.script_text.proofs.Common.{◌≡◌, ℕ, cond, List, [], ◌∷◌, ◌++◌, length, Option, Some, None, is_some}
+use Rattle.script_text.proofs.Common.{unwrap_or, bytes_eq, refl, sym, ap, ◌∙◌, subst, AllByRecursion, Texts}
+use Rattle.script_text.proofs.Texts.{Extends, number_of, names_with, number_in, names_with_all}
+use Rattle.script_text.proofs.Texts.{position-append_found, position-append_one, Extends-refl, Extends-trans}
+use Rattle.script_text.proofs.Texts.{names_with-Extends, same_bytes, HasNumber}
 
-pub held_more : (names more : List (List ℕ)) (text : List ℕ) → HasNumber names text → HasNumber (names ++ more) text
+pub held_more : (names more : Texts) (text : List ℕ) → HasNumber names text → HasNumber (names ++ more) text
 held_more names more text h = record { number = h.number; is = position-append_found (bytes_eq text) names more h.number h.is }
 
-pub held_in : (names after : List (List ℕ)) (text : List ℕ) → Extends names after → HasNumber names text → HasNumber after text
-held_in names after text e h = subst (λ (ns : List (List ℕ)). HasNumber ns text) (sym e.whole) (held_more names e.more text h)
-
 -- and keeps its number
-pub number_in-more : (names more : List (List ℕ)) (text : List ℕ) → HasNumber names text → number_in (names ++ more) text ≡ number_in names text
+pub number_in-more : (names more : Texts) (text : List ℕ) → HasNumber names text → number_in (names ++ more) text ≡ number_in names text
 number_in-more names more text h = ap (λ (o : Option ℕ). unwrap_or o 0) (position-append_found (bytes_eq text) names more h.number h.is ∙ sym h.is)
 
-pub number_in-after : (names after : List (List ℕ)) (text : List ℕ) → Extends names after → HasNumber names text → number_in after text ≡ number_in names text
-number_in-after names after text e h = ap (λ (ns : List (List ℕ)). number_in ns text) e.whole ∙ number_in-more names e.more text h
+module _ (names after : Texts) (text : List ℕ) (e : Extends names after) (h : HasNumber names text) where
+  pub held_in : HasNumber after text
+  held_in = subst (λ (ns : Texts). HasNumber ns text) (sym e.whole) (held_more names e.more text h)
 
-held_by : (names : List (List ℕ)) (text : List ℕ) (o : Option ℕ) → number_of names text ≡ o → HasNumber (cond (is_some o) names (names ++ text ∷ [])) text
+  pub number_in-after : number_in after text ≡ number_in names text
+  number_in-after = ap (λ (ns : Texts). number_in ns text) e.whole ∙ number_in-more names e.more text h
+
+held_by : (names : Texts) (text : List ℕ) (o : Option ℕ) → number_of names text ≡ o → HasNumber (cond (is_some o) names (names ++ text ∷ [])) text
 held_by names text (Some n) e = record { number = n; is = e }
 held_by names text None e = record { number = length names; is = position-append_one (bytes_eq text) names text e (same_bytes text) }
 
 -- a text is held once it was named
-pub held_with : (names : List (List ℕ)) (text : List ℕ) → HasNumber (names_with names text) text
+pub held_with : (names : Texts) (text : List ℕ) → HasNumber (names_with names text) text
 held_with names text = held_by names text (number_of names text) refl
 
-pub Extends-all : (names texts : List (List ℕ)) → Extends names (names_with_all names texts)
+pub Extends-all : (names texts : Texts) → Extends names (names_with_all names texts)
 Extends-all names [] = Extends-refl names
 Extends-all names (text ∷ texts) = Extends-trans names (names_with names text) _ (names_with-Extends names text) (Extends-all (names_with names text) texts)
 
 -- all texts are, once they were named
-pub held_all : (names texts : List (List ℕ)) → AllByRecursion (HasNumber (names_with_all names texts)) texts
+pub held_all : (names texts : Texts) → AllByRecursion (HasNumber (names_with_all names texts)) texts
 held_all names [] = tt
 held_all names (text ∷ texts) = (held_in (names_with names text) (names_with_all (names_with names text) texts) text (Extends-all (names_with names text) texts) (held_with names text), held_all (names_with names text) texts)
 
-pub all_held_in : (names after texts : List (List ℕ)) → Extends names after → AllByRecursion (HasNumber names) texts → AllByRecursion (HasNumber after) texts
+pub all_held_in : (names after texts : Texts) → Extends names after → AllByRecursion (HasNumber names) texts → AllByRecursion (HasNumber after) texts
 all_held_in names after [] e h = tt
 all_held_in names after (text ∷ texts) e h = (held_in names after text e h.0, all_held_in names after texts e h.1)
 
-pub number_is : (names : List (List ℕ)) (text : List ℕ) (h : HasNumber names text) → number_in names text ≡ h.number
+pub number_is : (names : Texts) (text : List ℕ) (h : HasNumber names text) → number_in names text ≡ h.number
 number_is names text h = ap (λ (o : Option ℕ). unwrap_or o 0) h.is

@@ -1,16 +1,13 @@
--- A set of keys, seen as the list of what the keys stand for.
-use Rattle.std.proofs.Common.{◌≡◌, ℕ, ◌==◌, ◌&&◌, ◌||◌, ◌≤◌, not, nat_le, Bool, true, false, cond, List, [], ◌∷◌, ◌++◌, length, Ok, refl, sym, ap, ◌∙◌, arith}
-use Rattle.std.specs.Prelude.{map}
-use Rattle.std.specs.List.{list_any}
-use Rattle.std.proofs.lemmas.Bool.Decides.{nat_tests}
-use Rattle.std.proofs.lemmas.List.{map-append, length-map}
-use Rattle.term_core.specs.declared.atom.Mfa.{Mfa}
-use Rattle.server_core.specs.declared.command.ModRef.{ModRef}
+-- Sets of keys and lists of groups that grow at their end, seen as lists.
+use Rattle.script_text.proofs.Common.{◌≡◌, ℕ, ◌==◌, ◌&&◌, ◌||◌, ◌≤◌, not, nat_le, Bool, true, false, cond, List}
+use Rattle.script_text.proofs.Common.{[], ◌∷◌, ◌++◌, length, Ok, refl, sym, ap, ◌∙◌, arith, Result, Err}
+use Rattle.script_text.proofs.Common.{OnOk, map, list_any, nat_tests, map-append, length-map}
+use Rattle.script_text.proofs.Types.{Mfa, ModRef}
 use Rattle.server_core.specs.Generations.{is_same_name}
-use Rattle.term_core.proofs.Text.Options.{failed}
+use Rattle.script_text.proofs.Texts.{failed}
 use Rattle.script_text.specs.declared.reading.sets.FunctionKey.{FunctionKey}
 use Rattle.script_text.specs.declared.reading.sets.RefKey.{RefKey}
-use Rattle.script_text.specs.Sets.{mfa_of_key, ref_of_key, is_same_mod_ref, passes_functions, mfa_added, is_among, ref_added}
+use Rattle.script_text.proofs.Forms.{mfa_of_key, ref_of_key, is_same_mod_ref, passes_functions, mfa_added, is_among, ref_added, onto_last}
 
 pub any-map : {A B : Type 0} (f : A → Bool) (g : B → Bool) (h : A → B) → ((x : A) → f x ≡ g (h x)) → (xs : List A) → list_any f xs ≡ list_any g (map h xs)
 any-map f g h same [] = refl
@@ -51,3 +48,25 @@ full_for k ks len t has is full =
     let many : 1024 ≤ length (map mfa_of_key ks) = omega (arith, length-map ks mfa_of_key, is) in
     let test : nat_le 1024 (length (map mfa_of_key ks)) ≡ true = grind (arith, nat_tests) in
     ap not (has ∙ any-function_keys k ks) ∙ sym (ap (λ b. b && not (list_any (is_same_name (mfa_of_key k)) (map mfa_of_key ks))) test)
+
+-- ---- groups of a list that grows at its end
+
+-- an item joins the group that stands last
+pub onto_last-snoc : {X : Type 0} (groups : List (List X)) (group : List X) (x : X) → onto_last (groups ++ group ∷ []) x ≡ groups ++ (group ++ x ∷ []) ∷ []
+onto_last-snoc [] group x = refl
+onto_last-snoc (g ∷ []) group x = refl
+onto_last-snoc (g ∷ h ∷ gs) group x = ap (λ (l : List (List _)). g ∷ l) (onto_last-snoc (h ∷ gs) group x)
+
+-- a group that was taken out, and is put back with an item more
+pub put_back : {X : Type 0} (old rest : List (List X)) (group taken more : List X) (x : X) → old ≡ rest ++ taken ∷ [] → group ≡ taken → more ≡ group ++ x ∷ [] → rest ++ more ∷ [] ≡ onto_last old x
+put_back old rest group taken more x was is grown =
+    ap (λ (g : List _). rest ++ g ∷ []) (grown ∙ ap (λ (g : List _). g ++ x ∷ []) is) ∙ sym (onto_last-snoc rest taken x) ∙ ap (λ (gs : List (List _)). onto_last gs x) (sym was)
+
+-- a first group
+pub put_first : {X : Type 0} (old rest : List (List X)) (group more : List X) (x : X) → old ≡ [] → rest ≡ [] → group ≡ [] → more ≡ group ++ x ∷ [] → rest ++ more ∷ [] ≡ onto_last old x
+put_first old rest group more x was none empty grown =
+    ap (λ (gs : List (List _)). gs ++ more ∷ []) none ∙ ap (λ (g : List _). g ∷ []) (grown ∙ ap (λ (g : List _). g ++ x ∷ []) empty) ∙ ap (λ (gs : List (List _)). onto_last gs x) (sym was)
+
+pub on_ok : {T E : Type 0} (P Q : Type 0) (r : Result T E) → (P → Q) → OnOk r P → OnOk r Q
+on_ok P Q (Ok x) f h = f h
+on_ok P Q (Err e) f h = tt

@@ -1,83 +1,70 @@
 -- The names of a line, one after another: all get their numbers where the table has room for all of them.
-use Rattle.std.proofs.Common.{◌≡◌, ℕ, ◌≤◌, Bool, true, false, cond, not, ◌&&◌, ◌||◌, nat_lt, List, [], ◌∷◌, length, Some, None, is_some, Result, Ok, Err, refl, sym, ap, ◌∙◌, arith}
-use Rattle.std.specs.Prelude.{map}
-use Rattle.std.specs.List.{list_all, list_any, flat_map}
-use Rattle.std.proofs.lemmas.Bool.{and_parts, and_from, or_parts, le-ltb}
-use Rattle.std.proofs.lemmas.Bool.Decides.{nat_tests}
+use Rattle.script_text.proofs.Common.{◌≡◌, ℕ, ◌≤◌, Bool, true, false, cond, not, ◌&&◌, ◌||◌, nat_lt, List, [], ◌∷◌}
+use Rattle.script_text.proofs.Common.{length, Some, None, is_some, Result, Ok, Err, refl, sym, ap, Texts}
+use Rattle.script_text.proofs.Common.{◌∙◌, arith, map, list_all, list_any, flat_map, and_parts}
+use Rattle.script_text.proofs.Common.{and_from, or_parts, le-ltb, nat_tests, length-map}
 use Rattle.std.proofs.lemmas.List.Concat.{flat_map_single}
-use Rattle.std.proofs.lemmas.List.{length-map}
-use Rattle.term_core.specs.declared.atom.Mfa.{Mfa}
-use Rattle.term_core.specs.Names.{Extends, is_atom_text, names_with}
-use Rattle.term_core.specs.PlainTerm.{PlainTerm, integer_leaf, atom_leaf, tuple_of, list_of, atoms_of}
-use Rattle.term_core.specs.TermForms.{term_in}
-use Rattle.term_core.specs.TermText.{number_in, names_with_all}
-use Rattle.term_core.specs.Written.{WrittenTerm, written, integer_of, is_term_integer, is_integer_text}
-use Rattle.term_core.proofs.TermForms.{form_is}
-use Rattle.term_core.specs.Text.Numbers.{number_value}
-use Rattle.term_core.proofs.Truths.{test_not_lt}
-use Rattle.mod_text.specs.ModuleValue.{atom_in, mfa_in}
-use Rattle.mod_text.proofs.LineNames.{names_with_all-append, more_names_all}
-use Rattle.server_core.specs.declared.command.ModRef.{ModRef}
+use Rattle.script_text.proofs.Types.{Mfa, ModRef, LineCause}
+use Rattle.script_text.proofs.Texts.{Extends, is_atom_text, names_with, PlainTerm, integer_leaf, atom_leaf}
+use Rattle.script_text.proofs.Texts.{tuple_of, list_of, atoms_of, term_in, number_in, names_with_all}
+use Rattle.script_text.proofs.Texts.{WrittenTerm, written, integer_of, is_term_integer, is_integer_text, form_is, number_value, test_not_lt}
+use Rattle.script_text.proofs.Modules.{atom_in, mfa_in, names_with_all-append, more_names_all}
+use Rattle.script_text.proofs.Forms.{RefForm, is_ref_form, is_term_form, PutForm, TraceForm, CallForm, ref_in}
+use Rattle.script_text.proofs.Forms.{argument_in, is_wide_term, is_long_term, ref_words, trace_words}
+use Rattle.script_text.proofs.Forms.{ArgumentWords, integer, complex, argument_words, put_words, call_words, ◌>>=◌}
+use Rattle.script_text.specs.Naming.{atom_named, each_named, ref_named, refs_named, trace_named, argument_named}
+use Rattle.script_text.specs.Naming.{arguments_named, is_wide_word, is_long_word, key_named, put_named, target_named, call_named}
 use Rattle.script_text.specs.declared.fault.Which.TheVariants as which
-use Rattle.script_text.specs.declared.reading.cause.LineCause.{LineCause}
 use Rattle.script_text.specs.declared.reading.cause.LineCause.TheVariants as causes
-use Rattle.script_text.specs.ScriptLine.{RefForm, is_ref_form, is_term_form}
-use Rattle.script_text.specs.LineReading.{PutForm, TraceForm, CallForm}
-use Rattle.script_text.specs.ScriptValue.{ref_in, argument_in}
-use Rattle.script_text.specs.LineFaults.{is_wide_term, is_long_term}
-use Rattle.script_text.specs.WrittenLine.{ref_words, trace_words, ArgumentWords, integer, complex, argument_words, put_words, call_words}
-use Rattle.script_text.specs.Causes.{◌>>=◌}
-use Rattle.script_text.specs.Naming.{atom_named, each_named, ref_named, refs_named, trace_named, argument_named, arguments_named, is_wide_word, is_long_word, key_named, put_named, target_named, call_named}
 use Rattle.script_text.proofs.HeldNames.{held_with, held_all, Extends-all, number_in-after}
-use Rattle.script_text.proofs.TermLines.{text_of_form}
-use Rattle.script_text.proofs.TermNames.{term_after}
+use Rattle.script_text.proofs.TermLines.{text_of_form, term_after}
 
 -- what comes of names, if they are not too many
-abbrev pub or_limit : {Y : Type 0} → List (List ℕ) → Result Y LineCause → Result Y LineCause
+abbrev pub or_limit : {Y : Type 0} → Texts → Result Y LineCause → Result Y LineCause
 or_limit after x = cond (nat_lt 4096 (length after)) (Err (causes.Limit which.Names)) x
 
 -- a value by the names, with them
-abbrev pub or_full : {Y : Type 0} → (List (List ℕ) → Y) → List (List ℕ) → Result (Y × List (List ℕ)) LineCause
+abbrev pub or_full : {Y : Type 0} → (Texts → Y) → Texts → Result (Y × Texts) LineCause
 or_full value after = or_limit after (Ok (value after, after))
 
 over_stays : (a b : ℕ) → a ≤ b → nat_lt 4096 a ≡ true → nat_lt 4096 b ≡ true
 over_stays a b le h = grind (arith, nat_tests)
 
 -- the first names are named, and then more of them
-named_next : {X Y : Type 0} (between more : List (List ℕ)) (x : Result (X × List (List ℕ)) LineCause) (value : X) (f : X × List (List ℕ) → Result Y LineCause) (goal : Result Y LineCause) → x ≡ or_limit between (Ok (value, between)) → (length between ≤ 4096 → f (value, between) ≡ or_limit (names_with_all between more) goal) → (x >>= f) ≡ or_limit (names_with_all between more) goal
-named_next {X = X} between more x value f goal is rest = ap (λ (r : Result (X × List (List ℕ)) LineCause). r >>= f) is ∙ by_room (nat_lt 4096 (length between)) refl
+named_next : {X Y : Type 0} (between more : Texts) (x : Result (X × Texts) LineCause) (value : X) (f : X × Texts → Result Y LineCause) (goal : Result Y LineCause) → x ≡ or_limit between (Ok (value, between)) → (length between ≤ 4096 → f (value, between) ≡ or_limit (names_with_all between more) goal) → (x >>= f) ≡ or_limit (names_with_all between more) goal
+named_next {X = X} between more x value f goal is rest = ap (λ (r : Result (X × Texts) LineCause). r >>= f) is ∙ by_room (nat_lt 4096 (length between)) refl
   where
     by_room : (t : Bool) → nat_lt 4096 (length between) ≡ t → (cond t (Err (causes.Limit which.Names)) (Ok (value, between)) >>= f) ≡ or_limit (names_with_all between more) goal
     by_room true e = sym (ap (λ t. cond t (Err (causes.Limit which.Names)) goal) (over_stays (length between) _ (more_names_all between more) e))
     by_room false e = rest (test_not_lt 4096 (length between) e)
 
 -- all are named
-last_named : {Y : Type 0} (after : List (List ℕ)) (x y : Result Y LineCause) → length after ≤ 4096 → x ≡ y → x ≡ or_limit after y
+last_named : {Y : Type 0} (after : Texts) (x y : Result Y LineCause) → length after ≤ 4096 → x ≡ y → x ≡ or_limit after y
 last_named after x y room e = e ∙ sym (ap (λ t. cond t (Err (causes.Limit which.Names)) y) (le-ltb 4096 (length after) room))
 
-limit_then : {X Y : Type 0} (after : List (List ℕ)) (z : X) (f : X → Result Y LineCause) → (or_limit after (Ok z) >>= f) ≡ or_limit after (f z)
+limit_then : {X Y : Type 0} (after : Texts) (z : X) (f : X → Result Y LineCause) → (or_limit after (Ok z) >>= f) ≡ or_limit after (f z)
 limit_then after z f = by_test (nat_lt 4096 (length after))
   where
     by_test : (t : Bool) → (cond t (Err (causes.Limit which.Names)) (Ok z) >>= f) ≡ cond t (Err (causes.Limit which.Names)) (f z)
     by_test true = refl
     by_test false = refl
 
-pub atom_named-is : (names : List (List ℕ)) (text : List ℕ) → is_atom_text text ≡ true → atom_named names text ≡ or_full (λ after. number_in after text) (names_with names text)
+pub atom_named-is : (names : Texts) (text : List ℕ) → is_atom_text text ≡ true → atom_named names text ≡ or_full (λ after. number_in after text) (names_with names text)
 atom_named-is names text h = ap (λ t. cond (not t) (Err causes.Syntax) (or_full (λ after. number_in after text) (names_with names text))) h
 
 -- how an item is named: its atoms in order, and then its value by the names
-pub record IsNamer {A X Y : Type 0} (step : List (List ℕ) → X → Result (Y × List (List ℕ)) LineCause) (words : A → X) (atoms : A → List (List ℕ)) (value : List (List ℕ) → A → Y) (ok : A → Bool) : Type 0 where
-  pub one : (names : List (List ℕ)) (a : A) → ok a ≡ true → length names ≤ 4096 → step names (words a) ≡ or_full (λ after. value after a) (names_with_all names (atoms a))
-  pub stays : (names after : List (List ℕ)) (a : A) → ok a ≡ true → Extends (names_with_all names (atoms a)) after → value after a ≡ value (names_with_all names (atoms a)) a
+pub record IsNamer {A X Y : Type 0} (step : Texts → X → Result (Y × Texts) LineCause) (words : A → X) (atoms : A → Texts) (value : Texts → A → Y) (ok : A → Bool) : Type 0 where
+  pub one : (names : Texts) (a : A) → ok a ≡ true → length names ≤ 4096 → step names (words a) ≡ or_full (λ after. value after a) (names_with_all names (atoms a))
+  pub stays : (names after : Texts) (a : A) → ok a ≡ true → Extends (names_with_all names (atoms a)) after → value after a ≡ value (names_with_all names (atoms a)) a
 
-abbrev in_front : {Y : Type 0} → Y → List Y × List (List ℕ) → Result (List Y × List (List ℕ)) LineCause
+abbrev in_front : {Y : Type 0} → Y → List Y × Texts → Result (List Y × Texts) LineCause
 in_front y ys = Ok (y ∷ ys.0, ys.1)
 
-abbrev and_others : {X Y : Type 0} → (List (List ℕ) → X → Result (Y × List (List ℕ)) LineCause) → List X → Y × List (List ℕ) → Result (List Y × List (List ℕ)) LineCause
+abbrev and_others : {X Y : Type 0} → (Texts → X → Result (Y × Texts) LineCause) → List X → Y × Texts → Result (List Y × Texts) LineCause
 and_others step xs y = each_named step y.1 xs >>= in_front y.0
 
 -- all items are named, or one finds the table full
-pub each_named-is : {A X Y : Type 0} (step : List (List ℕ) → X → Result (Y × List (List ℕ)) LineCause) (words : A → X) (atoms : A → List (List ℕ)) (value : List (List ℕ) → A → Y) (ok : A → Bool) → IsNamer step words atoms value ok → (names : List (List ℕ)) (xs : List A) → list_all ok xs ≡ true → length names ≤ 4096 → each_named step names (map words xs) ≡ or_full (λ after. map (value after) xs) (names_with_all names (flat_map atoms xs))
+pub each_named-is : {A X Y : Type 0} (step : Texts → X → Result (Y × Texts) LineCause) (words : A → X) (atoms : A → Texts) (value : Texts → A → Y) (ok : A → Bool) → IsNamer step words atoms value ok → (names : Texts) (xs : List A) → list_all ok xs ≡ true → length names ≤ 4096 → each_named step names (map words xs) ≡ or_full (λ after. map (value after) xs) (names_with_all names (flat_map atoms xs))
 unfolding each_named
 each_named-is step words atoms value ok n names [] h room = last_named names _ _ room refl
 each_named-is step words atoms value ok n names (x ∷ xs) h room =
@@ -86,59 +73,59 @@ each_named-is step words atoms value ok n names (x ∷ xs) h room =
     let after = names_with_all between (flat_map atoms xs) in
     named_next between (flat_map atoms xs) (step names (words x)) (value between x) (and_others step (map words xs)) (Ok (map (value after) (x ∷ xs), after)) (n.one names x p.0 room)
     (λ le.
-    ap (λ (r : Result (List _ × List (List ℕ)) LineCause). r >>= in_front (value between x)) (each_named-is step words atoms value ok n between xs p.1 le)
+    ap (λ (r : Result (List _ × Texts) LineCause). r >>= in_front (value between x)) (each_named-is step words atoms value ok n between xs p.1 le)
     ∙ limit_then after (map (value after) xs, after) (in_front (value between x))
     ∙ ap (λ y. or_limit after (Ok (y ∷ map (value after) xs, after))) (sym (n.stays names after x p.0 (Extends-all between (flat_map atoms xs)))))
-    ∙ ap (λ (after : List (List ℕ)). or_full (λ ns. map (value ns) (x ∷ xs)) after) (sym (names_with_all-append names (atoms x) (flat_map atoms xs)))
+    ∙ ap (λ (after : Texts). or_full (λ ns. map (value ns) (x ∷ xs)) after) (sym (names_with_all-append names (atoms x) (flat_map atoms xs)))
 
 -- ---- versions of modules
 
 -- an atom's number and the names after it
 abbrev pub Numbered : Type 0
-Numbered = ℕ × List (List ℕ)
+Numbered = ℕ × Texts
 
-abbrev ref_of : ℕ → Numbered → Result (ModRef × List (List ℕ)) LineCause
+abbrev ref_of : ℕ → Numbered → Result (ModRef × Texts) LineCause
 ref_of version a = Ok (record { name = record { 0 = a.0 }; version = version }, a.1)
 
-abbrev leaf_of : Numbered → Result (PlainTerm × List (List ℕ)) LineCause
+abbrev leaf_of : Numbered → Result (PlainTerm × Texts) LineCause
 leaf_of a = Ok (atom_leaf a.0, a.1)
 
-ref_one : (names : List (List ℕ)) (r : RefForm) → is_ref_form r ≡ true → ref_named names (ref_words r) ≡ or_full (λ after. ref_in after r) (names_with names r.name)
+ref_one : (names : Texts) (r : RefForm) → is_ref_form r ≡ true → ref_named names (ref_words r) ≡ or_full (λ after. ref_in after r) (names_with names r.name)
 ref_one names r h =
     let after = names_with names r.name in
     ap (λ (x : Result Numbered LineCause). x >>= ref_of (number_value r.version)) (atom_named-is names r.name (and_parts (is_atom_text r.name) _ h).0) ∙ limit_then after (number_in after r.name, after) (ref_of (number_value r.version))
 
-ref_stays : (names after : List (List ℕ)) (r : RefForm) → Extends (names_with names r.name) after → ref_in after r ≡ ref_in (names_with names r.name) r
+ref_stays : (names after : Texts) (r : RefForm) → Extends (names_with names r.name) after → ref_in after r ≡ ref_in (names_with names r.name) r
 ref_stays names after r e = ap (λ (n : ℕ). let to : ModRef = record { name = record { 0 = n }; version = number_value r.version } in to) (number_in-after (names_with names r.name) after r.name e (held_with names r.name))
 
 ref_namer : IsNamer ref_named ref_words (λ (r : RefForm). r.name ∷ []) ref_in is_ref_form
 ref_namer = record { one = λ names r h room. ref_one names r h; stays = λ names after r h e. ref_stays names after r e }
 
-pub refs_named-is : (names : List (List ℕ)) (refs : List RefForm) → list_all is_ref_form refs ≡ true → length names ≤ 4096 → refs_named names (map ref_words refs) ≡ or_full (λ after. map (ref_in after) refs) (names_with_all names (map (λ r. r.name) refs))
+pub refs_named-is : (names : Texts) (refs : List RefForm) → list_all is_ref_form refs ≡ true → length names ≤ 4096 → refs_named names (map ref_words refs) ≡ or_full (λ after. map (ref_in after) refs) (names_with_all names (map (λ r. r.name) refs))
 refs_named-is names refs h room =
     each_named-is ref_named ref_words (λ (r : RefForm). r.name ∷ []) ref_in is_ref_form ref_namer names refs h room
-    ∙ ap (λ (texts : List (List ℕ)). or_full (λ after. map (ref_in after) refs) (names_with_all names texts)) (flat_map_single (λ (r : RefForm). r.name) refs)
+    ∙ ap (λ (texts : Texts). or_full (λ after. map (ref_in after) refs) (names_with_all names texts)) (flat_map_single (λ (r : RefForm). r.name) refs)
 
 -- ---- breakpoints
 
 -- the function of a breakpoint, by the names
-abbrev pub traced_in : List (List ℕ) → TraceForm → Mfa
+abbrev pub traced_in : Texts → TraceForm → Mfa
 traced_in names t = mfa_in names t.«module» t.name t.arity
 
-abbrev with_function : ℕ → ℕ → Numbered → Result (Mfa × List (List ℕ)) LineCause
+abbrev with_function : ℕ → ℕ → Numbered → Result (Mfa × Texts) LineCause
 with_function arity m f = Ok (record { «module» = record { 0 = m }; name = record { 0 = f.0 }; arity = arity }, f.1)
 
-abbrev after_module : TraceForm → Numbered → Result (Mfa × List (List ℕ)) LineCause
+abbrev after_module : TraceForm → Numbered → Result (Mfa × Texts) LineCause
 after_module t m = atom_named m.1 t.name >>= with_function (number_value t.arity) m.0
 
 -- it is named, or one of its names finds the table full
-pub trace_named-is : (names : List (List ℕ)) (t : TraceForm) → is_atom_text t.«module» ≡ true → is_atom_text t.name ≡ true → trace_named names (trace_words t) ≡ or_full (λ after. traced_in after t) (names_with_all names (t.«module» ∷ t.name ∷ []))
+pub trace_named-is : (names : Texts) (t : TraceForm) → is_atom_text t.«module» ≡ true → is_atom_text t.name ≡ true → trace_named names (trace_words t) ≡ or_full (λ after. traced_in after t) (names_with_all names (t.«module» ∷ t.name ∷ []))
 unfolding trace_named
 trace_named-is names t m_is f_is =
     let one = names_with names t.«module» in
     let two = names_with one t.name in
     let kept : number_in two t.«module» ≡ number_in one t.«module» = number_in-after one two t.«module» (Extends-all one (t.name ∷ [])) (held_with names t.«module») in
-    let goal : Result (Mfa × List (List ℕ)) LineCause = Ok (traced_in two t, two) in
+    let goal : Result (Mfa × Texts) LineCause = Ok (traced_in two t, two) in
     named_next one (t.name ∷ []) (atom_named names t.«module») (number_in one t.«module») (after_module t) goal (atom_named-is names t.«module» m_is)
     (λ le. named_next two [] (atom_named one t.name) (number_in two t.name) (with_function (number_value t.arity) (number_in one t.«module»)) goal (atom_named-is one t.name f_is)
     (λ few. last_named two _ goal few (ap (λ (m : ℕ). with_function (number_value t.arity) m (number_in two t.name, two)) (sym kept))))
@@ -149,14 +136,14 @@ trace_named-is names t m_is f_is =
 abbrev pub is_narrow : WrittenTerm → Bool
 is_narrow t = is_term_form t && not (is_wide_term t)
 
-complex_one : (names : List (List ℕ)) (t : WrittenTerm) → is_term_form t ≡ true → argument_named names (complex (written t)) ≡ or_full (λ after. argument_in after t) (names_with_all names (atoms_of t))
+complex_one : (names : Texts) (t : WrittenTerm) → is_term_form t ≡ true → argument_named names (complex (written t)) ≡ or_full (λ after. argument_in after t) (names_with_all names (atoms_of t))
 complex_one names t h =
     let is = form_is (written t) t (text_of_form t h) in
     let after = names_with_all names (atoms_of t) in
-    ap (λ (atoms : List (List ℕ)). or_full (λ ns. term_in ns (written t)) (names_with_all names atoms)) is.atoms
-    ∙ ap (λ (u : PlainTerm). cond {A = Result (PlainTerm × List (List ℕ)) LineCause} (nat_lt 4096 (length after)) (Err (causes.Limit which.Names)) (Ok (u, after))) (is.value after)
+    ap (λ (atoms : Texts). or_full (λ ns. term_in ns (written t)) (names_with_all names atoms)) is.atoms
+    ∙ ap (λ (u : PlainTerm). cond {A = Result (PlainTerm × Texts) LineCause} (nat_lt 4096 (length after)) (Err (causes.Limit which.Names)) (Ok (u, after))) (is.value after)
 
-pub argument_one : (names : List (List ℕ)) (t : WrittenTerm) → is_narrow t ≡ true → length names ≤ 4096 → argument_named names (argument_words t) ≡ or_full (λ after. argument_in after t) (names_with_all names (atoms_of t))
+pub argument_one : (names : Texts) (t : WrittenTerm) → is_narrow t ≡ true → length names ≤ 4096 → argument_named names (argument_words t) ≡ or_full (λ after. argument_in after t) (names_with_all names (atoms_of t))
 argument_one names (integer_leaf text) h room = by_fit (is_term_integer (integer_of text)) (and_parts (is_integer_text text) _ h).1
   where
     by_fit : (b : Bool) → not (is_some {T = ℕ} (cond b None (Some 0))) ≡ true → argument_named names (integer (cond b (Some (integer_of text)) None)) ≡ or_full (λ after. integer_leaf (integer_of text)) names
@@ -170,28 +157,28 @@ argument_one names (atom_leaf text) h room =
 argument_one names (tuple_of row) h room = complex_one names (tuple_of row) (and_parts (is_term_form (tuple_of row)) _ h).0
 argument_one names (list_of row) h room = complex_one names (list_of row) (and_parts (is_term_form (list_of row)) _ h).0
 
-argument_stays : (names after : List (List ℕ)) (t : WrittenTerm) → is_narrow t ≡ true → Extends (names_with_all names (atoms_of t)) after → argument_in after t ≡ argument_in (names_with_all names (atoms_of t)) t
+argument_stays : (names after : Texts) (t : WrittenTerm) → is_narrow t ≡ true → Extends (names_with_all names (atoms_of t)) after → argument_in after t ≡ argument_in (names_with_all names (atoms_of t)) t
 argument_stays names after t h e = term_after (names_with_all names (atoms_of t)) after t e (held_all names (atoms_of t))
 
 argument_namer : IsNamer argument_named argument_words atoms_of argument_in is_narrow
 argument_namer = record { one = argument_one; stays = argument_stays }
 
-pub arguments_named-is : (names : List (List ℕ)) (args : List WrittenTerm) → list_all is_narrow args ≡ true → length names ≤ 4096 → arguments_named names (map argument_words args) ≡ or_full (λ after. map (argument_in after) args) (names_with_all names (flat_map atoms_of args))
+pub arguments_named-is : (names : Texts) (args : List WrittenTerm) → list_all is_narrow args ≡ true → length names ≤ 4096 → arguments_named names (map argument_words args) ≡ or_full (λ after. map (argument_in after) args) (names_with_all names (flat_map atoms_of args))
 arguments_named-is names args h room = each_named-is argument_named argument_words atoms_of argument_in is_narrow argument_namer names args h room
 
 -- ---- calls
 
 -- the target and the arguments of a call, by the names
-abbrev pub target_in : List (List ℕ) → CallForm → Mfa
+abbrev pub target_in : Texts → CallForm → Mfa
 target_in names c = record { «module» = atom_in names c.«module»; name = atom_in names c.name; arity = length c.args }
 
 abbrev pub Called : Type 0
-Called = Mfa × List PlainTerm × List (List ℕ)
+Called = Mfa × List PlainTerm × Texts
 
-abbrev pub call_or_full : List (List ℕ) → CallForm → Result Called LineCause
+abbrev pub call_or_full : Texts → CallForm → Result Called LineCause
 call_or_full after c = cond (nat_lt 4096 (length after)) (Err (causes.Limit which.Names)) (Ok (target_in after c, map (argument_in after) c.args, after))
 
-abbrev with_target : ℕ → ℕ → List PlainTerm × List (List ℕ) → Result Called LineCause
+abbrev with_target : ℕ → ℕ → List PlainTerm × Texts → Result Called LineCause
 with_target m f args = Ok (record { «module» = record { 0 = m }; name = record { 0 = f }; arity = length args.0 }, args.0, args.1)
 
 abbrev with_module : List ArgumentWords → ℕ → Numbered → Result Called LineCause
@@ -201,10 +188,10 @@ abbrev with_call : List ℕ → List ArgumentWords → Numbered → Result Calle
 with_call f args target = atom_named target.1 f >>= with_module args target.0
 
 -- the names after a call's
-abbrev pub names_after_call : List (List ℕ) → CallForm → List (List ℕ)
+abbrev pub names_after_call : Texts → CallForm → Texts
 names_after_call names c = names_with_all names (c.«module» ∷ c.name ∷ flat_map atoms_of c.args)
 
-pub target_named-is : (names : List (List ℕ)) (c : CallForm) → is_atom_text c.«module» ≡ true → is_atom_text c.name ≡ true → list_all is_narrow c.args ≡ true → length names ≤ 4096 → target_named names (call_words c) ≡ call_or_full (names_after_call names c) c
+pub target_named-is : (names : Texts) (c : CallForm) → is_atom_text c.«module» ≡ true → is_atom_text c.name ≡ true → list_all is_narrow c.args ≡ true → length names ≤ 4096 → target_named names (call_words c) ≡ call_or_full (names_after_call names c) c
 unfolding target_named
 target_named-is names c m_text f_is args_are room =
     let words = map argument_words c.args in
@@ -259,7 +246,7 @@ all_narrow (t ∷ ts) h k =
 -- ---- calls and their limits
 
 -- a call is named, or has an integer that is too wide, or a term that is too long, or finds the table full
-pub call_named-is : (names : List (List ℕ)) (c : CallForm) → is_atom_text c.«module» ≡ true → is_atom_text c.name ≡ true → list_all is_term_form c.args ≡ true → length names ≤ 4096 →
+pub call_named-is : (names : Texts) (c : CallForm) → is_atom_text c.«module» ≡ true → is_atom_text c.name ≡ true → list_all is_term_form c.args ≡ true → length names ≤ 4096 →
     call_named names (call_words c) ≡ cond (list_any is_wide_term c.args) (Err (causes.Limit which.Integer)) (cond (list_any is_long_term c.args) (Err (causes.Limit which.Term)) (call_or_full (names_after_call names c) c))
 call_named-is names c m_is f_is args_are room =
     let wide = sym (any_word is_wide_term is_wide_word wide_word c.args args_are) in
@@ -276,22 +263,22 @@ call_named-is names c m_is f_is args_are room =
 -- ---- puts
 
 abbrev pub Keyed : Type 0
-Keyed = ℕ × PlainTerm × List (List ℕ)
+Keyed = ℕ × PlainTerm × Texts
 
 -- the names after those of a put
-abbrev pub names_after_put : List (List ℕ) → PutForm → List (List ℕ)
+abbrev pub names_after_put : Texts → PutForm → Texts
 names_after_put names p = names_with_all names (p.key ∷ atoms_of p.term)
 
-abbrev pub put_or_full : List (List ℕ) → PutForm → Result Keyed LineCause
+abbrev pub put_or_full : Texts → PutForm → Result Keyed LineCause
 put_or_full after p = cond (nat_lt 4096 (length after)) (Err (causes.Limit which.Names)) (Ok (number_in after p.key, argument_in after p.term, after))
 
-abbrev with_value : ℕ → PlainTerm × List (List ℕ) → Result Keyed LineCause
+abbrev with_value : ℕ → PlainTerm × Texts → Result Keyed LineCause
 with_value key term = Ok (key, term.0, term.1)
 
 abbrev with_key : ArgumentWords → Numbered → Result Keyed LineCause
 with_key term key = argument_named key.1 term >>= with_value key.0
 
-key_named-is : (names : List (List ℕ)) (p : PutForm) → is_atom_text p.key ≡ true → is_narrow p.term ≡ true → key_named names (put_words p) ≡ put_or_full (names_after_put names p) p
+key_named-is : (names : Texts) (p : PutForm) → is_atom_text p.key ≡ true → is_narrow p.term ≡ true → key_named names (put_words p) ≡ put_or_full (names_after_put names p) p
 unfolding key_named
 key_named-is names p key_is narrow =
     let one = names_with names p.key in
@@ -304,7 +291,7 @@ key_named-is names p key_is narrow =
     (λ few. last_named after _ goal few (ap (λ (n : ℕ). let so : Result Keyed LineCause = Ok (n, term, after) in so) (sym kept))))
 
 -- a put is named, or has an integer that is too wide, or a term that is too long, or finds the table full
-pub put_named-is : (names : List (List ℕ)) (p : PutForm) → is_atom_text p.key ≡ true → is_term_form p.term ≡ true →
+pub put_named-is : (names : Texts) (p : PutForm) → is_atom_text p.key ≡ true → is_term_form p.term ≡ true →
     put_named names (put_words p) ≡ cond (is_wide_term p.term) (Err (causes.Limit which.Integer)) (cond (is_long_term p.term) (Err (causes.Limit which.Term)) (put_or_full (names_after_put names p) p))
 put_named-is names p key_is form =
     let wide = sym (wide_word p.term form) in

@@ -1,58 +1,77 @@
 -- How the text of a script is made of its parts, and whether a line of a text is too long.
-use Rattle.std.proofs.Common.{◌≡◌, ℕ, ◌≤◌, false, ◌||◌, List, [], ◌∷◌, ◌++◌, map, length, take, codes, decimal, Result, OnOk, Some, None, refl, sym, ap, ◌∙◌, append_assoc}
-use Rattle.std.specs.List.{flat_map, list_any}
-use Rattle.std.proofs.lemmas.Grind.{flat_map-append}
-use Rattle.std.proofs.lemmas.List.{take_all}
-use Rattle.std.proofs.lemmas.List.Folds.{flat_map-map}
-use Rattle.std.proofs.lemmas.Result.{IfOk-equal}
-use Rattle.term_core.specs.declared.term.Term.{Term}
-use Rattle.term_core.specs.Plain.{plain}
-use Rattle.term_core.specs.PlainTerm.{row_of}
-use Rattle.term_core.specs.TermText.{term_text}
-use Rattle.term_core.specs.Written.{parted, behind}
+use Rattle.std.proofs.Common.{◌≡◌, ℕ, true, List, [], ◌∷◌, ◌++◌, map, refl, sym, ap, ◌∙◌, append_assoc, ◌≤◌}
+use Rattle.std.proofs.Common.{false, ◌||◌, length, take, codes, decimal, Result, OnOk, Some, None}
+use Rattle.script_text.proofs.Common.{AllByRecursion, flat_map, list_any, flat_map-append, take_all, IfOk-equal, Texts}
+use Rattle.script_text.proofs.Types.{Module, Term, ModRef, Script, ScriptCmd}
 use Rattle.mod_text.specs.Canonical.{canonical as module_lines}
-use Rattle.term_core.specs.Text.Cuts.{cut_at, Lines, lines_of}
-use Rattle.mod_text.specs.ModuleLine.{lines_written}
-use Rattle.term_core.proofs.Text.Cuts.{lines_of_cut, lines_of_tail, uncut_is}
-use Rattle.server_core.specs.declared.command.ModRef.{ModRef}
-use Rattle.script_core.specs.declared.script.Script.{Script}
-use Rattle.script_core.specs.declared.script.ScriptCmd.{ScriptCmd}
-use Rattle.script_text.specs.ScriptLine.{observer, load, go, ref_written, script_line_written}
-use Rattle.script_text.specs.Canonical.{ref_form, argument_form, command_line, observer_form, block_form, observer_bytes, block_bytes, script_line_bytes, canonical_text, is_long_line}
-use Rattle.script_text.proofs.LinesJoined.{codes_bytes, modules_written}
+use Rattle.script_text.proofs.Modules.{LineForm, line_bytes, lines_written}
+use Rattle.script_text.proofs.Texts.{Lines, lines, lines_of, cut_at, lacks, lines_behind, lines_of_cut}
+use Rattle.script_text.proofs.Texts.{lines_of_tail, uncut_is, LackLineFeed, plain, row_of, term_text, parted}
+use Rattle.script_text.proofs.Texts.{behind}
+use Rattle.script_text.proofs.Forms.{ScriptLine, code, script_line_written, observer, load, go, ref_written}
+use Rattle.script_text.proofs.Forms.{code_form, script_line_bytes, ref_form, argument_form, command_line}
+use Rattle.script_text.proofs.Forms.{observer_form, block_form, observer_bytes, block_bytes, canonical_text, is_long_line}
+use Rattle.std.proofs.lemmas.List.Folds.{flat_map-map}
 
--- ---- fronts
+pub lack_of_forms : (forms : List ScriptLine) → LackLineFeed (map script_line_written forms) → AllByRecursion (λ line. lacks 10 (script_line_written line) ≡ true) forms
+lack_of_forms [] h = tt
+lack_of_forms (line ∷ forms) h = (h.0, lack_of_forms forms h.1)
 
--- ---- parts
+-- the lines of the bytes of lines
+pub lines_of_bytes : (forms : List ScriptLine) → AllByRecursion (λ line. lacks 10 (script_line_written line) ≡ true) forms → lines_of (flat_map script_line_bytes forms) ≡ lines (map script_line_written forms) []
+lines_of_bytes [] h = refl
+lines_of_bytes (line ∷ forms) h =
+    let text = script_line_written line in
+    ap lines_of (append_assoc text (10 ∷ []) (flat_map script_line_bytes forms))
+    ∙ lines_behind text (flat_map script_line_bytes forms) h.0
+    ∙ ap (λ (w : Lines). lines (text ∷ w.ended) w.tail) (lines_of_bytes forms h.1)
 
--- the text of a load
-pub load_written : (names : List (List ℕ)) (refs : List ModRef) → script_line_written (load (map (ref_form names) refs)) ≡ codes "load" ++ flat_map (λ r. 32 ∷ ref_written (ref_form names r)) refs
-load_written names refs = ap (λ (t : List ℕ). codes "load" ++ t) (flat_map-map (λ r. 32 ∷ ref_written r) (ref_form names) refs)
+-- the bytes of lines of module texts
+pub codes_bytes : (codes : List LineForm) (more : List ScriptLine) → flat_map script_line_bytes (code_form codes ++ more) ≡ lines_written codes ++ flat_map script_line_bytes more
+codes_bytes [] more = refl
+codes_bytes (line ∷ codes) more =
+    ap (λ (l : List ℕ). script_line_bytes (code line) ++ l) (codes_bytes codes more) ∙ sym (append_assoc (script_line_bytes (code line)) (lines_written codes) (flat_map script_line_bytes more))
 
--- the text of a loader block
-pub block_written : (names : List (List ℕ)) (commands : List ScriptCmd) → block_bytes names commands ≡ codes "loader\n" ++ flat_map (λ command. script_line_bytes (command_line names command)) commands
-block_written names commands = ap (λ (t : List ℕ). codes "loader\n" ++ t) (flat_map-map script_line_bytes (command_line names) commands)
+module _ (names : Texts) where
+  -- the bytes of the canonical lines of modules
+  pub modules_written : (ms : List Module) → lines_written (flat_map (module_lines names) ms) ≡ flat_map (λ m. lines_written (module_lines names m)) ms
+  modules_written [] = refl
+  modules_written (m ∷ ms) = flat_map-append line_bytes (module_lines names m) (flat_map (module_lines names) ms) ∙ ap (λ (l : List ℕ). lines_written (module_lines names m) ++ l) (modules_written ms)
 
-behind_written : (names : List (List ℕ)) (terms : List Term) → behind (row_of (map (argument_form names) (map plain terms))) ≡ flat_map (λ term. 44 ∷ term_text names term) terms
-behind_written names [] = refl
-behind_written names (t ∷ terms) = ap (λ (l : List ℕ). 44 ∷ term_text names t ++ l) (behind_written names terms)
+  -- ---- how the text of a script is made of its parts, and whether a line of a text is too long
 
--- the text of terms: the first, and the others with a comma before each
-pub terms_written : (names : List (List ℕ)) (terms others : List Term) (first : Term) → terms ≡ first ∷ others → parted (row_of (map (argument_form names) (map plain terms))) ≡ term_text names first ++ flat_map (λ term. 44 ∷ term_text names term) others
-terms_written names terms others first e =
-    ap (λ (ts : List Term). parted (row_of (map (argument_form names) (map plain ts)))) e ∙ ap (λ (l : List ℕ). term_text names first ++ l) (behind_written names others)
+  -- ---- fronts
 
-blocks_bytes : (names : List (List ℕ)) (loaders : List (List ScriptCmd)) → flat_map script_line_bytes (flat_map (block_form names) loaders) ≡ flat_map (block_bytes names) loaders
-blocks_bytes names [] = refl
-blocks_bytes names (commands ∷ loaders) = flat_map-append script_line_bytes (block_form names commands) (flat_map (block_form names) loaders) ∙ ap (λ (l : List ℕ). block_bytes names commands ++ l) (blocks_bytes names loaders)
+  -- ---- parts
 
--- the text of observers, of loader blocks and of the end
-others_bytes : (names : List (List ℕ)) (counts : List ℕ) (loaders : List (List ScriptCmd)) → flat_map script_line_bytes (observer_form counts ++ (flat_map (block_form names) loaders ++ go ∷ [])) ≡ flat_map observer_bytes counts ++ (flat_map (block_bytes names) loaders ++ codes "go\n")
-others_bytes names counts loaders =
-    let blocks = flat_map (block_form names) loaders in
-    flat_map-append script_line_bytes (observer_form counts) (blocks ++ go ∷ [])
-    ∙ (λ i. flat_map-map script_line_bytes (λ count. observer (decimal count)) counts i ++ flat_map-append script_line_bytes blocks (go ∷ []) i)
-    ∙ ap (λ (l : List ℕ). flat_map observer_bytes counts ++ (l ++ codes "go\n")) (blocks_bytes names loaders)
+  -- the text of a load
+  pub load_written : (refs : List ModRef) → script_line_written (load (map (ref_form names) refs)) ≡ codes "load" ++ flat_map (λ r. 32 ∷ ref_written (ref_form names r)) refs
+  load_written refs = ap (λ (t : List ℕ). codes "load" ++ t) (flat_map-map (λ r. 32 ∷ ref_written r) (ref_form names) refs)
+
+  -- the text of a loader block
+  pub block_written : (commands : List ScriptCmd) → block_bytes names commands ≡ codes "loader\n" ++ flat_map (λ command. script_line_bytes (command_line names command)) commands
+  block_written commands = ap (λ (t : List ℕ). codes "loader\n" ++ t) (flat_map-map script_line_bytes (command_line names) commands)
+
+  behind_written : (terms : List Term) → behind (row_of (map (argument_form names) (map plain terms))) ≡ flat_map (λ term. 44 ∷ term_text names term) terms
+  behind_written [] = refl
+  behind_written (t ∷ terms) = ap (λ (l : List ℕ). 44 ∷ term_text names t ++ l) (behind_written terms)
+
+  -- the text of terms: the first, and the others with a comma before each
+  pub terms_written : (terms others : List Term) (first : Term) → terms ≡ first ∷ others → parted (row_of (map (argument_form names) (map plain terms))) ≡ term_text names first ++ flat_map (λ term. 44 ∷ term_text names term) others
+  terms_written terms others first e =
+      ap (λ (ts : List Term). parted (row_of (map (argument_form names) (map plain ts)))) e ∙ ap (λ (l : List ℕ). term_text names first ++ l) (behind_written others)
+
+  blocks_bytes : (loaders : List (List ScriptCmd)) → flat_map script_line_bytes (flat_map (block_form names) loaders) ≡ flat_map (block_bytes names) loaders
+  blocks_bytes [] = refl
+  blocks_bytes (commands ∷ loaders) = flat_map-append script_line_bytes (block_form names commands) (flat_map (block_form names) loaders) ∙ ap (λ (l : List ℕ). block_bytes names commands ++ l) (blocks_bytes loaders)
+
+  -- the text of observers, of loader blocks and of the end
+  others_bytes : (counts : List ℕ) (loaders : List (List ScriptCmd)) → flat_map script_line_bytes (observer_form counts ++ (flat_map (block_form names) loaders ++ go ∷ [])) ≡ flat_map observer_bytes counts ++ (flat_map (block_bytes names) loaders ++ codes "go\n")
+  others_bytes counts loaders =
+      let blocks = flat_map (block_form names) loaders in
+      flat_map-append script_line_bytes (observer_form counts) (blocks ++ go ∷ [])
+      ∙ (λ i. flat_map-map script_line_bytes (λ count. observer (decimal count)) counts i ++ flat_map-append script_line_bytes blocks (go ∷ []) i)
+      ∙ ap (λ (l : List ℕ). flat_map observer_bytes counts ++ (l ++ codes "go\n")) (blocks_bytes loaders)
 
 -- the text of a script: the head, the modules, the observers, the loader blocks and the end
 pub script_written : (s : Script) → canonical_text s ≡ codes "beam script 1\n" ++ (flat_map (λ m. lines_written (module_lines s.names m)) s.modules ++ (flat_map observer_bytes s.observers ++ (flat_map (block_bytes s.names) s.loaders ++ codes "go\n")))
@@ -74,7 +93,7 @@ none_long rest uncut = ap (λ (w : Lines). list_any is_long_line w.ended) (lines
 -- ---- ends
 
 -- a load of which all modules are written
-pub load_at : (names : List (List ℕ)) (refs : List ModRef) (i : ℕ) (start out : List ℕ) → out ≡ (start ++ codes "load") ++ flat_map (λ r. 32 ∷ ref_written (ref_form names r)) (take i refs) → length refs ≤ i → out ≡ start ++ script_line_written (load (map (ref_form names) refs))
+pub load_at : (names : Texts) (refs : List ModRef) (i : ℕ) (start out : List ℕ) → out ≡ (start ++ codes "load") ++ flat_map (λ r. 32 ∷ ref_written (ref_form names r)) (take i refs) → length refs ≤ i → out ≡ start ++ script_line_written (load (map (ref_form names) refs))
 load_at names refs i start out so_far past =
     let each : ModRef → List ℕ = λ r. 32 ∷ ref_written (ref_form names r) in
     so_far
@@ -83,7 +102,7 @@ load_at names refs i start out so_far past =
     ∙ ap (λ (t : List ℕ). start ++ t) (sym (load_written names refs))
 
 -- a block of which all commands are written
-pub block_at : (names : List (List ℕ)) (commands : List ScriptCmd) (i : ℕ) (start out : List ℕ) → out ≡ (start ++ codes "loader\n") ++ flat_map (λ command. script_line_bytes (command_line names command)) (take i commands) → length commands ≤ i → out ≡ start ++ block_bytes names commands
+pub block_at : (names : Texts) (commands : List ScriptCmd) (i : ℕ) (start out : List ℕ) → out ≡ (start ++ codes "loader\n") ++ flat_map (λ command. script_line_bytes (command_line names command)) (take i commands) → length commands ≤ i → out ≡ start ++ block_bytes names commands
 block_at names commands i start out so_far past =
     let each : ScriptCmd → List ℕ = λ command. script_line_bytes (command_line names command) in
     so_far

@@ -1,12 +1,9 @@
 -- The loops that read the parts of a line into words that the code keeps.
-use Rattle.std.proofs.Common.{◌≡◌, ℕ, List, [], ◌∷◌, ◌++◌, Option, Some, None, option_map, Ok, refl, subst}
-use Rattle.term_core.specs.Text.Parts.{each_reading}
-use Rattle.term_core.specs.Text.Steps.{◌>>=◌}
-use Rattle.term_core.proofs.Text.Reads.{with_read, split, reads_on}
-use Rattle.script_text.specs.declared.reading.cause.LineCause.{LineCause}
+use Rattle.script_text.proofs.Common.{◌≡◌, ℕ, List, [], ◌∷◌, ◌++◌, Option, Some, None, option_map, Ok, refl, subst}
+use Rattle.script_text.proofs.Texts.{each_reading, ◌>>=◌, with_read, split, reads_on}
+use Rattle.script_text.proofs.Types.{LineCause}
+use Rattle.script_text.proofs.Forms.{Fails, or_syntax}
 use Rattle.script_text.specs.declared.reading.cause.LineCause.TheVariants as causes
-use Rattle.script_text.specs.Causes.{Fails}
-use Rattle.script_text.specs.Naming.{or_syntax}
 
 -- a part that is read, seen by words
 abbrev pub worded : {X W : Type 0} → (X → W) → (List ℕ → Option X) → List ℕ → Option W

@@ -1,26 +1,15 @@
 -- The script that a text says is one: its modules can be loaded, each load and each spawn can be made, and it is within the limits.
-use Rattle.std.proofs.Common.{◌≡◌, ℕ, zero, suc, ◌<◌, ◌==◌, true, false, List, [], ◌∷◌, ◌++◌, map, Some, slice_get, sym, ap, ◌∙◌, subst, arith, append-nil}
-use Rattle.std.specs.List.{AllByRecursion}
-use Rattle.std.proofs.lemmas.Bool.{and_from}
-use Rattle.std.proofs.lemmas.Bool.Decides.{Decides-eqb}
-use Rattle.term_core.specs.declared.atom.AtomId.{AtomId}
-use Rattle.term_core.proofs.Text.Cuts.{lacks}
-use Rattle.term_core.proofs.Text.Parts.{ended_lack}
-use Rattle.term_core.proofs.Text.Options.{some_is}
-use Rattle.term_core.proofs.NameTables.{given_names-IsNames}
-use Rattle.mod_core.specs.declared.code.Module.{Module}
-use Rattle.script_core.specs.declared.script.Script.{Script}
-use Rattle.script_core.specs.declared.script.ScriptCmd.{ScriptCmd}
-use Rattle.script_core.specs.Sound.{IsCmdOf, IsScript}
-use Rattle.script_text.specs.LineStep.{opening, script_of}
-use Rattle.script_text.specs.ScriptText.{ScriptText}
-use Rattle.script_text.specs.Sets.{is_same_mod_ref}
-use Rattle.script_text.proofs.Commands.{ref_of, IsToldBy, told_command}
-use Rattle.script_text.proofs.LinesJoined.{lack_of_forms}
+use Rattle.std.proofs.Common.{◌≡◌, ℕ, zero, suc, ◌<◌, ◌==◌, true, false, List, [], ◌∷◌, ◌++◌, map}
+use Rattle.std.proofs.Common.{Some, slice_get, sym, ap, ◌∙◌, subst, arith, append-nil}
+use Rattle.script_text.proofs.Common.{AllByRecursion, and_from, Decides-eqb, Texts}
+use Rattle.script_text.proofs.Types.{AtomId, Module, Script, ScriptCmd}
+use Rattle.script_text.proofs.Texts.{lacks, ended_lack, some_is, given_names-IsNames}
+use Rattle.script_text.proofs.Modules.{IsCmdOf, IsScript, LineForm}
+use Rattle.script_text.proofs.Forms.{opening, script_of, ScriptText, is_same_mod_ref}
+use Rattle.script_text.proofs.Commands.{ref_of, IsToldBy, told_command, steps_table}
+use Rattle.script_text.proofs.PrintedText.{lack_of_forms}
 use Rattle.script_text.proofs.StepKept.{opening_kept}
-use Rattle.script_text.proofs.StepNames.{steps_table}
 use Rattle.script_text.proofs.Told.{open_ref, AreApart, Stands, IsTold, LackFeeds, told}
-use Rattle.mod_text.specs.ModuleLine.{LineForm}
 
 -- ---- no two modules agree
 
@@ -45,46 +34,48 @@ modules_apart (t ∷ ms) apart (suc i) (suc j) m n less at there name version = 
 
 -- ---- commands
 
-block_is : (names : List (List ℕ)) (texts : List Module) (commands : List ScriptCmd) → AllByRecursion (IsToldBy names texts) commands → AllByRecursion (IsCmdOf names texts) commands
-block_is names texts [] h = tt
-block_is names texts (c ∷ commands) h = (told_command names texts c h.0, block_is names texts commands h.1)
+module _ (names : Texts) (texts : List Module) where
+  block_is : (commands : List ScriptCmd) → AllByRecursion (IsToldBy names texts) commands → AllByRecursion (IsCmdOf names texts) commands
+  block_is [] h = tt
+  block_is (c ∷ commands) h = (told_command names texts c h.0, block_is commands h.1)
 
-blocks_are : (names : List (List ℕ)) (texts : List Module) (loaders : List (List ScriptCmd)) → AllByRecursion (AllByRecursion (IsToldBy names texts)) loaders → AllByRecursion (AllByRecursion (IsCmdOf names texts)) loaders
-blocks_are names texts [] h = tt
-blocks_are names texts (commands ∷ loaders) h = (block_is names texts commands h.0, blocks_are names texts loaders h.1)
+  blocks_are : (loaders : List (List ScriptCmd)) → AllByRecursion (AllByRecursion (IsToldBy names texts)) loaders → AllByRecursion (AllByRecursion (IsCmdOf names texts)) loaders
+  blocks_are [] h = tt
+  blocks_are (commands ∷ loaders) h = (block_is commands h.0, blocks_are loaders h.1)
 
 -- ---- texts
 
--- no line of a text has a line feed
-pub feeds_lack : (text : List ℕ) (s : Script) (t : ScriptText text s) → LackFeeds t.lines
-feeds_lack text s t = lack_of_forms t.lines (subst (λ (ls : List (List ℕ)). AllByRecursion (λ line. lacks 10 line ≡ true) ls) t.whole.lines_are.written (ended_lack text))
+module _ (text : List ℕ) (s : Script) (t : ScriptText text s) where
+  -- no line of a text has a line feed
+  pub feeds_lack : LackFeeds t.lines
+  feeds_lack = lack_of_forms t.lines (subst (λ (ls : Texts). AllByRecursion (λ line. lacks 10 line ≡ true) ls) t.whole.lines_are.written (ended_lack text))
 
--- what a text tells
-pub text_told : (text : List ℕ) (s : Script) (t : ScriptText text s) → IsTold t.known.names t.lines t.known
-text_told text s t = let are = t.whole.lines_are in told t.lines t.known are.known_is are.sound (feeds_lack text s t) t.found
+  -- what a text tells
+  pub text_told : IsTold t.known.names t.lines t.known
+  text_told = let are = t.whole.lines_are in told t.lines t.known are.known_is are.sound feeds_lack t.found
 
-pub none_open : (text : List ℕ) (s : Script) (t : ScriptText text s) → t.known.lines ≡ []
-none_open text s t = subst (Stands t.lines t.known) t.whole.finished (text_told text s t).stands
+  pub none_open : t.known.lines ≡ []
+  none_open = subst (Stands t.lines t.known) t.whole.finished text_told.stands
 
-pub titles_are : (text : List ℕ) (s : Script) (t : ScriptText text s) → t.known.titles ≡ map ref_of t.known.modules
-titles_are text s t =
-    sym (text_told text s t).titles.are ∙ ap (λ (ls : List LineForm). map ref_of t.known.modules ++ open_ref t.known.names ls) (none_open text s t) ∙ append-nil (map ref_of t.known.modules)
+  pub titles_are : t.known.titles ≡ map ref_of t.known.modules
+  titles_are =
+      sym text_told.titles.are ∙ ap (λ (ls : List LineForm). map ref_of t.known.modules ++ open_ref t.known.names ls) none_open ∙ append-nil (map ref_of t.known.modules)
 
-pub script_is : (text : List ℕ) (s : Script) (t : ScriptText text s) → IsScript (script_of t.known)
-script_is text s t =
-    let h = text_told text s t in
-    let are = t.whole.lines_are in
-    let l = h.loaders in
-    record {
-      names = steps_table opening 1 t.lines t.known given_names-IsNames opening_kept are.sound are.known_is;
-      texts = record { sound = h.modules.sound; apart = modules_apart t.known.modules (subst AreApart (titles_are text s t) h.titles.apart) };
-      held = h.modules.held;
-      commands = blocks_are t.known.names t.known.modules t.known.loaders l.told;
-      few_loaders = l.few;
-      few_processes = omega (arith, l.spawns, l.few_processes);
-      few_observers = h.observers.few;
-      snapshots = h.observers.snapshots;
-    }
+  pub script_is : IsScript (script_of t.known)
+  script_is =
+      let h = text_told in
+      let are = t.whole.lines_are in
+      let l = h.loaders in
+      record {
+        names = steps_table opening 1 t.lines t.known given_names-IsNames opening_kept are.sound are.known_is;
+        texts = record { sound = h.modules.sound; apart = modules_apart t.known.modules (subst AreApart titles_are h.titles.apart) };
+        held = h.modules.held;
+        commands = blocks_are t.known.names t.known.modules t.known.loaders l.told;
+        few_loaders = l.few;
+        few_processes = omega (arith, l.spawns, l.few_processes);
+        few_observers = h.observers.few;
+        snapshots = h.observers.snapshots;
+      }
 
 -- what a text says is a script
 pub sound_of : (text : List ℕ) (s : Script) → ScriptText text s → IsScript s

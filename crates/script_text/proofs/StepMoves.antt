@@ -1,29 +1,84 @@
 -- What a line does that is not refused: one of seven moves, each with what it passed and what is known behind it.
-use Rattle.std.proofs.Common.{◌≡◌, ℕ, ◌≤◌, Bool, true, false, cond, nat_le, nat_lt, List, [], ◌∷◌, ◌++◌, length, Option, Some, None, Result, Ok, Err, refl, sym, subst}
-use Rattle.std.specs.Prelude.{fold}
-use Rattle.term_core.specs.declared.atom.Mfa.{Mfa}
-use Rattle.term_core.specs.Text.Numbers.{number_value}
-use Rattle.term_core.specs.TermText.{names_with_all}
-use Rattle.term_core.proofs.Truths.{test_not_lt}
-use Rattle.mod_text.specs.declared.fault.LineFault.{LineFault}
-use Rattle.mod_text.specs.ModuleLine.{LineForm, title}
-use Rattle.mod_text.specs.LineFaults.{last_line, may_follow, names_after, fault_of_line, counted_name}
-use Rattle.mod_text.specs.Reading.{judged, kept}
-use Rattle.server_core.specs.declared.command.ModRef.{ModRef}
-use Rattle.script_text.specs.declared.fault.Which.TheVariants as which
-use Rattle.script_text.specs.declared.reading.cause.LineCause.{LineCause}
+use Rattle.std.proofs.Common.{◌≡◌, Result, Ok, ℕ, ◌+◌, List, [], ◌∷◌, ◌++◌, length, Err, refl, sym, ap, ◌∙◌, arith}
+use Rattle.std.proofs.Common.{length-append, IsTrue, ◌≤◌, Bool, true, false, cond, nat_le, nat_lt, Option, Some, None, subst}
+use Rattle.script_text.proofs.Common.{AllByRecursion, fold}
+use Rattle.script_text.proofs.Types.{LineCause, Place, Between, Observing, Loading, Finished, Unread, Within, Mfa, LineFault, ModRef}
+use Rattle.script_text.proofs.Forms.{ScriptLine, go, is_script_line, RefForm, head, code, observer, loader, load}
+use Rattle.script_text.proofs.Forms.{on_atom, put, trace, spawn, ◌>>=◌, onto_last, script_line_atoms}
+use Rattle.script_text.proofs.Forms.{ref_in, commands_on, or_else, is_wide, is_long, is_among, counted_added}
+use Rattle.script_text.specs.LineStep.{Known, step_at, step, steps, by_code, step_titled, step_title, text_closed, code_judged}
+use Rattle.script_text.specs.LineStep.{step_code, names_added, spawned_in, processes_with, loads_given, step_named}
+use Rattle.script_text.specs.LineStep.{step_command, step_head, step_within, step_observing, step_between, step_loading}
 use Rattle.script_text.specs.declared.reading.cause.LineCause.TheVariants as causes
-use Rattle.script_text.specs.declared.reading.reader.Place.{Place}
-use Rattle.script_text.specs.declared.reading.reader.Place.TheVariants.{Unread, Between, Within, Observing, Loading, Finished}
-use Rattle.script_text.specs.ScriptLine.{RefForm, ScriptLine, head, code, observer, loader, load, on_atom, put, trace, spawn, go}
-use Rattle.script_text.specs.Groups.{onto_last}
-use Rattle.script_text.specs.Counts.{script_line_atoms}
-use Rattle.script_text.specs.ScriptValue.{ref_in, commands_on}
-use Rattle.script_text.specs.LineFaults.{or_else, is_wide, is_long}
-use Rattle.script_text.specs.Causes.{◌>>=◌}
-use Rattle.script_text.specs.Sets.{is_among}
-use Rattle.script_text.specs.Adding.{counted_added}
-use Rattle.script_text.specs.LineStep.{Known, by_code, step_titled, step_title, text_closed, code_judged, step_code, names_added, spawned_in, processes_with, loads_given, step_named, step_command, step_head, step_within, step_observing, step_between, step_loading, step_at, step}
+use Rattle.script_text.specs.declared.fault.Which.TheVariants as which
+use Rattle.script_text.proofs.Texts.{number_value, names_with_all, test_not_lt}
+use Rattle.script_text.proofs.Modules.{LineForm, title, last_line, may_follow, names_after, fault_of_line, counted_name, judged, kept}
+
+pub ok_is : {A E : Type 0} (x y : A) → ◌≡◌ {A = Result A E} (Ok x) (Ok y) → x ≡ y
+ok_is x y e = cc
+
+-- ---- lines one after another, and the end of a script, by what is known
+
+-- each has its text
+abbrev pub AreSound : List ScriptLine → Type 0
+AreSound lines = AllByRecursion (λ line. IsTrue (is_script_line line)) lines
+
+-- ---- one after another
+
+pub length-snoc : {X : Type 0} (xs : List X) (x : X) → length (xs ++ x ∷ []) ≡ length xs + 1
+length-snoc xs x = simp length-append
+
+pub bind_ok : {A B : Type 0} (x : Result A LineCause) (f : A → Result B LineCause) (y : B) → (x >>= f) ≡ Ok y → (a : A) × (x ≡ Ok a) × (f a ≡ Ok y)
+bind_ok (Ok a) f y e = (a, refl, e)
+bind_ok (Err cause) f y e = absurd cc
+
+-- lines behind lines
+pub steps-append : (s : Known) (number : ℕ) (xs ys : List ScriptLine) (known : Known) → steps s number xs ≡ Ok known → steps s number (xs ++ ys) ≡ steps known (length xs + number) ys
+steps-append s number [] ys known e =
+    let same : s ≡ known = ok_is s known e in
+    let here : number ≡ length {A = ScriptLine} [] + number = omega arith in
+    λ i. steps (same i) (here i) ys
+steps-append s number (l ∷ xs) ys known e =
+    let first = bind_ok (step s number l) (λ next. steps next (number + 1) xs) known e in
+    let here : length xs + (number + 1) ≡ length (l ∷ xs) + number = omega arith in
+    ap (λ (x : Result Known LineCause). x >>= λ next. steps next (number + 1) (xs ++ ys)) first.1
+    ∙ steps-append first.0 (number + 1) xs ys known first.2
+    ∙ ap (λ (n : ℕ). steps known n ys) here
+
+bind_self : {A : Type 0} (x : Result A LineCause) → (x >>= λ y. Ok y) ≡ x
+bind_self (Ok a) = refl
+bind_self (Err cause) = refl
+
+-- a line more
+pub steps-snoc : (s : Known) (number : ℕ) (lines : List ScriptLine) (line : ScriptLine) (known : Known) → steps s number lines ≡ Ok known → steps s number (lines ++ line ∷ []) ≡ step known (length lines + number) line
+steps-snoc s number lines line known e = steps-append s number lines (line ∷ []) known e ∙ bind_self (step known (length lines + number) line)
+
+-- ---- the end
+
+ended : (s next : Known) → ◌≡◌ {A = Result Known LineCause} (Ok (record s { place = Finished })) (Ok next) → next.place ≡ Finished
+ended s next e = ap (λ (k : Known). k.place) (sym (ok_is (record s { place = Finished }) next e))
+
+-- `go` ends the script
+pub go_ends : (s : Known) (number : ℕ) (next : Known) → step s number go ≡ Ok next → next.place ≡ Finished
+go_ends s number next e = by_place s.place e
+  where
+    by_place : (p : Place) → step_at s number p go ≡ Ok next → next.place ≡ Finished
+    by_place Between e = ended s next e
+    by_place Observing e = ended s next e
+    by_place Loading e = ended s next e
+    by_place p e = absurd cc
+
+-- or may not stand there
+pub go_fails : (s : Known) (number : ℕ) (cause : LineCause) → step s number go ≡ Err cause → cause ≡ causes.Syntax
+go_fails s number cause e = by_place s.place e
+  where
+    by_place : (p : Place) → step_at s number p go ≡ Err cause → cause ≡ causes.Syntax
+    by_place Between e = absurd cc
+    by_place Observing e = absurd cc
+    by_place Loading e = absurd cc
+    by_place p e = cc
+
+-- ---- what a line does that is not refused: one of seven moves, each with what it passed and what is known behind it
 
 -- ---- the moves
 
@@ -145,47 +200,48 @@ command_moves s number line place is =
         moves_on s number line (counted_added s.functions (spawned_in after line)) (λ functions. processes_with s.processes line >>= λ processes. Ok (with_command s number line functions processes))
         (λ functions f. moves_on s number line (processes_with s.processes line) (λ processes. Ok (with_command s number line functions processes)) (λ processes p. commands line functions processes place is passed f p))
 
-observing_moves : (s : Known) (number : ℕ) (line : ScriptLine) → IsFront s.place → Moves s number line (step_observing s line)
-observing_moves s number (observer count) front = moves_if s number (observer count) (causes.Limit which.Observers) _ (nat_le 4 (length s.observers)) (λ few. observes count front few)
-observing_moves s number loader front = moves_if s number loader (causes.Limit which.Loaders) _ (nat_le 8 (length s.loaders)) (λ few. blocks (front_outside s.place front) few)
-observing_moves s number go front = ends (front_outside s.place front)
-observing_moves s number line front = tt
+module _ (s : Known) (number : ℕ) where
+  observing_moves : (line : ScriptLine) → IsFront s.place → Moves s number line (step_observing s line)
+  observing_moves (observer count) front = moves_if s number (observer count) (causes.Limit which.Observers) _ (nat_le 4 (length s.observers)) (λ few. observes count front few)
+  observing_moves loader front = moves_if s number loader (causes.Limit which.Loaders) _ (nat_le 8 (length s.loaders)) (λ few. blocks (front_outside s.place front) few)
+  observing_moves go front = ends (front_outside s.place front)
+  observing_moves line front = tt
 
-between_moves : (s : Known) (number : ℕ) (line : ScriptLine) → s.place ≡ Between → IsFront s.place → Moves s number line (step_between s number line)
-between_moves s number (code (title name version)) place front = title_moves s number (record { name = name; version = version }) place
-between_moves s number (observer count) place front = observing_moves s number (observer count) front
-between_moves s number loader place front = observing_moves s number loader front
-between_moves s number go place front = observing_moves s number go front
-between_moves s number line place front = tt
+  between_moves : (line : ScriptLine) → s.place ≡ Between → IsFront s.place → Moves s number line (step_between s number line)
+  between_moves (code (title name version)) place front = title_moves s number (record { name = name; version = version }) place
+  between_moves (observer count) place front = observing_moves (observer count) front
+  between_moves loader place front = observing_moves loader front
+  between_moves go place front = observing_moves go front
+  between_moves line place front = tt
 
-loading_moves : (s : Known) (number : ℕ) (line : ScriptLine) → s.place ≡ Loading → IsOutside s.place → Moves s number line (step_loading s number line)
-loading_moves s number head place out = tt
-loading_moves s number (code line) place out = tt
-loading_moves s number (observer count) place out = tt
-loading_moves s number loader place out = moves_if s number loader (causes.Limit which.Loaders) _ (nat_le 8 (length s.loaders)) (λ few. blocks out few)
-loading_moves s number go place out = ends out
-loading_moves s number (load refs) place out = command_moves s number (load refs) place tt
-loading_moves s number (on_atom c name) place out = command_moves s number (on_atom c name) place tt
-loading_moves s number (put key t) place out = command_moves s number (put key t) place tt
-loading_moves s number (trace name f arity on) place out = command_moves s number (trace name f arity on) place tt
-loading_moves s number (spawn name f args) place out = command_moves s number (spawn name f args) place tt
+  loading_moves : (line : ScriptLine) → s.place ≡ Loading → IsOutside s.place → Moves s number line (step_loading s number line)
+  loading_moves head place out = tt
+  loading_moves (code line) place out = tt
+  loading_moves (observer count) place out = tt
+  loading_moves loader place out = moves_if s number loader (causes.Limit which.Loaders) _ (nat_le 8 (length s.loaders)) (λ few. blocks out few)
+  loading_moves go place out = ends out
+  loading_moves (load refs) place out = command_moves s number (load refs) place tt
+  loading_moves (on_atom c name) place out = command_moves s number (on_atom c name) place tt
+  loading_moves (put key t) place out = command_moves s number (put key t) place tt
+  loading_moves (trace name f arity on) place out = command_moves s number (trace name f arity on) place tt
+  loading_moves (spawn name f args) place out = command_moves s number (spawn name f args) place tt
 
-head_moves : (s : Known) (number : ℕ) (line : ScriptLine) → s.place ≡ Unread → Moves s number line (step_head s line)
-head_moves s number head place = begins place
-head_moves s number line place = tt
+  head_moves : (line : ScriptLine) → s.place ≡ Unread → Moves s number line (step_head s line)
+  head_moves head place = begins place
+  head_moves line place = tt
 
-within_moves : (s : Known) (number : ℕ) (line : ScriptLine) → s.place ≡ Within → Moves s number line (step_within s line)
-within_moves s number (code line) place = code_moves s number line place
-within_moves s number line place = tt
+  within_moves : (line : ScriptLine) → s.place ≡ Within → Moves s number line (step_within s line)
+  within_moves (code line) place = code_moves s number line place
+  within_moves line place = tt
 
--- what is known next is what a move leaves
-pub moves : (s : Known) (number : ℕ) (line : ScriptLine) (next : Known) → step s number line ≡ Ok next → Move s number line next
-moves s number line next e = subst (Moves s number line) e (by_place s.place refl)
-  where
-    by_place : (p : Place) → s.place ≡ p → Moves s number line (step_at s number p line)
-    by_place Unread place = head_moves s number line place
-    by_place Between place = between_moves s number line place (subst IsFront (sym place) tt)
-    by_place Within place = within_moves s number line place
-    by_place Observing place = observing_moves s number line (subst IsFront (sym place) tt)
-    by_place Loading place = loading_moves s number line place (subst IsOutside (sym place) tt)
-    by_place Finished place = tt
+  -- what is known next is what a move leaves
+  pub moves : (line : ScriptLine) (next : Known) → step s number line ≡ Ok next → Move s number line next
+  moves line next e = subst (Moves s number line) e (by_place s.place refl)
+    where
+      by_place : (p : Place) → s.place ≡ p → Moves s number line (step_at s number p line)
+      by_place Unread place = head_moves line place
+      by_place Between place = between_moves line place (subst IsFront (sym place) tt)
+      by_place Within place = within_moves line place
+      by_place Observing place = observing_moves line (subst IsFront (sym place) tt)
+      by_place Loading place = loading_moves line place (subst IsOutside (sym place) tt)
+      by_place Finished place = tt

@@ -1,22 +1,31 @@
--- The text of a term that stands in a line: its one written term, and what is read of it.
-use Rattle.std.proofs.Common.{◌≡◌, ℕ, Bool, true, false, List, [], ◌∷◌, Some, option_map, cond, ◌||◌, ◌==◌, refl, sym, ap, ◌∙◌, subst}
-use Rattle.std.proofs.lemmas.Bool.{and_parts, and_from}
-use Rattle.std.proofs.lemmas.Bool.Decides.{Decides-eqb}
+-- The terms of a line: the text of each, and what they are by names that hold their atoms.
+use Rattle.script_text.proofs.Common.{◌≡◌, ℕ, Bool, true, false, List, [], ◌∷◌, Some, option_map, cond, ◌||◌, ◌==◌}
+use Rattle.script_text.proofs.Common.{refl, sym, ap, ◌∙◌, subst, ◌<◌, ◌≤◌, ◌&&◌, nat_le, decimal, Texts}
+use Rattle.script_text.proofs.Common.{Option, unwrap_or, arith, ◌++◌, pos, is_some, and_parts, and_from}
+use Rattle.script_text.proofs.Common.{Decides-eqb, signed_decimal, map, AllByRecursion, flat_map, list_all}
 use Rattle.term_core.specs.Faults.{IsTextOf}
-use Rattle.term_core.specs.Names.{is_atom_text}
-use Rattle.term_core.specs.PlainTerm.{TermOf, RowOf, integer_leaf, atom_leaf, tuple_of, list_of, no_terms, term_then}
-use Rattle.term_core.specs.TermForms.{is_term_text, is_complex_text, tree_of, IsFormOf}
-use Rattle.term_core.specs.Written.{WrittenTerm, written, is_integer_text, HasLeafTexts}
+use Rattle.script_text.proofs.Texts.{is_atom_text, Extends, TermOf, RowOf, integer_leaf, atom_leaf, tuple_of}
+use Rattle.script_text.proofs.Texts.{list_of, no_terms, term_then, PlainTerm, EachInRow, map_row, atoms_of}
+use Rattle.script_text.proofs.Texts.{row_atoms, is_term_text, is_complex_text, tree_of, IsFormOf, is_wide_text}
+use Rattle.script_text.proofs.Texts.{WrittenTerm, written, is_integer_text, HasLeafTexts, IsTermInteger}
+use Rattle.script_text.proofs.Texts.{IntegersFit, integer_of, outside_of, is_term_byte, term_bytes-written}
+use Rattle.script_text.proofs.Texts.{is_term_text-form, form_is, tree_is, tested, lacks, lacks-all, some}
+use Rattle.script_text.proofs.Texts.{some_is, map_some, passed, failed, tested_is, tested_at, atom_text}
+use Rattle.script_text.proofs.Texts.{number_in, term_text, slice_get-number_of, number_value, is_number_text}
+use Rattle.script_text.proofs.Texts.{decimal_again, test_le, none_by, HasNumber, term_of, plain-term_of}
+use Rattle.term_core.specs.TermForms.{term_atoms, term_in}
 use Rattle.term_core.proofs.Shapes.{no_atom_text}
-use Rattle.term_core.proofs.TermBytes.{is_term_byte, term_bytes-written}
-use Rattle.term_core.proofs.TermForms.{is_term_text-form, form_is, tree_is}
 use Rattle.term_core.proofs.WrittenTokens.{RowHasLeafTexts}
-use Rattle.term_core.specs.Text.Steps.{tested}
-use Rattle.term_core.proofs.Text.Cuts.{lacks, lacks-all}
-use Rattle.term_core.proofs.Text.Options.{some, some_is, map_some, passed, failed, tested_is, tested_at}
-use Rattle.script_text.specs.ScriptLine.{is_term_form, is_row_form}
-use Rattle.script_text.specs.LineReading.{argument_reading}
+use Rattle.script_text.proofs.Forms.{is_term_form, is_row_form, is_snapshots_text, argument_reading, argument_form, argument_in}
 use Rattle.script_text.specs.KeptTerm.{complex, argument_words}
+use Rattle.script_text.proofs.Modules.{is_version_text, is_arity_text, are_atoms, both_atoms}
+use Rattle.script_text.proofs.HeldNames.{number_is, number_in-more, number_in-after}
+use Rattle.term_core.specs.Tokens.{Token, opened, shut, leaf, tokens_in, atoms_among, leaf_of, shut_terms, built}
+use Rattle.term_core.specs.Tops.{top_of, without_top}
+use Rattle.term_core.proofs.IntegerTexts.{signed_decimal-integer_of}
+use Rattle.term_core.proofs.Ranges.{fits_of_none}
+use Rattle.term_core.proofs.Text.Items.{IsItem}
+use Rattle.mod_text.proofs.Readers.{Reader, fitting}
 
 -- ---- forms
 
@@ -66,32 +75,38 @@ argument_again (atom_leaf text) h = passed (is_atom_text text) (some (atom_leaf 
 argument_again (tuple_of row) h = complex_again (tuple_of row) h (is_term_text-form (written (tuple_of row)) (tuple_of row) (text_of_form (tuple_of row) h))
 argument_again (list_of row) h = complex_again (list_of row) h (is_term_text-form (written (list_of row)) (list_of row) (text_of_form (list_of row) h))
 
+abbrev pub IsTermForm : WrittenTerm → Type 0
+IsTermForm t = is_term_form t ≡ true
+
 -- the text is that of this form
-pub record IsArgument (text : List ℕ) (t : WrittenTerm) : Type 0 where
-  pub text_is : text ≡ written t
-  pub sound : is_term_form t ≡ true
+abbrev IsArgument : List ℕ → WrittenTerm → Type 0
+IsArgument text t = IsItem written IsTermForm text t
 
 complex_text : (text : List ℕ) → is_complex_text text ≡ true → IsFormOf text (tree_of text)
 complex_text text h = tree_is text (and_parts _ (is_term_text text) h).1
 
-complex_is : (text : List ℕ) (t : WrittenTerm) → option_map tree_of (tested is_complex_text text) ≡ Some t → IsArgument text t
-complex_is text t e =
-    let m = map_some tree_of (tested is_complex_text text) t e in
-    let is = tested_is is_complex_text text m.0 m.1 in
-    let form = complex_text m.0 is.1 in
-    subst (IsArgument text) m.2 (record { text_is = is.0 ∙ form.is_text.whole; sound = sound_form (tree_of m.0) form.is_text.leaves })
+module _ (text : List ℕ) (t : WrittenTerm) where
+  complex_is : option_map tree_of (tested is_complex_text text) ≡ Some t → IsArgument text t
+  complex_is e =
+      let m = map_some tree_of (tested is_complex_text text) t e in
+      let is = tested_is is_complex_text text m.0 m.1 in
+      let form = complex_text m.0 is.1 in
+      subst (IsArgument text) m.2 (record { text_is = is.0 ∙ form.is_text.whole; fits = sound_form (tree_of m.0) form.is_text.leaves })
 
-integer_is : (text : List ℕ) (t : WrittenTerm) (b : Bool) → is_integer_text text ≡ b → cond b (Some (integer_leaf text)) (option_map tree_of (tested is_complex_text text)) ≡ Some t → IsArgument text t
-integer_is text t true h e = subst (IsArgument text) (some_is (integer_leaf text) t e) (record { text_is = refl; sound = h })
-integer_is text t false h e = complex_is text t e
+  integer_is : (b : Bool) → is_integer_text text ≡ b → cond b (Some (integer_leaf text)) (option_map tree_of (tested is_complex_text text)) ≡ Some t → IsArgument text t
+  integer_is true h e = subst (IsArgument text) (some_is (integer_leaf text) t e) (record { text_is = refl; fits = h })
+  integer_is false h e = complex_is e
 
-atom_is : (text : List ℕ) (t : WrittenTerm) (b : Bool) → is_atom_text text ≡ b → cond b (Some (atom_leaf text)) (cond (is_integer_text text) (Some (integer_leaf text)) (option_map tree_of (tested is_complex_text text))) ≡ Some t → IsArgument text t
-atom_is text t true h e = subst (IsArgument text) (some_is (atom_leaf text) t e) (record { text_is = refl; sound = h })
-atom_is text t false h e = integer_is text t (is_integer_text text) refl e
+  atom_is : (b : Bool) → is_atom_text text ≡ b → cond b (Some (atom_leaf text)) (cond (is_integer_text text) (Some (integer_leaf text)) (option_map tree_of (tested is_complex_text text))) ≡ Some t → IsArgument text t
+  atom_is true h e = subst (IsArgument text) (some_is (atom_leaf text) t e) (record { text_is = refl; fits = h })
+  atom_is false h e = integer_is (is_integer_text text) refl e
 
--- what is read is a form with this text
-pub argument_is : (text : List ℕ) (t : WrittenTerm) → argument_reading text ≡ Some t → IsArgument text t
-argument_is text t e = atom_is text t (is_atom_text text) refl e
+  -- what is read is a form with this text
+  pub argument_is : argument_reading text ≡ Some t → IsArgument text t
+  argument_is e = atom_is (is_atom_text text) refl e
+
+abbrev pub argument : Reader WrittenTerm
+argument = fitting written IsTermForm argument_reading argument_is argument_again
 
 -- ---- their words
 
@@ -120,12 +135,158 @@ kept_words (c ∷ rest) (atom_leaf u) h is =
 kept_words (c ∷ rest) (tuple_of row) h is = ap (λ (u : List ℕ). complex u) (sym is.whole)
 kept_words (c ∷ rest) (list_of row) h is = ap (λ (u : List ℕ). complex u) (sym is.whole)
 
--- the text of a tuple or a list is kept as it is
-pub complex_words : (text : List ℕ) → is_complex_text text ≡ true → argument_words (tree_of text) ≡ complex text
-complex_words text h = kept_words text (tree_of text) h (complex_text text h).is_text
+-- ---- what the texts of atoms, numbers and integers say is written as those texts
 
--- so it is read where it is no leaf
-pub complex_read : (text : List ℕ) → is_atom_text text ≡ false → is_integer_text text ≡ false → is_complex_text text ≡ true → option_map argument_words (argument_reading text) ≡ Some (complex text)
-complex_read text no_atom no_integer h =
-    ap (option_map argument_words) (failed (is_atom_text text) (some (atom_leaf text)) _ no_atom ∙ failed (is_integer_text text) (some (integer_leaf text)) _ no_integer ∙ ap (option_map tree_of) (tested_at is_complex_text text h))
-    ∙ ap (λ w. some w) (complex_words text h)
+-- the text of a held atom's number is the atom's
+pub atom_again : (names : Texts) (text : List ℕ) → HasNumber names text → atom_text names (number_in names text) ≡ text
+atom_again names text h = ap (atom_text names) (number_is names text h) ∙ ap (λ (o : Option (List ℕ)). unwrap_or o []) (slice_get-number_of names text h.number h.is)
+
+module _ (text : List ℕ) where
+  -- the text of a tuple or a list is kept as it is
+  pub complex_words : is_complex_text text ≡ true → argument_words (tree_of text) ≡ complex text
+  complex_words h = kept_words text (tree_of text) h (complex_text text h).is_text
+
+  -- so it is read where it is no leaf
+  pub complex_read : is_atom_text text ≡ false → is_integer_text text ≡ false → is_complex_text text ≡ true → option_map argument_words (argument_reading text) ≡ Some (complex text)
+  complex_read no_atom no_integer h =
+      ap (option_map argument_words) (failed (is_atom_text text) (some (atom_leaf text)) _ no_atom ∙ failed (is_integer_text text) (some (integer_leaf text)) _ no_integer ∙ ap (option_map tree_of) (tested_at is_complex_text text h))
+      ∙ ap (λ w. some w) (complex_words h)
+
+  pub version_again : is_version_text text ≡ true → decimal (number_value text) ≡ text
+  version_again h =
+      let p = and_parts (is_number_text text) (nat_le 1 (number_value text) && nat_le (number_value text) 999999) h in
+      let q = and_parts (nat_le 1 (number_value text)) (nat_le (number_value text) 999999) p.1 in
+      decimal_again text p.0 (omega (arith, test_le (number_value text) 999999 q.1))
+
+  snapshots_number : is_snapshots_text text ≡ true → (is_number_text text ≡ true) × (1 ≤ number_value text) × (number_value text ≤ 16)
+  snapshots_number h =
+      let p = and_parts (is_number_text text) (nat_le 1 (number_value text) && nat_le (number_value text) 16) h in
+      let q = and_parts (nat_le 1 (number_value text)) (nat_le (number_value text) 16) p.1 in
+      (p.0, test_le 1 (number_value text) q.0, test_le (number_value text) 16 q.1)
+
+  -- a number of snapshots is from 1 to 16
+  pub snapshots_bounds : is_snapshots_text text ≡ true → (0 < number_value text) × (number_value text ≤ 16)
+  snapshots_bounds h = let p = snapshots_number h in let some = p.1 in (omega (arith, some), p.2)
+
+  few_arguments : is_arity_text text ≡ true → number_value text ≤ 15
+  few_arguments h = test_le (number_value text) 15 (and_parts (is_number_text text) (nat_le (number_value text) 15) h).1
+
+  pub arity_again : is_arity_text text ≡ true → decimal (number_value text) ≡ text
+  arity_again h = decimal_again text (and_parts (is_number_text text) (nat_le (number_value text) 15) h).0 (omega (arith, few_arguments h))
+
+-- ---- the terms of a line by names that hold their atoms: they stay the same as the names grow, and are written as they were
+
+-- ---- names that grow
+
+pub each_first : {X : Type 0} (P : X → Type 0) (xs ys : List X) → AllByRecursion P (xs ++ ys) → AllByRecursion P xs × AllByRecursion P ys
+each_first P [] ys h = (tt, h)
+each_first P (x ∷ xs) ys h = let more = each_first P xs ys h.1 in ((h.0, more.0), more.1)
+
+mutual
+  -- a term whose atoms are held stays the same
+  pub term_after : (names after : Texts) (t : TermOf (List ℕ) (List ℕ)) → Extends names after → AllByRecursion (HasNumber names) (atoms_of t) → argument_in after t ≡ argument_in names t
+  term_after names after (integer_leaf text) e h = refl
+  term_after names after (atom_leaf text) e h = ap (λ (n : ℕ). let u : PlainTerm = atom_leaf n in u) (number_in-after names after text e h.0)
+  term_after names after (tuple_of row) e h = ap (λ r. tuple_of r) (row_after names after row e h)
+  term_after names after (list_of row) e h = ap (λ r. list_of r) (row_after names after row e h)
+
+  row_after : (names after : Texts) (row : RowOf (List ℕ) (List ℕ)) → Extends names after → AllByRecursion (HasNumber names) (row_atoms row) → map_row integer_of (number_in after) row ≡ map_row integer_of (number_in names) row
+  row_after names after no_terms e h = refl
+  row_after names after (term_then t row) e h =
+      let p = each_first (HasNumber names) (atoms_of t) (row_atoms row) h in
+      let first = term_after names after t e p.0 in
+      let more = row_after names after row e p.1 in
+      λ i. term_then (first i) (more i)
+
+-- terms whose atoms are held stay the same
+pub terms_after : (names after : Texts) (ts : List WrittenTerm) → Extends names after → AllByRecursion (HasNumber names) (flat_map atoms_of ts) → map (argument_in after) ts ≡ map (argument_in names) ts
+terms_after names after [] e h = refl
+terms_after names after (t ∷ ts) e h =
+    let p = each_first (HasNumber names) (atoms_of t) (flat_map atoms_of ts) h in
+    let first = term_after names after t e p.0 in
+    let more = terms_after names after ts e p.1 in
+    λ i. first i ∷ more i
+
+-- ---- texts of terms
+
+leaf_more : (names more : Texts) (text : List ℕ) (b : Bool) → (b ≡ true → HasNumber names text) → cond {A = PlainTerm} b (atom_leaf (number_in (names ++ more) text)) (integer_leaf (integer_of text)) ≡ cond b (atom_leaf (number_in names text)) (integer_leaf (integer_of text))
+leaf_more names more text true h = ap (λ (n : ℕ). let u : PlainTerm = atom_leaf n in u) (number_in-more names more text (h refl))
+leaf_more names more text false h = refl
+
+-- the atoms among tokens behind a leaf, and the leaf's
+leaf_held : (names atoms : Texts) (text : List ℕ) (b : Bool) → AllByRecursion (HasNumber names) (cond b (text ∷ atoms) atoms) → (b ≡ true → HasNumber names text) × AllByRecursion (HasNumber names) atoms
+leaf_held names atoms text true h = (λ _. h.0, h.1)
+leaf_held names atoms text false h = (λ e. absurd cc, h)
+
+built_more : (names more : Texts) (tokens : List Token) (terms : List PlainTerm) (outer : List (_ × List PlainTerm)) → AllByRecursion (HasNumber names) (atoms_among tokens) →
+    built integer_of (number_in (names ++ more)) tokens terms outer ≡ built integer_of (number_in names) tokens terms outer
+built_more names more [] terms outer h = refl
+built_more names more (opened b ∷ tokens) terms outer h = built_more names more tokens [] ((b, terms) ∷ outer) h
+built_more names more (shut ∷ tokens) terms outer h = built_more names more tokens (shut_terms terms outer) (without_top outer) h
+built_more names more (leaf text ∷ tokens) terms outer h =
+    let p = leaf_held names (atoms_among tokens) text (is_atom_text text) h in
+    built_more names more tokens (terms ++ leaf_of integer_of (number_in (names ++ more)) text ∷ []) outer p.1
+    ∙ ap (λ (t : PlainTerm). built integer_of (number_in names) tokens (terms ++ t ∷ []) outer) (leaf_more names more text (is_atom_text text) p.0)
+
+-- what a text says whose atoms are held stays the same
+pub term_in-more : (names more : Texts) (text : List ℕ) → AllByRecursion (HasNumber names) (term_atoms text) → term_in (names ++ more) text ≡ term_in names text
+unfolding term_in term_atoms
+term_in-more names more text h = ap (λ ts. unwrap_or (top_of ts) (integer_leaf (pos 0))) (built_more names more (tokens_in false text) [] [] h)
+
+-- ---- their atoms
+
+mutual
+  -- the atoms of a form are texts of atoms
+  pub term_atoms_are : (t : TermOf (List ℕ) (List ℕ)) → is_term_form t ≡ true → are_atoms (atoms_of t) ≡ true
+  term_atoms_are (integer_leaf text) h = refl
+  term_atoms_are (atom_leaf text) h = and_from (is_atom_text text) true h refl
+  term_atoms_are (tuple_of row) h = row_atoms_are row h
+  term_atoms_are (list_of row) h = row_atoms_are row h
+
+  row_atoms_are : (row : RowOf (List ℕ) (List ℕ)) → is_row_form row ≡ true → are_atoms (row_atoms row) ≡ true
+  row_atoms_are no_terms h = refl
+  row_atoms_are (term_then t row) h =
+      let p = and_parts (is_term_form t) (is_row_form row) h in
+      both_atoms (atoms_of t) (row_atoms row) (term_atoms_are t p.0) (row_atoms_are row p.1)
+
+pub terms_atoms_are : (ts : List WrittenTerm) → list_all is_term_form ts ≡ true → are_atoms (flat_map atoms_of ts) ≡ true
+terms_atoms_are [] h = refl
+terms_atoms_are (t ∷ ts) h =
+    let p = and_parts (is_term_form t) (list_all is_term_form ts) h in
+    both_atoms (atoms_of t) (flat_map atoms_of ts) (term_atoms_are t p.0) (terms_atoms_are ts p.1)
+
+-- ---- written again
+
+abbrev RowFits : RowOf (List ℕ) (List ℕ) → Type 0
+RowFits row = EachInRow (λ text. IsTermInteger (integer_of text)) (λ _. Unit {0}) row
+
+mutual
+  -- a term with integers of 60 bits, whose atoms are held, is written as it was
+  pub term_again : (names : Texts) (t : TermOf (List ℕ) (List ℕ)) → is_term_form t ≡ true → IntegersFit t → AllByRecursion (HasNumber names) (atoms_of t) → argument_form names (argument_in names t) ≡ t
+  term_again names (integer_leaf text) form fits held = ap (λ (t : List ℕ). let u : WrittenTerm = integer_leaf t in u) (sym (signed_decimal-integer_of text form fits))
+  term_again names (atom_leaf text) form fits held = ap (λ (t : List ℕ). let u : WrittenTerm = atom_leaf t in u) (atom_again names text held.0)
+  term_again names (tuple_of row) form fits held = ap (λ r. tuple_of r) (row_again names row form fits held)
+  term_again names (list_of row) form fits held = ap (λ r. list_of r) (row_again names row form fits held)
+
+  row_again : (names : Texts) (row : RowOf (List ℕ) (List ℕ)) → is_row_form row ≡ true → RowFits row → AllByRecursion (HasNumber names) (row_atoms row) → map_row signed_decimal (atom_text names) (map_row integer_of (number_in names) row) ≡ row
+  row_again names no_terms form fits held = refl
+  row_again names (term_then t row) form fits held =
+      let f = and_parts (is_term_form t) (is_row_form row) form in
+      let h = each_first (HasNumber names) (atoms_of t) (row_atoms row) held in
+      let first = term_again names t f.0 fits.0 h.0 in
+      let more = row_again names row f.1 fits.1 h.1 in
+      λ i. term_then (first i) (more i)
+
+-- a term without an integer that is too wide has integers of 60 bits
+pub narrow_fits : (t : WrittenTerm) → is_some (outside_of t) ≡ false → IntegersFit t
+narrow_fits t h = fits_of_none t (none_by (outside_of t) h)
+
+-- what a term's text says is written as the text
+pub text_again : (names : Texts) (text : List ℕ) → is_term_text text ≡ true → is_wide_text text ≡ false → AllByRecursion (HasNumber names) (term_atoms text) → term_text names (term_of (term_in names text)) ≡ text
+text_again names text form narrow held =
+    let is = tree_is text form in
+    let fits = narrow_fits (tree_of text) (sym is.wide ∙ narrow) in
+    let atoms = subst (AllByRecursion (HasNumber names)) is.atoms held in
+    ap (λ (t : PlainTerm). written (argument_form names t)) (plain-term_of (term_in names text) ∙ is.value names)
+    ∙ ap written (term_again names (tree_of text) (sound_form (tree_of text) is.is_text.leaves) fits atoms)
+    ∙ sym is.is_text.whole

@@ -1,30 +1,25 @@
 -- The lines of a module's text that follow on, so far or up to its end: their title, their names, and the module that they say.
-use Rattle.std.proofs.Common.{◌≡◌, ℕ, ◌≤◌, true, false, List, [], ◌∷◌, ◌++◌, length, Option, Some, None, is_none, option_map, refl, sym, ap, ◌∙◌, subst, append_assoc, append-nil}
-use Rattle.std.specs.List.{AllByRecursion}
-use Rattle.term_core.specs.Names.{Extends}
-use Rattle.term_core.proofs.GrownNames.{Extends-refl, Extends-trans}
-use Rattle.term_core.proofs.GrownTerms.{HasNumber}
-use Rattle.mod_core.specs.Module.{IsModule}
-use Rattle.mod_text.specs.ModuleLine.{LineForm, title, end, line_written, lines_written, is_line_form}
-use Rattle.mod_text.specs.LineFaults.{may_follow, last_line, line_atoms, names_after, IsNext}
-use Rattle.mod_text.specs.ModuleValue.{title_of, IsTitled, module_of, unsettled_line}
-use Rattle.mod_text.specs.ModuleText.{FollowOn, names_behind}
-use Rattle.mod_text.proofs.ModuleSound.{module_is_sound}
-use Rattle.script_text.specs.LineStep.{is_text_end}
+use Rattle.script_text.proofs.Common.{◌≡◌, ℕ, ◌≤◌, true, false, List, [], ◌∷◌, ◌++◌, length, Option, Some, None}
+use Rattle.script_text.proofs.Common.{is_none, option_map, refl, sym, ap, ◌∙◌, subst, append_assoc, Texts}
+use Rattle.script_text.proofs.Common.{append-nil, AllByRecursion}
+use Rattle.script_text.proofs.Texts.{Extends, Extends-refl, Extends-trans, HasNumber}
+use Rattle.script_text.proofs.Modules.{IsModule, LineForm, title, end, line_written, lines_written, is_line_form}
+use Rattle.script_text.proofs.Modules.{may_follow, last_line, line_atoms, names_after, IsNext, title_of}
+use Rattle.script_text.proofs.Modules.{IsTitled, module_of, unsettled_line, FollowOn, names_behind, module_is_sound}
+use Rattle.script_text.proofs.Forms.{is_text_end, Known}
 use Rattle.script_text.proofs.FunctionNames.{home_after_line}
 use Rattle.script_text.proofs.HeldNames.{Extends-all, held_all, all_held_in}
 use Rattle.script_text.proofs.ModuleNames.{HaveHeld, module_of-more}
 use Rattle.script_text.proofs.StepMoves.{IsJudged}
-use Rattle.script_text.specs.LineStep.{Known}
 
 -- ---- a line more
 
-pub follow_more : (names : List (List ℕ)) (before lines : List LineForm) (line : LineForm) → FollowOn names before lines → IsNext (names_behind names lines) (before ++ lines) (line_written line) line → FollowOn names before (lines ++ line ∷ [])
+pub follow_more : (names : Texts) (before lines : List LineForm) (line : LineForm) → FollowOn names before lines → IsNext (names_behind names lines) (before ++ lines) (line_written line) line → FollowOn names before (lines ++ line ∷ [])
 follow_more names before [] line follow next = (subst (λ (ls : List LineForm). IsNext names ls (line_written line) line) (append-nil before) next, tt)
 follow_more names before (l ∷ lines) line follow next =
     (follow.0, follow_more (names_after names l) (before ++ l ∷ []) lines line follow.1 (subst (λ (ls : List LineForm). IsNext (names_behind (names_after names l) lines) ls (line_written line) line) (sym (append_assoc before (l ∷ []) lines)) next))
 
-pub names_behind-more : (names : List (List ℕ)) (lines : List LineForm) (line : LineForm) → names_behind names (lines ++ line ∷ []) ≡ names_after (names_behind names lines) line
+pub names_behind-more : (names : Texts) (lines : List LineForm) (line : LineForm) → names_behind names (lines ++ line ∷ []) ≡ names_after (names_behind names lines) line
 names_behind-more names [] line = refl
 names_behind-more names (l ∷ lines) line = names_behind-more (names_after names l) lines line
 
@@ -43,7 +38,7 @@ pub title_of-more : (lines : List LineForm) (line : LineForm) → IsTitled lines
 title_of-more (title name version ∷ lines) line h = refl
 title_of-more lines line h = absurd h
 
-pub titled : (before : List (List ℕ)) (text : List LineForm) (last : LineForm) → FollowOn before [] text → last_line text ≡ Some last → IsTitled text
+pub titled : (before : Texts) (text : List LineForm) (last : LineForm) → FollowOn before [] text → last_line text ≡ Some last → IsTitled text
 titled before [] last follow e = absurd cc
 titled before (title name version ∷ lines) last follow e = tt
 titled before text last follow e = let place = follow.0.stands.place in absurd cc
@@ -62,7 +57,7 @@ home_stays home lines (title n v) h e = absurd (untitled lines h e)
     untitled (l ∷ ls) h e = let some = some_last l ls in cc
 home_stays home lines line h e = refl
 
-pub title_held : (names : List (List ℕ)) (lines : List LineForm) → IsTitled lines → HaveHeld names lines → HasNumber names (title_of lines).0
+pub title_held : (names : Texts) (lines : List LineForm) → IsTitled lines → HaveHeld names lines → HasNumber names (title_of lines).0
 title_held names (title name version ∷ lines) t held = held.0.0
 title_held names lines t held = absurd t
 
@@ -72,39 +67,39 @@ end_is o e = absurd cc
 
 -- ---- its names
 
-Extends-behind : (names : List (List ℕ)) (lines : List LineForm) → Extends names (names_behind names lines)
+Extends-behind : (names : Texts) (lines : List LineForm) → Extends names (names_behind names lines)
 Extends-behind names [] = Extends-refl names
 Extends-behind names (line ∷ lines) = Extends-trans names (names_after names line) _ (Extends-all names (line_atoms line)) (Extends-behind (names_after names line) lines)
 
-pub held_behind : (names : List (List ℕ)) (lines : List LineForm) → HaveHeld (names_behind names lines) lines
+pub held_behind : (names : Texts) (lines : List LineForm) → HaveHeld (names_behind names lines) lines
 held_behind names [] = tt
 held_behind names (line ∷ lines) =
     (all_held_in (names_after names line) (names_behind (names_after names line) lines) (line_atoms line) (Extends-behind (names_after names line) lines) (held_all names (line_atoms line)), held_behind (names_after names line) lines)
 
-pub have_held_in : (names after : List (List ℕ)) (lines : List LineForm) → Extends names after → HaveHeld names lines → HaveHeld after lines
+pub have_held_in : (names after : Texts) (lines : List LineForm) → Extends names after → HaveHeld names lines → HaveHeld after lines
 have_held_in names after [] e h = tt
 have_held_in names after (line ∷ lines) e h = (all_held_in names after (line_atoms line) e h.0, have_held_in names after lines e h.1)
 
 -- ---- a closed text
 
 -- a text in a row, closed, and its names are among these
-pub record IsClosed (names : List (List ℕ)) (text : List LineForm) : Type 0 where
-  pub before : List (List ℕ)
+pub record IsClosed (names : Texts) (text : List LineForm) : Type 0 where
+  pub before : Texts
   pub room : length before ≤ 4096
   pub follow : FollowOn before [] text
   pub closed : last_line text ≡ Some end
   pub among : Extends (names_behind before text) names
 
-abbrev pub AreClosed : List (List ℕ) → List (List LineForm) → Type 0
+abbrev pub AreClosed : Texts → List (List LineForm) → Type 0
 AreClosed names texts = AllByRecursion (IsClosed names) texts
 
 -- the module that it says is the same under more names
-pub same_module : (names : List (List ℕ)) (text : List LineForm) (c : IsClosed names text) → module_of names text ≡ module_of (names_behind c.before text) text
+pub same_module : (names : Texts) (text : List LineForm) (c : IsClosed names text) → module_of names text ≡ module_of (names_behind c.before text) text
 same_module names text c =
     let after = names_behind c.before text in
-    ap (λ (ns : List (List ℕ)). module_of ns text) c.among.whole ∙ module_of-more after c.among.more text (titled c.before text end c.follow c.closed) (held_behind c.before text)
+    ap (λ (ns : Texts). module_of ns text) c.among.whole ∙ module_of-more after c.among.more text (titled c.before text end c.follow c.closed) (held_behind c.before text)
 
-pub text_module : (names : List (List ℕ)) (text : List LineForm) → IsClosed names text → unsettled_line text ≡ None → IsModule (module_of names text)
+pub text_module : (names : Texts) (text : List LineForm) → IsClosed names text → unsettled_line text ≡ None → IsModule (module_of names text)
 text_module names text c settled =
     let after = names_behind c.before text in
     let m = module_of after text in

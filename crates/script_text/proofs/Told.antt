@@ -1,66 +1,46 @@
 -- What lines tell of a script, move by move, where nothing is lacking: it is one, and its canonical lines name what they name.
-use Rattle.std.proofs.Common.{◌≡◌, ℕ, ◌+◌, ◌<◌, ◌≤◌, Bool, true, false, cond, List, [], ◌∷◌, ◌++◌, length, map, Option, Some, None, All, Ok, refl, sym, ap, ◌∙◌, subst, arith, append_assoc, append-nil, length-append}
-use Rattle.std.specs.Prelude.{fold, sum_by}
-use Rattle.std.specs.List.{AllByRecursion, flat_map, list_any}
-use Rattle.std.proofs.lemmas.Bool.{or_parts}
-use Rattle.std.proofs.lemmas.Bool.Decides.{nat_tests}
-use Rattle.std.proofs.lemmas.Grind.{flat_map-append}
-use Rattle.std.proofs.lemmas.List.{map-append}
-use Rattle.std.proofs.lemmas.List.Elements.{All-nil, All-push}
-use Rattle.std.proofs.lemmas.List.Sums.{sum_by-append, sum_by-cons}
-use Rattle.term_core.specs.declared.atom.Mfa.{Mfa}
-use Rattle.term_core.specs.Names.{IsNames, Extends}
-use Rattle.term_core.specs.Text.Numbers.{number_value}
-use Rattle.term_core.specs.TermText.{names_with_all}
-use Rattle.term_core.proofs.GrownNames.{Extends-refl, Extends-trans}
-use Rattle.term_core.proofs.NameTables.{given_names-IsNames}
-use Rattle.term_core.proofs.Lists.{each_append}
-use Rattle.term_core.proofs.Text.Cuts.{lacks}
-use Rattle.mod_core.specs.declared.code.Module.{Module}
-use Rattle.mod_core.specs.HeldNames.{IsModuleHeld}
-use Rattle.mod_core.specs.Module.{IsModule}
+use Rattle.std.proofs.Common.{◌≡◌, ℕ, ◌+◌, ◌<◌, ◌≤◌, Bool, true, false, cond, List, [], ◌∷◌, ◌++◌, length, map, Option, Some}
+use Rattle.std.proofs.Common.{None, All, Ok, refl, sym, ap, ◌∙◌, subst, arith, append_assoc, append-nil, length-append}
+use Rattle.script_text.proofs.Common.{fold, sum_by, AllByRecursion, flat_map, list_any, or_parts, nat_tests}
+use Rattle.script_text.proofs.Common.{flat_map-append, map-append, All-nil, All-push, sum_by-append, Texts}
+use Rattle.script_text.proofs.Common.{sum_by-cons}
+use Rattle.script_text.proofs.Types.{Mfa, Module, ModRef, ScriptCmd, Place, Between, Within, Observing, Loading, Finished}
+use Rattle.script_text.proofs.Texts.{IsNames, Extends, number_value, names_with_all, Extends-refl}
+use Rattle.script_text.proofs.Texts.{Extends-trans, given_names-IsNames, each_append, lacks}
+use Rattle.script_text.proofs.Modules.{IsModuleHeld, IsModule, last_line, line_atoms, names_after, counted_name}
+use Rattle.script_text.proofs.Modules.{IsNext, LineForm, title, line_written, is_line_form, FollowOn}
+use Rattle.script_text.proofs.Modules.{names_behind, title_of, IsTitled, module_of, unsettled_line, spawns_in, spawn_count}
 use Rattle.mod_text.specs.Canonical.{canonical as module_lines}
-use Rattle.mod_text.specs.LineFaults.{last_line, line_atoms, names_after, counted_name, IsNext}
-use Rattle.mod_text.specs.ModuleLine.{LineForm, title, line_written, is_line_form}
-use Rattle.mod_text.specs.ModuleText.{FollowOn, names_behind}
-use Rattle.mod_text.specs.ModuleValue.{title_of, IsTitled, module_of, unsettled_line}
 use Rattle.mod_text.proofs.ModuleHeld.{module_held, some_names, sound_lines}
-use Rattle.server_core.specs.declared.command.ModRef.{ModRef}
-use Rattle.script_core.specs.declared.script.ScriptCmd.{ScriptCmd}
-use Rattle.script_core.specs.Processes.{spawns_in, spawn_count}
-use Rattle.script_text.specs.declared.reading.reader.Place.{Place}
-use Rattle.script_text.specs.declared.reading.reader.Place.TheVariants.{Between, Within, Observing, Loading, Finished}
-use Rattle.script_text.specs.ScriptLine.{RefForm, ScriptLine, head, code, observer, loader, go, script_line_written, is_script_line}
-use Rattle.script_text.specs.Groups.{onto_last}
-use Rattle.script_text.specs.Counts.{script_line_atoms}
-use Rattle.script_text.specs.ScriptValue.{ref_in, commands_on}
-use Rattle.script_text.specs.Canonical.{command_line, block_form, code_form}
-use Rattle.script_text.specs.LineFaults.{or_else}
-use Rattle.script_text.specs.Sets.{is_same_mod_ref, is_among}
-use Rattle.script_text.specs.LineStep.{Known, opening, is_text_end, closed_by, processes_with, spawned_in, loads_given, step, steps}
-use Rattle.script_text.proofs.FunctionNames.{line_functions, script_line_functions, home_of, home_of-append, functions_named, mfas_on, mfas_on-line, added_is, counted_line, counted_command}
-use Rattle.script_text.proofs.Alike.{Alike, lines_same, lines_then, lines_back, lines_append, quiet_more, AreAlike, alike_same, alike_back, alike_append}
+use Rattle.script_text.proofs.Forms.{RefForm, ScriptLine, head, code, observer, loader, go, script_line_written}
+use Rattle.script_text.proofs.Forms.{is_script_line, onto_last, script_line_atoms, ref_in, commands_on}
+use Rattle.script_text.proofs.Forms.{command_line, block_form, code_form, or_else, is_same_mod_ref, is_among}
+use Rattle.script_text.proofs.Forms.{Known, opening, is_text_end, closed_by, processes_with, spawned_in}
+use Rattle.script_text.proofs.Forms.{loads_given, step, steps, counted_added}
+use Rattle.script_text.proofs.FunctionNames.{line_functions, script_line_functions, home_of, home_of-append}
+use Rattle.script_text.proofs.FunctionNames.{functions_named, mfas_on, mfas_on-line, added_is, counted_line, counted_command}
+use Rattle.script_text.proofs.Alike.{Alike, lines_same, lines_then, lines_back, lines_append}
+use Rattle.script_text.proofs.Alike.{quiet_more, AreAlike, alike_same, alike_back, alike_append}
 use Rattle.script_text.proofs.AlikeModules.{module_alike}
 use Rattle.script_text.proofs.HeldNames.{held_all, all_held_in, number_in-after}
 use Rattle.script_text.proofs.ModuleNames.{HaveHeld}
-use Rattle.script_text.proofs.TextLines.{IsClosed, follow_more, names_behind-more, next_is, titled_more, title_of-more, home_stays, title_held, end_is, held_behind, same_module, text_module}
-use Rattle.script_text.proofs.TextsBack.{snapshots_bounds}
-use Rattle.script_text.proofs.Commands.{ref_of, IsLineOf, same_commands, same_given, one_command, processes_are, IsToldBy, told_by_line, is_told}
-use Rattle.script_text.proofs.StepMoves.{IsFront, IsOutside, IsCommand, IsJudged, IsPassed, with_title, with_line, with_command, Move, begins, opens, writes, observes, blocks, ends, commands, moves}
-use Rattle.script_text.proofs.StepNames.{closed_names, grows_by, steps_table}
+use Rattle.script_text.proofs.TextLines.{IsClosed, follow_more, names_behind-more, next_is, titled_more, title_of-more}
+use Rattle.script_text.proofs.TextLines.{home_stays, title_held, end_is, held_behind, same_module, text_module}
+use Rattle.script_text.proofs.TermLines.{snapshots_bounds}
+use Rattle.script_text.proofs.Commands.{ref_of, IsLineOf, same_commands, same_given, one_command, processes_are}
+use Rattle.script_text.proofs.Commands.{IsToldBy, told_by_line, is_told, closed_names, grows_by, steps_table}
+use Rattle.script_text.proofs.StepMoves.{IsFront, IsOutside, IsCommand, IsJudged, IsPassed, with_title, with_line, with_command, Move}
+use Rattle.script_text.proofs.StepMoves.{begins, opens, writes, observes, blocks, ends, commands, moves, AreSound, bind_ok, ok_is}
 use Rattle.script_text.proofs.StepKept.{IsKept, kept_by, opening_kept}
-use Rattle.script_text.specs.Adding.{counted_added}
-use Rattle.script_text.proofs.StepLaws.{AreSound, bind_ok}
-use Rattle.script_text.proofs.Choices.{ok_is}
 
 -- ---- what is told
 
 -- the canonical lines of what is known, with those of the text that is open
-abbrev pub front_of : List (List ℕ) → List Module → List LineForm → List (List ScriptCmd) → List ScriptLine
+abbrev pub front_of : Texts → List Module → List LineForm → List (List ScriptCmd) → List ScriptLine
 front_of names ms lines loaders = code_form (flat_map (module_lines names) ms ++ lines) ++ flat_map (block_form names) loaders
 
 -- the module of the text that is open
-abbrev pub open_ref : List (List ℕ) → List LineForm → List ModRef
+abbrev pub open_ref : Texts → List LineForm → List ModRef
 open_ref names (title name version ∷ lines) = ref_in names (record { name = name; version = version }) ∷ []
 open_ref names lines = []
 
@@ -70,8 +50,8 @@ AreApart [] = Unit {0}
 AreApart (r ∷ refs) = AllByRecursion (λ s. is_same_mod_ref s r ≡ false) refs × AreApart refs
 
 -- a text is open
-pub record IsOpen (done : List ScriptLine) (names : List (List ℕ)) (lines : List LineForm) : Type 0 where
-  pub before : List (List ℕ)
+pub record IsOpen (done : List ScriptLine) (names : Texts) (lines : List LineForm) : Type 0 where
+  pub before : Texts
   pub room : length before ≤ 4096
   pub follow : FollowOn before [] lines
   pub names_are : names ≡ names_behind before lines
@@ -86,17 +66,17 @@ Stands done s Finished = s.lines ≡ []
 Stands done s place = (s.lines ≡ []) × (s.loaders ≡ [])
 
 -- modules that can be loaded, whose atoms have names
-pub record AreModules (names : List (List ℕ)) (ms : List Module) : Type 0 where
+pub record AreModules (names : Texts) (ms : List Module) : Type 0 where
   pub sound : All IsModule ms
   pub held : All (IsModuleHeld names) ms
 
 -- the titles are those of the modules and of the text that is open
-pub record AreTitles (names : List (List ℕ)) (ms : List Module) (lines : List LineForm) (titles : List ModRef) : Type 0 where
+pub record AreTitles (names : Texts) (ms : List Module) (lines : List LineForm) (titles : List ModRef) : Type 0 where
   pub are : map ref_of ms ++ open_ref names lines ≡ titles
   pub apart : AreApart titles
 
 -- loader blocks, whose commands are told by their lines, and the processes that they make
-pub record AreLoaders (names : List (List ℕ)) (ms : List Module) (loaders : List (List ScriptCmd)) (processes : ℕ) : Type 0 where
+pub record AreLoaders (names : Texts) (ms : List Module) (loaders : List (List ScriptCmd)) (processes : ℕ) : Type 0 where
   pub told : AllByRecursion (AllByRecursion (IsToldBy names ms)) loaders
   pub few : length loaders ≤ 8
   pub spawns : sum_by spawn_count loaders ≡ processes
@@ -107,12 +87,12 @@ pub record AreObservers (observers : List ℕ) : Type 0 where
   pub snapshots : AllByRecursion (λ n. (0 < n) × (n ≤ 16)) observers
 
 -- the functions are those that the lines name
-pub record AreFunctions (names : List (List ℕ)) (done : List ScriptLine) (functions : List Mfa) : Type 0 where
+pub record AreFunctions (names : Texts) (done : List ScriptLine) (functions : List Mfa) : Type 0 where
   pub are : functions ≡ mfas_on names [] (functions_named [] done)
   pub few : length functions ≤ 1024
 
 -- under these names, which hold those that are known
-pub record IsTold (names : List (List ℕ)) (done : List ScriptLine) (s : Known) : Type 0 where
+pub record IsTold (names : Texts) (done : List ScriptLine) (s : Known) : Type 0 where
   pub modules : AreModules names s.modules
   pub titles : AreTitles names s.modules s.lines s.titles
   pub loaders : AreLoaders names s.modules s.loaders s.processes
@@ -170,7 +150,7 @@ apart_more (r ∷ refs) s h none =
 same_by : (xs ys zs : List ScriptLine) → ys ≡ zs → Alike xs ys → Alike xs zs
 same_by xs ys zs e p = subst (Alike xs) e p
 
-front_code : (names : List (List ℕ)) (ms : List Module) (lines : List LineForm) (line : LineForm) (loaders : List (List ScriptCmd)) → loaders ≡ [] → front_of names ms lines loaders ++ code line ∷ [] ≡ front_of names ms (lines ++ line ∷ []) loaders
+front_code : (names : Texts) (ms : List Module) (lines : List LineForm) (line : LineForm) (loaders : List (List ScriptCmd)) → loaders ≡ [] → front_of names ms lines loaders ++ code line ∷ [] ≡ front_of names ms (lines ++ line ∷ []) loaders
 front_code names ms lines line [] none =
     let cs = flat_map (module_lines names) ms in
     ap (λ (ls : List ScriptLine). ls ++ code line ∷ []) (append-nil (code_form (cs ++ lines)))
@@ -179,22 +159,10 @@ front_code names ms lines line [] none =
     ∙ sym (append-nil (code_form (cs ++ (lines ++ line ∷ []))))
 front_code names ms lines line (c ∷ loaders) none = absurd cc
 
-code_more : (names : List (List ℕ)) (done : List ScriptLine) (ms : List Module) (lines : List LineForm) (line : LineForm) (loaders : List (List ScriptCmd)) → loaders ≡ [] → Alike done (front_of names ms lines loaders) → Alike (done ++ code line ∷ []) (front_of names ms (lines ++ line ∷ []) loaders)
-code_more names done ms lines line loaders none like =
-    same_by (done ++ code line ∷ []) _ _ (front_code names ms lines line loaders none) (lines_append done (front_of names ms lines loaders) (code line ∷ []) (code line ∷ []) like (lines_same (code line ∷ [])))
-
-loader_more : (names : List (List ℕ)) (done : List ScriptLine) (ms : List Module) (lines : List LineForm) (loaders : List (List ScriptCmd)) → Alike done (front_of names ms lines loaders) → Alike (done ++ loader ∷ []) (front_of names ms lines (loaders ++ [] ∷ []))
-loader_more names done ms lines loaders like =
-    let cs = code_form (flat_map (module_lines names) ms ++ lines) in
-    let bs = flat_map (block_form names) loaders in
-    same_by (done ++ loader ∷ []) ((cs ++ bs) ++ loader ∷ []) (front_of names ms lines (loaders ++ [] ∷ []))
-    (append_assoc cs bs (loader ∷ []) ∙ ap (λ (ls : List ScriptLine). cs ++ ls) (sym (flat_map-append (block_form names) loaders ([] ∷ []))))
-    (lines_append done (cs ++ bs) (loader ∷ []) (loader ∷ []) like (lines_same (loader ∷ [])))
-
 quiet_loader : Alike (loader ∷ []) []
 quiet_loader = record { atoms = refl; homes = λ home. refl; functions = λ home. refl }
 
-onto_alike : (names : List (List ℕ)) (groups : List (List ScriptCmd)) (c : ScriptCmd) → Alike (flat_map (block_form names) groups ++ command_line names c ∷ []) (flat_map (block_form names) (onto_last groups c))
+onto_alike : (names : Texts) (groups : List (List ScriptCmd)) (c : ScriptCmd) → Alike (flat_map (block_form names) groups ++ command_line names c ∷ []) (flat_map (block_form names) (onto_last groups c))
 onto_alike names [] c = lines_append [] (loader ∷ []) (command_line names c ∷ []) (command_line names c ∷ []) (lines_back (loader ∷ []) [] quiet_loader) (lines_same (command_line names c ∷ []))
 onto_alike names (group ∷ []) c =
     same_by _ _ _
@@ -208,17 +176,30 @@ onto_alike names (group ∷ next ∷ groups) c =
     subst (λ (ls : List ScriptLine). Alike ls (b ++ flat_map (block_form names) (onto_last (next ∷ groups) c))) (sym (append_assoc b rest (command_line names c ∷ [])))
     (lines_append b b (rest ++ command_line names c ∷ []) (flat_map (block_form names) (onto_last (next ∷ groups) c)) (lines_same b) (onto_alike names (next ∷ groups) c))
 
-command_more : (names : List (List ℕ)) (done : List ScriptLine) (ms : List Module) (lines : List LineForm) (loaders : List (List ScriptCmd)) (line : ScriptLine) (c : ScriptCmd) → command_line names c ≡ line → Alike done (front_of names ms lines loaders) → Alike (done ++ line ∷ []) (front_of names ms lines (onto_last loaders c))
-command_more names done ms lines loaders line c is like =
-    let cs = code_form (flat_map (module_lines names) ms ++ lines) in
-    let bs = flat_map (block_form names) loaders in
-    let more = lines_append done (cs ++ bs) (line ∷ []) (line ∷ []) like (lines_same (line ∷ [])) in
-    let onto = lines_append cs cs (bs ++ command_line names c ∷ []) (flat_map (block_form names) (onto_last loaders c)) (lines_same cs) (onto_alike names loaders c) in
-    lines_then (done ++ line ∷ []) (cs ++ (bs ++ line ∷ [])) (front_of names ms lines (onto_last loaders c)) (same_by (done ++ line ∷ []) _ _ (append_assoc cs bs (line ∷ [])) more)
-    (subst (λ (l : ScriptLine). Alike (cs ++ (bs ++ l ∷ [])) (front_of names ms lines (onto_last loaders c))) is onto)
+module _ (names : Texts) (done : List ScriptLine) (ms : List Module) (lines : List LineForm) where
+  code_more : (line : LineForm) (loaders : List (List ScriptCmd)) → loaders ≡ [] → Alike done (front_of names ms lines loaders) → Alike (done ++ code line ∷ []) (front_of names ms (lines ++ line ∷ []) loaders)
+  code_more line loaders none like =
+      same_by (done ++ code line ∷ []) _ _ (front_code names ms lines line loaders none) (lines_append done (front_of names ms lines loaders) (code line ∷ []) (code line ∷ []) like (lines_same (code line ∷ [])))
+
+  loader_more : (loaders : List (List ScriptCmd)) → Alike done (front_of names ms lines loaders) → Alike (done ++ loader ∷ []) (front_of names ms lines (loaders ++ [] ∷ []))
+  loader_more loaders like =
+      let cs = code_form (flat_map (module_lines names) ms ++ lines) in
+      let bs = flat_map (block_form names) loaders in
+      same_by (done ++ loader ∷ []) ((cs ++ bs) ++ loader ∷ []) (front_of names ms lines (loaders ++ [] ∷ []))
+      (append_assoc cs bs (loader ∷ []) ∙ ap (λ (ls : List ScriptLine). cs ++ ls) (sym (flat_map-append (block_form names) loaders ([] ∷ []))))
+      (lines_append done (cs ++ bs) (loader ∷ []) (loader ∷ []) like (lines_same (loader ∷ [])))
+
+  command_more : (loaders : List (List ScriptCmd)) (line : ScriptLine) (c : ScriptCmd) → command_line names c ≡ line → Alike done (front_of names ms lines loaders) → Alike (done ++ line ∷ []) (front_of names ms lines (onto_last loaders c))
+  command_more loaders line c is like =
+      let cs = code_form (flat_map (module_lines names) ms ++ lines) in
+      let bs = flat_map (block_form names) loaders in
+      let more = lines_append done (cs ++ bs) (line ∷ []) (line ∷ []) like (lines_same (line ∷ [])) in
+      let onto = lines_append cs cs (bs ++ command_line names c ∷ []) (flat_map (block_form names) (onto_last loaders c)) (lines_same cs) (onto_alike names loaders c) in
+      lines_then (done ++ line ∷ []) (cs ++ (bs ++ line ∷ [])) (front_of names ms lines (onto_last loaders c)) (same_by (done ++ line ∷ []) _ _ (append_assoc cs bs (line ∷ [])) more)
+      (subst (λ (l : ScriptLine). Alike (cs ++ (bs ++ l ∷ [])) (front_of names ms lines (onto_last loaders c))) is onto)
 
 -- a text that is closed
-text_more : (names : List (List ℕ)) (done : List ScriptLine) (ms : List Module) (text : List LineForm) (m : Module) (loaders : List (List ScriptCmd)) → AreAlike (module_lines names m) text → Alike done (front_of names ms text loaders) → Alike done (front_of names (ms ++ m ∷ []) [] loaders)
+text_more : (names : Texts) (done : List ScriptLine) (ms : List Module) (text : List LineForm) (m : Module) (loaders : List (List ScriptCmd)) → AreAlike (module_lines names m) text → Alike done (front_of names ms text loaders) → Alike done (front_of names (ms ++ m ∷ []) [] loaders)
 text_more names done ms text m loaders like told =
     let cs = flat_map (module_lines names) ms in
     let bs = flat_map (block_form names) loaders in
@@ -231,7 +212,7 @@ text_more names done ms text m loaders like told =
 -- ---- functions
 
 -- a line that names no function
-quiet_functions : (names : List (List ℕ)) (done : List ScriptLine) (line : ScriptLine) (fs : List Mfa) → AreFunctions names done fs → script_line_functions (home_of [] done) line ≡ [] → AreFunctions names (done ++ line ∷ []) fs
+quiet_functions : (names : Texts) (done : List ScriptLine) (line : ScriptLine) (fs : List Mfa) → AreFunctions names done fs → script_line_functions (home_of [] done) line ≡ [] → AreFunctions names (done ++ line ∷ []) fs
 quiet_functions names done line fs f none = record { are = f.are ∙ sym (mfas_on-line names [] [] done line ∙ ap (mfas_on names (mfas_on names [] (functions_named [] done))) none); few = f.few }
 
 -- ---- moves
@@ -247,22 +228,22 @@ front_stands done s Between front h = h
 front_stands done s Observing front h = h
 front_stands done s p front h = absurd front
 
-opened_ref : (names after : List (List ℕ)) (lines : List LineForm) (r : RefForm) → lines ≡ [] → Extends (names_after after (title r.name r.version)) names → open_ref names (lines ++ title r.name r.version ∷ []) ≡ ref_in (names_after after (title r.name r.version)) r ∷ []
+opened_ref : (names after : Texts) (lines : List LineForm) (r : RefForm) → lines ≡ [] → Extends (names_after after (title r.name r.version)) names → open_ref names (lines ++ title r.name r.version ∷ []) ≡ ref_in (names_after after (title r.name r.version)) r ∷ []
 opened_ref names after [] r none e =
     let held = held_all after (r.name ∷ []) in
     let same = number_in-after (names_after after (title r.name r.version)) names r.name e held.0 in
     λ i. record { name = record { 0 = same i }; version = number_value r.version } ∷ []
 opened_ref names after (line ∷ lines) r none e = absurd cc
 
-open_is : (names : List (List ℕ)) (text : List LineForm) → IsTitled text → open_ref names text ≡ ref_of (module_of names text) ∷ []
+open_is : (names : Texts) (text : List LineForm) → IsTitled text → open_ref names text ≡ ref_of (module_of names text) ∷ []
 open_is names (title name version ∷ lines) t = refl
 open_is names text t = absurd t
 
-still_open : (names : List (List ℕ)) (lines : List LineForm) (line : LineForm) → IsTitled lines → open_ref names (lines ++ line ∷ []) ≡ open_ref names lines
+still_open : (names : Texts) (lines : List LineForm) (line : LineForm) → IsTitled lines → open_ref names (lines ++ line ∷ []) ≡ open_ref names lines
 still_open names (title name version ∷ lines) line t = refl
 still_open names lines line t = absurd t
 
-opened : (done : List ScriptLine) (names : List (List ℕ)) (lines : List LineForm) (r : RefForm) → lines ≡ [] → length names ≤ 4096 → IsNext names lines (line_written (title r.name r.version)) (title r.name r.version) → IsOpen (done ++ code (title r.name r.version) ∷ []) (names_after names (title r.name r.version)) (lines ++ title r.name r.version ∷ [])
+opened : (done : List ScriptLine) (names : Texts) (lines : List LineForm) (r : RefForm) → lines ≡ [] → length names ≤ 4096 → IsNext names lines (line_written (title r.name r.version)) (title r.name r.version) → IsOpen (done ++ code (title r.name r.version) ∷ []) (names_after names (title r.name r.version)) (lines ++ title r.name r.version ∷ [])
 opened done names [] r none room next = record { before = names; room = room; follow = (next, tt); names_are = refl; titled = tt; home = home_of-append [] done (code (title r.name r.version) ∷ []) }
 opened done names (line ∷ lines) r none room next = absurd cc
 
@@ -270,13 +251,13 @@ opened_more : (done : List ScriptLine) (s : Known) (line : LineForm) → IsOpen 
 opened_more done s line o sound is = record {
   before = o.before;
   room = o.room;
-  follow = follow_more o.before [] s.lines line o.follow (subst (λ (ns : List (List ℕ)). IsNext ns s.lines (line_written line) line) o.names_are (next_is s line sound is));
-  names_are = ap (λ (ns : List (List ℕ)). names_after ns line) o.names_are ∙ sym (names_behind-more o.before s.lines line);
+  follow = follow_more o.before [] s.lines line o.follow (subst (λ (ns : Texts). IsNext ns s.lines (line_written line) line) o.names_are (next_is s line sound is));
+  names_are = ap (λ (ns : Texts). names_after ns line) o.names_are ∙ sym (names_behind-more o.before s.lines line);
   titled = titled_more s.lines line o.titled;
   home = home_of-append [] done (code line ∷ []) ∙ home_stays (home_of [] done) s.lines line o.titled is.place ∙ o.home ∙ sym (ap (λ (t : List ℕ × List ℕ). t.0) (title_of-more s.lines line o.titled));
 }
 
-or_else_some : {X : Type 0} (o : Option X) (x : X) → or_else o (Some x) ≡ None → ⊥
+or_else_some : (o : Option ℕ) (x : ℕ) → or_else o (Some x) ≡ None → ⊥
 or_else_some None x e = cc
 or_else_some (Some y) x e = cc
 
@@ -284,7 +265,7 @@ given_by : (t : Bool) (o : Option ℕ) (number : ℕ) → cond t o (or_else o (S
 given_by true o number e = refl
 given_by false o number e = absurd (or_else_some o number e)
 
-module _ (names : List (List ℕ)) (table : IsNames names) where
+module _ (names : Texts) (table : IsNames names) where
   told_title : (done : List ScriptLine) (s : Known) (number : ℕ) (r : RefForm) → IsTold names done s → s.place ≡ Between → length s.names ≤ 4096 → is_line_form (title r.name r.version) ≡ true → IsJudged s (title r.name r.version) → is_among s.titles (ref_in (names_after s.names (title r.name r.version)) r) ≡ false → Extends (names_after s.names (title r.name r.version)) names → IsTold names (done ++ code (title r.name r.version) ∷ []) (with_title s number r)
   told_title done s number r h place room sound is new e =
       let stands = subst (Stands done s) place h.stands in
@@ -314,7 +295,7 @@ module _ (names : List (List ℕ)) (table : IsNames names) where
       let after = names_after s.names line in
       let lines = s.lines ++ line ∷ [] in
       let now = added_is s.functions (counted_name after lines line) functions added h.functions.few in
-      let home_held = title_held after lines more.titled (subst (λ (ns : List (List ℕ)). HaveHeld ns lines) (sym more.names_are) (held_behind more.before lines)) in
+      let home_held = title_held after lines more.titled (subst (λ (ns : Texts). HaveHeld ns lines) (sym more.names_are) (held_behind more.before lines)) in
       let counted = counted_line after names s.functions lines line e home_held (held_all s.names (line_atoms line)) in
       let home : (title_of lines).0 ≡ home_of [] done = ap (λ (t : List ℕ × List ℕ). t.0) (title_of-more s.lines line o.titled) ∙ sym o.home in
       let before = h.functions.are in
@@ -334,9 +315,9 @@ module _ (names : List (List ℕ)) (table : IsNames names) where
       let stands = subst (Stands done w) place h.stands in
       let o = stands.0 in
       let text = w.lines in
-      let c : IsClosed names text = record { before = o.before; room = o.room; follow = o.follow; closed = end_is (last_line text) closes; among = subst (λ (ns : List (List ℕ)). Extends ns names) o.names_are e } in
+      let c : IsClosed names text = record { before = o.before; room = o.room; follow = o.follow; closed = end_is (last_line text) closes; among = subst (λ (ns : Texts). Extends ns names) o.names_are e } in
       let m = module_of w.names text in
-      let same : m ≡ module_of names text = ap (λ (ns : List (List ℕ)). module_of ns text) o.names_are ∙ sym (same_module names text c) in
+      let same : m ≡ module_of names text = ap (λ (ns : Texts). module_of ns text) o.names_are ∙ sym (same_module names text c) in
       let back = sym same in
       record {
         modules = record {
@@ -416,7 +397,7 @@ module _ (names : List (List ℕ)) (table : IsNames names) where
   told_by done s number h room sound feed e none (opens r place is new) = told_title done s number r h place room sound is new e
   told_by done s number h room sound feed e none (writes line functions place is few) =
       let w = with_line s line functions in
-      let grown : Extends w.names names = subst (λ (ns : List (List ℕ)). Extends ns names) (closed_names w (is_text_end (last_line w.lines)) (unsettled_line w.lines)) e in
+      let grown : Extends w.names names = subst (λ (ns : Texts). Extends ns names) (closed_names w (is_text_end (last_line w.lines)) (unsettled_line w.lines)) e in
       told_text (done ++ code line ∷ []) w (is_text_end (last_line w.lines)) (unsettled_line w.lines) refl refl (told_line done s line functions h place sound is few grown) place grown none
   told_by done s number h room sound feed e none (observes count front few) =
       let o = h.observers in
@@ -487,7 +468,7 @@ told_steps done (line ∷ todo) s number known table none e sound feeds kept h =
     subst (λ (ls : List ScriptLine). IsTold known.names ls known) (append_assoc done (line ∷ []) todo)
     (told_steps (done ++ line ∷ []) todo first.0 (number + 1) known table none first.2 sound.1 feeds.1 (kept_by s number kept m) (told_by known.names table done s number h kept.room sound.0 feeds.0 rest.grown (rest.quiet none) m))
 
-told_opening : (names : List (List ℕ)) → IsTold names [] opening
+told_opening : (names : Texts) → IsTold names [] opening
 told_opening names = record {
   modules = record { sound = All-nil IsModule; held = All-nil (IsModuleHeld names) };
   titles = record { are = refl; apart = tt };

@@ -10,16 +10,19 @@ use Rattle.script_text.specs.declared.fault.ScriptFault.TheVariants as faults
 use Rattle.script_text.specs.declared.reading.cause.LineCause.{LineCause}
 use Rattle.script_text.specs.declared.reading.cause.LineCause.TheVariants as causes
 
+-- the fault of a script by which the line of this number is refused
 abbrev pub fault_at : ℕ → LineCause → ScriptFault
 fault_at line causes.Syntax = faults.Syntax line
 fault_at line (causes.Limit limit) = faults.Limit line limit
 fault_at line causes.Duplicate = faults.Duplicate line
 fault_at line causes.NoMemory = faults.NoMemory
 
+-- why a line is refused whose new name could not be kept
 abbrev pub cause_of_name : NameFault → LineCause
 cause_of_name name_faults.Full = causes.Limit which.Names
 cause_of_name name_faults.NoMemory = causes.NoMemory
 
+-- why a line of a module's text is refused, as a line of the script
 abbrev pub cause_of_code : LineFault → LineCause
 cause_of_code line_faults.Syntax = causes.Syntax
 cause_of_code line_faults.Register = causes.Syntax
@@ -52,6 +55,7 @@ abbrev pub FailsWith : {A : Type 0} → Result A ScriptFault → ScriptFault →
 FailsWith step faults.NoMemory = Unit {0}
 FailsWith step fault = step ≡ Err fault
 
+-- the same as Gives, for what is read of a whole text
 abbrev pub GivesText : {X A : Type 0} → (X → A) → Result X ScriptFault → Result A ScriptFault → Type 0
 GivesText view (Ok x) step = step ≡ Ok (view x)
 GivesText view (Err fault) step = FailsWith step fault

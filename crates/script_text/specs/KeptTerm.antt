@@ -16,12 +16,14 @@ pub data ArgumentWords : Type 0 where
   atom : List ℕ → ArgumentWords
   complex : List ℕ → ArgumentWords
 
+-- a written term, as the reader keeps its words
 abbrev pub argument_words : WrittenTerm → ArgumentWords
 argument_words (integer_leaf text) = integer (term_integer text)
 argument_words (atom_leaf text) = atom text
 argument_words (tuple_of row) = complex (written (tuple_of row))
 argument_words (list_of row) = complex (written (list_of row))
 
+-- what the reader kept of a term
 abbrev pub kept_argument : WrittenArgument → ArgumentWords
 kept_argument (kept.Integer value) = integer value
 kept_argument (kept.Atom text) = atom text.now

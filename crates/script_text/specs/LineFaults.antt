@@ -1,6 +1,6 @@
 -- What a line of a script may have that is over a limit, wherever it stands.
 -- Source: this project's script text.
-use Rattle.std.specs.Prelude.{nat_lt, Bool, false, Option, Some, None, is_some}
+use Rattle.std.specs.Prelude.{nat_lt, Bool, false, is_some}
 use Rattle.std.specs.List.{list_any}
 use Rattle.term_core.specs.declared.term_text.TheConstants.{MOST_WORDS}
 use Rattle.term_core.specs.PlainTerm.{term_words}
@@ -29,8 +29,3 @@ is_long (code line) = has_long_term line
 is_long (put key term) = is_long_term term
 is_long (spawn «module» name args) = list_any is_long_term args
 is_long line = false
-
--- the first that there is
-abbrev pub or_else : {X : Type 0} → Option X → Option X → Option X
-or_else None other = other
-or_else (Some x) other = Some x

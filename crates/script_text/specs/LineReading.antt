@@ -12,6 +12,7 @@ use Rattle.mod_text.specs.ModuleLine.{is_version_text, is_arity_text}
 use Rattle.term_core.specs.Text.Steps.{◌>>=◌, tested, numbered_reading}
 use Rattle.term_core.specs.Text.Parts.{cut_at, parts_of, each_reading}
 use Rattle.term_core.specs.Text.Words.{switch_reading}
+use Rattle.mod_text.specs.Sides.{paired}
 use Rattle.script_text.specs.ScriptLine.{RefForm, AtomCommand, delete, soft_purge, purge, check_old, erase, is_snapshots_text}
 
 -- the version that digits write
@@ -24,11 +25,7 @@ snapshots_reading text = if is_snapshots_text text then Some (number_value text)
 
 -- a module and a version with a dot between them
 abbrev pub ref_reading : List ℕ → Option RefForm
-ref_reading text = do
-  parts ← cut_at 46 text
-  name ← tested is_atom_text parts.0
-  version ← tested is_version_text parts.1
-  Some (record { name = name; version = version })
+ref_reading text = paired 46 (tested is_atom_text) (tested is_version_text) text >>= λ p. Some (record { name = p.0; version = p.1 })
 
 -- the modules of a load
 abbrev pub refs_reading : List ℕ → Option (List RefForm)
@@ -54,15 +51,13 @@ pub record TraceForm : Type 0 where
 abbrev pub arity_reading : List ℕ → Option ℕ
 arity_reading text = if is_arity_text text then Some (number_value text) else None
 
+-- a function of a module
+abbrev pub target_reading : List ℕ → Option (List ℕ × (List ℕ × List ℕ))
+target_reading text = paired 58 (tested is_atom_text) (numbered_reading 47 is_arity_text) text
+
 -- a breakpoint that is set or taken away, behind the word of its line
 abbrev pub trace_reading : List ℕ → Option TraceForm
-trace_reading text = do
-  parts ← cut_at 32 text
-  target ← cut_at 58 parts.0
-  «module» ← tested is_atom_text target.0
-  function ← numbered_reading 47 is_arity_text target.1
-  on ← switch_reading parts.1
-  Some (record { «module» = «module»; name = function.0; arity = function.1; on = on })
+trace_reading text = paired 32 target_reading switch_reading text >>= λ p. Some (record { «module» = p.0.0; name = p.0.1.0; arity = p.0.1.1; on = p.1 })
 
 -- an argument, which is a term; an atom and an integer are known by their own bytes
 abbrev pub argument_reading : List ℕ → Option WrittenTerm
@@ -78,11 +73,7 @@ pub record PutForm : Type 0 where
 
 -- the key and the term of a put, behind its word
 abbrev pub put_reading : List ℕ → Option PutForm
-put_reading text = do
-  parts ← cut_at 32 text
-  key ← tested is_atom_text parts.0
-  term ← argument_reading parts.1
-  Some (record { key = key; term = term })
+put_reading text = paired 32 (tested is_atom_text) argument_reading text >>= λ p. Some (record { key = p.0; term = p.1 })
 
 -- the arguments of a call, without their brackets: they are parted at the commas that are outside of all brackets
 abbrev pub arguments_reading : List ℕ → Option (List WrittenTerm)
@@ -100,16 +91,13 @@ closed_arguments parts = do
   args ← arguments_reading parts.0
   if length parts.1 == 0 && nat_le (length args) MOST_ARGUMENTS then Some args else None
 
+-- the name of a function and its arguments
+abbrev pub applied_reading : List ℕ → Option (List ℕ × List WrittenTerm)
+applied_reading text = paired 40 (tested is_atom_text) (λ rest. cut_at 41 rest >>= closed_arguments) text
+
 -- the call of a spawn
 abbrev pub call_reading : List ℕ → Option CallForm
-call_reading text = do
-  target ← cut_at 58 text
-  function ← cut_at 40 target.1
-  inside ← cut_at 41 function.1
-  «module» ← tested is_atom_text target.0
-  name ← tested is_atom_text function.0
-  args ← closed_arguments inside
-  Some (record { «module» = «module»; name = name; args = args })
+call_reading text = paired 58 (tested is_atom_text) applied_reading text >>= λ p. Some (record { «module» = p.0; name = p.1.0; args = p.1.1 })
 
 -- the module and version of a title, behind its word
 abbrev pub titled : Option (List ℕ × List ℕ) → Option RefForm

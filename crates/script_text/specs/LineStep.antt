@@ -11,7 +11,7 @@ use Rattle.mod_text.specs.declared.fault.LineFault.{LineFault}
 use Rattle.mod_text.specs.declared.fault.LineFault.TheVariants as line_faults
 use Rattle.mod_text.specs.ModuleLine.{LineForm, title, end}
 use Rattle.mod_text.specs.LineFaults.{last_line, counted_name}
-use Rattle.mod_text.specs.ModuleValue.{atom_in, module_of, unsettled_line}
+use Rattle.mod_text.specs.ModuleValue.{atom_in, module_of, unsettled_line, earlier as or_else}
 use Rattle.mod_text.specs.Reading.{Step, judged}
 use Rattle.server_core.specs.declared.command.ModRef.{ModRef}
 use Rattle.script_core.specs.declared.script.TheConstants.{MOST_LOADERS, MOST_PROCESSES, MOST_OBSERVERS}
@@ -26,7 +26,7 @@ use Rattle.script_text.specs.ScriptLine.{RefForm, ScriptLine, head, code, observ
 use Rattle.script_text.specs.Groups.{onto_last}
 use Rattle.script_text.specs.Counts.{script_line_atoms}
 use Rattle.script_text.specs.ScriptValue.{ref_in, commands_on}
-use Rattle.script_text.specs.LineFaults.{or_else, is_wide, is_long}
+use Rattle.script_text.specs.LineFaults.{is_wide, is_long}
 use Rattle.script_text.specs.Causes.{◌>>=◌, cause_of_code}
 use Rattle.script_text.specs.Sets.{is_among, ref_added}
 use Rattle.script_text.specs.Adding.{counted_added, passes_counted}
@@ -78,6 +78,7 @@ abbrev pub closed_by : Known → Option ℕ → Known
 closed_by s None = record s { modules = s.modules ++ module_of s.names s.lines ∷ []; lines = []; place = Between }
 closed_by s (Some place) = record s { unknown = or_else s.unknown (Some (s.title + place)); lines = []; place = Between }
 
+-- the text that is open is closed where its last line is the end
 abbrev pub text_closed : Known → Known
 text_closed s = if is_text_end (last_line s.lines) then closed_by s (unsettled_line s.lines) else s
 
@@ -99,6 +100,7 @@ abbrev pub code_judged : Known → LineForm → Step → Result Known LineCause
 code_judged s line (Ok x) = code_counted (record s { names = x.0; lines = x.1 }) line
 code_judged s line (Err fault) = Err (code_cause s.functions (counted_name s.names s.lines line) fault)
 
+-- a line behind a title
 abbrev pub step_code : Known → LineForm → Result Known LineCause
 step_code s line = code_judged s line (judged s.names s.lines (Some line))
 

@@ -26,7 +26,7 @@ use Rattle.script_text.specs.declared.reading.reader.Place.TheVariants.{Unread, 
 use Rattle.script_text.specs.declared.reading.reader.ScriptReader.{ScriptReader}
 use Rattle.script_text.specs.Groups.{onto_last}
 use Rattle.script_text.specs.ScriptValue.{command_of}
-use Rattle.script_text.specs.LineFaults.{or_else}
+use Rattle.mod_text.specs.ModuleValue.{earlier as or_else}
 pub use Rattle.script_text.specs.LineStep.{opening, by_code, is_text_end, closed_by, text_closed, repeat_cause, block_step, end_step, process_added}
 use Rattle.script_text.specs.LineReading.{snapshots_reading, refs_reading, command_reading, put_reading, trace_reading, call_reading, title_reading}
 use Rattle.script_text.specs.WrittenLine.{ref_words, put_words, trace_words, call_words}
@@ -38,6 +38,7 @@ use Rattle.term_core.specs.Text.Parts.{lines_of}
 
 -- ---- the head and the module texts
 
+-- the head
 abbrev pub head_step : ScriptReader → List ℕ → Result ScriptReader LineCause
 head_step s text = if bytes_eq text (codes "beam script 1") then Ok (record s { place = Between }) else Err causes.Syntax
 
@@ -71,6 +72,7 @@ line_added s text before (Err line_faults.TooManyFunctions) = Err (causes.Limit 
 line_added s text before (Err line_faults.TooLong) = Err (causes.Limit which.Module)
 line_added s text before (Err line_faults.NoMemory) = Err causes.NoMemory
 
+-- a line behind a title, by its text
 abbrev pub within_step : ScriptReader → List ℕ → Result ScriptReader LineCause
 within_step s text = line_added s text (counted_of s.names s.lines text) (line_step s.names s.lines text)
 
@@ -148,6 +150,7 @@ command_by s number (Some parts) =
     else (if bytes_eq parts.0 (codes "trace") then trace_step s parts.1
     else (if bytes_eq parts.0 (codes "put") then put_step s parts.1 else atom_step s parts.0 parts.1)))
 
+-- a line in the loader blocks that is not of one word
 abbrev pub command_step : ScriptReader → ℕ → List ℕ → Result ScriptReader LineCause
 command_step s number text = command_by s number (cut_at 32 text)
 

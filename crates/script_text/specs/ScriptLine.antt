@@ -101,16 +101,14 @@ is_snapshots_text text = is_number_text text && (nat_le 1 (number_value text) &&
 
 -- a line, each part of which has its text: a load of at least one module, an arity of at most 15, a call of at most 15 arguments
 abbrev pub is_script_line : ScriptLine → Bool
-is_script_line head = true
 is_script_line (code line) = is_line_form line
 is_script_line (observer count) = is_snapshots_text count
-is_script_line loader = true
 is_script_line (load refs) = are_some_refs refs
 is_script_line (on_atom command name) = is_atom_text name
 is_script_line (put key term) = is_atom_text key && is_term_form term
 is_script_line (trace «module» name arity on) = is_atom_text «module» && is_function_form name arity
 is_script_line (spawn «module» name args) = is_atom_text «module» && (is_atom_text name && (nat_le (length args) MOST_ARGUMENTS && list_all is_term_form args))
-is_script_line go = true
+is_script_line _ = true
 
 -- the bytes are the text of this line
 pub record IsLine (text : List ℕ) (line : ScriptLine) : Type 0 where

@@ -11,12 +11,15 @@ use Rattle.script_text.specs.declared.reading.cause.LineCause.TheVariants as cau
 use Rattle.script_text.specs.declared.reading.sets.FunctionKey.{FunctionKey}
 use Rattle.script_text.specs.declared.reading.sets.RefKey.{RefKey}
 
+-- the function that a key of the set stands for
 abbrev pub mfa_of_key : FunctionKey → Mfa
 mfa_of_key k = record { «module» = record { 0 = k.«module» }; name = record { 0 = k.name }; arity = k.arity }
 
+-- the version of a module that a key of the set stands for
 abbrev pub ref_of_key : RefKey → ModRef
 ref_of_key k = record { name = record { 0 = k.name }; version = k.version }
 
+-- both are one version of one module
 abbrev pub is_same_mod_ref : ModRef → ModRef → Bool
 is_same_mod_ref r s = r.name.0 == s.name.0 && r.version == s.version
 

@@ -15,9 +15,11 @@ pub use Rattle.script_text.specs.KeptTerm.{term_integer, ArgumentWords, integer,
 abbrev pub RefWords : Type 0
 RefWords = List ℕ × ℕ
 
+-- a written version of a module, by its words
 abbrev pub ref_words : RefForm → RefWords
 ref_words r = (r.name, number_value r.version)
 
+-- what the reader kept of one
 abbrev pub kept_ref : WrittenRef → RefWords
 kept_ref r = (r.name.now, r.version)
 
@@ -40,9 +42,11 @@ pub record TraceWords : Type 0 where
   pub arity : ℕ
   pub on : Bool
 
+-- a written breakpoint, by its words
 abbrev pub trace_words : TraceForm → TraceWords
 trace_words t = record { «module» = t.«module»; name = t.name; arity = number_value t.arity; on = t.on }
 
+-- what the reader kept of one
 abbrev pub kept_trace : WrittenTrace → TraceWords
 kept_trace t = record { «module» = t.«module».now; name = t.name.now; arity = t.arity; on = t.on }
 
@@ -51,9 +55,11 @@ pub record PutWords : Type 0 where
   pub key : List ℕ
   pub term : ArgumentWords
 
+-- a written put, by its words
 abbrev pub put_words : PutForm → PutWords
 put_words p = record { key = p.key; term = argument_words p.term }
 
+-- what the reader kept of one
 abbrev pub kept_put : WrittenPut → PutWords
 kept_put p = record { key = p.key.now; term = kept_argument p.term }
 
@@ -63,8 +69,10 @@ pub record CallWords : Type 0 where
   pub name : List ℕ
   pub args : List ArgumentWords
 
+-- a written call, by its words
 abbrev pub call_words : CallForm → CallWords
 call_words c = record { «module» = c.«module»; name = c.name; args = map argument_words c.args }
 
+-- what the reader kept of one
 abbrev pub kept_call : WrittenCall → CallWords
 kept_call c = record { «module» = c.«module».now; name = c.name.now; args = map kept_argument c.args.items }

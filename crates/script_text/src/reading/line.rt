@@ -190,10 +190,10 @@ pub fn read_call(alloc: Global, text: &[u8]) -> Result<WrittenCall<'_>, LineCaus
     ensures { Gives kept_call result (or_syntax (option_map call_words (call_reading text.now))) }
 {
     let (module, rest) = cut_at(text, b':').ok_or(LineCause::Syntax)?;
-    let (name, rest) = cut_at(rest, b'(').ok_or(LineCause::Syntax)?;
-    let (inside, behind) = cut_at(rest, b')').ok_or(LineCause::Syntax)?;
     let module = read_atom(module).ok_or(LineCause::Syntax)?;
+    let (name, rest) = cut_at(rest, b'(').ok_or(LineCause::Syntax)?;
     let name = read_atom(name).ok_or(LineCause::Syntax)?;
+    let (inside, behind) = cut_at(rest, b')').ok_or(LineCause::Syntax)?;
     let args = read_closed_arguments(alloc, inside, behind)?;
     Ok(WrittenCall { module, name, args })
 }

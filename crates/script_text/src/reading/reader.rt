@@ -62,7 +62,7 @@ impl<'a> ScriptReader<'a> {
     ghost use Rattle.std.specs.List.{list_all};
     ghost use Rattle.term_core.specs.Text.Cuts.{cut_at};
     ghost use Rattle.mod_text.specs.ModuleValue.{IsTitled, unsettled_line};
-    ghost use Rattle.script_text.specs.LineFaults.{or_else};
+    ghost use Rattle.mod_text.specs.ModuleValue.{earlier as or_else};
     ghost use Rattle.script_text.specs.Causes.{Gives, GivesText};
     ghost use Rattle.script_text.specs.Sets.{is_among};
     ghost use Rattle.script_text.specs.Reading.{opening, head_step, title_step, counted_step, within_step, text_closed, closed_by, observer_step, between_by, observing_by, block_step, load_step, atom_step, put_step, trace_step, spawn_step, command_step, other_step, line_at, line_judged, text_ended, IsCounted, repeat_cause, script_known};

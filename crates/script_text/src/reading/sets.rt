@@ -127,6 +127,7 @@ impl RefSet {
         }
     }
 
+    /// Whether the version is held.
     pub fn has(&self, to: ModRef) -> bool
         ensures { result ≡ is_among self.now to }
     {

@@ -1,5 +1,5 @@
 -- A label more has its number, and one that had a number keeps it.
-use Rattle.std.proofs.Common.{not, ap, ◌∙◌}
+use Rattle.mod_text.proofs.Common.{not, ap, ◌∙◌}
 use Rattle.mod_text.proofs.PlaceTables.{place_added, place_kept}
 use Rattle.mod_text.proofs.labels.add_place.Goals as goal
 

@@ -1,6 +1,6 @@
 -- The labels so far are those of the lines so far.
-use Rattle.std.proofs.Common.{take}
-use Rattle.mod_text.specs.LineViews.{forms_of}
+use Rattle.mod_text.proofs.Common.{take}
+use Rattle.mod_text.proofs.Forms.{forms_of}
 use Rattle.mod_text.proofs.PlaceTables.{PlacesSoFar}
 use Rattle.mod_text.proofs.labels.places_of.Given as goal
 

@@ -1,11 +1,8 @@
 -- Where the words of one line are more than are left, those of all lines are too many.
-use Rattle.std.proofs.Common.{◌≡◌, ℕ, ◌+◌, ◌<◌, ◌≤◌, List, length, take, get_or, nat_le, false, sum_by, subst, arith}
-use Rattle.std.proofs.lemmas.Bool.Decides.{nat_tests}
-use Rattle.std.proofs.lemmas.List.{length-map, take-map, get_or-map}
-use Rattle.std.proofs.lemmas.List.Sums.{sum_by_more_le}
-use Rattle.std.specs.Borrow.{Bor}
-use Rattle.mod_text.specs.LineViews.{form_of, forms_of}
-use Rattle.mod_text.specs.Keeping.{line_words, lines_words}
+use Rattle.mod_text.proofs.Common.{◌≡◌, ℕ, ◌+◌, ◌<◌, ◌≤◌, List, length, take, get_or, nat_le, false}
+use Rattle.mod_text.proofs.Common.{sum_by, subst, arith, nat_tests, length-map, take-map, get_or-map}
+use Rattle.mod_text.proofs.Common.{sum_by_more_le, Bor}
+use Rattle.mod_text.proofs.Forms.{form_of, forms_of, line_words, lines_words}
 use Rattle.mod_text.proofs.Settles.{kept_at}
 use Rattle.mod_text.proofs.limits.is_short.Goals as goal
 

@@ -1,7 +1,6 @@
 -- The words that are left are as many as the whole has, less those of the lines so far.
-use Rattle.std.proofs.Common.{◌≡◌, ◌+◌, take, sum_by}
-use Rattle.mod_text.specs.LineViews.{forms_of}
-use Rattle.mod_text.specs.Keeping.{line_words}
+use Rattle.mod_text.proofs.Common.{◌≡◌, ◌+◌, take, sum_by}
+use Rattle.mod_text.proofs.Forms.{forms_of, line_words}
 use Rattle.mod_text.proofs.limits.is_short.Given as goal
 
 abbrev pub invariant-loop-line : goal.invariant-loop-line

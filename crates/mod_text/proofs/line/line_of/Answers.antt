@@ -1,7 +1,7 @@
 -- The line that was read, or the end where there is none.
-use Rattle.std.proofs.Common.{sym, ap, ◌∙◌}
+use Rattle.mod_text.proofs.Common.{sym, ap, ◌∙◌}
 use Rattle.std.specs.Prelude.{option_map}
-use Rattle.mod_text.specs.LineViews.{line_form}
+use Rattle.mod_text.proofs.Forms.{line_form}
 use Rattle.mod_text.proofs.Keepings.{text_form_is}
 use Rattle.mod_text.proofs.line.line_of.Goals as goal
 

@@ -1,7 +1,6 @@
 -- The atoms of two parts, one after the other.
-use Rattle.std.proofs.lemmas.Result.{err_from_is_err_and}
-use Rattle.mod_text.specs.LineFaults.{operand_atoms}
-use Rattle.mod_text.specs.LineViews.{operand_form}
+use Rattle.mod_text.proofs.Common.{err_from_is_err_and}
+use Rattle.mod_text.proofs.Forms.{operand_atoms, operand_form}
 use Rattle.mod_text.proofs.LineNames.{first_fails, goes_on}
 use Rattle.mod_text.proofs.naming.add_operands.Goals as goal
 

@@ -1,9 +1,6 @@
 -- The functions so far are written.
-use Rattle.std.proofs.Common.{◌≡◌, ◌++◌, take}
-use Rattle.std.specs.Io.{StartsWith}
-use Rattle.std.specs.List.{flat_map}
-use Rattle.mod_text.specs.ModuleLine.{lines_written}
-use Rattle.mod_text.specs.Canonical.{function_lines}
+use Rattle.mod_text.proofs.Common.{◌≡◌, ◌++◌, take, StartsWith, flat_map}
+use Rattle.mod_text.proofs.Forms.{lines_written, function_lines}
 use Rattle.mod_text.proofs.printing.write_functions.Given as goal
 
 abbrev pub invariant-loop-function : goal.invariant-loop-function

@@ -1,8 +1,6 @@
 -- The parts of a module, one after the other.
-use Rattle.std.proofs.Common.{◌≡◌, ◌++◌, subst}
-use Rattle.std.specs.List.{flat_map}
-use Rattle.mod_text.specs.ModuleLine.{lines_written}
-use Rattle.mod_text.specs.Canonical.{function_lines}
+use Rattle.mod_text.proofs.Common.{◌≡◌, ◌++◌, subst, flat_map}
+use Rattle.mod_text.proofs.Forms.{lines_written, function_lines}
 use Rattle.mod_text.proofs.PrintedText.{module_written, few_places}
 use Rattle.mod_text.proofs.printing.write_module.Goals as goal
 

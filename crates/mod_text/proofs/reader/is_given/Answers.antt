@@ -1,7 +1,7 @@
 -- A test of each header is one of each form.
-use Rattle.std.proofs.Common.{◌∙◌, sym}
+use Rattle.mod_text.proofs.Common.{◌∙◌, sym}
 use Rattle.term_core.proofs.Lists.{any_map}
-use Rattle.mod_text.specs.ModuleValue.{is_header}
+use Rattle.mod_text.proofs.Forms.{is_header}
 use Rattle.mod_text.proofs.reader.is_given.Goals as goal
 
 pub returns : goal.returns

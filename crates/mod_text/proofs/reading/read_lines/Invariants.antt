@@ -1,7 +1,7 @@
 -- What is left goes on as the whole does.
-use Rattle.std.proofs.Common.{◌≡◌, length, []}
-use Rattle.term_core.specs.Names.{Extends}
-use Rattle.mod_text.specs.Reading.{bytes_on}
+use Rattle.mod_text.proofs.Common.{◌≡◌, length, []}
+use Rattle.mod_text.proofs.Texts.{Extends}
+use Rattle.mod_text.proofs.Forms.{bytes_on}
 use Rattle.mod_text.proofs.reading.read_lines.Given as goal
 
 abbrev pub invariant-lines : goal.invariant-lines

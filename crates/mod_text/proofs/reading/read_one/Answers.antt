@@ -1,5 +1,5 @@
 -- One line is read, or stops the reading.
-use Rattle.std.proofs.Common.{◌∙◌, sym}
+use Rattle.mod_text.proofs.Common.{◌∙◌, sym}
 use Rattle.mod_text.proofs.Stepping.{unended_stops, early_stops, line_leads, line_stops, behind_shorter}
 use Rattle.mod_text.proofs.reading.read_one.Goals as goal
 

@@ -1,5 +1,5 @@
 -- The ways to end.
-use Rattle.mod_text.specs.Ending.{read}
+use Rattle.mod_text.proofs.Forms.{read}
 use Rattle.mod_text.proofs.Endings.{titled, stopped_ends, unsettled_ends}
 use Rattle.mod_text.proofs.reading.read_text.Goals as goal
 

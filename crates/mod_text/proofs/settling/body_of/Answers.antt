@@ -1,5 +1,5 @@
 -- The body ends before the first line that is none of it.
-use Rattle.std.proofs.Common.{◌∙◌, sym}
+use Rattle.mod_text.proofs.Common.{◌∙◌, sym}
 use Rattle.mod_text.proofs.Settles.{body_stops, body_more, body_is_whole}
 use Rattle.mod_text.proofs.settling.body_of.Goals as goal
 

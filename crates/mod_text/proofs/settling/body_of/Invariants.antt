@@ -1,7 +1,6 @@
 -- The lines so far are of the body, and what is left goes on as the whole does.
-use Rattle.std.proofs.Common.{◌≡◌, ◌++◌, take, drop}
-use Rattle.mod_text.specs.LineViews.{forms_of}
-use Rattle.mod_text.specs.ModuleValue.{body_of}
+use Rattle.mod_text.proofs.Common.{◌≡◌, ◌++◌, take, drop}
+use Rattle.mod_text.proofs.Forms.{forms_of, body_of}
 use Rattle.mod_text.proofs.settling.body_of.Given as goal
 
 abbrev pub invariant-loop-place : goal.invariant-loop-place

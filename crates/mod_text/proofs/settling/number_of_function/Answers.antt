@@ -1,7 +1,7 @@
 -- The place among the headers is the function's number.
-use Rattle.std.proofs.Common.{◌∙◌, sym}
-use Rattle.mod_text.specs.ModuleValue.{is_header}
-use Rattle.term_core.proofs.Places.{position-map}
+use Rattle.mod_text.proofs.Common.{◌∙◌, sym}
+use Rattle.mod_text.proofs.Forms.{is_header}
+use Rattle.mod_text.proofs.Texts.{position-map}
 use Rattle.mod_text.proofs.settling.number_of_function.Goals as goal
 
 pub returns-in_err-number : goal.returns-in_err-number

@@ -1,8 +1,6 @@
 -- The function that a header begins.
-use Rattle.std.proofs.Common.{◌∙◌, sym, ap, ◌++◌, subst}
-use Rattle.std.specs.Prelude.{All}
-use Rattle.mod_text.specs.LineViews.{line_form, headers_of, forms_of}
-use Rattle.mod_text.specs.Keeping.{IsKept}
+use Rattle.mod_text.proofs.Common.{◌∙◌, sym, ap, ◌++◌, subst, All}
+use Rattle.mod_text.proofs.Forms.{line_form, headers_of, forms_of, IsKept}
 use Rattle.mod_text.proofs.Settles.{kept_body, header_function}
 use Rattle.mod_text.proofs.settling.settle_function.Goals as goal
 

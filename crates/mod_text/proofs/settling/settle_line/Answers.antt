@@ -1,6 +1,6 @@
 -- A line is settled as its instruction is.
-use Rattle.std.proofs.Common.{◌∙◌, sym, ap, ◌∷◌, [], ◌++◌}
-use Rattle.mod_text.specs.LineViews.{line_form, headers_of}
+use Rattle.mod_text.proofs.Common.{◌∙◌, sym, ap, ◌∷◌, [], ◌++◌}
+use Rattle.mod_text.proofs.Forms.{line_form, headers_of}
 use Rattle.mod_text.proofs.Settles.{settled_is}
 use Rattle.mod_text.proofs.settling.settle_line.Goals as goal
 

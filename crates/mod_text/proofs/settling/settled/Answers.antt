@@ -1,8 +1,7 @@
 -- What goes to a label or calls a local function is settled by its own function.
 use Rattle.std.proofs.Common.{◌≡◌, sym, ap, ◌∙◌, subst, IfOk}
 use Rattle.mod_text.specs.declared.written.WrittenInstr.{WrittenInstr}
-use Rattle.mod_text.specs.LineViews.{instr_form, headers_of}
-use Rattle.mod_text.specs.Settling.{settled_instr}
+use Rattle.mod_text.proofs.Forms.{instr_form, headers_of, settled_instr}
 use Rattle.mod_text.proofs.settling.settled.Goals as goal
 
 pub returns-in-Eq : goal.returns-in-Eq

@@ -1,6 +1,6 @@
 -- The code of a body, line by line.
-use Rattle.std.proofs.Common.{◌∙◌, sym}
-use Rattle.mod_text.specs.LineViews.{headers_of, forms_of}
+use Rattle.mod_text.proofs.Common.{◌∙◌, sym}
+use Rattle.mod_text.proofs.Forms.{headers_of, forms_of}
 use Rattle.mod_text.proofs.Settles.{kept_at, code_starts, code_more, code_stops, code_is_whole, code_is_settled, on_true}
 use Rattle.mod_text.proofs.settling.settled_code.Goals as goal
 

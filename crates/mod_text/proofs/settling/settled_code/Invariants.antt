@@ -1,5 +1,5 @@
 -- The code so far is that of the lines so far, each of which is settled.
-use Rattle.mod_text.specs.LineViews.{headers_of}
+use Rattle.mod_text.proofs.Forms.{headers_of}
 use Rattle.mod_text.proofs.Settles.{CodeSoFar}
 use Rattle.mod_text.proofs.settling.settled_code.Given as goal
 

@@ -1,10 +1,8 @@
 -- The functions of a module, line by line.
-use Rattle.std.proofs.Common.{ℕ, ◌+◌, sym, subst, List, arith}
-use Rattle.std.specs.Prelude.{All}
-use Rattle.std.specs.Borrow.{Bor}
-use Rattle.mod_text.specs.LineViews.{headers_of, forms_of}
-use Rattle.mod_text.specs.Keeping.{IsKept}
-use Rattle.mod_text.proofs.Settles.{kept_at, kept_behind, functions_start, functions_go_on, functions_stop_later, later_fits, functions_are_whole, functions_are_settled}
+use Rattle.mod_text.proofs.Common.{ℕ, ◌+◌, sym, subst, List, arith, All, Bor}
+use Rattle.mod_text.proofs.Forms.{headers_of, forms_of, IsKept}
+use Rattle.mod_text.proofs.Settles.{kept_at, kept_behind, functions_start, functions_go_on}
+use Rattle.mod_text.proofs.Settles.{functions_stop_later, later_fits, functions_are_whole, functions_are_settled}
 use Rattle.mod_text.proofs.settling.settled_functions.Goals as goal
 
 pub settle_function-requires-clause-kept : goal.settle_function-requires-clause-kept

@@ -1,5 +1,5 @@
 -- The functions so far are those of the lines so far, each of which is settled.
-use Rattle.mod_text.specs.LineViews.{headers_of}
+use Rattle.mod_text.proofs.Forms.{headers_of}
 use Rattle.mod_text.proofs.Settles.{FunctionsSoFar}
 use Rattle.mod_text.proofs.settling.settled_functions.Given as goal
 

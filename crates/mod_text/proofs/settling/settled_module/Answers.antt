@@ -1,6 +1,6 @@
 -- The module of a title and its functions.
-use Rattle.std.proofs.Common.{sym, subst}
-use Rattle.mod_text.specs.LineViews.{forms_of}
+use Rattle.mod_text.proofs.Common.{sym, subst}
+use Rattle.mod_text.proofs.Forms.{forms_of}
 use Rattle.mod_text.proofs.Settles.{HasVersion, title_version}
 use Rattle.mod_text.proofs.settling.settled_module.Goals as goal
 

@@ -1,7 +1,6 @@
 -- The places that the instructions so far go to are marked.
-use Rattle.std.proofs.Common.{◌≡◌, ℕ, ◌<◌, false, length, take, get_or}
-use Rattle.std.specs.List.{list_any}
-use Rattle.mod_text.specs.Canonical.{goes_to}
+use Rattle.mod_text.proofs.Common.{◌≡◌, ℕ, ◌<◌, false, length, take, get_or, list_any}
+use Rattle.mod_text.proofs.Forms.{goes_to}
 use Rattle.mod_text.proofs.targets.targets_of.Given as goal
 
 abbrev pub invariant-loop-instr : goal.invariant-loop-instr

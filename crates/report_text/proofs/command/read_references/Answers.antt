@@ -1,10 +1,7 @@
-use Rattle.std.proofs.Common.{ap}
-use Rattle.std.specs.Prelude.{option_map}
-use Rattle.std.proofs.lemmas.Result.{err_from_is_err_and}
+use Rattle.report_text.proofs.Common.{ap, option_map, err_from_is_err_and}
 use Rattle.server_core.specs.declared.command.ModRef.{ModRef}
-use Rattle.term_core.proofs.Text.Parts.{byte_parts, byte_cut, byte_left}
-use Rattle.term_core.proofs.Text.Reads.{reads_on, less_left}
-use Rattle.report_text.specs.CommandReading.{reference_reading}
+use Rattle.report_text.proofs.Texts.{byte_parts, byte_cut, byte_left, reads_on, less_left}
+use Rattle.report_text.proofs.Forms.{reference_reading}
 use Rattle.report_text.proofs.ReadingLoops.{reads_stop}
 use Rattle.report_text.proofs.command.read_references.Goals as goal
 

@@ -1,4 +1,4 @@
-use Rattle.std.proofs.Common.{ℕ, List, bytes_eq, sym, ap, ◌∙◌}
+use Rattle.report_text.proofs.Common.{ℕ, List, bytes_eq, sym, ap, ◌∙◌}
 use Rattle.report_text.proofs.BytesOn.{longer}
 use Rattle.report_text.proofs.line.read_line.Goals as goal
 

@@ -1,6 +1,5 @@
-use Rattle.std.proofs.Common.{sym, arith}
-use Rattle.std.proofs.lemmas.Result.{err_from_is_err_and}
-use Rattle.term_core.proofs.Text.Parts.{shorter_rest}
+use Rattle.report_text.proofs.Common.{sym, arith, err_from_is_err_and}
+use Rattle.report_text.proofs.Texts.{shorter_rest}
 use Rattle.report_text.proofs.BytesOn.{next_line, line_fails, no_line, given}
 use Rattle.report_text.proofs.reading.read_lines.Goals as goal
 

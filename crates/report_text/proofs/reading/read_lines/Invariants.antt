@@ -1,6 +1,5 @@
-use Rattle.std.proofs.Common.{◌≡◌, ◌+◌, ◌≤◌, length}
-use Rattle.report_text.specs.Taking.{opening}
-use Rattle.report_text.specs.Reading.{bytes_on}
+use Rattle.report_text.proofs.Common.{◌≡◌, ◌+◌, ◌≤◌, length}
+use Rattle.report_text.proofs.Forms.{opening, bytes_on}
 use Rattle.report_text.proofs.reading.read_lines.Given as goal
 
 -- what is read on is what is read of the whole text

@@ -1,10 +1,7 @@
-use Rattle.std.proofs.Common.{ap}
-use Rattle.std.specs.Prelude.{option_map}
-use Rattle.std.proofs.lemmas.Result.{err_from_is_err_and}
-use Rattle.term_core.specs.declared.atom.AtomId.{AtomId}
-use Rattle.term_core.proofs.Text.Parts.{byte_parts, byte_cut, byte_left}
-use Rattle.term_core.proofs.Text.Reads.{reads_on, less_left}
-use Rattle.report_text.specs.WordReading.{atom_reading}
+use Rattle.report_text.proofs.Common.{ap, option_map, err_from_is_err_and}
+use Rattle.report_text.proofs.Types.{AtomId}
+use Rattle.report_text.proofs.Texts.{byte_parts, byte_cut, byte_left, reads_on, less_left}
+use Rattle.report_text.proofs.Forms.{atom_reading}
 use Rattle.report_text.proofs.ReadingLoops.{reads_stop}
 use Rattle.report_text.proofs.reply.read_some_atoms.Goals as goal
 

@@ -1,9 +1,6 @@
-use Rattle.std.proofs.Common.{◌≡◌}
-use Rattle.std.specs.Prelude.{option_map}
-use Rattle.term_core.specs.Text.Parts.{parts_of, each_reading}
-use Rattle.term_core.proofs.Text.Parts.{byte_parts, left_of}
-use Rattle.term_core.proofs.Text.Reads.{with_read}
-use Rattle.report_text.specs.WordReading.{atom_reading}
+use Rattle.report_text.proofs.Common.{◌≡◌, option_map}
+use Rattle.report_text.proofs.Texts.{parts_of, each_reading, byte_parts, left_of, with_read}
+use Rattle.report_text.proofs.Forms.{atom_reading}
 use Rattle.report_text.proofs.reply.read_some_atoms.Given as goal
 
 -- what was read, in front of what is left, is the whole

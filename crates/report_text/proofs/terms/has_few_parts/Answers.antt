@@ -1,8 +1,5 @@
-use Rattle.std.proofs.Common.{length, ap, arith}
-use Rattle.std.specs.Prelude.{option_map}
-use Rattle.term_core.specs.TermParts.{parts_of_terms, parts_of_rest}
-use Rattle.term_core.proofs.Text.Parts.{left_behind, parts_cut}
-use Rattle.term_core.proofs.Text.Reads.{less_left}
+use Rattle.report_text.proofs.Common.{length, ap, arith, option_map}
+use Rattle.report_text.proofs.Texts.{parts_of_terms, parts_of_rest, left_behind, parts_cut, less_left}
 use Rattle.report_text.proofs.ReadingLoops.{many_parts, some_parts}
 use Rattle.report_text.proofs.terms.has_few_parts.Goals as goal
 

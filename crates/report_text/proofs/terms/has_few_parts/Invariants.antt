@@ -1,7 +1,5 @@
-use Rattle.std.proofs.Common.{◌≡◌, ◌+◌, ◌≤◌, length}
-use Rattle.std.specs.Prelude.{option_map}
-use Rattle.term_core.specs.TermParts.{parts_of_terms, parts_of_rest}
-use Rattle.term_core.proofs.Text.Parts.{left_of}
+use Rattle.report_text.proofs.Common.{◌≡◌, ◌+◌, ◌≤◌, length, option_map}
+use Rattle.report_text.proofs.Texts.{parts_of_terms, parts_of_rest, left_of}
 use Rattle.report_text.proofs.terms.has_few_parts.Given as goal
 
 -- those that were counted and those that are left are all

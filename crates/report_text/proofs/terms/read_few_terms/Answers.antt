@@ -1,4 +1,4 @@
-use Rattle.std.proofs.Common.{sym, ◌∙◌}
+use Rattle.report_text.proofs.Common.{sym, ◌∙◌}
 use Rattle.report_text.proofs.ReadingLoops.{few_read}
 use Rattle.report_text.proofs.terms.read_few_terms.Goals as goal
 

@@ -1,11 +1,6 @@
-use Rattle.std.proofs.Common.{ap}
-use Rattle.std.specs.Prelude.{option_map}
-use Rattle.std.proofs.lemmas.Result.{err_from_is_err_and}
-use Rattle.term_core.specs.Plain.{plain}
-use Rattle.term_core.specs.TermParts.{parts_of_rest}
-use Rattle.term_core.proofs.Text.Parts.{left_behind, parts_cut}
-use Rattle.term_core.proofs.Text.Reads.{reads_on, less_left}
-use Rattle.report_text.specs.TermReading.{plain_reading}
+use Rattle.report_text.proofs.Common.{ap, option_map, err_from_is_err_and}
+use Rattle.report_text.proofs.Texts.{plain, parts_of_rest, left_behind, parts_cut, reads_on, less_left}
+use Rattle.report_text.proofs.Forms.{plain_reading}
 use Rattle.report_text.proofs.ReadingLoops.{reads_stop}
 use Rattle.report_text.proofs.terms.read_some_terms.Goals as goal
 

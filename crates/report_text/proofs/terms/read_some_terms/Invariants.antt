@@ -1,10 +1,6 @@
-use Rattle.std.proofs.Common.{◌≡◌}
-use Rattle.std.specs.Prelude.{option_map}
-use Rattle.term_core.specs.TermParts.{parts_of_terms, parts_of_rest}
-use Rattle.term_core.specs.Text.Parts.{each_reading}
-use Rattle.term_core.proofs.Text.Parts.{left_of}
-use Rattle.term_core.proofs.Text.Reads.{with_read}
-use Rattle.report_text.specs.TermReading.{plain_reading}
+use Rattle.report_text.proofs.Common.{◌≡◌, option_map}
+use Rattle.report_text.proofs.Texts.{parts_of_terms, parts_of_rest, each_reading, left_of, with_read}
+use Rattle.report_text.proofs.Forms.{plain_reading}
 use Rattle.report_text.proofs.terms.read_some_terms.Given as goal
 
 -- what was read, in front of what is left, is the whole

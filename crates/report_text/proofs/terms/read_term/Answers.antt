@@ -1,9 +1,6 @@
-use Rattle.std.proofs.Common.{◌≡◌, Some, ap, ◌∙◌, arith}
-use Rattle.std.specs.Prelude.{option_map}
-use Rattle.std.proofs.lemmas.Grind.{common_steps}
-use Rattle.term_core.specs.Plain.{plain, term_of}
-use Rattle.term_core.proofs.PlainTerms.{term_of-plain}
-use Rattle.report_text.specs.TermReading.{plain_reading}
+use Rattle.report_text.proofs.Common.{◌≡◌, Some, ap, ◌∙◌, arith, option_map, common_steps}
+use Rattle.report_text.proofs.Texts.{plain, term_of, term_of-plain}
+use Rattle.report_text.proofs.Forms.{plain_reading}
 use Rattle.report_text.proofs.terms.read_term.Goals as goal
 
 -- the term of what was read is the term

@@ -1,5 +1,5 @@
-use Rattle.std.proofs.Common.{ℕ, ◌-◌, List, Some, take, sym, ap, ◌∙◌, arith}
-use Rattle.report_text.proofs.LastCuts.{cut_there, rest_is, lacks_all}
+use Rattle.report_text.proofs.Common.{ℕ, ◌-◌, List, Some, take, sym, ap, ◌∙◌, arith}
+use Rattle.report_text.proofs.TermLaws.{cut_there, rest_is, lacks_all}
 use Rattle.report_text.proofs.words.cut_last.Goals as goal
 
 -- the byte stands there, and no more behind it

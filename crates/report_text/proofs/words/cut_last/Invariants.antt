@@ -1,5 +1,5 @@
-use Rattle.std.proofs.Common.{◌≡◌, ◌≤◌, true, length, drop}
-use Rattle.term_core.proofs.Text.Cuts.{lacks}
+use Rattle.report_text.proofs.Common.{◌≡◌, ◌≤◌, true, length, drop}
+use Rattle.report_text.proofs.Texts.{lacks}
 use Rattle.report_text.proofs.words.cut_last.Given as goal
 
 -- the byte is not among those that were passed

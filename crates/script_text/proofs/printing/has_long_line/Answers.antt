@@ -1,10 +1,7 @@
-use Rattle.std.proofs.Common.{◌≡◌, ◌∙◌, ◌||◌, length, None, true, false, sym, ap, arith}
-use Rattle.std.proofs.lemmas.Bool.{lt-ltb, le-ltb}
-use Rattle.std.specs.List.{list_any}
-use Rattle.term_core.specs.Text.Cuts.{cut_at}
+use Rattle.script_text.proofs.Common.{◌≡◌, ◌∙◌, ◌||◌, length, None, true, false, sym, ap, arith, lt-ltb, le-ltb, list_any}
+use Rattle.script_text.proofs.Texts.{cut_at, shorter_rest}
 use Rattle.term_core.specs.Text.Parts.{lines_of}
-use Rattle.script_text.specs.Canonical.{is_long_line}
-use Rattle.term_core.proofs.Text.Parts.{shorter_rest}
+use Rattle.script_text.proofs.Forms.{is_long_line}
 use Rattle.script_text.proofs.PrintedText.{any_long, none_long}
 use Rattle.script_text.proofs.printing.has_long_line.Goals as goal
 

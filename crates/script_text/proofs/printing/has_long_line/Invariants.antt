@@ -1,7 +1,6 @@
-use Rattle.std.proofs.Common.{◌≡◌, length}
-use Rattle.std.specs.List.{list_any}
+use Rattle.script_text.proofs.Common.{◌≡◌, length, list_any}
 use Rattle.term_core.specs.Text.Parts.{lines_of}
-use Rattle.script_text.specs.Canonical.{is_long_line}
+use Rattle.script_text.proofs.Forms.{is_long_line}
 use Rattle.script_text.proofs.printing.has_long_line.Given as goal
 
 -- a line is long where one of those is that are left

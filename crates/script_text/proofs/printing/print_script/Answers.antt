@@ -1,7 +1,6 @@
-use Rattle.script_text.specs.ScriptText.{ScriptText}
-use Rattle.script_text.specs.Canonical.{canonical_text, IsTooLongToPrint}
+use Rattle.script_text.proofs.Forms.{ScriptText, canonical_text, IsTooLongToPrint}
 use Rattle.script_text.proofs.CanonicalScripts.{canonical_reads}
-use Rattle.script_text.proofs.GroupLaws.{on_ok}
+use Rattle.script_text.proofs.KeySets.{on_ok}
 use Rattle.script_text.proofs.printing.print_script.Goals as goal
 
 -- what is written is a text of the script, since it is not too long

@@ -1,6 +1,5 @@
-use Rattle.std.proofs.Common.{◌≡◌, ◌++◌, take, codes}
-use Rattle.std.specs.List.{flat_map}
-use Rattle.script_text.specs.Canonical.{command_line, script_line_bytes}
+use Rattle.script_text.proofs.Common.{◌≡◌, ◌++◌, take, codes, flat_map}
+use Rattle.script_text.proofs.Forms.{command_line, script_line_bytes}
 use Rattle.script_text.proofs.printing.write_block.Given as goal
 
 -- the start of the block and the commands so far are written

@@ -1,7 +1,5 @@
-use Rattle.std.proofs.Common.{◌≡◌, ◌∷◌, ◌++◌, take, codes}
-use Rattle.std.specs.List.{flat_map}
-use Rattle.script_text.specs.ScriptLine.{ref_written}
-use Rattle.script_text.specs.Canonical.{ref_form}
+use Rattle.script_text.proofs.Common.{◌≡◌, ◌∷◌, ◌++◌, take, codes, flat_map}
+use Rattle.script_text.proofs.Forms.{ref_written, ref_form}
 use Rattle.script_text.proofs.printing.write_load.Given as goal
 
 -- the word and the modules so far are written

@@ -1,6 +1,5 @@
-use Rattle.std.proofs.Common.{◌≡◌, ◌++◌, take}
-use Rattle.std.specs.List.{flat_map}
-use Rattle.script_text.specs.Canonical.{block_bytes}
+use Rattle.script_text.proofs.Common.{◌≡◌, ◌++◌, take, flat_map}
+use Rattle.script_text.proofs.Forms.{block_bytes}
 use Rattle.script_text.proofs.printing.write_loaders.Given as goal
 
 -- the blocks so far are written

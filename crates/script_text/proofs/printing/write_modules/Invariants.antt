@@ -1,7 +1,5 @@
-use Rattle.std.proofs.Common.{◌≡◌, ◌++◌, take}
-use Rattle.std.specs.List.{flat_map}
-use Rattle.mod_text.specs.Canonical.{canonical}
-use Rattle.mod_text.specs.ModuleLine.{lines_written}
+use Rattle.script_text.proofs.Common.{◌≡◌, ◌++◌, take, flat_map}
+use Rattle.script_text.proofs.Modules.{canonical, lines_written}
 use Rattle.script_text.proofs.printing.write_modules.Given as goal
 
 -- the modules so far are written

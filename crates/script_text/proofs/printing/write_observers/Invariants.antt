@@ -1,6 +1,5 @@
-use Rattle.std.proofs.Common.{◌≡◌, ◌++◌, take}
-use Rattle.std.specs.List.{flat_map}
-use Rattle.script_text.specs.Canonical.{observer_bytes}
+use Rattle.script_text.proofs.Common.{◌≡◌, ◌++◌, take, flat_map}
+use Rattle.script_text.proofs.Forms.{observer_bytes}
 use Rattle.script_text.proofs.printing.write_observers.Given as goal
 
 -- the observers so far are written

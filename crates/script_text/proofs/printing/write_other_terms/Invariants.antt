@@ -1,6 +1,5 @@
-use Rattle.std.proofs.Common.{◌≡◌, ◌∷◌, ◌++◌, take}
-use Rattle.std.specs.List.{flat_map}
-use Rattle.term_core.specs.TermText.{term_text}
+use Rattle.script_text.proofs.Common.{◌≡◌, ◌∷◌, ◌++◌, take, flat_map}
+use Rattle.script_text.proofs.Texts.{term_text}
 use Rattle.script_text.proofs.printing.write_other_terms.Given as goal
 
 -- the terms so far are written, a comma before each

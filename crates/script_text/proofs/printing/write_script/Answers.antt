@@ -1,13 +1,8 @@
-use Rattle.std.proofs.Common.{◌++◌, ◌∙◌, ℕ, ap, subst, sym, All, List}
-use Rattle.std.specs.List.{flat_map}
+use Rattle.script_text.proofs.Common.{◌++◌, ◌∙◌, ℕ, ap, subst, sym, All, List, flat_map}
 use Rattle.term_core.proofs.Text.Starts.{starts_own, starts_more}
-use Rattle.mod_core.specs.declared.code.Module.{Module}
-use Rattle.mod_text.specs.Canonical.{canonical}
-use Rattle.mod_core.specs.HeldNames.{IsModuleHeld}
-use Rattle.mod_core.specs.Module.{IsModule}
-use Rattle.mod_text.specs.ModuleLine.{lines_written}
-use Rattle.script_core.specs.declared.script.ScriptCmd.{ScriptCmd}
-use Rattle.script_text.specs.Canonical.{observer_bytes, block_bytes}
+use Rattle.script_text.proofs.Types.{Module, ScriptCmd}
+use Rattle.script_text.proofs.Modules.{canonical, IsModuleHeld, IsModule, lines_written}
+use Rattle.script_text.proofs.Forms.{observer_bytes, block_bytes}
 use Rattle.script_text.proofs.CanonicalScripts.{modules_sound, modules_held}
 use Rattle.script_text.proofs.PrintedText.{script_at}
 use Rattle.script_text.proofs.printing.write_script.Goals as goal

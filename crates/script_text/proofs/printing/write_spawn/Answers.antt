@@ -1,8 +1,7 @@
-use Rattle.std.proofs.Common.{arith}
-use Rattle.std.proofs.lemmas.Grind.{common_steps}
+use Rattle.script_text.proofs.Common.{arith, common_steps}
+use Rattle.script_text.proofs.printing.write_spawn.Goals as goal
 use Rattle.std.specs.Io.{StartsWith}
 use Rattle.term_core.proofs.Text.Starts.{starts_more}
-use Rattle.script_text.proofs.printing.write_spawn.Goals as goal
 
 -- what was appended before and the part of the last call
 pub returns-in_err-write_terms-clause-kept : goal.returns-in_err-write_terms-clause-kept

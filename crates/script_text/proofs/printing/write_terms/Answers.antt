@@ -1,6 +1,4 @@
-use Rattle.std.proofs.Common.{◌≡◌, ◌∷◌, arith, append_assoc}
-use Rattle.std.proofs.lemmas.Grind.{common_steps}
-use Rattle.std.proofs.lemmas.Result.{IfOk-equal}
+use Rattle.script_text.proofs.Common.{◌≡◌, ◌∷◌, arith, append_assoc, common_steps, IfOk-equal}
 use Rattle.term_core.proofs.Text.Starts.{starts_own, starts_same, starts_more}
 use Rattle.script_text.proofs.PrintedText.{terms_written}
 use Rattle.script_text.proofs.printing.write_terms.Goals as goal

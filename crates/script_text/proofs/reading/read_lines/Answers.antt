@@ -1,7 +1,5 @@
-use Rattle.std.proofs.Common.{sym, ap, ◌∙◌, subst, arith}
-use Rattle.std.proofs.lemmas.Result.{err_from_is_err_and}
-use Rattle.script_text.specs.Causes.{FailsWith}
-use Rattle.script_text.specs.Reading.{line_judged}
+use Rattle.script_text.proofs.Common.{sym, ap, ◌∙◌, subst, arith, err_from_is_err_and}
+use Rattle.script_text.proofs.Forms.{FailsWith, line_judged}
 use Rattle.script_text.proofs.TextSteps.{AtLine, at_first, is_counted, at_next, at_fault, at_end, cut_length, unknown_small}
 use Rattle.script_text.proofs.reading.read_lines.Goals as goal
 

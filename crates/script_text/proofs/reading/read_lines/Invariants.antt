@@ -1,4 +1,4 @@
-use Rattle.std.proofs.Common.{length}
+use Rattle.script_text.proofs.Common.{length}
 use Rattle.script_text.proofs.TextSteps.{AtLine}
 use Rattle.script_text.proofs.reading.read_lines.Given as goal
 

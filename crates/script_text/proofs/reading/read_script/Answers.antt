@@ -1,5 +1,5 @@
 -- Each clause follows from what the text is read as.
-use Rattle.script_text.proofs.Answered.{found_so, only_so, fault_so, refused_so, sound_so}
+use Rattle.script_text.proofs.Outcomes.{found_so, only_so, fault_so, refused_so, sound_so}
 use Rattle.script_text.proofs.reading.read_script.Goals as goal
 
 pub returns-clause-found : goal.returns-clause-found

@@ -1,7 +1,6 @@
 -- The end of a module: its image is too long, or the line is kept.
-use Rattle.std.proofs.Common.{nat_le, ap, ◌∙◌, refl}
-use Rattle.mod_text.specs.LineViews.{forms_of}
-use Rattle.mod_text.specs.Keeping.{lines_words}
+use Rattle.mod_text.proofs.Common.{nat_le, ap, ◌∙◌, refl}
+use Rattle.mod_text.proofs.Forms.{forms_of, lines_words}
 use Rattle.mod_text.proofs.Keepings.{end_refused, end_kept, gives_kept}
 use Rattle.mod_text.proofs.reader.ModuleReader.keep_end.Goals as goal
 

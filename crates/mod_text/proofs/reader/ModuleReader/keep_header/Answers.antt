@@ -1,7 +1,6 @@
 -- What is kept after a header.
-use Rattle.std.proofs.Common.{ap, ◌∙◌, arith}
-use Rattle.mod_text.specs.LineFaults.{may_follow, last_line}
-use Rattle.mod_text.specs.LineViews.{line_form}
+use Rattle.mod_text.proofs.Common.{ap, ◌∙◌, arith}
+use Rattle.mod_text.proofs.Forms.{may_follow, last_line, line_form}
 use Rattle.mod_text.proofs.Keepings.{kept_header, pushed_ok}
 use Rattle.mod_text.proofs.reader.ModuleReader.keep_header.Goals as goal
 

@@ -1,7 +1,6 @@
 -- What is kept after a label.
-use Rattle.std.proofs.Common.{sym, ap, ◌∙◌}
-use Rattle.mod_text.specs.LineFaults.{may_follow, last_line}
-use Rattle.mod_text.specs.LineViews.{line_form}
+use Rattle.mod_text.proofs.Common.{sym, ap, ◌∙◌}
+use Rattle.mod_text.proofs.Forms.{may_follow, last_line, line_form}
 use Rattle.mod_text.proofs.Keepings.{kept_label, on_ok}
 use Rattle.mod_text.proofs.reader.ModuleReader.keep_label.Goals as goal
 

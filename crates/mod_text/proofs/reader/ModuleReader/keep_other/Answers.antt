@@ -1,7 +1,6 @@
 -- What is kept after another line.
-use Rattle.std.proofs.Common.{ap, ◌∙◌}
-use Rattle.mod_text.specs.LineFaults.{may_follow, last_line}
-use Rattle.mod_text.specs.LineViews.{line_form}
+use Rattle.mod_text.proofs.Common.{ap, ◌∙◌}
+use Rattle.mod_text.proofs.Forms.{may_follow, last_line, line_form}
 use Rattle.mod_text.proofs.Keepings.{kept_other}
 use Rattle.mod_text.proofs.reader.ModuleReader.keep_other.Goals as goal
 

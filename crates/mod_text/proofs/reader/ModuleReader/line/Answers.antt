@@ -1,6 +1,6 @@
 -- A line is judged in stages: alone, by its names, and by the lines before it.
-use Rattle.std.proofs.lemmas.Result.{err_from_is_err_and}
-use Rattle.mod_text.specs.LineViews.{line_form}
+use Rattle.mod_text.proofs.Common.{err_from_is_err_and}
+use Rattle.mod_text.proofs.Forms.{line_form}
 use Rattle.mod_text.proofs.Keepings.{said_alone, line_fails_alone, line_fails_named, line_gives}
 use Rattle.mod_text.proofs.reader.ModuleReader.line.Goals as goal
 

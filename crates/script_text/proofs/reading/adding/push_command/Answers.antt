@@ -1,8 +1,8 @@
-use Rattle.std.proofs.Common.{◌≡◌, ◌∷◌, [], ◌++◌, ◌∙◌}
-use Rattle.script_text.specs.Groups.{onto_last}
-use Rattle.script_text.proofs.GroupLaws.{put_back, put_first, on_ok}
-use Rattle.script_text.proofs.reading.adding.push_command.Goals as goal
+use Rattle.script_text.proofs.Common.{◌≡◌, ◌∷◌, [], ◌++◌, ◌∙◌}
+use Rattle.script_text.proofs.Forms.{onto_last}
+use Rattle.script_text.proofs.KeySets.{put_back, put_first, on_ok}
 use Rattle.script_text.proofs.reading.adding.push_command.Goals.{in-Some, in-None}
+use Rattle.script_text.proofs.reading.adding.push_command.Goals as goal
 
 -- the block that was taken out is put back with the command
 pub returns : goal.returns

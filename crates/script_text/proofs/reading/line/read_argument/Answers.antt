@@ -1,5 +1,5 @@
-use Rattle.std.proofs.Common.{sym, ap, ◌∙◌}
-use Rattle.script_text.specs.Naming.{or_syntax}
+use Rattle.script_text.proofs.Common.{sym, ap, ◌∙◌}
+use Rattle.script_text.proofs.Forms.{or_syntax}
 use Rattle.script_text.proofs.TermLines.{complex_read}
 use Rattle.script_text.proofs.reading.line.read_argument.Goals as goal
 

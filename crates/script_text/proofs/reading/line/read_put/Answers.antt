@@ -1,8 +1,7 @@
-use Rattle.std.proofs.Common.{Result, sym, ap, ◌∙◌}
+use Rattle.script_text.proofs.Common.{Result, sym, ap, ◌∙◌, err_from_is_err_and}
 use Rattle.std.specs.Prelude.{option_map}
-use Rattle.std.proofs.lemmas.Result.{err_from_is_err_and}
-use Rattle.script_text.specs.Causes.{◌>>=◌}
-use Rattle.script_text.proofs.PutLaws.{with_key, put_at, put_stops}
+use Rattle.script_text.proofs.Forms.{◌>>=◌}
+use Rattle.script_text.proofs.OneLine.{with_key, put_at, put_stops}
 use Rattle.script_text.proofs.reading.line.read_put.Goals as goal
 
 -- the term is of no form, or memory is refused

@@ -1,13 +1,8 @@
-use Rattle.std.proofs.Common.{sym, ap, ◌∙◌}
-use Rattle.std.specs.Prelude.{map, option_map}
-use Rattle.std.proofs.lemmas.List.{map-append}
-use Rattle.std.proofs.lemmas.Result.{err_from_is_err_and}
-use Rattle.term_core.specs.Text.Parts.{parts_of, each_reading}
-use Rattle.term_core.proofs.Text.Parts.{byte_parts, byte_cut, byte_left}
-use Rattle.term_core.proofs.Text.Reads.{with_read, with_read_none, reads_end, each_seen, less_left}
-use Rattle.script_text.specs.Naming.{or_syntax}
-use Rattle.script_text.specs.LineReading.{ref_reading}
-use Rattle.script_text.specs.WrittenLine.{kept_ref, ref_words}
+use Rattle.script_text.proofs.Common.{sym, ap, ◌∙◌, map, map-append, err_from_is_err_and}
+use Rattle.std.specs.Prelude.{option_map}
+use Rattle.script_text.proofs.Texts.{parts_of, each_reading, byte_parts, byte_cut, byte_left}
+use Rattle.script_text.proofs.Texts.{with_read, with_read_none, reads_end, each_seen, less_left}
+use Rattle.script_text.proofs.Forms.{or_syntax, ref_reading, kept_ref, ref_words}
 use Rattle.script_text.proofs.ReadingLoops.{worded, part_goes_on, part_stops}
 use Rattle.script_text.proofs.reading.line.read_refs.Goals as goal
 

@@ -1,10 +1,7 @@
-use Rattle.std.proofs.Common.{◌≡◌}
-use Rattle.std.specs.Prelude.{map, option_map}
-use Rattle.term_core.specs.Text.Parts.{parts_of, each_reading}
-use Rattle.term_core.proofs.Text.Parts.{byte_parts, left_of}
-use Rattle.term_core.proofs.Text.Reads.{with_read}
-use Rattle.script_text.specs.LineReading.{ref_reading}
-use Rattle.script_text.specs.WrittenLine.{kept_ref, ref_words}
+use Rattle.script_text.proofs.Common.{◌≡◌, map}
+use Rattle.std.specs.Prelude.{option_map}
+use Rattle.script_text.proofs.Texts.{parts_of, each_reading, byte_parts, left_of, with_read}
+use Rattle.script_text.proofs.Forms.{ref_reading, kept_ref, ref_words}
 use Rattle.script_text.proofs.ReadingLoops.{worded}
 use Rattle.script_text.proofs.reading.line.read_refs.Given as goal
 

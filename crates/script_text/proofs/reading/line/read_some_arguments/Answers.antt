@@ -1,15 +1,8 @@
-use Rattle.std.proofs.Common.{sym, ap, ◌∙◌}
-use Rattle.std.specs.Prelude.{map, option_map, IsTrue}
-use Rattle.std.proofs.lemmas.List.{map-append}
-use Rattle.std.proofs.lemmas.List.Elements.{All-push, All-nil}
-use Rattle.std.proofs.lemmas.Result.{err_from_is_err_and}
-use Rattle.term_core.specs.TermParts.{parts_of_terms, parts_of_rest}
-use Rattle.term_core.specs.Text.Parts.{each_reading}
-use Rattle.term_core.proofs.Text.Parts.{left_behind, parts_cut}
-use Rattle.term_core.proofs.Text.Reads.{with_read, with_read_none, reads_end, each_seen, less_left}
-use Rattle.script_text.specs.Naming.{or_syntax}
-use Rattle.script_text.specs.LineReading.{argument_reading}
-use Rattle.script_text.specs.WrittenLine.{kept_argument, argument_words, is_sound_word}
+use Rattle.script_text.proofs.Common.{sym, ap, ◌∙◌, map, IsTrue, map-append, All-push, All-nil, err_from_is_err_and}
+use Rattle.std.specs.Prelude.{option_map}
+use Rattle.script_text.proofs.Texts.{parts_of_terms, parts_of_rest, each_reading, left_behind, parts_cut}
+use Rattle.script_text.proofs.Texts.{with_read, with_read_none, reads_end, each_seen, less_left}
+use Rattle.script_text.proofs.Forms.{or_syntax, argument_reading, kept_argument, argument_words, is_sound_word}
 use Rattle.script_text.proofs.ReadingLoops.{worded, part_goes_on, part_stops}
 use Rattle.script_text.proofs.reading.line.read_some_arguments.Goals as goal
 

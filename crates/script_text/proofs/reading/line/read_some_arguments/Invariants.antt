@@ -1,11 +1,7 @@
-use Rattle.std.proofs.Common.{◌≡◌}
-use Rattle.std.specs.Prelude.{map, option_map, All, IsTrue}
-use Rattle.term_core.specs.TermParts.{parts_of_terms, parts_of_rest}
-use Rattle.term_core.specs.Text.Parts.{each_reading}
-use Rattle.term_core.proofs.Text.Parts.{left_of}
-use Rattle.term_core.proofs.Text.Reads.{with_read}
-use Rattle.script_text.specs.LineReading.{argument_reading}
-use Rattle.script_text.specs.WrittenLine.{kept_argument, argument_words, is_sound_word}
+use Rattle.script_text.proofs.Common.{◌≡◌, map, IsTrue}
+use Rattle.std.specs.Prelude.{option_map, All}
+use Rattle.script_text.proofs.Texts.{parts_of_terms, parts_of_rest, each_reading, left_of, with_read}
+use Rattle.script_text.proofs.Forms.{argument_reading, kept_argument, argument_words, is_sound_word}
 use Rattle.script_text.proofs.ReadingLoops.{worded}
 use Rattle.script_text.proofs.reading.line.read_some_arguments.Given as goal
 

@@ -1,7 +1,5 @@
-use Rattle.std.proofs.Common.{arith, length-append}
-use Rattle.std.proofs.lemmas.Result.{err_from_is_err_and}
-use Rattle.script_text.specs.WrittenLine.{kept_argument}
-use Rattle.script_text.specs.Naming.{argument_named}
+use Rattle.script_text.proofs.Common.{arith, length-append, err_from_is_err_and}
+use Rattle.script_text.proofs.Forms.{kept_argument, argument_named}
 use Rattle.script_text.proofs.NamingLoops.{loop_goes_on, loop_stops, loop_ends}
 use Rattle.script_text.proofs.reading.naming.name_arguments.Goals as goal
 

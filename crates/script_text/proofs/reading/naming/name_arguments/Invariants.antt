@@ -1,7 +1,5 @@
-use Rattle.std.proofs.Common.{◌≡◌, drop, length}
-use Rattle.std.specs.Prelude.{map}
-use Rattle.script_text.specs.WrittenLine.{kept_argument}
-use Rattle.script_text.specs.Naming.{argument_named, each_named}
+use Rattle.script_text.proofs.Common.{◌≡◌, drop, length, map}
+use Rattle.script_text.proofs.Forms.{kept_argument, argument_named, each_named}
 use Rattle.script_text.proofs.NamingLoops.{with_front}
 use Rattle.script_text.proofs.reading.naming.name_arguments.Given as goal
 

@@ -1,12 +1,10 @@
-use Rattle.std.proofs.Common.{◌≡◌, ◌∙◌, Bool, true, false, cond, List, sym, ap, refl, Err}
-use Rattle.std.specs.List.{list_any}
-use Rattle.script_text.specs.declared.fault.Which.TheVariants as which
-use Rattle.script_text.specs.declared.reading.cause.LineCause.TheVariants as causes
+use Rattle.script_text.proofs.Common.{◌≡◌, ◌∙◌, Bool, true, false, cond, List, sym, ap, refl, Err, list_any}
 use Rattle.script_text.specs.declared.reading.written.WrittenCall.{WrittenCall}
-use Rattle.script_text.specs.WrittenLine.{kept_argument, kept_call}
-use Rattle.script_text.specs.Naming.{is_wide_word, is_long_word, target_named, call_named}
+use Rattle.script_text.proofs.Forms.{kept_argument, kept_call, is_wide_word, is_long_word, target_named, call_named}
 use Rattle.script_text.proofs.KeySets.{any-map}
 use Rattle.script_text.proofs.reading.naming.name_call.Goals as goal
+use Rattle.script_text.specs.declared.reading.cause.LineCause.TheVariants as causes
+use Rattle.script_text.specs.declared.fault.Which.TheVariants as which
 
 -- the test of the arguments as they are kept is that of their words
 by_wide : (names : List (List _)) (c : WrittenCall) (t : Bool) → t ≡ list_any (λ a. is_wide_word (kept_argument a)) c.args.items →

@@ -1,6 +1,5 @@
-use Rattle.std.proofs.lemmas.Result.{err_from_is_err_and}
-use Rattle.script_text.specs.WrittenLine.{kept_ref}
-use Rattle.script_text.specs.Naming.{ref_named}
+use Rattle.script_text.proofs.Common.{err_from_is_err_and}
+use Rattle.script_text.proofs.Forms.{kept_ref, ref_named}
 use Rattle.script_text.proofs.NamingLoops.{loop_goes_on, loop_stops, loop_ends}
 use Rattle.script_text.proofs.reading.naming.name_refs.Goals as goal
 

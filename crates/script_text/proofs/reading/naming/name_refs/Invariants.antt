@@ -1,7 +1,5 @@
-use Rattle.std.proofs.Common.{◌≡◌, drop}
-use Rattle.std.specs.Prelude.{map}
-use Rattle.script_text.specs.WrittenLine.{kept_ref}
-use Rattle.script_text.specs.Naming.{ref_named, each_named}
+use Rattle.script_text.proofs.Common.{◌≡◌, drop, map}
+use Rattle.script_text.proofs.Forms.{kept_ref, ref_named, each_named}
 use Rattle.script_text.proofs.NamingLoops.{with_front}
 use Rattle.script_text.proofs.reading.naming.name_refs.Given as goal
 

@@ -1,6 +1,6 @@
-use Rattle.std.proofs.Common.{◌≡◌, ◌<◌, length, Some, sym, ap, ◌∙◌, arith}
-use Rattle.mod_text.specs.ModuleValue.{unsettled_line}
-use Rattle.script_text.proofs.OpenText.{unsettled_within}
+use Rattle.script_text.proofs.Common.{◌≡◌, ◌<◌, length, Some, sym, ap, ◌∙◌, arith}
+use Rattle.script_text.proofs.Modules.{unsettled_line}
+use Rattle.script_text.proofs.FormSteps.{unsettled_within}
 use Rattle.script_text.proofs.reading.reader.ScriptReader.close_text.Goals as goal
 
 -- the line is one of the text

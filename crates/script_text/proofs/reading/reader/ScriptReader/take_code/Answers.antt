@@ -1,5 +1,5 @@
-use Rattle.std.proofs.Common.{arith}
-use Rattle.script_text.proofs.OpenText.{step_goes_on}
+use Rattle.script_text.proofs.Common.{arith}
+use Rattle.script_text.proofs.FormSteps.{step_goes_on}
 use Rattle.script_text.proofs.reading.reader.ScriptReader.take_code.Goals as goal
 
 -- the text begins with its title still

@@ -1,15 +1,9 @@
-use Rattle.std.proofs.Common.{ℕ, List, Result, Ok, sym, ap, ◌∙◌}
-use Rattle.term_core.specs.Plain.{term_of}
-use Rattle.term_core.specs.PlainTerm.{PlainTerm}
-use Rattle.term_core.proofs.PlainTerms.{term_of-plain}
-use Rattle.script_core.specs.declared.script.ScriptCmd.TheVariants.{Put}
-use Rattle.script_text.specs.declared.reading.cause.LineCause.{LineCause}
-use Rattle.script_text.specs.Causes.{◌>>=◌}
-use Rattle.script_text.specs.Groups.{onto_last}
-use Rattle.script_text.specs.WrittenLine.{PutWords}
-use Rattle.script_text.specs.Naming.{put_named}
-use Rattle.script_text.specs.Reading.{with_command, put_step}
+use Rattle.script_text.proofs.Common.{ℕ, List, Result, Ok, sym, ap, ◌∙◌}
+use Rattle.script_text.proofs.Texts.{term_of, PlainTerm, term_of-plain}
+use Rattle.script_text.proofs.Types.{Put, LineCause}
+use Rattle.script_text.proofs.Forms.{◌>>=◌, onto_last, PutWords, put_named, with_command}
 use Rattle.script_text.proofs.reading.reader.ScriptReader.take_put.Goals as goal
+use Rattle.script_text.specs.Reading.{put_step}
 
 -- the put joins the last loader block
 pub returns : goal.returns

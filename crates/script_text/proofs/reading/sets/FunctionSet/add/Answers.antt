@@ -1,7 +1,6 @@
-use Rattle.std.proofs.Common.{◌≡◌, Ok, List, subst, false}
-use Rattle.std.specs.Prelude.{map}
-use Rattle.term_core.specs.declared.atom.Mfa.{Mfa}
-use Rattle.script_text.specs.Sets.{mfa_of_key, passes_functions, mfa_added}
+use Rattle.script_text.proofs.Common.{◌≡◌, Ok, List, subst, false, map}
+use Rattle.script_text.proofs.Types.{Mfa}
+use Rattle.script_text.proofs.Forms.{mfa_of_key, passes_functions, mfa_added}
 use Rattle.script_text.proofs.KeySets.{function_key_added}
 use Rattle.script_text.proofs.reading.sets.FunctionSet.add.Goals as goal
 

@@ -1,7 +1,6 @@
-use Rattle.std.proofs.Common.{◌≡◌, List, subst, not}
-use Rattle.std.specs.Prelude.{map}
-use Rattle.term_core.specs.declared.atom.Mfa.{Mfa}
-use Rattle.script_text.specs.Sets.{mfa_of_key, passes_functions}
+use Rattle.script_text.proofs.Common.{◌≡◌, List, subst, not, map}
+use Rattle.script_text.proofs.Types.{Mfa}
+use Rattle.script_text.proofs.Forms.{mfa_of_key, passes_functions}
 use Rattle.script_text.proofs.KeySets.{full_for}
 use Rattle.script_text.proofs.reading.sets.FunctionSet.is_over.Goals as goal
 

@@ -1,7 +1,6 @@
-use Rattle.std.proofs.Common.{◌≡◌, Ok, List, subst, false}
-use Rattle.std.specs.Prelude.{map}
-use Rattle.server_core.specs.declared.command.ModRef.{ModRef}
-use Rattle.script_text.specs.Sets.{ref_of_key, is_among, ref_added}
+use Rattle.script_text.proofs.Common.{◌≡◌, Ok, List, subst, false, map}
+use Rattle.script_text.proofs.Types.{ModRef}
+use Rattle.script_text.proofs.Forms.{ref_of_key, is_among, ref_added}
 use Rattle.script_text.proofs.KeySets.{ref_key_added}
 use Rattle.script_text.proofs.reading.sets.RefSet.add.Goals as goal
 

@@ -1,6 +1,6 @@
-use Rattle.std.proofs.Common.{◌∙◌, ap, List}
-use Rattle.server_core.specs.declared.command.ModRef.{ModRef}
-use Rattle.script_text.specs.Sets.{is_among}
+use Rattle.script_text.proofs.Common.{◌∙◌, ap, List}
+use Rattle.script_text.proofs.Types.{ModRef}
+use Rattle.script_text.proofs.Forms.{is_among}
 use Rattle.script_text.proofs.KeySets.{any-ref_keys}
 use Rattle.script_text.proofs.reading.sets.RefSet.has.Goals as goal
 
