@@ -22,13 +22,15 @@ pub same_wait : (old new : WriterView) (kind : LookKind) (serial : ℕ) → Look
 same_wait old new kind serial more = ap (λ (w : WriterView). wait_for w kind serial) more.same
 
 pub none_more : (w : WriterView) → LooksMore w w
-none_more w = record { same = refl; anchors = ([], refl); turns = ([], refl) }
+none_more w = record { same = refl; anchors = ([], refl); turns = ([], refl); dropped = refl; lingering = refl }
 
 pub more_again : (a b c : WriterView) → LooksMore a b → LooksMore b c → LooksMore a c
 more_again a b c first second = record {
   same = second.same ∙ ap (λ (w : WriterView). record w { looks = c.looks; named = c.named }) first.same;
   anchors = (second.anchors.0 ++ first.anchors.0, second.anchors.1 ∙ ap (λ (ls : List LookedAnchor). second.anchors.0 ++ ls) first.anchors.1 ∙ sym (append_assoc second.anchors.0 first.anchors.0 a.looks.anchors));
   turns = (second.turns.0 ++ first.turns.0, second.turns.1 ∙ ap (λ (ts : List ReadTurn). second.turns.0 ++ ts) first.turns.1 ∙ sym (append_assoc second.turns.0 first.turns.0 a.looks.turns));
+  dropped = second.dropped ∙ first.dropped;
+  lingering = second.lingering ∙ first.lingering;
 }
 
 -- ---- what was loaded since
@@ -69,8 +71,8 @@ module _ (wait : EndedWait) (process place found : ℕ) (w : WriterView) where
   after named = record w { looks = cond named (with_wait w.looks wait) (with_looked (with_wait w.looks wait) looked); named = cond named (record { wait = wait; process = process; place = place; word = found } ∷ w.named) w.named }
 
   after_more : (named : Bool) → LooksMore w (after named)
-  after_more true = record { same = refl; anchors = ([], refl); turns = ([], refl) }
-  after_more false = record { same = refl; anchors = (looked ∷ [], refl); turns = ([], refl) }
+  after_more true = record { same = refl; anchors = ([], refl); turns = ([], refl); dropped = refl; lingering = refl }
+  after_more false = record { same = refl; anchors = (looked ∷ [], refl); turns = ([], refl); dropped = refl; lingering = refl }
 
 -- ---- the anchors so far
 
@@ -87,7 +89,7 @@ pub record SlotLooked (wait : EndedWait) (process turn : ℕ) (old : WriterView)
 -- none at first
 pub turn_looked : (wait : EndedWait) (process turn : ℕ) (old new : WriterView) → new ≡ wait_looked wait process 0 turn old → SlotLooked wait process turn old 1 false new
 turn_looked wait process turn old new is = subst (SlotLooked wait process turn old 1 false) (sym is) (record {
-  more = record { same = refl; anchors = ([], refl); turns = (record { wait = wait; process = process; turns = turn } ∷ [], refl) };
+  more = record { same = refl; anchors = ([], refl); turns = (record { wait = wait; process = process; turns = turn } ∷ [], refl); dropped = refl; lingering = refl };
   words = [];
   all = refl;
   found = record { clear = λ place word at. absurd (cc); loaded = λ place word at. absurd (cc) };

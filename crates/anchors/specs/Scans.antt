@@ -40,11 +40,13 @@ scan_wait w kind serial = wait_for w (look_kind kind) serial
 abbrev pub tells_any : ℕ → List ℕ → Bool
 tells_any serial words = list_any (λ word. tells_kill word serial) words
 
--- the writer keeps more of looks, and else what it knew
+-- the writer keeps more of looks, and else what it knew; it has dropped nothing, and told of none that lingers
 pub record LooksMore (old new : WriterView) : Type 0 where
   pub same : new ≡ record old { looks = new.looks; named = new.named }
   pub anchors : (more : List LookedAnchor) × (new.looks.anchors ≡ more ++ old.looks.anchors)
   pub turns : (more : List ReadTurn) × (new.looks.turns ≡ more ++ old.looks.turns)
+  pub dropped : new.looks.dropped ≡ old.looks.dropped
+  pub lingering : new.looks.lingering ≡ old.looks.lingering
 
 -- ---- one slot
 
