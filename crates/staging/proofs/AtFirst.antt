@@ -23,7 +23,6 @@ use Rattle.literal_areas.specs.declared.blocks.BlockUse.{BlockUse}
 use Rattle.literal_areas.specs.declared.blocks.BlockUse.TheVariants.{Free, Live, Retired}
 use Rattle.literal_areas.specs.Blocks.{Stands, opening_areas, serial_of, use_of}
 use Rattle.literal_areas.proofs.AtFirst.{each_free}
-use Rattle.term_table.specs.Tables as terms
 use Rattle.change_laws.specs.Uses.{IsUsed}
 use Rattle.staging.specs.declared.tables.Tables.{Tables}
 use Rattle.staging.specs.Stages.{AreAtRest}
@@ -82,6 +81,9 @@ module _ (names : List Mfa) (w : WriterView) (is : IsAtFirst w) where
   no_old : (k : ℕ) (p : Published) (serial : ℕ) → slice_get w.published k ≡ Some p → IsTrue (has_serial p.state.old serial) → ⊥
   no_old k p serial at has = false≢true (sym (ap (λ (q : Published). has_serial q.state.old serial) (each_first k p at)) ∙ has)
 
+  no_doomed : (k : ℕ) (p : Published) (serial : ℕ) → slice_get w.published k ≡ Some p → IsTrue (has_serial p.state.doomed serial) → ⊥
+  no_doomed k p serial at has = false≢true (sym (ap (λ (q : Published). has_serial q.state.doomed serial) (each_first k p at)) ∙ has)
+
   no_retired_in : (k : ℕ) (p : Published) (serial : ℕ) → slice_get w.published k ≡ Some p → IsTrue (has_serial p.state.retired serial) → ⊥
   no_retired_in k p serial at has = false≢true (sym (ap (λ (q : Published). has_serial q.state.retired serial) (each_first k p at)) ∙ has)
 
@@ -133,6 +135,7 @@ module _ (names : List Mfa) (w : WriterView) (is : IsAtFirst w) where
     words = words_first;
     dropped = record {
       old = λ p serial among has. absurd (no_old among.0 p serial among.1 has);
+      doomed = λ p serial among has. absurd (no_doomed among.0 p serial among.1 has);
       retired = λ p serial among has. absurd (no_retired_in among.0 p serial among.1 has);
       old_stays = λ g later p q serial le at also has. absurd (no_old g p serial at has);
       retired_stays = λ g later p q serial le at also has. absurd (no_retired_in g p serial at has);

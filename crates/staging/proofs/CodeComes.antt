@@ -1,5 +1,5 @@
 -- Once what a load brings in has its areas, the state that it leaves may be published; a delete brings nothing in.
-use Rattle.std.proofs.Common.{◌≡◌, ℕ, ◌+◌, ◌^◌, ◌<◌, ◌≤◌, ◌⊎◌, inl, inr, false, List, [], ◌∷◌, length, Some, None, refl, sym, ap, subst, ◌∙◌, arith}
+use Rattle.std.proofs.Common.{◌≡◌, ℕ, ◌+◌, ◌^◌, ◌<◌, ◌≤◌, ◌⊎◌, inl, inr, true, false, List, [], ◌∷◌, length, Some, None, refl, sym, ap, subst, ◌∙◌, arith}
 use Rattle.std.proofs.lemmas.Bool.{true≢false}
 use Rattle.std.proofs.lemmas.Option.{none-some}
 use Rattle.term_core.specs.declared.area.AreaRef.{AreaRef}
@@ -124,6 +124,7 @@ module _ (names : List Mfa) (s : ServerState) (change : Change) (w : WriterView)
   dropped_after : StaysDropped after w.published
   dropped_after = record {
     old = λ p serial at is. let was = h.stands.dropped.old p serial at is in (known serial was.0, λ name current. never_current name serial was.0 (was.1 name) (current_stood s change name serial current));
+    doomed = λ p serial at is. let was = h.stands.dropped.doomed p serial at is in (known serial was.0, inr (λ used. never_doomed serial was.0 was.1 (used_stood s change serial used)));
     retired = λ p serial at is. let was = h.stands.dropped.retired p serial at is in (known serial was.0, λ used. never_used serial was.0 was.1 (used_stood s change serial used));
     old_stays = h.stands.dropped.old_stays;
     retired_stays = h.stands.dropped.retired_stays;
@@ -139,6 +140,10 @@ module _ (names : List Mfa) (s : ServerState) (change : Change) (w : WriterView)
       never_used : (serial : ℕ) → serial < s.next_serial → (IsUsed s serial → ⊥) → IsUsed s serial ⊎ (s.next_serial ≤ serial) → ⊥
       never_used serial below none (inl stood) = none stood
       never_used serial below none (inr past) = omega (arith, below, past)
+
+      never_doomed : (serial : ℕ) → serial < s.next_serial → (is_doomed s serial ≡ true) ⊎ (IsUsed s serial → ⊥) → IsUsed s serial ⊎ (s.next_serial ≤ serial) → ⊥
+      never_doomed serial below (inl doomed) used = true≢false (sym doomed ∙ no_doom serial)
+      never_doomed serial below (inr none) used = never_used serial below none used
 
   narrow_after : after.next_serial ≤ 2 ^ 40
   narrow_after = by taken refl

@@ -1,9 +1,8 @@
 -- The exports of a load or a delete are committed: the store of the root is allowed, and what it and the wait leave.
-use Rattle.std.proofs.Common.{◌≡◌, ℕ, ◌≤◌, List, [], ◌∷◌, ◌++◌, map, length, None, refl, sym, ap, subst, ◌∙◌}
+use Rattle.std.proofs.Common.{◌≡◌, ℕ, ◌≤◌, List, [], ◌∷◌, ◌++◌, length, None, refl, sym, ap, subst, ◌∙◌}
 use Rattle.atomic_table.specs.Seated.{TableId}
 use Rattle.term_core.specs.declared.area.AreaRef.{AreaRef}
 use Rattle.term_core.specs.declared.atom.Mfa.{Mfa}
-use Rattle.term_core.specs.declared.generation.KeyTerm.{KeyTerm}
 use Rattle.area_core.specs.declared.table.Published.{Published}
 use Rattle.area_core.specs.Blocks.{Among}
 use Rattle.area_core.specs.Terms.{TermsStand}
@@ -16,8 +15,8 @@ use Rattle.progress_words.specs.Roots.{newest_of}
 use Rattle.progress_words.specs.Tokens.{written_by}
 use Rattle.server_core.specs.declared.change.Change.{Change}
 use Rattle.server_core.specs.Decided.{Fits}
-use Rattle.server_core.specs.Generations.{AreNumbered, key_term}
-use Rattle.server_core.specs.ServerState.{IsSound, Persistent, ServerState}
+use Rattle.server_core.specs.Generations.{AreNumbered}
+use Rattle.server_core.specs.ServerState.{IsSound, ServerState}
 use Rattle.code_law.specs.Served.{IsServed}
 use Rattle.change_laws.specs.Changes.{incoming, state_after}
 use Rattle.change_laws.specs.Uses.{IsUsed}
@@ -47,8 +46,7 @@ use Rattle.staging.proofs.NextAreas.{apart_next, go_on, next_listed, used_kept}
 use Rattle.staging.proofs.NextStands.{is_listed, stands_next}
 use Rattle.staging.proofs.NextStays.{old_stays_next, retired_stays_next, served_next}
 use Rattle.staging.proofs.NextWords.{areas_next, breakpoints_next, fresh_fits, fresh_images, fresh_told, instances_next}
-use Rattle.staging.proofs.KeyStaged.{newest_keys}
-use Rattle.staging.proofs.SameKeys.{ListsKeys, key_used, terms_alike}
+use Rattle.staging.proofs.SameKeys.{keys_stay, terms_stay}
 
 -- ---- the wait
 
@@ -116,17 +114,14 @@ module _ (names : List Mfa) (s : ServerState) (change : Change) (table : TableId
 
   -- ---- the keys stay
 
-  keys_same : p.state.keys ≡ (newest_of w).state.keys
-  keys_same = ap (λ (ks : List Persistent). map key_term ks) (code_after s change fits code).keys ∙ sym (newest_keys names s (newest_of w) had.placed.stands.newest_is)
+  listed : (a : AreaRef) → Among (newest_of w).areas a → IsUsed s a.serial → Among p.areas a
+  listed a among used = next_listed names after t.pools w p next up a (still_stands names s change w had.placed.rest t.pools taken whole a (had.placed.stands.listed a among used))
 
-  lists : ListsKeys (newest_of w) p
-  lists k serial a at is listed same =
-      let used = key_used s k serial had.placed.stands.keys_once (subst (λ (ks : List KeyTerm). Among ks k) (newest_keys names s (newest_of w) had.placed.stands.newest_is) at) is in
-      let stood = had.placed.stands.listed a listed (subst (IsUsed s) (sym same) used) in
-      next_listed names after t.pools w p next up a (still_stands names s change w had.placed.rest t.pools taken whole a stood)
+  keys_same : p.state.keys ≡ (newest_of w).state.keys
+  keys_same = keys_stay names s after w p had.placed.stands.newest_is had.placed.stands.keys_once refl (code_after s change fits code).keys listed
 
   terms_next : TermsStand (words_in w.words p.root.term) p
-  terms_next = terms_alike (words_in w.words p.root.term) (newest_of w) p keys_same lists own.terms.active
+  terms_next = terms_stay names s after w p had.placed.stands.newest_is had.placed.stands.keys_once refl (code_after s change fits code).keys listed (words_in w.words p.root.term) own.terms.active
 
   over : IsNextOver names after t.pools t.terms p w.published w
   over = record {

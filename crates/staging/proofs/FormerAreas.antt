@@ -78,7 +78,7 @@ former_published s key pools w area sound there is =
 
 -- ---- it is retired
 
-no_table : (block : ℕ) → block < 320 → terms.IsElsewhere (retire_place block)
+pub no_table : (block : ℕ) → block < 320 → terms.IsElsewhere (retire_place block)
 no_table block few table at fits low same = let there = table_place table at fits in omega (arith, few, same, there)
 
 pub tables_retired : (table : TableId) (opening : Opening) (old new : Tables) (area : AreaRef) (since : ℕ) → indices.KeptByStores → terms.KeptByStores → AreTablesOf table opening old → IsLive old.pools area → IsWriterOf table opening new.writer → AreOf new.pools (written_by new.writer)

@@ -1,12 +1,11 @@
 -- The words stand for a state still, over stores in blocks that tell nothing of areas.
-use Rattle.std.proofs.Common.{◌≡◌, ℕ, ◌+◌, ◌<◌, ◌≤◌, inl, inr, List, refl, sym, subst, ◌∙◌, arith}
+use Rattle.std.proofs.Common.{◌≡◌, ℕ, ◌+◌, ◌<◌, ◌≤◌, inl, inr, List, length, refl, sym, subst, ◌∙◌, arith}
 use Rattle.std.proofs.lemmas.Bool.{cases_lt, lt-ltb, le-ltb}
 use Rattle.term_core.specs.declared.area.AreaRef.{AreaRef}
 use Rattle.term_core.specs.declared.atom.Mfa.{Mfa}
 use Rattle.area_core.specs.Map.{block_place, breakpoint_place, breakpoint_at, doom_place, retire_place, word_at}
 use Rattle.area_core.specs.Blocks.{IsForInstances}
 use Rattle.shared_words.specs.declared.view.WriterView.{WriterView}
-use Rattle.shared_words.specs.Views.{newest}
 use Rattle.server_core.specs.ServerState.{ServerState}
 use Rattle.literal_areas.specs.declared.areas.Areas.{Areas}
 use Rattle.literal_areas.specs.Owned.{IsUnpublished}
@@ -39,7 +38,7 @@ module _ (names : List Mfa) (s : ServerState) (pools : Areas) (v : WriterView) (
       retire = λ block few. alike.retire block few ∙ stands.words.retire block few;
       since = stands.words.since;
       free = λ block few is. alike.doom block few ∙ stands.words.free block few is;
-      doom = λ block serial few is. subst (DoomStands s serial (newest v.published)) (sym (alike.doom block few)) (stands.words.doom block serial few is);
+      doom = λ block serial few is. subst (DoomStands s serial (length v.published)) (sym (alike.doom block few)) (stands.words.doom block serial few is);
       untraced = λ bp block function low for few. alike.untraced bp block function low for few ∙ stands.words.untraced bp block function low for few;
     };
     dropped = stands.dropped;

@@ -1,5 +1,5 @@
 -- Once a key is staged and its former area retired, the state that the change leaves may be published.
-use Rattle.std.proofs.Common.{◌≡◌, ℕ, ◌+◌, ◌^◌, ◌<◌, ◌≤◌, ◌⊎◌, inl, inr, false, List, [], ◌∷◌, length, Some, None, refl, sym, ap, subst, ◌∙◌, arith}
+use Rattle.std.proofs.Common.{◌≡◌, ℕ, ◌+◌, ◌^◌, ◌<◌, ◌≤◌, ◌⊎◌, inl, inr, true, false, List, [], ◌∷◌, length, Some, None, refl, sym, ap, subst, ◌∙◌, arith}
 use Rattle.std.proofs.lemmas.Bool.{false_from_ne_true}
 use Rattle.std.proofs.lemmas.Option.{none-some}
 use Rattle.term_core.specs.declared.area.AreaRef.{AreaRef}
@@ -11,7 +11,6 @@ use Rattle.area_core.specs.Generations as generations
 use Rattle.area_core.specs.Map.{block_place, breakpoint_at, breakpoint_place, doom_place, word_at}
 use Rattle.area_core.specs.Blocks.{Among, IsForInstances, KeptApart}
 use Rattle.shared_words.specs.declared.view.WriterView.{WriterView}
-use Rattle.shared_words.specs.Views.{newest}
 use Rattle.progress_words.specs.Roots.{newest_of}
 use Rattle.server_core.specs.declared.change.Change.{Change}
 use Rattle.server_core.specs.ServerState.{ServerState, Versions, code_of, current_among, is_doomed, is_serial_in, words_of_area}
@@ -25,7 +24,7 @@ use Rattle.literal_areas.specs.declared.blocks.BlockUse.TheVariants.{Free, Live,
 use Rattle.literal_areas.specs.Blocks.{Stands, use_of}
 use Rattle.literal_areas.specs.Owned.{IsUnpublished}
 use Rattle.staging.specs.Replaced.{former_of}
-use Rattle.staging.specs.Standing.{AreasPlaced, DoomStands, StaysDropped, WordsTell, retire_word_of}
+use Rattle.staging.specs.Standing.{AreasPlaced, DoomStands, IsSince, StaysDropped, WordsTell, retire_word_of}
 use Rattle.staging.proofs.BlockUses.{free_retired}
 use Rattle.staging.proofs.CodeAfter.{newest_below}
 use Rattle.staging.proofs.Coming.{ComesNext, HasImage, IsFresh}
@@ -136,26 +135,28 @@ module _ (names : List Mfa) (s : ServerState) (change : Change) (v w : WriterVie
   doom_word : (block : ℕ) → word_at w.words (doom_place block) ≡ word_at v.words (doom_place block)
   doom_word block = word_still (doom_place block) (inr (omega arith))
 
-  doom_after : (block serial : ℕ) → block < 64 → use_of pools block ≡ Some (Live serial) → DoomStands after serial (newest w.published) (word_at w.words (doom_place block))
+  doom_after : (block serial : ℕ) → block < 64 → use_of pools block ≡ Some (Live serial) → DoomStands after serial (length w.published) (word_at w.words (doom_place block))
   doom_after block serial big is =
       let was = h.stands.words.doom block serial big (rest_live (used_now names s change v w rest before pools taken h block (Live serial) (live_before names s change v w rest before pools taken h block serial is))) in
       let even : is_doomed after serial ≡ is_doomed s serial = ap (λ (xs : List ℕ). is_serial_in xs serial) (keyed names s change v w rest before pools taken h).doomed in
       record {
         clear = λ no. doom_word block ∙ was.clear (sym even ∙ no);
-        set = λ yes. subst (λ (z : ℕ × List Published). (0 < z.0) × (z.0 ≤ newest z.1)) (λ i. (sym (doom_word block) i, sym published_same i)) (was.set (sym even ∙ yes));
+        set = λ yes. subst (λ (z : ℕ × List Published). (0 < z.0) × (z.0 ≤ length z.1)) (λ i. (sym (doom_word block) i, sym published_same i)) (was.set (sym even ∙ yes));
       }
     where
       rest_live : (use_of rest block ≡ Some (Live serial)) ⊎ IsTakenAt taken block (Live serial) → use_of rest block ≡ Some (Live serial)
       rest_live (inl was) = was
       rest_live (inr taken_at) = absurd (let high = high_block names s change v w rest before pools taken h taken_at.place taken_at.area taken_at.at in let here = taken_at.block_is in omega (arith, big, high, here))
 
-  since_after : (block serial since : ℕ) → use_of pools block ≡ Some (Retired serial since) → (0 < since) × (since ≤ length w.published)
-  since_after block serial since is =
-      subst (λ (ps : List Published). (0 < since) × (since ≤ length ps)) (sym published_same) (by (was_retired names s change v w rest before pools taken h block serial since is))
+  since_after : (block serial since : ℕ) → use_of pools block ≡ Some (Retired serial since) → IsSince w.published serial since
+  since_after block serial since is = subst (λ (ps : List Published). IsSince ps serial since) (sym published_same) (by (was_retired names s change v w rest before pools taken h block serial since is))
     where
-      by : (use_of rest block ≡ Some (Retired serial since)) ⊎ ((former_of s change ≡ Some serial) × (since ≡ length v.published)) → (0 < since) × (since ≤ length v.published)
+      by : (use_of rest block ≡ Some (Retired serial since)) ⊎ ((former_of s change ≡ Some serial) × (since ≡ length v.published)) → IsSince v.published serial since
       by (inl was) = h.stands.words.since block serial since was
-      by (inr gone) = let here = gone.1 in let some = h.some in (omega (arith, here, some), omega (arith, here))
+      by (inr gone) =
+          let here = gone.1 in
+          let some = h.some in
+          (omega (arith, here, some), omega (arith, here), λ g p at retired. absurd ((h.stands.dropped.retired p serial (g, at) retired).1 (inr (inr ((uses names s change v w rest before pools taken h).held serial gone.0)))))
 
   words_after : WordsTell after pools w
   words_after = record {
@@ -171,6 +172,7 @@ module _ (names : List Mfa) (s : ServerState) (change : Change) (v w : WriterVie
   dropped_v : StaysDropped after v.published
   dropped_v = record {
     old = λ p serial at is. let was = h.stands.dropped.old p serial at is in (known was.0, λ name current. was.1 name (sym (ap (λ (vs : List Versions). current_among vs name) (keyed names s change v w rest before pools taken h).versions) ∙ current));
+    doomed = λ p serial at is. let was = h.stands.dropped.doomed p serial at is in (known was.0, doomed_still was.0 was.1);
     retired = λ p serial at is. let was = h.stands.dropped.retired p serial at is in (known was.0, λ used. never_used was.0 was.1 ((uses names s change v w rest before pools taken h).used serial used));
     old_stays = h.stands.dropped.old_stays;
     retired_stays = h.stands.dropped.retired_stays;
@@ -182,6 +184,10 @@ module _ (names : List Mfa) (s : ServerState) (change : Change) (v w : WriterVie
       never_used : {serial : ℕ} → serial < s.next_serial → (IsUsed s serial → ⊥) → IsUsed s serial ⊎ (came_with s change ≡ Some serial) → ⊥
       never_used below none (inl stood) = none stood
       never_used {serial} below none (inr came) = let is = (key_came s change h.key serial came).0 in omega (arith, below, is)
+
+      doomed_still : {serial : ℕ} → serial < s.next_serial → (is_doomed s serial ≡ true) ⊎ (IsUsed s serial → ⊥) → (is_doomed after serial ≡ true) ⊎ (IsUsed after serial → ⊥)
+      doomed_still {serial} below (inl doomed) = inl (ap (λ (xs : List ℕ). is_serial_in xs serial) (keyed names s change v w rest before pools taken h).doomed ∙ doomed)
+      doomed_still {serial} below (inr none) = inr (λ used. never_used below none ((uses names s change v w rest before pools taken h).used serial used))
 
   narrow_after : after.next_serial ≤ 2 ^ 40
   narrow_after = by taken refl

@@ -31,7 +31,7 @@ pub record Retires (former : Option ℕ) (since : ℕ) (old new : Areas) : Type 
   pub big : live_blocks new.big ≡ live_blocks old.big
   pub small : live_blocks new.small + counted former ≡ live_blocks old.small
 
-live_set : (uses : List BlockUse) (k n since : ℕ) → slice_get uses k ≡ Some (Live n) → live_blocks (slice_set uses k (Retired n since)) + 1 ≡ live_blocks uses
+pub live_set : (uses : List BlockUse) (k n since : ℕ) → slice_get uses k ≡ Some (Live n) → live_blocks (slice_set uses k (Retired n since)) + 1 ≡ live_blocks uses
 live_set [] k n since e = absurd (cc)
 live_set (Free ∷ uses) zero n since e = absurd (cc)
 live_set (Live serial ∷ uses) zero n since e = omega (arith)
@@ -51,7 +51,7 @@ retires_none since old new same = record {
   small = (let count = ap (λ (s : Areas). live_blocks s.small) same in omega (arith, count));
 }
 
-module _ (s : Areas) (sound : IsSound s) (area : AreaRef) (since : ℕ) (live : IsLive s area) (high : 64 ≤ area.block) where
+module _ (s : Areas) (sound : IsSound s) (area : AreaRef) (since : ℕ) (live : IsLive s area) where
   abbrev now : Areas
   now = with_retired area since s
 
@@ -59,25 +59,25 @@ module _ (s : Areas) (sound : IsSound s) (area : AreaRef) (since : ℕ) (live : 
   one_block : (block : ℕ) → use_of s block ≡ Some (Live area.serial) → block ≡ area.block
   one_block block is = sound.apart block area.block area.serial (serial_here s block (Live area.serial) is) (serial_here s area.block (Live area.serial) live)
 
-  stays_now : (block : ℕ) (u : BlockUse) → use_of s block ≡ Some u → ((serial : ℕ) → u ≡ Live serial → Some area.serial ≢ Some serial) → use_of now block ≡ Some u
+  pub stays_now : (block : ℕ) (u : BlockUse) → use_of s block ≡ Some u → ((serial : ℕ) → u ≡ Live serial → Some area.serial ≢ Some serial) → use_of now block ≡ Some u
   stays_now block u was differ = use_other s area.block block (Live area.serial) (Retired area.serial since) live (λ same. differ area.serial (some_same u (Live area.serial) (sym was ∙ ap (use_of s) same ∙ live)) refl) ∙ was
 
-  gone_now : (block serial : ℕ) → use_of now block ≡ Some (Live serial) → Some area.serial ≢ Some serial
+  pub gone_now : (block serial : ℕ) → use_of now block ≡ Some (Live serial) → Some area.serial ≢ Some serial
   gone_now block serial is same = by (use_after s area.block block (Live area.serial) (Retired area.serial since) (Live serial) live is)
     where
       by : ((block ≡ area.block) × (Live serial ≡ Retired area.serial since)) ⊎ ((block ≡ area.block → ⊥) × (use_of s block ≡ Some (Live serial))) → ⊥
       by (inl here) = live_retired serial area.serial since here.1
       by (inr other) = other.0 (one_block block (other.1 ∙ ap (λ (n : ℕ). Some (Live n)) (sym (some_same area.serial serial same))))
 
-  before_now : (block : ℕ) (u : BlockUse) → use_of now block ≡ Some u → (use_of s block ≡ Some u) ⊎ ((serial : ℕ) × (Some area.serial ≡ Some serial) × (use_of s block ≡ Some (Live serial)) × (u ≡ Retired serial since))
+  pub before_now : (block : ℕ) (u : BlockUse) → use_of now block ≡ Some u → (use_of s block ≡ Some u) ⊎ ((serial : ℕ) × (Some area.serial ≡ Some serial) × (use_of s block ≡ Some (Live serial)) × (u ≡ Retired serial since))
   before_now block u is = by (use_after s area.block block (Live area.serial) (Retired area.serial since) u live is)
     where
       by : ((block ≡ area.block) × (u ≡ Retired area.serial since)) ⊎ ((block ≡ area.block → ⊥) × (use_of s block ≡ Some u)) → (use_of s block ≡ Some u) ⊎ ((serial : ℕ) × (Some area.serial ≡ Some serial) × (use_of s block ≡ Some (Live serial)) × (u ≡ Retired serial since))
       by (inl here) = inr (area.serial, refl, ap (use_of s) here.0 ∙ live, here.1)
       by (inr other) = inl other.1
 
-  pub retires_area : Retires (Some area.serial) since s now
-  retires_area = record {
+  pub retires_area : 64 ≤ area.block → Retires (Some area.serial) since s now
+  retires_area high = record {
     next = refl;
     before = before_now;
     stays = stays_now;

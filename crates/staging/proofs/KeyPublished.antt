@@ -1,15 +1,12 @@
 -- A key is published: the store of the root is allowed, and what it leaves.
 use Rattle.std.proofs.Common.{◌≡◌, ℕ, ◌<◌, ◌≤◌, inl, inr, true, false, List, length, Option, Some, None, refl, sym, ap, subst, ◌∙◌, arith}
 use Rattle.std.specs.Prelude.{nat_lt, slice_get, IfSome}
-use Rattle.std.specs.Option.{option_and_then, option_map}
 use Rattle.std.proofs.lemmas.Bool.{and_parts, false_from_ne_true, ltb-true}
 use Rattle.std.proofs.lemmas.List.{length-map}
-use Rattle.std.proofs.lemmas.Option.{slice_get-map}
 use Rattle.prgr_core.proofs.Parts.{and_then_some}
 use Rattle.atomic_table.specs.Seated.{TableId}
 use Rattle.term_core.specs.declared.area.AreaRef.{AreaRef}
 use Rattle.term_core.specs.declared.atom.Mfa.{Mfa}
-use Rattle.term_core.specs.declared.generation.Generation.{Generation}
 use Rattle.term_core.specs.PlainTerm.{PlainTerm}
 use Rattle.area_core.specs.declared.table.KeptArea.{KeptArea}
 use Rattle.area_core.specs.declared.table.Published.{Published}
@@ -29,12 +26,13 @@ use Rattle.progress_words.proofs.Rooted.{some_published}
 use Rattle.server_core.specs.declared.change.Change.{Change}
 use Rattle.server_core.specs.declared.change.Change.TheVariants.{HoldWord, HoldArea, Forget}
 use Rattle.server_core.specs.Decided.{Fits}
-use Rattle.server_core.specs.Generations.{function_ref, key_term}
+use Rattle.server_core.specs.Generations.{key_term}
 use Rattle.server_core.specs.ServerState.{HasItsArea, IsPersistent, IsSound, IsTermArea, Persistent, ServerState, code_of, dispatch_of, key_area, persistent_of}
 use Rattle.code_law.specs.Served.{IsServed}
 use Rattle.change_laws.specs.Changes.{incoming, state_after}
+use Rattle.change_laws.specs.Uses.{IsUsed}
 use Rattle.code_index.specs.declared.index.Staging.TheVariants as indices
-use Rattle.code_index.specs.Exports.{KeepsExport, LeadTo, export_at}
+use Rattle.code_index.specs.Exports.{LeadTo}
 use Rattle.code_index.specs.Laws as index_laws
 use Rattle.code_index.specs.Staging.{IsIndexOf, active_index}
 use Rattle.literal_areas.specs.declared.areas.Areas.{Areas}
@@ -52,11 +50,13 @@ use Rattle.staging.specs.declared.tables.Tables.{Tables}
 use Rattle.staging.specs.Placed.{ArePlaced}
 use Rattle.staging.specs.Replaced.{FormerRetired, HaveReplaced, former_of}
 use Rattle.staging.specs.Stages.{HasPublished, IsKeyChange}
-use Rattle.staging.specs.Standing.{StandFor, retire_word_of}
+use Rattle.staging.specs.Standing.{IsShownBy, StandFor, retire_word_of}
 use Rattle.staging.specs.Upcoming.{IsUpcoming, areas_in, generation_shown}
-use Rattle.staging.specs.Whose.{AreTablesOf}
+use Rattle.staging.specs.Whose.{AreTablesOf, KeepsKnown}
 use Rattle.staging.proofs.Coming.{ComesNext, IsFresh}
 use Rattle.staging.proofs.Counted.{stands_counted}
+use Rattle.staging.proofs.KeptExports.{leads}
+use Rattle.staging.proofs.Known.{known_same}
 use Rattle.staging.proofs.KeyLists.{once_stand}
 use Rattle.staging.proofs.KeyPools.{retires}
 use Rattle.staging.proofs.KeyStates.{rekeys}
@@ -64,12 +64,10 @@ use Rattle.staging.proofs.KeyWords.{retires_words}
 use Rattle.staging.proofs.Taken.{live_stays}
 use Rattle.staging.proofs.KeyBlocks.{IsNew, IsReady, stood_or_new, stood_stands}
 use Rattle.staging.proofs.KeyComes.{key_comes_next}
-use Rattle.staging.proofs.Mixed.{reached_in_state}
 use Rattle.staging.proofs.NextAreas.{apart_next, fresh_comes, go_on, next_listed, used_kept}
 use Rattle.staging.proofs.NextStands.{is_listed, stands_next}
 use Rattle.staging.proofs.NextStays.{old_stays_next, retired_stays_next, served_next}
 use Rattle.staging.proofs.NextWords.{areas_next, breakpoints_next, fresh_fits, fresh_images, instances_next}
-use Rattle.staging.proofs.StagedNames.{newest_exports, reached_used}
 
 -- a change of a key leaves what calls reach
 calls_stay : (s : ServerState) (change : Change) → IsKeyChange change → (to : Mfa) → dispatch_of (state_after s change) to ≡ dispatch_of s to
@@ -91,27 +89,14 @@ module _ (names : List Mfa) (s : ServerState) (change : Change) (v w : WriterVie
   module _ (p : Published) (up : IsUpcoming names after pools p) where
     -- ---- what calls reach
 
-    entry_at : (o : Option Mfa) → option_and_then (λ e. e) (option_map (reached_in_state after) o) ≡ option_and_then (λ e. e) (option_map (reached_in_state s) o)
-    entry_at None = refl
-    entry_at (Some to) = ap (option_map function_ref) (calls_stay s change h.key to)
-
     newest_v : newest_of w ≡ newest_of v
     newest_v = ap newest_of h.words.same
 
-    shows : (k : ℕ) → export_at (newest_of w) k ≡ option_and_then (λ e. e) (option_map (reached_in_state s) (slice_get names k))
-    shows k = ap (λ (q : Published). export_at q k) newest_v ∙ newest_exports names s (newest_of v) h.stands.newest_is k
+    listed : (a : AreaRef) → Among (newest_of w).areas a → IsUsed s a.serial → Among p.areas a
+    listed a among used = next_listed names after pools w p next up a (stood_stands names s change v w rest before pools taken h a (h.stands.listed a (subst (λ (q : Published). Among q.areas a) newest_v among) used))
 
-    exports_kept : (k : ℕ) → KeepsExport (newest_of w) p k
-    exports_kept k = record {
-      same = ap (λ (g : Generation). option_and_then (λ e. e) (slice_get g.exports k)) up.state ∙ ap (option_and_then (λ e. e)) (slice_get-map (reached_in_state after) names k) ∙ entry_at (slice_get names k) ∙ sym (shows k);
-      placed = λ to a is among same.
-          let exported = ap (λ (g : Generation). option_and_then (λ e. e) (slice_get g.exports k)) up.state ∙ ap (option_and_then (λ e. e)) (slice_get-map (reached_in_state after) names k) ∙ entry_at (slice_get names k) in
-          let used = reached_used names s k to a.serial (sym exported ∙ is) same in
-          next_listed names after pools w p next up a (stood_stands names s change v w rest before pools taken h a (h.stands.listed a (subst (λ (q : Published). Among q.areas a) newest_v among) used));
-    }
-
-    leads : index_laws.KeptByExports → LeadTo w.words (active_index w) (newest_of w) → LeadTo w.words (active_index w) p
-    leads alike active = alike (indices.Staged (active_index w)) w (newest_of w) p exports_kept active
+    leads_key : index_laws.KeptByExports → LeadTo w.words (active_index w) (newest_of w) → LeadTo w.words (active_index w) p
+    leads_key alike active = leads names s after w p (subst (IsShownBy names s) (sym newest_v) h.stands.newest_is) up.state (calls_stay s change h.key) listed alike active
 
     -- ---- what comes in
 
@@ -154,6 +139,10 @@ key_no_code s sound key serial e =
 pub published_retired : (former : Option ℕ) (old new : Areas) (before after : WriterView) → FormerRetired former old before new after → after.published ≡ before.published
 published_retired None old new before later is = ap (λ (x : WriterView). x.published) is.1
 published_retired (Some serial) old new before later is = ap (λ (x : WriterView). x.published) is.stored
+
+pub known_retired : (former : Option ℕ) (old new : Areas) (before after : WriterView) → FormerRetired former old before new after → KeepsKnown before after
+known_retired None old new before later is = known_same before later is.1
+known_retired (Some serial) old new before later is = subst (KeepsKnown before) (sym is.stored) (record { notes = refl; looks = refl; waits = λ pair had. had })
 
 -- so its block is a small one
 pub former_high : (names : List Mfa) (s : ServerState) (change : Change) (rest pools : Areas) (w : WriterView) (taken : List AreaRef) → IsSound s → IsKeyChange change → StandFor names s rest w → ArePlaced (incoming change) rest pools w taken → areas.IsSound pools
@@ -205,7 +194,7 @@ module _ (names : List Mfa) (s : ServerState) (change : Change) (table : TableId
   up = record { state = refl; areas = refl }
 
   leads_p : index_laws.KeptByExports → LeadTo view.words (active_index view) p
-  leads_p alike = leads names s change had.view view had.rest had.pools t.pools taken ready p up alike own.index.active
+  leads_p alike = leads_key names s change had.view view had.rest had.pools t.pools taken ready p up alike own.index.active
 
   may : index_laws.KeptByExports → MayPublishTerms (IsServed names) t.terms view p
   may alike = record {

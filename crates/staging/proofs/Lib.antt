@@ -1,4 +1,5 @@
 mod Elsewhere
+mod KeptExports
 mod KeyLists
 mod KeyStaged
 mod StagedKey
@@ -36,6 +37,18 @@ mod Steps
 mod NextReads
 mod AreasIn
 mod Coming
+mod Looked
+mod Renewals
+mod Traced
+mod Dooms
+mod PurgeStates
+mod Purges
+mod Announced
+mod ReleasedWords
+mod Releases
+mod ReleasedTables
+mod ReleasedStages
+mod Releasable
 mod NextFresh
 mod NextAreas
 mod NextWords
@@ -46,5 +59,6 @@ mod CodeComes
 mod SameKeys
 mod CodeBlocks
 mod Committed
+mod Known
 mod CommitAnswers
 mod AtFirst

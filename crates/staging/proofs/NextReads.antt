@@ -25,7 +25,7 @@ use Rattle.staging.specs.Upcoming.{generation_shown}
 pub any_either : {X : Type 0} (test : X → Bool) (xs ys : List X) → list_any test (xs ++ ys) ≡ true → (list_any test xs ≡ true) ⊎ (list_any test ys ≡ true)
 any_either test xs ys e = or_cases (list_any test xs) (list_any test ys) (sym (list_any-append test xs ys) ∙ e)
 
-one_is : (n q : ℕ) → (n == q || false) ≡ true → n ≡ q
+pub one_is : (n q : ℕ) → (n == q || false) ≡ true → n ≡ q
 one_is n q e =
     elim (or_cases (n == q) false e) as (λ _. n ≡ q) [
       | inl here ↦ eqb-true n q here

@@ -1,7 +1,8 @@
 -- Once the root is stored, the words stand for the state that is published.
-use Rattle.std.proofs.Common.{◌≡◌, ℕ, ◌+◌, ◌<◌, ◌≤◌, inl, List, [], ◌∷◌, ◌++◌, length, Option, refl, sym, ap, subst, ◌∙◌, arith}
+use Rattle.std.proofs.Common.{◌≡◌, ℕ, ◌+◌, ◌<◌, ◌≤◌, inl, inr, List, [], ◌∷◌, ◌++◌, length, Option, Some, refl, sym, ap, subst, ◌∙◌, arith}
 use Rattle.std.specs.Prelude.{unwrap_or}
 use Rattle.std.proofs.lemmas.List.{length-append}
+use Rattle.prgr_core.proofs.Parts.{slice_get-push_at}
 use Rattle.term_core.specs.declared.atom.Mfa.{Mfa}
 use Rattle.area_core.specs.declared.table.Published.{Published}
 use Rattle.area_core.specs.Map.{doom_place, word_at}
@@ -14,8 +15,10 @@ use Rattle.shared_words.proofs.OpeningRule.{last_get}
 use Rattle.progress_words.specs.Roots.{newest_of}
 use Rattle.server_core.specs.ServerState.{ServerState}
 use Rattle.literal_areas.specs.declared.areas.Areas.{Areas}
+use Rattle.literal_areas.specs.declared.blocks.BlockUse.TheVariants.{Retired}
+use Rattle.literal_areas.specs.Blocks.{use_of}
 use Rattle.literal_areas.specs.Owned.{IsListed}
-use Rattle.staging.specs.Standing.{DoomStands, ImagesKept, StandFor, WordsTell}
+use Rattle.staging.specs.Standing.{DoomStands, ImagesKept, IsSince, StandFor, WordsTell}
 use Rattle.staging.specs.Upcoming.{IsUpcoming}
 use Rattle.staging.proofs.Coming.{ComesNext}
 use Rattle.staging.proofs.NextAreas.{apart_next, is_kept_next, kept_is, listed_next}
@@ -29,8 +32,8 @@ pub newest_next : (w : WriterView) (p : Published) → newest_of (with_next p w)
 newest_next w p =
     ap (λ (g : ℕ). published_at (w.published ++ p ∷ []) g) (newest_pushed w.published p) ∙ ap (λ (o : Option Published). unwrap_or o opening_published) (last_get w.published p)
 
-doom_later : (s : ServerState) (serial newest later word : ℕ) → newest ≤ later → DoomStands s serial newest word → DoomStands s serial later word
-doom_later s serial newest later word le stands = record { clear = stands.clear; set = λ doomed. let set = stands.set doomed in let reached = set.1 in (set.0, omega (arith, le, reached)) }
+doom_later : (s : ServerState) (serial last later word : ℕ) → last ≤ later → DoomStands s serial last word → DoomStands s serial later word
+doom_later s serial last later word le stands = record { clear = stands.clear; set = λ doomed. let set = stands.set doomed in let reached = set.1 in (set.0, omega (arith, le, reached)) }
 
 module _ (names : List Mfa) (s : ServerState) (pools : Areas) (w : WriterView) (p : Published) (next : ComesNext names s pools w) (up : IsUpcoming names s pools p) where
   -- the pools are those of the generation
@@ -49,15 +52,26 @@ module _ (names : List Mfa) (s : ServerState) (pools : Areas) (w : WriterView) (
   long : length (w.published ++ p ∷ []) ≡ length w.published + 1
   long = length-append w.published (p ∷ [])
 
-  later : newest w.published ≤ newest (w.published ++ p ∷ [])
-  later = (let is = newest_pushed w.published p in omega (arith, is))
+  since_next : (block serial since : ℕ) → use_of pools block ≡ Some (Retired serial since) → IsSince (w.published ++ p ∷ []) serial since
+  since_next block serial since is =
+      let when = next.words.since block serial since is in
+      let reached = when.1 in
+      let more = long in (
+        when.0,
+        omega (arith, reached, more),
+        λ g q at retired.
+            elim (slice_get-push_at w.published p g q at) as (λ _. since ≤ g) [
+              | inl before ↦ when.2 g q before retired
+              | inr last ↦ let place = last.0 in omega (arith, reached, place)
+            ],
+      )
 
   words_next : WordsTell s pools (with_next p w)
   words_next = record {
     retire = next.words.retire;
-    since = λ block serial since is. let when = next.words.since block serial since is in let reached = when.1 in let more = long in (when.0, omega (arith, reached, more));
+    since = since_next;
     free = next.words.free;
-    doom = λ block serial big is. doom_later s serial (newest w.published) (newest (w.published ++ p ∷ [])) (word_at w.words (doom_place block)) later (next.words.doom block serial big is);
+    doom = λ block serial big is. doom_later s serial (length w.published) (length (w.published ++ p ∷ [])) (word_at w.words (doom_place block)) (let more = long in omega (arith, more)) (next.words.doom block serial big is);
     untraced = next.words.untraced;
   }
 

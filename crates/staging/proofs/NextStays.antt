@@ -1,10 +1,11 @@
 -- What the next generation and the ones before it have dropped stays dropped, and the next one is served.
-use Rattle.std.proofs.Common.{◌≡◌, ◌≢◌, ℕ, ◌<◌, ◌≤◌, ◌^◌, inl, inr, true, false, List, [], ◌∷◌, ◌++◌, Option, Some, None, option_map, lit≤, refl, sym, ap, subst, ◌∙◌, arith}
+use Rattle.std.proofs.Common.{◌≡◌, ◌≢◌, ℕ, ◌<◌, ◌≤◌, ◌^◌, ◌⊎◌, inl, inr, true, false, List, [], ◌∷◌, ◌++◌, Option, Some, None, option_map, lit≤, refl, sym, ap, subst, ◌∙◌, arith}
 use Rattle.std.specs.Prelude.{slice_get, unwrap_or}
 use Rattle.std.proofs.lemmas.Bool.{false_from_ne_true, true≢false}
 use Rattle.term_core.specs.declared.area.AreaRef.{AreaRef}
 use Rattle.term_core.specs.Image as terms
 use Rattle.term_core.specs.declared.atom.Mfa.{Mfa}
+use Rattle.term_core.specs.declared.generation.Generation.{Generation}
 use Rattle.mod_core.specs.declared.code.Module.{Module}
 use Rattle.area_core.specs.declared.table.Published.{Published}
 use Rattle.area_core.specs.Generations as generations
@@ -14,13 +15,14 @@ use Rattle.shared_words.specs.declared.view.WriterView.{WriterView}
 use Rattle.shared_words.specs.Rule.{OldStays, RetiredStays}
 use Rattle.shared_words.proofs.ShownMembers.{within_get}
 use Rattle.prgr_core.proofs.Parts.{slice_get-push_at}
-use Rattle.server_core.specs.ServerState.{ServerState, code_of, current_of, first_words, instance_image, term_of_area, words_of_area}
+use Rattle.server_core.specs.ServerState.{ServerState, code_of, current_of, first_words, instance_image, is_doomed, term_of_area, words_of_area}
 use Rattle.machine_core.specs.GenerationReads.{is_term_image, words_in}
 use Rattle.machine_core.proofs.ImageKinds.{instance_no_term}
 use Rattle.code_law.specs.Served.{IsServed, TermsPlaced}
 use Rattle.literal_areas.specs.declared.areas.Areas.{Areas}
 use Rattle.literal_areas.specs.Blocks.{Stands}
 use Rattle.change_laws.specs.Uses.{IsUsed}
+use Rattle.change_laws.proofs.Dropped.{used_known}
 use Rattle.staging.specs.Standing.{StaysDropped}
 use Rattle.staging.specs.Upcoming.{IsUpcoming}
 use Rattle.staging.proofs.Coming.{ComesNext}
@@ -35,6 +37,11 @@ module _ (names : List Mfa) (s : ServerState) (pools : Areas) (w : WriterView) (
       let old = shown_old names s p up.state serial e in
       ((code_known s next.sound serial old.m old.code_is).1, λ name current. old_not_current s next.sound old.m.name.0 name serial old.is current)
 
+  doomed_next : (serial : ℕ) → has_serial p.state.doomed serial ≡ true → (serial < s.next_serial) × ((is_doomed s serial ≡ true) ⊎ (IsUsed s serial → ⊥))
+  doomed_next serial e =
+      let doomed : is_doomed s serial ≡ true = sym (ap (λ (g : Generation). has_serial g.doomed serial) up.state) ∙ e in
+      (used_known s serial next.sound (inr (inl (next.sound.doomed serial doomed))), inl doomed)
+
   retired_next : (serial : ℕ) → generations.is_retired p serial ≡ true → (serial < s.next_serial) × (IsUsed s serial → ⊥)
   retired_next serial e =
       let dropped = next.sound.retired serial (sym (shown_retired names s p up.state serial) ∙ e) in
@@ -48,6 +55,13 @@ module _ (names : List Mfa) (s : ServerState) (pools : Areas) (w : WriterView) (
       elim (slice_get-push_at w.published p at.0 q at.1) as (λ _. (serial < s.next_serial) × ((name : ℕ) → current_of s name ≢ Some serial)) [
         | inl before ↦ next.dropped.old q serial (at.0, before) e
         | inr last ↦ old_next serial (subst (λ (x : Published). has_serial x.state.old serial ≡ true) last.1 e)
+      ]
+
+  doomed_each : (q : Published) (serial : ℕ) → Among listed q → has_serial q.state.doomed serial ≡ true → (serial < s.next_serial) × ((is_doomed s serial ≡ true) ⊎ (IsUsed s serial → ⊥))
+  doomed_each q serial at e =
+      elim (slice_get-push_at w.published p at.0 q at.1) as (λ _. (serial < s.next_serial) × ((is_doomed s serial ≡ true) ⊎ (IsUsed s serial → ⊥))) [
+        | inl before ↦ next.dropped.doomed q serial (at.0, before) e
+        | inr last ↦ doomed_next serial (subst (λ (x : Published). has_serial x.state.doomed serial ≡ true) last.1 e)
       ]
 
   retired_each : (q : Published) (serial : ℕ) → Among listed q → generations.is_retired q serial ≡ true → (serial < s.next_serial) × (IsUsed s serial → ⊥)
@@ -88,6 +102,7 @@ module _ (names : List Mfa) (s : ServerState) (pools : Areas) (w : WriterView) (
   pub dropped_next : StaysDropped s (w.published ++ p ∷ [])
   dropped_next = record {
     old = old_each;
+    doomed = doomed_each;
     retired = retired_each;
     old_stays = old_stays_next;
     retired_stays = retired_stays_next;

@@ -72,9 +72,9 @@ module _ (names : List Mfa) (s : ServerState) (pools : Areas) (w : WriterView) (
   retired_true : (a : AreaRef) (since : ℕ) → use_of pools a.block ≡ Some (Retired a.serial since) → generations.is_retired p a.serial ≡ true
   retired_true a since is = ap (λ (g : Generation). has_serial g.retired a.serial) up.state ∙ next.blocks.retired a.block a.serial since is
 
-  word_tells : (serial word : ℕ) (b : Bool) → is_doomed s serial ≡ b → DoomStands s serial (newest w.published) word → tells word (length w.published) ≡ b
+  word_tells : (serial word : ℕ) (b : Bool) → is_doomed s serial ≡ b → DoomStands s serial (length w.published) word → tells word (length w.published) ≡ b
   word_tells serial word false doomed stands = ap (λ (x : ℕ). tells x (length w.published)) (stands.clear doomed)
-  word_tells serial word true doomed stands = let set = stands.set doomed in let some = set.0 in let reached = set.1 in tells_from word (length w.published) some (omega (arith, reached))
+  word_tells serial word true doomed stands = let set = stands.set doomed in tells_from word (length w.published) set.0 set.1
 
   doom_tells : (a : AreaRef) → Stands pools a → a.block < 64 → generations.is_retired p a.serial ≡ false → tells (word_at w.words (doom_place a.block)) (length w.published) ≡ generations.is_doomed p a.serial
   doom_tells a stands big unretired = by (stands_as pools a stands)

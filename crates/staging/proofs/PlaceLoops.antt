@@ -9,7 +9,7 @@ use Rattle.server_core.specs.declared.change.Change.{Change}
 use Rattle.server_core.specs.ServerState.{ServerState}
 use Rattle.staging.specs.declared.tables.Tables.{Tables}
 use Rattle.staging.specs.Stages.{HavePlaced}
-use Rattle.staging.specs.Whose.{AreTablesOf}
+use Rattle.staging.specs.Whose.{AreTablesOf, KeepsKnown}
 
 -- so many areas were placed since
 pub record PlacesOn (table : TableId) (opening : Opening) (names : List Mfa) (s : ServerState) (change : Change) (at : ℕ) (first now : Tables) (taken : List AreaRef) : Type 0 where
@@ -19,6 +19,7 @@ pub record PlacesOn (table : TableId) (opening : Opening) (names : List Mfa) (s 
   pub exports : now.exports ≡ first.exports
   pub index : now.index ≡ first.index
   pub published : (written_by now.writer).published ≡ (written_by first.writer).published
+  pub known : KeepsKnown (written_by first.writer) (written_by now.writer)
 
 -- so many areas were given back since
 pub record GivesBack (table : TableId) (opening : Opening) (names : List Mfa) (s : ServerState) (change : Change) (back : ℕ) (first now : Tables) (taken left : List AreaRef) : Type 0 where

@@ -4,6 +4,8 @@ use Rattle.std.specs.Prelude.{◌==◌, ◌&&◌, slice_get, option_and_then, Is
 use Rattle.std.specs.List.{list_any}
 use Rattle.std.proofs.lemmas.Bool.{and_from, and_parts, eqb-true}
 use Rattle.term_core.specs.declared.area.AreaRef.{AreaRef}
+use Rattle.term_core.specs.declared.atom.Mfa.{Mfa}
+use Rattle.term_core.specs.declared.generation.Generation.{Generation}
 use Rattle.term_core.specs.declared.generation.Holding.{Holding}
 use Rattle.term_core.specs.declared.generation.Holding.TheVariants.{Word, Area}
 use Rattle.term_core.specs.declared.generation.KeyTerm.{KeyTerm}
@@ -11,18 +13,22 @@ use Rattle.area_core.specs.declared.table.Published.{Published}
 use Rattle.area_core.specs.Generations.{is_area_word, is_term_word}
 use Rattle.area_core.specs.Blocks.{Among}
 use Rattle.area_core.specs.Terms.{TermsStand, found_in, is_word_of}
+use Rattle.shared_words.specs.declared.view.WriterView.{WriterView}
+use Rattle.progress_words.specs.Roots.{newest_of}
 use Rattle.server_core.specs.Generations.{key_term}
 use Rattle.server_core.specs.ServerState.{Persistent, ServerState}
 use Rattle.change_laws.specs.Uses.{IsUsed}
-use Rattle.staging.specs.Standing.{AreKeysOnce}
+use Rattle.staging.specs.Standing.{AreKeysOnce, IsShownBy}
+use Rattle.staging.specs.Upcoming.{generation_shown}
 use Rattle.staging.proofs.KeyLists.{key_at}
+use Rattle.staging.proofs.KeyStaged.{newest_keys}
 use Rattle.staging.proofs.NextFresh.{any_at, at_any}
 use Rattle.staging.proofs.NextReads.{held_at}
 
 -- ---- two generations with the same keys
 
 -- the areas of keys that one lists the other lists too
-abbrev pub ListsKeys : Published → Published → Type 0
+abbrev ListsKeys : Published → Published → Type 0
 ListsKeys p q = (k : KeyTerm) (serial : ℕ) (a : AreaRef) → Among p.state.keys k → k.holding ≡ Area serial → Among p.areas a → a.serial ≡ serial → Among q.areas a
 
 word_alike : (p q : Published) (h : Holding) (word : ℕ) → ((serial : ℕ) (a : AreaRef) → h ≡ Area serial → Among p.areas a → a.serial ≡ serial → Among q.areas a) → is_term_word p h word ≡ true → is_term_word q h word ≡ true
@@ -52,7 +58,7 @@ module _ (block : ℕ → ℕ) (p q : Published) (keys : q.state.keys ≡ p.stat
       any_at (is_word_of q key word) q.state.keys found.0 (subst (λ (ks : List KeyTerm). Among ks found.0) (sym keys) found.1)
       (and_from (found.0.key.0 == key) (is_term_word q found.0.holding word) parts.0 (key_alike found.0 word found.1 parts.1))
 
-  pub terms_alike : TermsStand block p → TermsStand block q
+  terms_alike : TermsStand block p → TermsStand block q
   terms_alike stands = record { found = found_alike stands; only = only_alike stands }
 
 -- ---- the keys of a state
@@ -68,8 +74,23 @@ area_of p serial (Some n) is e = is ∙ ap (λ (k : ℕ). Some k) (same n (subst
     same n e = (cc)
 
 -- so the area of one of them is used
-pub key_used : (s : ServerState) (k : KeyTerm) (serial : ℕ) → AreKeysOnce s.keys → Among (map key_term s.keys) k → k.holding ≡ Area serial → IsUsed s serial
+key_used : (s : ServerState) (k : KeyTerm) (serial : ℕ) → AreKeysOnce s.keys → Among (map key_term s.keys) k → k.holding ≡ Area serial → IsUsed s serial
 key_used s k serial once at is =
     let found = key_at s.keys at.0 k at.1 in
     let area = area_of found.0 serial found.0.area refl (ap (λ (x : KeyTerm). x.holding) found.2 ∙ is) in
     inr (inr (found.0.key, ap (λ (o : Option Persistent). option_and_then (λ (x : Persistent). x.area) o) (held_at s.keys at.0 found.0 once found.1) ∙ area))
+
+-- ---- a change that leaves the keys
+
+module _ (names : List Mfa) (s after : ServerState) (w : WriterView) (p : Published) (shown : IsShownBy names s (newest_of w)) (once : AreKeysOnce s.keys) (state : p.state ≡ generation_shown names after) (keys : after.keys ≡ s.keys)
+    (listed : (a : AreaRef) → Among (newest_of w).areas a → IsUsed s a.serial → Among p.areas a) where
+  -- the next generation has the keys of the newest one
+  pub keys_stay : p.state.keys ≡ (newest_of w).state.keys
+  keys_stay = ap (λ (g : Generation). g.keys) state ∙ ap (λ (ks : List Persistent). map key_term ks) keys ∙ sym (newest_keys names s (newest_of w) shown)
+
+  lists : ListsKeys (newest_of w) p
+  lists k serial a at is here same = listed a here (subst (IsUsed s) (sym same) (key_used s k serial once (subst (λ (ks : List KeyTerm). Among ks k) (newest_keys names s (newest_of w) shown) at) is))
+
+  -- so the term table that stands for the one stands for the other
+  pub terms_stay : (block : ℕ → ℕ) → TermsStand block (newest_of w) → TermsStand block p
+  terms_stay block stands = terms_alike block (newest_of w) p keys_stay lists stands

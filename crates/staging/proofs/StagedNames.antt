@@ -31,9 +31,10 @@ use Rattle.staging.specs.Placed.{with_areas}
 use Rattle.staging.specs.Stages.{HavePlaced}
 use Rattle.staging.specs.Standing.{IsShownBy}
 use Rattle.staging.specs.Upcoming.{areas_in}
-use Rattle.staging.specs.Whose.{AreTablesOf, StoresExports}
+use Rattle.staging.specs.Whose.{AreTablesOf, KeepsKnown, StoresExports}
 use Rattle.staging.proofs.IndexStores.{placed_still}
 use Rattle.staging.proofs.AreasIn.{stands_listed}
+use Rattle.staging.proofs.Known.{known_on, known_words}
 use Rattle.staging.proofs.Mixed.{all_changed, all_kept, between, next_changed, none_changed, reached_in_state}
 use Rattle.staging.proofs.Reaching.{CallLaws, changed_reaches, other_reaches}
 use Rattle.staging.proofs.Taken.{stands_taken}
@@ -104,6 +105,7 @@ pub record StagesOn (table : TableId) (opening : Opening) (names : List Mfa) (s 
   pub placed : HavePlaced names s change now taken
   pub staged : IsStaged now.index
   pub published : (written_by now.writer).published ≡ (written_by first.writer).published
+  pub known : KeepsKnown (written_by first.writer) (written_by now.writer)
   pub leads : (p : Published) → p.areas ≡ areas_in now.pools → Stages now.index (between names s (made s change).state n p) (written_by now.writer)
 
 module _ (table : TableId) (opening : Opening) (names : List Mfa) (s : ServerState) (change : Change) (first old new : Tables) (taken : List AreaRef) (tables : AreTablesOf table opening new) (exports : new.exports ≡ old.exports) (terms : new.terms ≡ old.terms) (pools : new.pools ≡ old.pools) (staged : IsStaged new.index)
@@ -114,6 +116,9 @@ module _ (table : TableId) (opening : Opening) (names : List Mfa) (s : ServerSta
   published : (written_by new.writer).published ≡ (written_by old.writer).published
   published = ap (λ (w : WriterView). w.published) stores.same
 
+  known : KeepsKnown (written_by old.writer) (written_by new.writer)
+  known = known_words (written_by old.writer) (written_by new.writer) stores.same
+
   -- none yet
   pub stages_begun : HavePlaced names s change old taken → old.exports ≡ names → first ≡ old → Stages new.index (newest_of (written_by old.writer)) (written_by new.writer) → StagesOn table opening names s change first new taken zero
   stages_begun had exports_were is_first leads = record {
@@ -122,6 +127,7 @@ module _ (table : TableId) (opening : Opening) (names : List Mfa) (s : ServerSta
     placed = placed_still names s change old new taken pools terms stores had;
     staged = staged;
     published = published ∙ ap (λ (t : Tables). (written_by t.writer).published) (sym is_first);
+    known = subst (λ (t : Tables). KeepsKnown (written_by t.writer) (written_by new.writer)) (sym is_first) known;
     leads = λ p areas. alike new.index (written_by new.writer) (newest_of (written_by old.writer)) (between names s after zero p) (none_changed names s after (newest_of (written_by old.writer)) p shows (listed p areas)) leads;
   }
     where
@@ -172,6 +178,7 @@ module _ (table : TableId) (opening : Opening) (names : List Mfa) (s : ServerSta
       placed = placed_still names s change old new taken pools terms stores h.placed;
       staged = staged;
       published = published ∙ h.published;
+      known = known_on (written_by first.writer) (written_by old.writer) (written_by new.writer) h.known known;
       leads = λ p areas. next_leads p (areas ∙ ap areas_in pools);
     }
 

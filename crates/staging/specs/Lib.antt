@@ -5,4 +5,6 @@ pub mod Placed
 pub mod Exported
 pub mod Keyed
 pub mod Replaced
+pub mod Renewed
 pub mod Stages
+pub mod Released

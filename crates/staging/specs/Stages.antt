@@ -1,6 +1,6 @@
 -- How far the words are with a change of the server that waits, and what a step of it leaves.
 -- Source: Erlang/OTP erts internal documentation, CodeLoading (stage, wait for thread progress, commit), and the manual page of persistent_term.
-use Rattle.std.specs.Prelude.{◌≡◌, ◌⊎◌, ℕ, ◌+◌, ◌<◌, List, [], ◌∷◌, ◌++◌, length, None}
+use Rattle.std.specs.Prelude.{◌≡◌, ◌⊎◌, ℕ, ◌+◌, ◌<◌, ◌≤◌, List, [], ◌∷◌, ◌++◌, length, None}
 use Rattle.term_core.specs.declared.area.AreaRef.{AreaRef}
 use Rattle.term_core.specs.declared.atom.Mfa.{Mfa}
 use Rattle.area_core.specs.declared.table.Published.{Published}
@@ -112,3 +112,14 @@ abbrev pub StepAnswers : List Mfa → ServerState → Change → Tables → Tabl
 StepAnswers names s change old new stage (steps.Published generation) = HasPublished names (made s change).state old new generation
 StepAnswers names s change old new stage (steps.NotYet answer) = Waits names s change old new stage (IsLate new answer)
 StepAnswers names s change old new stage steps.AwaitRelease = Waits names s change old new stage ((pool : Pool) × AwaitsRelease (blocks_of pool new.pools))
+
+-- how far a stage is
+abbrev pub stage_number : Stage → ℕ
+stage_number Untouched = 0
+stage_number (Placed areas) = 1
+stage_number (Exported areas) = 2
+
+-- a change that is not published yet has come so far at least
+abbrev pub GoesOn : ℕ → Stage → Step → Type 0
+GoesOn far stage (steps.Published generation) = Unit {0}
+GoesOn far stage answer = far ≤ stage_number stage

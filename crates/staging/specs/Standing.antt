@@ -13,7 +13,6 @@ use Rattle.area_core.specs.Blocks.{Among, IsForInstances, KeptApart}
 use Rattle.area_core.specs.Step.{opening_published}
 use Rattle.shared_words.specs.declared.view.WriterView.{WriterView}
 use Rattle.shared_words.specs.Rule.{OldStays, RetiredStays}
-use Rattle.shared_words.specs.Views.{newest}
 use Rattle.progress_words.specs.Roots.{newest_of}
 use Rattle.server_core.specs.Generations.{AreNumbered}
 use Rattle.server_core.specs.ServerState.{IsSound, Persistent, ServerState, code_of, current_of, empty_state, is_doomed, is_retired, is_serial_in, live_areas, live_count, words_of_area}
@@ -90,25 +89,32 @@ retire_word_of (Some (Live serial)) = 0
 retire_word_of (Some Free) = 0
 retire_word_of None = 0
 
--- the doom word of an instance tells whether it is doomed from a published generation on
-pub record DoomStands (s : ServerState) (serial newest word : ℕ) : Type 0 where
+-- the doom word of an instance tells whether it is doomed from a generation on, this one at the latest
+pub record DoomStands (s : ServerState) (serial last word : ℕ) : Type 0 where
   pub clear : is_doomed s serial ≡ false → word ≡ 0
-  pub set : IsTrue (is_doomed s serial) → (0 < word) × (word ≤ newest)
+  pub set : IsTrue (is_doomed s serial) → (0 < word) × (word ≤ last)
+
+-- an area is retired from this generation on, which is published or the next one, and in none before it
+abbrev pub IsSince : List Published → ℕ → ℕ → Type 0
+IsSince published serial since =
+    (0 < since) × (since ≤ length published) × ((g : ℕ) (p : Published) → slice_get published g ≡ Some p → IsTrue (has_serial p.state.retired serial) → since ≤ g)
 
 -- retire words tell of retired areas, doom words of doomed ones, and nothing is traced
 pub record WordsTell (s : ServerState) (pools : Areas) (w : WriterView) : Type 0 where
   pub retire : (block : ℕ) → block < BLOCKS → word_at w.words (retire_place block) ≡ retire_word_of (use_of pools block)
-  -- an area is retired from a generation on that is published, or is the next one
-  pub since : (block serial since : ℕ) → use_of pools block ≡ Some (Retired serial since) → (0 < since) × (since ≤ length w.published)
+  pub since : (block serial since : ℕ) → use_of pools block ≡ Some (Retired serial since) → IsSince w.published serial since
   pub free : (block : ℕ) → block < BIG_BLOCKS → use_of pools block ≡ Some Free → word_at w.words (doom_place block) ≡ 0
-  pub doom : (block serial : ℕ) → block < BIG_BLOCKS → use_of pools block ≡ Some (Live serial) → DoomStands s serial (newest w.published) (word_at w.words (doom_place block))
+  -- and so is an instance doomed
+  pub doom : (block serial : ℕ) → block < BIG_BLOCKS → use_of pools block ≡ Some (Live serial) → DoomStands s serial (length w.published) (word_at w.words (doom_place block))
   pub untraced : (bp block function : ℕ) → bp < BREAKPOINT_INDICES → IsForInstances block → function < FUNCTIONS → word_at w.words (breakpoint_place bp block function) ≡ 0
 
 -- ---- what was published
 
--- what a generation has as old code is current no more, and what it has retired is used no more, in later generations and now
+-- what a generation has as old code is current no more, what it has doomed is doomed still or used no more, and what it has retired
+-- is used no more, in later generations and now
 pub record StaysDropped (s : ServerState) (published : List Published) : Type 0 where
   pub old : (p : Published) (serial : ℕ) → Among published p → IsTrue (has_serial p.state.old serial) → (serial < s.next_serial) × ((name : ℕ) → current_of s name ≢ Some serial)
+  pub doomed : (p : Published) (serial : ℕ) → Among published p → IsTrue (has_serial p.state.doomed serial) → (serial < s.next_serial) × (IsTrue (is_doomed s serial) ⊎ (IsUsed s serial → ⊥))
   pub retired : (p : Published) (serial : ℕ) → Among published p → IsTrue (has_serial p.state.retired serial) → (serial < s.next_serial) × (IsUsed s serial → ⊥)
   pub old_stays : OldStays published
   pub retired_stays : RetiredStays published

@@ -2,7 +2,9 @@
 -- Source: this project's own.
 use Rattle.std.specs.Prelude.{◌≡◌, ℕ}
 use Rattle.atomic_table.specs.Seated.{TableId}
+use Rattle.prgr_core.specs.declared.member.Retirement.{Retirement}
 use Rattle.area_core.specs.Map.{word_at}
+use Rattle.area_core.specs.Blocks.{Among}
 use Rattle.shared_words.specs.declared.opening.Opening.{Opening}
 use Rattle.shared_words.specs.declared.view.WriterView.{WriterView}
 use Rattle.progress_words.specs.Tokens.{IsWriterOf, written_by}
@@ -29,3 +31,13 @@ pub record KeepsStaged (old new : Tables) : Type 0 where
 pub record StoresExports (old new : WriterView) : Type 0 where
   pub others : (place : ℕ) → IsElsewhere place → word_at new.words place ≡ word_at old.words place
   pub same : new ≡ record old { words = new.words }
+
+-- each value that the writer took to wait for stays known
+abbrev pub KeepsWaits : WriterView → WriterView → Type 0
+KeepsWaits old new = (pair : Retirement) → Among old.pairs pair → Among new.pairs pair
+
+-- the writer keeps its notes, what it has looked at in slots, and what it waits for
+pub record KeepsKnown (old new : WriterView) : Type 0 where
+  pub notes : new.notes ≡ old.notes
+  pub looks : new.looks ≡ old.looks
+  pub waits : KeepsWaits old new

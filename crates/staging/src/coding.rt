@@ -5,8 +5,8 @@ ghost use Rattle.progress_words.specs.Tokens.{written_by};
 ghost use Rattle.server_core.specs.Decided.{Fits, made};
 ghost use Rattle.server_core.specs.Generations.{AreNumbered};
 ghost use Rattle.code_index.specs.declared.index.Staging.TheVariants as indices;
-ghost use Rattle.staging.specs.Stages.{HavePlaced, HaveExported, IsCodeChange, StageStands, StepAnswers};
-ghost use Rattle.staging.specs.Whose.{AreTablesOf};
+ghost use Rattle.staging.specs.Stages.{GoesOn, HavePlaced, HaveExported, IsCodeChange, StageStands, StepAnswers, stage_number};
+ghost use Rattle.staging.specs.Whose.{AreTablesOf, KeepsKnown};
 ghost use Rattle.staging.specs.declared.stage.Stage.TheVariants as stages;
 
 use crate::committing::commit_exports;
@@ -46,9 +46,11 @@ pub fn step_code<K: Naming>(
     ensures names { tables.new.exports ≡ K.names }
     // an answer, or want of memory, after which nothing of the change is left
     ensures ok { IfOk result.1 (StepAnswers K.names server.now change.now tables.old tables.new result.0) }
+    ensures forward { IfOk result.1 (GoesOn (stage_number stage) result.0) }
     ensures err { OnErr result.1 (StageStands K.names server.now change.now tables.new stages.Untouched) }
     ensures err_stage { OnErr result.1 (result.0 ≡ stages.Untouched) }
     ensures err_published { OnErr result.1 ((written_by tables.new.writer).published ≡ (written_by tables.old.writer).published) }
+    ensures known { KeepsKnown (written_by tables.old.writer) (written_by tables.new.writer) }
 {
     match stage {
         Stage::Untouched => place_code(alloc, tables, shared, server, change, Vec::new(alloc)),
@@ -58,6 +60,7 @@ pub fn step_code<K: Naming>(
 }
 
 /// The areas of a load, and all that follows.
+#[tactic(auto, using(crate::proofs::Known::known_on, crate::proofs::Known::known_same))]
 fn place_code<K: Naming>(
     alloc: Global,
     tables: &mut Tables,
@@ -82,9 +85,11 @@ fn place_code<K: Naming>(
     ensures names { tables.new.exports ≡ K.names }
     // an answer, or want of memory, after which nothing of the change is left
     ensures ok { IfOk result.1 (StepAnswers K.names server.now change.now tables.old tables.new result.0) }
+    ensures forward { IfOk result.1 (GoesOn 1 result.0) }
     ensures err { OnErr result.1 (StageStands K.names server.now change.now tables.new stages.Untouched) }
     ensures err_stage { OnErr result.1 (result.0 ≡ stages.Untouched) }
     ensures err_published { OnErr result.1 ((written_by tables.new.writer).published ≡ (written_by tables.old.writer).published) }
+    ensures known { KeepsKnown (written_by tables.old.writer) (written_by tables.new.writer) }
 {
     let mut areas = areas;
     match place_incoming(alloc, tables, shared, server, change, &mut areas) {
@@ -123,7 +128,9 @@ fn commit_code<K: Naming>(
     ensures names { tables.new.exports ≡ K.names }
     // an answer, and never want of memory
     ensures ok { IfOk result.1 (StepAnswers K.names server.now change.now tables.old tables.new result.0) }
+    ensures forward { IfOk result.1 (GoesOn 2 result.0) }
     ensures never { OnErr result.1 ⊥ }
+    ensures known { KeepsKnown (written_by tables.old.writer) (written_by tables.new.writer) }
 {
     match commit_exports(tables, shared, server, change, &areas) {
         Ok(generation) => (Stage::Untouched, Ok(Step::Published(generation))),

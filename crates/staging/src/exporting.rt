@@ -18,7 +18,7 @@ ghost use Rattle.code_index.specs.declared.index.Staging.TheVariants as indices;
 ghost use Rattle.staging.specs.Exported.{AreExported, FitsSome, export_in, reached_after};
 ghost use Rattle.change_laws.specs.Changes.{incoming};
 ghost use Rattle.staging.specs.Stages.{HavePlaced};
-ghost use Rattle.staging.specs.Whose.{AreTablesOf, StoresExports};
+ghost use Rattle.staging.specs.Whose.{AreTablesOf, KeepsKnown, StoresExports};
 
 use crate::tables::Tables;
 use change_laws::{calls_stay_but_for_loads_and_deletes, deletes_reach_nothing, loads_are_reached};
@@ -96,6 +96,7 @@ pub fn stage_exports<K: Naming>(
     // the exports are staged, and nothing is published
     ensures exported { AreExported K.names server.now change.now tables.new }
     ensures published { (written_by tables.new.writer).published ≡ (written_by tables.old.writer).published }
+    ensures known { KeepsKnown (written_by tables.old.writer) (written_by tables.new.writer) }
 {
     is_sound(server);
     loads_are_reached();
@@ -119,10 +120,12 @@ fn is_sound(server: &Server)
 fn start_exports<N: Served>(tables: &mut Tables, shared: &Shared<N>)
     requires tables { AreTablesOf shared.now.table.shared.table_id shared.now.table.shared.key tables.old }
     requires nothing { tables.old.index ≡ indices.Nothing }
+    // whose tables they are stays, and all but the index
     ensures tables { AreTablesOf shared.now.table.shared.table_id shared.now.table.shared.key tables.new }
     ensures exports { tables.new.exports ≡ tables.old.exports }
     ensures terms { tables.new.terms ≡ tables.old.terms }
     ensures pools { tables.new.pools ≡ tables.old.pools }
+    // the exports of the newest generation are staged
     ensures begun { IsStaged tables.new.index }
     ensures stored { StoresExports (written_by tables.old.writer) (written_by tables.new.writer) }
     ensures staged { Stages tables.new.index (newest_of (written_by tables.old.writer)) (written_by tables.new.writer) }
@@ -133,14 +136,17 @@ fn start_exports<N: Served>(tables: &mut Tables, shared: &Shared<N>)
 
 /// Stages what the name of this number reaches.
 fn set_name<N: Served>(tables: &mut Tables, shared: &Shared<N>, number: u32, to: Option<CodeRef>)
+    // exports are staged, and the name has an entry
     requires tables { AreTablesOf shared.now.table.shared.table_id shared.now.table.shared.key tables.old }
     requires staged { IsStaged tables.old.index }
     requires number { number < EXPORT_ENTRIES }
+    // whose tables they are stays, and all but the words
     ensures tables { AreTablesOf shared.now.table.shared.table_id shared.now.table.shared.key tables.new }
     ensures exports { tables.new.exports ≡ tables.old.exports }
     ensures index { tables.new.index ≡ tables.old.index }
     ensures terms { tables.new.terms ≡ tables.old.terms }
     ensures pools { tables.new.pools ≡ tables.old.pools }
+    // the entry is stored: what is staged has it
     ensures stored { written_by tables.new.writer ≡ with_word (block_place (block_of tables.old.index) number) (code_word to) (written_by tables.old.writer) }
     ensures leads { (p q : Published) → Stages tables.old.index p (written_by tables.old.writer) → ExportsWith number to p q → Stages tables.new.index q (written_by tables.new.writer) }
 {

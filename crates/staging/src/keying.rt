@@ -12,8 +12,8 @@ ghost use Rattle.term_table.specs.Keys.{key_of};
 ghost use Rattle.staging.specs.Keyed.{HasKeyWord, area_word, key_change};
 ghost use Rattle.change_laws.specs.Changes.{incoming};
 ghost use Rattle.staging.specs.Replaced.{FormerRetired, HaveKeyed, HaveReplaced, IsFormerArea, IsLiveThere, former_of};
-ghost use Rattle.staging.specs.Stages.{HasPublished, HavePlaced, IsKeyChange, IsLate, StageStands, StepAnswers};
-ghost use Rattle.staging.specs.Whose.{AreTablesOf};
+ghost use Rattle.staging.specs.Stages.{GoesOn, HasPublished, HavePlaced, IsKeyChange, IsLate, StageStands, StepAnswers, stage_number};
+ghost use Rattle.staging.specs.Whose.{AreTablesOf, KeepsKnown};
 ghost use Rattle.staging.specs.declared.stage.Stage.TheVariants as stages;
 
 use crate::placing::{Placing, give_back, place_incoming};
@@ -99,9 +99,11 @@ pub fn step_key<K: Naming>(
     ensures names { tables.new.exports ≡ K.names }
     // an answer, or want of memory, after which nothing of the change is left
     ensures ok { IfOk result.1 (StepAnswers K.names server.now change.now tables.old tables.new result.0) }
+    ensures forward { IfOk result.1 (GoesOn (stage_number stage) result.0) }
     ensures err { OnErr result.1 (StageStands K.names server.now change.now tables.new stages.Untouched) }
     ensures err_stage { OnErr result.1 (result.0 ≡ stages.Untouched) }
     ensures err_published { OnErr result.1 ((written_by tables.new.writer).published ≡ (written_by tables.old.writer).published) }
+    ensures known { KeepsKnown (written_by tables.old.writer) (written_by tables.new.writer) }
 {
     match stage {
         Stage::Untouched => place_key(alloc, tables, shared, server, change, Vec::new(alloc)),
@@ -111,6 +113,7 @@ pub fn step_key<K: Naming>(
 }
 
 /// The area of a put, and all that follows.
+#[tactic(auto, using(crate::proofs::Known::known_on, crate::proofs::Known::known_same))]
 fn place_key<K: Naming>(
     alloc: Global,
     tables: &mut Tables,
@@ -133,9 +136,11 @@ fn place_key<K: Naming>(
     ensures names { tables.new.exports ≡ K.names }
     // an answer, or want of memory, after which nothing of the change is left
     ensures ok { IfOk result.1 (StepAnswers K.names server.now change.now tables.old tables.new result.0) }
+    ensures forward { IfOk result.1 (GoesOn 1 result.0) }
     ensures err { OnErr result.1 (StageStands K.names server.now change.now tables.new stages.Untouched) }
     ensures err_stage { OnErr result.1 (result.0 ≡ stages.Untouched) }
     ensures err_published { OnErr result.1 ((written_by tables.new.writer).published ≡ (written_by tables.old.writer).published) }
+    ensures known { KeepsKnown (written_by tables.old.writer) (written_by tables.new.writer) }
 {
     let mut areas = areas;
     match place_incoming(alloc, tables, shared, server, change, &mut areas) {
@@ -170,7 +175,9 @@ fn publish_staged<K: Naming>(
     ensures names { tables.new.exports ≡ K.names }
     // an answer, and never want of memory
     ensures ok { IfOk result.1 (StepAnswers K.names server.now change.now tables.old tables.new result.0) }
+    ensures forward { IfOk result.1 (GoesOn 1 result.0) }
     ensures never { OnErr result.1 ⊥ }
+    ensures known { KeepsKnown (written_by tables.old.writer) (written_by tables.new.writer) }
 {
     let _generation = server.generation();
     match stage_key(tables, shared, server, change, areas.as_slice()) {
@@ -214,6 +221,7 @@ fn stage_key<K: Naming>(
     ensures exports { tables.new.exports ≡ tables.old.exports }
     ensures index { tables.new.index ≡ tables.old.index }
     ensures published { (written_by tables.new.writer).published ≡ (written_by tables.old.writer).published }
+    ensures known { KeepsKnown (written_by tables.old.writer) (written_by tables.new.writer) }
     // the key is staged, and this is it
     ensures keyed { IfOk result (λ key. HaveKeyed K.names server.now change.now tables.new areas.now) }
     ensures former { IfOk result (λ key. former_of server.now change.now ≡ key_area server.now key.0) }
@@ -275,16 +283,21 @@ fn publish_key<K: Naming>(
     change: &Change,
     _areas: &[AreaRef],
 ) -> u64
+    // what the key holds is staged, by the run's names, and no export is
     requires tables { AreTablesOf shared.now.table.shared.table_id shared.now.table.shared.key tables.old }
     requires names { tables.old.exports ≡ K.names }
     requires fits { Fits server.now change.now }
     requires key { IsKeyChange change.now }
     requires index { tables.old.index ≡ indices.Nothing }
     requires replaced { HaveReplaced K.names server.now change.now tables.old _areas.now }
+    // there is a number for one generation more
     requires room { length (written_by tables.old.writer).published < 2 ^ 40 }
+    // whose tables they are stays
     ensures tables { AreTablesOf shared.now.table.shared.table_id shared.now.table.shared.key tables.new }
     ensures exports { tables.new.exports ≡ tables.old.exports }
+    // the state that the change leaves is published, and the writer keeps what it knew
     ensures published { HasPublished K.names (made server.now change.now).state tables.old tables.new result }
+    ensures known { KeepsKnown (written_by tables.old.writer) (written_by tables.new.writer) }
 {
     exports_that_stay_are_staged();
     roots_keep_index();

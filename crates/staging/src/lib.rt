@@ -7,12 +7,16 @@ mod committing;
 mod exporting;
 mod keying;
 mod placing;
+mod releasing;
+mod renewing;
 mod stage;
 mod stepping;
 mod tables;
 mod upcoming;
 
 pub use placing::Placing;
+pub use releasing::{clear_areas_are_releasable, release};
+pub use renewing::publish_same;
 pub use stage::{Stage, Step};
 pub use stepping::{abandon, step};
 pub use tables::Tables;

@@ -11,7 +11,7 @@ ghost use Rattle.change_laws.specs.Changes.{Incoming, incoming};
 ghost use Rattle.change_laws.specs.Images.{words_of};
 ghost use Rattle.staging.specs.Placed.{PlaceAnswers, pool_of};
 ghost use Rattle.staging.specs.Stages.{AreAtRest, HavePlaced, NextAnswers, PlacingAnswers};
-ghost use Rattle.staging.specs.Whose.{AreTablesOf};
+ghost use Rattle.staging.specs.Whose.{AreTablesOf, KeepsKnown};
 
 use crate::tables::Tables;
 use code_index::writes_keep_index;
@@ -103,6 +103,7 @@ fn incoming_words(
 /// in the list.
 ///
 /// Source: Erlang/OTP erts internal documentation, CodeLoading, and the manual page of persistent_term.
+#[tactic(auto, using(crate::proofs::Known::known_on, crate::proofs::Known::known_same))]
 pub fn place_incoming<K: Naming>(
     alloc: Global,
     tables: &mut Tables,
@@ -111,15 +112,20 @@ pub fn place_incoming<K: Naming>(
     change: &Change,
     taken: &mut Vec<AreaRef>,
 ) -> Result<Placing, NoMemory>
+    // the areas that were taken so far are placed
     requires tables { AreTablesOf shared.now.table.shared.table_id shared.now.table.shared.key tables.old }
     requires fits { Fits server.now change.now }
     requires placed { HavePlaced K.names server.now change.now tables.old taken.old.items }
+    // whose tables they are stays
     ensures tables { AreTablesOf shared.now.table.shared.table_id shared.now.table.shared.key tables.new }
     ensures exports { tables.new.exports ≡ tables.old.exports }
     ensures index { tables.new.index ≡ tables.old.index }
+    // those that were taken now are placed besides
     ensures placed { HavePlaced K.names server.now change.now tables.new taken.new.items }
     ensures answers { IfOk result (PlacingAnswers change.now tables.new taken.new.items) }
+    // nothing is published, and the writer keeps what it knew
     ensures published { (written_by tables.new.writer).published ≡ (written_by tables.old.writer).published }
+    ensures known { KeepsKnown (written_by tables.old.writer) (written_by tables.new.writer) }
 {
     for at in taken.len()..incoming_count(change) {
         match place_next(alloc, tables, shared, server, change, at, taken)? {
@@ -131,6 +137,7 @@ pub fn place_incoming<K: Naming>(
 }
 
 /// Takes and writes the area of what a change brings in at this place, behind those before it.
+#[tactic(auto, using(crate::proofs::Known::known_same))]
 fn place_next<K: Naming>(
     alloc: Global,
     tables: &mut Tables,
@@ -156,6 +163,7 @@ fn place_next<K: Naming>(
     ensures answers { IfOk result (NextAnswers at tables.new taken.new.items) }
     ensures err { OnErr result (length taken.new.items ≡ at) }
     ensures published { (written_by tables.new.writer).published ≡ (written_by tables.old.writer).published }
+    ensures known { KeepsKnown (written_by tables.old.writer) (written_by tables.new.writer) }
 {
     let serial = tables.pools.next_serial();
     if serial >= SERIALS_END {

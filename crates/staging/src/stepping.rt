@@ -4,8 +4,8 @@ ghost use Rattle.std.specs.Prelude.{◌≡◌, ◌<◌, ◌^◌, false, length, 
 ghost use Rattle.progress_words.specs.Tokens.{written_by};
 ghost use Rattle.server_core.specs.Decided.{Fits, made};
 ghost use Rattle.server_core.specs.Generations.{AreNumbered};
-ghost use Rattle.staging.specs.Stages.{AreAtRest, IsCodeChange, IsStaged, StageStands, StepAnswers};
-ghost use Rattle.staging.specs.Whose.{AreTablesOf};
+ghost use Rattle.staging.specs.Stages.{AreAtRest, GoesOn, IsCodeChange, IsStaged, StageStands, StepAnswers, stage_number};
+ghost use Rattle.staging.specs.Whose.{AreTablesOf, KeepsKnown};
 ghost use Rattle.staging.specs.declared.stage.Stage.TheVariants as stages;
 
 use crate::coding::step_code;
@@ -48,6 +48,10 @@ pub fn step<K: Naming>(
     ensures err { OnErr result.1 (AreAtRest K.names server.now tables.new) }
     ensures err_stage { OnErr result.1 (result.0 ≡ stages.Untouched) }
     ensures err_published { OnErr result.1 ((written_by tables.new.writer).published ≡ (written_by tables.old.writer).published) }
+    // a change that waits is not behind the stage that was given
+    ensures forward { IfOk result.1 (GoesOn (stage_number stage) result.0) }
+    // and the writer keeps what it knew
+    ensures known { KeepsKnown (written_by tables.old.writer) (written_by tables.new.writer) }
 {
     if changes_code(change) {
         step_code(alloc, tables, shared, server, change, stage)

@@ -5,7 +5,8 @@ use Rattle.server_core.specs.Decided.{made}
 use Rattle.server_core.specs.ServerState.{key_area}
 use Rattle.staging.specs.Replaced.{FormerRetired, HaveReplaced}
 use Rattle.staging.specs.Stages.{HavePlaced}
-use Rattle.staging.proofs.KeyPublished.{published_retired}
+use Rattle.staging.proofs.KeyPublished.{known_retired, published_retired}
+use Rattle.staging.proofs.Known.{known_on}
 use Rattle.staging.proofs.KeyReplaced.{former_lives, have_replaced}
 use Rattle.staging.proofs.StagedEnds.{published_from}
 use Rattle.staging.proofs.keying.publish_staged.Goals as goal
@@ -44,3 +45,9 @@ returns-in-Err-clause-ok g c = record {
   stands = (subst (HavePlaced g.K.Naming.names c.args.server.now c.args.change.now c.stage_key.new.tables) c.as_slice.ensures.value c.in-Err.ensures.placed, c.stage_key.ensures.index ∙ c.requires.index);
   why = c.in-Err.ensures.late;
 }
+
+pub returns-in-Ok-clause-known : goal.returns-in-Ok-clause-known
+returns-in-Ok-clause-known g c =
+    known_on (written_by c.args.tables.now.writer) (written_by c.stage_key.new.tables.writer) (written_by c.publish_key-generation.new.tables.writer) c.stage_key.ensures.known
+    (known_on (written_by c.stage_key.new.tables.writer) (written_by c.retire_former.new.tables.writer) (written_by c.publish_key-generation.new.tables.writer)
+    (known_retired (key_area c.args.server.now c.in-Ok.key.0) _ _ _ _ c.retire_former.ensures.retired) c.publish_key-generation.ensures.known)

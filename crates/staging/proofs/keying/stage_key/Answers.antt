@@ -5,6 +5,7 @@ use Rattle.shared_words.specs.declared.view.WriterView.{WriterView}
 use Rattle.progress_words.specs.Roots.{newest_of}
 use Rattle.progress_words.specs.Tokens.{written_by}
 use Rattle.staging.proofs.KeyStaged.{newest_keys}
+use Rattle.staging.proofs.Known.{known_loaded, known_on, known_words}
 use Rattle.staging.proofs.StagedEnds.{former_is, never_full, never_none, placed_waited, tables_waited}
 use Rattle.staging.proofs.StagedKey.{has_word}
 use Rattle.staging.proofs.StagedTables.{have_keyed, tables_staged}
@@ -31,6 +32,11 @@ returns-in-Ok-clause-published g c =
     let has = c.in-Ok.ensures.staged in
     ap (λ (w : WriterView). w.published) has.same ∙ ap (λ (w : WriterView). w.published) has.loaded.view
 
+pub returns-in-Ok-clause-known : goal.returns-in-Ok-clause-known
+returns-in-Ok-clause-known g c =
+    let has = c.in-Ok.ensures.staged in
+    known_on (written_by c.args.tables.now.writer) has.waited _ (known_loaded (written_by c.args.tables.now.writer) has.waited has.loaded) (known_words has.waited _ has.same)
+
 pub returns-in-Ok-clause-keyed : goal.returns-in-Ok-clause-keyed
 returns-in-Ok-clause-keyed g c =
     have_keyed _ _ c.args.tables.now _ c.in-Some.staged c.counters_keep_index.ensures c.writes_keep_index.ensures c.counters_keep_pools.ensures c.requires.tables c.stage_copy.ensures.token c.stage_copy.ensures.owned c.in-Ok.ensures.staged refl refl
@@ -48,6 +54,11 @@ pub returns-in-Err-clause-published : goal.returns-in-Err-clause-published
 returns-in-Err-clause-published g c =
     let waits = c.in-Err.ensures.not_yet c.awaited.result (ap Err c.awaited.ensures) in
     ap (λ (w : WriterView). w.published) waits.loaded.view
+
+pub returns-in-Err-clause-known : goal.returns-in-Err-clause-known
+returns-in-Err-clause-known g c =
+    let waits = c.in-Err.ensures.not_yet c.awaited.result (ap Err c.awaited.ensures) in
+    known_loaded (written_by c.args.tables.now.writer) _ waits.loaded
 
 pub returns-in-Err-clause-placed : goal.returns-in-Err-clause-placed
 returns-in-Err-clause-placed g c =

@@ -2,6 +2,7 @@
 use Rattle.std.proofs.Common.{length, ◌≤◌, sym, ap, subst, ◌∙◌, [], ◌∷◌, ◌++◌, arith}
 use Rattle.area_core.specs.Map.{room_of}
 use Rattle.literal_areas.specs.Blocks.{first_of}
+use Rattle.staging.proofs.Known.{known_words}
 use Rattle.staging.proofs.PlaceCalls.{never_full, placed_next, room_for}
 use Rattle.staging.proofs.placing.place_next.Goals as goal
 
@@ -20,3 +21,6 @@ pub unreachable-requires : goal.unreachable-requires
 unreachable-requires g c =
     never_full g.K.Naming.names c.args._server.now c.args.change.now c.args.tables.now c.args.taken.now.items c.args.at c.next_serial-serial.result c.in_ok-words.words c.incoming_pool.result
     c.requires.fits c.requires.placed c.requires.tables.pools.sound.sizes c.requires.next c.in_ok-words.ensures c.incoming_pool.ensures c.in-AllLive.ensures.answers.why
+
+pub returns-in-Area-clause-known : goal.returns-in-Area-clause-known
+returns-in-Area-clause-known g c = known_words _ _ c.in-Area.ensures.answers.stored.same
