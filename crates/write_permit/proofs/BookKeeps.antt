@@ -10,7 +10,7 @@ use Rattle.server_core.specs.ServerState.{IsSound, is_serial_in}
 use Rattle.server_core.specs.CommandTable.{Outcome, apply_of, unchanged, with_released}
 use Rattle.server_core.specs.declared.command.Reply.TheVariants as replies
 use Rattle.script_core.specs.declared.script.ScriptCmd.{ScriptCmd}
-use Rattle.script_core.specs.declared.script.ScriptCmd.TheVariants.{Load, Delete, SoftPurge, Purge, CheckOld, Put, Erase, Trace, Spawn}
+use Rattle.script_core.specs.declared.script.ScriptCmd.TheVariants.{Load, Spawn}
 use Rattle.script_core.specs.Processes.{spawn_count, spawn_number, spawns_in}
 use Rattle.script_core.proofs.SpawnLines.{number_further}
 use Rattle.run_log.specs.declared.logs.Who.{Who}
@@ -134,14 +134,7 @@ spawned_is p who command spawns n next is told = ap (λ b. chosen b) told ∙ by
 
     by : (command : ScriptCmd) → chosen (is_spawn command) ≡ spawned_by p who (Some command)
     by (Spawn target args) = ap (λ k. Some (record { process = k })) is
-    by (Load refs) = refl
-    by (Delete name) = refl
-    by (SoftPurge name) = refl
-    by (Purge name) = refl
-    by (CheckOld name) = refl
-    by (Put key term) = refl
-    by (Erase key) = refl
-    by (Trace target on) = refl
+    by command = refl
 
 -- ---- the loader that is counted
 

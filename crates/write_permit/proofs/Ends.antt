@@ -1,22 +1,20 @@
 -- What every permit shows goes on to hold while the loader goes on that has the permission: its command ends, its purge begins, or it gives up.
-use Rattle.std.proofs.Common.{◌≡◌, ℕ, zero, suc, ◌<◌, ◌≤◌, Bool, true, false, List, [], ◌∷◌, ◌++◌, length, slice_set, slice_get, Option, Some, None, IsSome, IsSomeAnd, is_some, option_map, unwrap_or, refl, sym, ap, subst, ◌∙◌, arith}
+use Rattle.std.proofs.Common.{◌≡◌, ℕ, zero, suc, ◌≤◌, Bool, true, false, List, [], ◌∷◌, ◌++◌, length, slice_set, slice_get, Option, Some, None, IsSome, IsSomeAnd, is_some, option_map, unwrap_or, refl, sym, ap, subst, ◌∙◌}
 use Rattle.std.proofs.lemmas.Option.{none-some, same_Some}
 use Rattle.term_core.specs.declared.atom.AtomId.{AtomId}
 use Rattle.term_core.specs.declared.names.TheConstants.{MOST_NAMES}
 use Rattle.term_core.specs.Plain.{plain}
-use Rattle.term_core.specs.PlainTerm.{PlainTerm}
-use Rattle.term_core.specs.Written.{IsTermInteger}
-use Rattle.term_core.proofs.LeafFacts.{EachLeaf-weaker}
 use Rattle.mod_core.specs.declared.code.Module.{Module}
 use Rattle.server_core.specs.declared.command.Cmd.{Cmd}
 use Rattle.server_core.specs.declared.command.Cmd.TheVariants as cmds
 use Rattle.server_core.specs.declared.command.Linger.{Linger}
-use Rattle.server_core.specs.ServerState.{ServerState, IsShortTerm, IsSound, empty_state, old_among, old_of, persistent_of, traceable_of}
+use Rattle.server_core.specs.ServerState.{ServerState, IsSound, empty_state, old_among, old_of, persistent_of, traceable_of}
 use Rattle.server_core.specs.CommandTable.{IsOfText, Outcome, apply_of, delete_of, erase_of, put_of, soft_purge_of, trace_of}
 use Rattle.script_core.specs.declared.script.ScriptCmd.{ScriptCmd}
 use Rattle.script_core.specs.declared.script.ScriptCmd.TheVariants.{Load, Delete, SoftPurge, Purge, CheckOld, Put, Erase, Trace, Spawn}
 use Rattle.script_core.specs.Processes.{commands_at}
-use Rattle.script_core.specs.Sound.{IsCmdOf, IsTermOf}
+use Rattle.script_core.specs.Sound.{IsCmdOf}
+use Rattle.script_core.proofs.ShortTerms.{short_term}
 use Rattle.std.specs.List.{AllByRecursion}
 use Rattle.run_log.specs.declared.logs.Who.TheVariants.{Loader}
 use Rattle.run_log.specs.Legal.{MayStand, PurgesGo, ended_by, half_after, is_release}
@@ -162,12 +160,6 @@ next_fits : (P : ScriptCmd → Type 0) (loaders : List (List ScriptCmd)) (k plac
 next_fits P [] k place command all h = absurd (none-some command h)
 next_fits P (commands ∷ loaders) zero place command all h = all_at P commands place command all.0 h
 next_fits P (commands ∷ loaders) (suc k) place command all h = next_fits P loaders k place command all.1 h
-
-short_term : (names : List (List ℕ)) (term : PlainTerm) → length names ≤ MOST_NAMES → IsTermOf names term → IsShortTerm term
-short_term names term room h = record {
-  fits = EachLeaf-weaker IsTermInteger IsTermInteger (λ atom. atom < length names) (λ atom. atom < 4294967296) (λ z fits. fits) (λ atom named. omega (arith, named, room)) term h.leaves;
-  short = h.short;
-}
 
 opening_of_text : (names : List (List ℕ)) (texts : List Module) (s : ServerState) (marks : List Mark) (command : ScriptCmd) → length names ≤ MOST_NAMES → IsCmdOf names texts command → IsOfText (opening s marks command)
 opening_of_text names texts s marks (Put key term) room fits = short_term names (plain term) room fits.is_term

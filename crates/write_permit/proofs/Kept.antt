@@ -12,7 +12,7 @@ use Rattle.term_core.specs.declared.atom.Mfa.{Mfa}
 use Rattle.term_core.specs.PlainTerm.{PlainTerm}
 use Rattle.script_core.specs.declared.script.ScriptCmd.{ScriptCmd}
 use Rattle.script_core.specs.Processes.{commands_at}
-use Rattle.script_core.specs.declared.script.ScriptCmd.TheVariants.{Load, Delete, SoftPurge, Purge, CheckOld, Put, Erase, Trace, Spawn}
+use Rattle.script_core.specs.declared.script.ScriptCmd.TheVariants.{Purge, CheckOld, Spawn}
 use Rattle.run_log.specs.declared.logs.Who.TheVariants.{Loader, Runtime}
 use Rattle.run_log.specs.Legal.{commands_of, MayStand, PurgesGo, ended_by, half_after, is_release}
 use Rattle.run_log.proofs.ListPlaces.{get_within}
@@ -89,13 +89,7 @@ quick_spawn p who target args o applied = record {
 quick : (p : PermitState) (who : ℕ) (command : ScriptCmd) (o : Outcome) → needs_permission command ≡ false → apply_of p.script.modules p.server (opening p.server [] command) ≡ Some o → IsQuick p who command (opening p.server [] command) o
 quick p who (CheckOld name) o free applied = quick_check p who name o applied
 quick p who (Spawn target args) o free applied = quick_spawn p who target args o applied
-quick p who (Load refs) o free applied = absurd (false≢true (sym free))
-quick p who (Delete name) o free applied = absurd (false≢true (sym free))
-quick p who (SoftPurge name) o free applied = absurd (false≢true (sym free))
-quick p who (Purge name) o free applied = absurd (false≢true (sym free))
-quick p who (Put key term) o free applied = absurd (false≢true (sym free))
-quick p who (Erase key) o free applied = absurd (false≢true (sym free))
-quick p who (Trace target on) o free applied = absurd (false≢true (sym free))
+quick p who command o free applied = absurd (false≢true (sym free))
 
 -- a loader that has a next command is there
 loader_there : (loaders : List (List ScriptCmd)) (k place : ℕ) (command : ScriptCmd) → slice_get (commands_at loaders k) place ≡ Some command → k < length loaders

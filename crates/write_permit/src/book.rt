@@ -115,7 +115,7 @@ pub fn decided(server: &Server, cmd: &Cmd, texts: &ModuleList) -> Result<Change,
 }
 
 /// Brings the module table in step with the newest entry, if that entry published.
-fn follow_newest(table: &mut ModuleTable, server: &Server, journal: &EntryList)
+pub fn follow_newest(table: &mut ModuleTable, server: &Server, journal: &EntryList)
     requires { CanFollowNewest table.old server.now (newest_of journal.now) }
     ensures { table.new.instances ≡ newest_followed table.old.instances server.now (newest_of journal.now) }
 {
@@ -124,4 +124,11 @@ fn follow_newest(table: &mut ModuleTable, server: &Server, journal: &EntryList)
             follow(table, server, &entry.cmd);
         }
     }
+}
+
+/// The journal of a book that is done with, as it is.
+pub fn journal_of(book: Book) -> EntryList
+    ensures { result ≡ book.journal }
+{
+    book.journal
 }

@@ -2,20 +2,20 @@
 #![tactic(auto)]
 
 mod answers;
-mod book;
-mod commands;
-mod following;
-mod foretold;
-mod gate;
+pub mod book;
+pub mod commands;
+pub mod following;
+pub mod foretold;
+pub mod gate;
 mod halves;
-mod holder;
+pub mod holder;
 mod loader_run;
 mod looks;
 mod mark;
-mod operations;
+pub mod operations;
 mod permit;
 mod spawned;
-mod steps;
+pub mod steps;
 
 pub use answers::{AtOnce, Finished, OpStep, Pumped, Seize};
 pub use gate::{Gate, NoGate, Place};

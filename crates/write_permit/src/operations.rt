@@ -180,7 +180,7 @@ fn end_with(book: &mut Book, who: u32, cmd: Cmd) -> Result<OpStep, NoMemory>
 }
 
 /// How far a loader is once its next command is done.
-fn after_next(book: &Book, who: u32) -> LoaderRun
+pub fn after_next(book: &Book, who: u32) -> LoaderRun
     requires book { IsBook book.now }
     requires next { IsSome (next_of (shown book.now) who) }
     ensures counted { IsSomeAnd (next_of (shown book.now) who) (λ command. option_map (loader_after command) (slice_get book.now.loaders.items who) ≡ Some result) }
@@ -195,7 +195,7 @@ fn after_next(book: &Book, who: u32) -> LoaderRun
 }
 
 /// The loader is this far, and nobody has the permission.
-fn set_free(book: &mut Book, who: u32, after: LoaderRun)
+pub fn set_free(book: &mut Book, who: u32, after: LoaderRun)
     requires { who < length book.old.loaders.items }
     ensures state { shown book.new ≡ record (shown book.old) { loaders = slice_set book.old.loaders.items who after; holder = Holder.Free } }
     ensures table { book.new.modules ≡ book.old.modules }

@@ -1,0 +1,5 @@
+//! Tests of the permit over the shared words.
+#![tactic(auto)]
+
+#[cfg(test)]
+mod permits;

@@ -1,0 +1,267 @@
+-- What the calls that store no word leave of a permit's book.
+use Rattle.std.proofs.Common.{◌≡◌, ℕ, zero, suc, false, true, List, [], ◌∷◌, ◌++◌, slice_get, Option, Some, None, is_some, IfSome, IsSomeAnd, All, if◌then◌else◌, option_and_then, refl, sym, ap, subst, ◌∙◌}
+use Rattle.std.proofs.lemmas.Bool.{eq-eqb, false≢true}
+use Rattle.std.proofs.lemmas.Option.{none-some, same_Some}
+use Rattle.atomic_table.specs.Seated.{TableId}
+use Rattle.term_core.specs.declared.atom.Mfa.{Mfa}
+use Rattle.mod_core.specs.declared.code.Module.{Module}
+use Rattle.area_core.specs.declared.table.Published.{Published}
+use Rattle.area_core.specs.Step.{opening_published}
+use Rattle.shared_words.specs.declared.opening.Opening.{Opening}
+use Rattle.shared_words.specs.Notes.{MaySplitNote}
+use Rattle.progress_words.specs.Tokens.{written_by}
+use Rattle.change_laws.specs.Names.{IsNumbered}
+use Rattle.server_core.specs.declared.command.Applied.{Applied}
+use Rattle.server_core.specs.declared.command.Cmd.{Cmd}
+use Rattle.server_core.specs.declared.command.Cmd.TheVariants as cmds
+use Rattle.server_core.specs.declared.command.Reply.TheVariants as replies
+use Rattle.server_core.specs.CommandTable.{Outcome, answered, apply_of, unchanged}
+use Rattle.server_core.specs.Decided.{Fits, made}
+use Rattle.server_core.specs.ServerState.{empty_state, old_of}
+use Rattle.script_core.specs.declared.script.Script.{Script}
+use Rattle.script_core.specs.declared.script.ScriptCmd.{ScriptCmd}
+use Rattle.script_core.specs.declared.script.ScriptCmd.TheVariants.{CheckOld, Spawn}
+use Rattle.run_log.specs.declared.logs.Entry.{Entry}
+use Rattle.run_log.specs.declared.logs.Who.TheVariants.{Loader}
+use Rattle.run_log.specs.Journal.{publishes}
+use Rattle.run_log.specs.Legal.{PurgesGo, commands_in, ended_by}
+use Rattle.run_log.proofs.Journals.{commands_own}
+use Rattle.run_log.proofs.SpanRuns.{some_and}
+use Rattle.staging.specs.declared.tables.Tables.{Tables}
+use Rattle.staging.specs.Stages.{AreAtRest, StageStands}
+use Rattle.staging.specs.Whose.{AreTablesOf}
+use Rattle.write_permit.specs.declared.answers.AtOnce.{AtOnce}
+use Rattle.write_permit.specs.declared.spawned.Spawned as plains
+use Rattle.write_permit.specs.declared.book.Book.{Book}
+use Rattle.write_permit.specs.declared.holder.Holder.TheVariants.{Free, Held}
+use Rattle.write_permit.specs.Book.{HoldsJust, IsBook, IsPermit, shown}
+use Rattle.write_permit.specs.Permit.{PermitState, Step, at_once_of, counted_in, done_by, half_of, holder_of, joined, needs_permission, next_of, opening, spawned_by}
+use Rattle.write_permit.proofs.Kept.{holder_apart, next_kept}
+use Rattle.word_permit.specs.declared.book.AreaNeed.{AreaNeed}
+use Rattle.word_permit.specs.declared.book.Decision.{Decision}
+use Rattle.word_permit.specs.declared.book.Waiting.{Waiting}
+use Rattle.word_permit.specs.declared.book.WordBook.{WordBook}
+use Rattle.word_permit.specs.Books.{HasItsTables, IsKept, IsWordBook, JoinsUnpublished, TellsNone}
+use Rattle.word_permit.specs.Needs.{IsAwaited}
+use Rattle.word_permit.specs.Notes.{AreOfSpawned, IsSpawnedIn}
+use Rattle.run_law.specs.Answers.{AreAnswersKept}
+use Rattle.run_law.specs.Published.{ArePublished, shown_at}
+use Rattle.word_permit.specs.Waiting.{IsDecided, WordsStand}
+use Rattle.word_permit.proofs.Answered.{answered_first, answered_quietly}
+use Rattle.word_permit.proofs.Growing.{published_same}
+use Rattle.word_permit.proofs.SpawnedBefore.{if_spawned, may_split, notes_later, spawned_now}
+
+-- ---- the first book
+
+first_at : (names : List Mfa) (texts : List Module) (k : ℕ) (p : Published) → slice_get (opening_published ∷ []) k ≡ Some p → p.state ≡ shown_at names texts [] k
+first_at names texts zero p h = ap (λ (x : Published). x.state) (sym (same_Some opening_published p h))
+first_at names texts (suc k) p h = absurd (none-some p h)
+
+-- before the first command generation 0 is published
+pub published_first : (names : List Mfa) (texts : List Module) (journal : List Entry) (published : List Published) → journal ≡ [] → published ≡ opening_published ∷ [] → ArePublished names texts journal published
+published_first names texts journal published begun opening =
+    subst (λ js. ArePublished names texts js published) (sym begun) (subst (ArePublished names texts []) (sym opening) (record { many = refl; each = first_at names texts }))
+
+pub begun_word_book : (names : List Mfa) (table : TableId) (opening : Opening) (b : WordBook) → IsBook b.plain → All (IsNumbered names) b.plain.script.modules → AreTablesOf table opening b.tables → b.tables.exports ≡ names → b.plain.journal ≡ []
+    → b.plain.server ≡ empty_state → (written_by b.tables.writer).published ≡ opening_published ∷ [] → (written_by b.tables.writer).notes ≡ [] → AreAtRest names empty_state b.tables → b.waiting ≡ None → b.need ≡ None → IsWordBook names table opening b
+begun_word_book names table opening b book texts tables exports journal server published notes rest none needs = record {
+  has = record {
+    book = book;
+    texts = texts;
+    tables = tables;
+    exports = exports;
+    published = published_first names b.plain.script.modules b.plain.journal (written_by b.tables.writer).published journal published;
+    notes = subst (AreOfSpawned b.plain.script b.plain.journal) (sym notes) (λ n among. absurd (none-some n among.1));
+    answered = answered_first b.plain.script.modules b.plain.journal (written_by b.tables.writer).looks journal;
+    awaited = subst (λ (o : Option AreaNeed). IfSome o (IsAwaited (written_by b.tables.writer))) (sym needs) tt;
+  };
+  words = subst (WordsStand names (shown b.plain) b.tables) (sym none) (subst (λ s. AreAtRest names s b.tables) (sym server) rest);
+}
+
+-- ---- the permission is given
+
+free_apart : (n : ℕ) → Free ≡ Held n → ⊥
+free_apart n e = cc
+
+-- while nobody has the permission no command waits
+words_free : (names : List Mfa) (p q : PermitState) (t : Tables) (o : Option Waiting) → p.holder ≡ Free → q.server ≡ p.server → WordsStand names p t o → WordsStand names q t o
+words_free names p q t None free same h = subst (λ s. AreAtRest names s t) (sym same) h
+words_free names p q t (Some w) free same h = absurd (free_apart h.who (sym free ∙ h.holder))
+
+book_seized : (b : Book) (who : ℕ) → b.holder ≡ Free → IsSomeAnd (next_of (shown b) who) (λ command. needs_permission command ≡ true) → IsBook b → IsBook (record b { holder = Held who })
+book_seized b who free needs known =
+    let p = known.permit in
+    record {
+      permit = record {
+        script = p.script;
+        log = p.log;
+        sound = p.sound;
+        purges = subst (λ h. PurgesGo b.script.modules empty_state None b.journal (half_of h)) free p.purges;
+        holds = record { rest = subst (HoldsJust (shown b)) free p.holds; next = needs };
+      };
+      agrees = known.agrees;
+    }
+
+pub seized_kept : (b : WordBook) (who : ℕ) → b.plain.holder ≡ Free → IsSomeAnd (next_of (shown b.plain) who) (λ command. needs_permission command ≡ true) → IsKept b (record b { plain = record (b.plain) { holder = Held who } })
+seized_kept b who free needs = record {
+  tables = refl;
+  script = refl;
+  book = λ names table opening known. record {
+    has = record {
+      book = book_seized b.plain who free needs known.has.book;
+      texts = known.has.texts;
+      tables = known.has.tables;
+      exports = known.has.exports;
+      published = known.has.published;
+      notes = known.has.notes;
+      answered = known.has.answered;
+      awaited = known.has.awaited;
+    };
+    words = words_free names (shown b.plain) (record (shown b.plain) { holder = Held who }) b.tables b.waiting free refl known.words;
+  };
+}
+
+-- ---- a command that is made at once
+
+-- what such a command leaves
+pub record LeftAtOnce (p : PermitState) (who : ℕ) (command : ScriptCmd) (q : PermitState) : Type 0 where
+  pub script : q.script ≡ p.script
+  pub server : q.server ≡ p.server
+  pub holder : q.holder ≡ p.holder
+  pub journal : JoinsUnpublished p.journal q.journal
+  pub commands : commands_in who q.journal ≡ commands_in who p.journal ++ command ∷ []
+  pub next : (by : ℕ) → (by ≡ who → ⊥) → next_of q by ≡ next_of p by
+
+module _ (p : PermitState) (known : IsPermit p) (who : ℕ) (q : PermitState) (answer : Applied) where
+  left_of : (command : ScriptCmd) → next_of p who ≡ Some command → (cmd : Cmd) (o : Outcome) → ended_by cmd ≡ command ∷ [] → o.state ≡ p.server → o.answer.published ≡ None → TellsNone cmd → LeftAtOnce p who command (record (joined p (Loader who) cmd o) { loaders = counted_in p.loaders who command })
+  left_of command next cmd o ends same none quiet = record {
+    script = refl;
+    server = same;
+    holder = refl;
+    journal = (entry, (refl, (none, quiet)));
+    commands = commands_own who p.journal entry (eq-eqb who who refl) ∙ ap (λ commands. commands_in who p.journal ++ commands) ends;
+    next = λ by n. next_kept p known who command next (joined p (Loader who) cmd o) refl by n;
+  }
+    where
+      entry : Entry
+      entry = record { who = Loader who; cmd = cmd; reply = o.answer.reply; published = o.answer.published }
+
+  -- the state that is told is this one
+  left_as : (command : ScriptCmd) (x y : Step) → LeftAtOnce p who command x.state → Some x ≡ Some y → LeftAtOnce p who command y.state
+  left_as command x y left h = subst (λ (s : Step). LeftAtOnce p who command s.state) (same_Some x y h) left
+
+  left_by : (command : ScriptCmd) → next_of p who ≡ Some command → needs_permission command ≡ false → done_by p who command (opening p.server [] command) ≡ Some (record { state = q; answer = answer }) → LeftAtOnce p who command q
+  left_by (CheckOld name) next free h = left_as (CheckOld name) _ _ (left_of (CheckOld name) next (cmds.CheckOld name) (unchanged p.server (answered (is_some (old_of p.server name.0)))) refl refl refl tt) h
+  left_by (Spawn target args) next free h = left_as (Spawn target args) _ _ (left_of (Spawn target args) next (cmds.Spawn target args) (unchanged p.server replies.Ok) refl refl refl tt) h
+  left_by command next free h = absurd (false≢true (sym free))
+
+  pub left_at_once : (command : ScriptCmd) → next_of p who ≡ Some command → needs_permission command ≡ false → at_once_of p who ≡ Some (record { state = q; answer = answer }) → LeftAtOnce p who command q
+  left_at_once command next free h = left_by command next free (ap (option_and_then {U = Step} (λ x. done_by p who x (opening p.server [] x))) (sym next) ∙ h)
+
+-- a decided command stays so where the server and the loader's next command do
+pub decided_moved : (p q : PermitState) (who : ℕ) (d : Decision) → q.server ≡ p.server → q.script ≡ p.script → next_of q who ≡ next_of p who → IsDecided p who d → IsDecided q who d
+decided_moved p q who d server script next k = record {
+  command = k.command;
+  next = next ∙ k.next;
+  goes = k.goes;
+  cmd_is = k.cmd_is ∙ ap (λ s. opening s [] k.command) (sym server);
+  fits = subst (λ s. Fits s d.change) (sym server) k.fits;
+  given = subst (λ (x : Script). apply_of x.modules q.server d.cmd ≡ Some (made q.server d.change)) (sym script) (subst (λ s. apply_of p.script.modules s d.cmd ≡ Some (made s d.change)) (sym server) k.given);
+  answer = subst (λ s. (made s d.change).answer ≡ d.applied) (sym server) k.answer;
+}
+
+words_at_once : (names : List Mfa) (p q : PermitState) (who : ℕ) (command : ScriptCmd) (t : Tables) (o : Option Waiting) → HoldsJust p p.holder → next_of p who ≡ Some command → needs_permission command ≡ false → LeftAtOnce p who command q
+    → WordsStand names p t o → WordsStand names q t o
+words_at_once names p q who command t None holds next free left h = subst (λ s. AreAtRest names s t) (sym left.server) h
+words_at_once names p q who command t (Some w) holds next free left h = record {
+  who = h.who;
+  holder = left.holder ∙ h.holder;
+  decided = decided_moved p q h.who w.decision left.server left.script (left.next h.who (holder_apart p p.holder who command holds next free h.who (ap holder_of h.holder))) h.decided;
+  staged = h.staged;
+  stands = subst (λ s. StageStands names s w.decision.change t w.stage) (sym left.server) h.stands;
+}
+
+-- an entry that publishes nothing counts for none
+counts_none : (e : Entry) → e.published ≡ None → publishes e ≡ 0
+counts_none e none = ap (λ yes. if yes then 1 else 0) (ap (λ (o : Option ℕ). is_some o) none)
+
+-- a book to which an entry joined that publishes nothing, while the words stay
+pub has_joined : (names : List Mfa) (table : TableId) (opening : Opening) (b c : WordBook) → HasItsTables names table opening b → IsBook c.plain → c.plain.script ≡ b.plain.script → JoinsUnpublished b.plain.journal c.plain.journal → c.tables ≡ b.tables → c.need ≡ b.need → HasItsTables names table opening c
+has_joined names table opening b c had book script journal tables need = record {
+  book = book;
+  texts = subst (λ (x : Script). All (IsNumbered names) x.modules) (sym script) had.texts;
+  tables = subst (AreTablesOf table opening) (sym tables) had.tables;
+  exports = ap (λ (x : Tables). x.exports) tables ∙ had.exports;
+  notes = subst (λ (x : Tables). AreOfSpawned c.plain.script c.plain.journal (written_by x.writer).notes) (sym tables)
+      (subst (λ (x : Script). AreOfSpawned x c.plain.journal (written_by b.tables.writer).notes) (sym script)
+      (subst (λ js. AreOfSpawned b.plain.script js (written_by b.tables.writer).notes) (sym journal.1.0)
+      (notes_later b.plain.script b.plain.journal journal.0 (written_by b.tables.writer).notes had.notes)));
+  awaited = subst (λ (o : Option AreaNeed). IfSome o (IsAwaited (written_by c.tables.writer))) (sym need) (subst (λ (x : Tables). IfSome b.need (IsAwaited (written_by x.writer))) (sym tables) had.awaited);
+  answered = subst (λ (x : Tables). AreAnswersKept c.plain.script.modules c.plain.journal (written_by x.writer).looks) (sym tables)
+      (subst (λ (x : Script). AreAnswersKept x.modules c.plain.journal (written_by b.tables.writer).looks) (sym script)
+      (subst (λ js. AreAnswersKept b.plain.script.modules js (written_by b.tables.writer).looks) (sym journal.1.0)
+      (answered_quietly b.plain.script.modules b.plain.journal journal.0 (written_by b.tables.writer).looks had.answered journal.1.1.1)));
+  published = subst (λ (x : Tables). ArePublished names c.plain.script.modules c.plain.journal (written_by x.writer).published) (sym tables)
+      (subst (λ (x : Script). ArePublished names x.modules c.plain.journal (written_by b.tables.writer).published) (sym script)
+      (subst (λ js. ArePublished names b.plain.script.modules js (written_by b.tables.writer).published) (sym journal.1.0)
+      (published_same names b.plain.script.modules b.plain.journal journal.0 had.book.permit.log.replays (written_by b.tables.writer).published had.published (counts_none journal.0 journal.1.1.0))));
+}
+
+pub kept_at_once : (b : WordBook) (plain : Book) (who : ℕ) (command : ScriptCmd) → next_of (shown b.plain) who ≡ Some command → needs_permission command ≡ false → IsBook b.plain → IsBook plain → LeftAtOnce (shown b.plain) who command (shown plain)
+    → IsKept b (record b { plain = plain })
+kept_at_once b plain who command next free known book left = record {
+  tables = refl;
+  script = left.script;
+  book = λ names table opening k. record {
+    has = has_joined names table opening b (record b { plain = plain }) k.has book left.script left.journal refl refl;
+    words = words_at_once names (shown b.plain) (shown plain) who command b.tables b.waiting known.permit.holds next free left k.words;
+  };
+}
+
+-- a book that is as it was is kept
+pub kept_as_is : (b : WordBook) → IsKept b b
+kept_as_is b = record { tables = refl; script = refl; book = λ names table opening known. known }
+
+-- a book that shows the same is kept
+pub kept_shown : (b : WordBook) (plain : Book) → IsBook plain → shown plain ≡ shown b.plain → IsKept b (record b { plain = plain })
+kept_shown b plain book same = record {
+  tables = refl;
+  script = ap (λ (x : PermitState). x.script) same;
+  book = λ names table opening known. record {
+    has = record {
+      book = book;
+      texts = subst (λ (x : PermitState). All (IsNumbered names) x.script.modules) (sym same) known.has.texts;
+      tables = known.has.tables;
+      exports = known.has.exports;
+      published = subst (λ (x : PermitState). ArePublished names x.script.modules x.journal (written_by b.tables.writer).published) (sym same) known.has.published;
+      notes = subst (λ (x : PermitState). AreOfSpawned x.script x.journal (written_by b.tables.writer).notes) (sym same) known.has.notes;
+      answered = subst (λ (x : PermitState). AreAnswersKept x.script.modules x.journal (written_by b.tables.writer).looks) (sym same) known.has.answered;
+      awaited = known.has.awaited;
+    };
+    words = subst (λ (x : PermitState). WordsStand names x b.tables b.waiting) (sym same) known.words;
+  };
+}
+
+-- what a command leaves that is made at once, before the note of its process is split
+pub record MadeAtOnce (names : List Mfa) (table : TableId) (opening : Opening) (b : WordBook) (plain : Book) (made : Option plains.Spawned) : Type 0 where
+  pub script : plain.script ≡ b.plain.script
+  pub book : IsWordBook names table opening (record b { plain = plain })
+  pub may : IfSome made (λ (s : plains.Spawned). MaySplitNote (written_by b.tables.writer) s.process)
+  pub spawned : IfSome made (λ (s : plains.Spawned). IsSpawnedIn plain.script plain.journal s.process)
+
+pub made_at_once : (names : List Mfa) (table : TableId) (opening : Opening) (b : WordBook) (plain : Book) (who : ℕ) (a : AtOnce) → IsWordBook names table opening b → IsSomeAnd (next_of (shown b.plain) who) (λ command. needs_permission command ≡ false) → IsBook plain
+    → at_once_of (shown b.plain) who ≡ Some (record { state = shown plain; answer = a.applied }) → a.spawned ≡ spawned_by (shown b.plain) who (next_of (shown b.plain) who) → MadeAtOnce names table opening b plain a.spawned
+made_at_once names table opening b plain who a known next book made_is told =
+    let d = some_and (next_of (shown b.plain) who) (λ command. needs_permission command ≡ false) next in
+    let permit : IsPermit (shown b.plain) = known.has.book.permit in
+    let left = left_at_once (shown b.plain) permit who (shown plain) a.applied d.0 d.1.0 d.1.1 made_is in
+    let kept = kept_at_once b plain who d.0 d.1.0 d.1.1 known.has.book book left in
+    let is : spawned_by (shown b.plain) who (Some d.0) ≡ a.spawned = ap (spawned_by (shown b.plain) who) (sym d.1.0) ∙ sym told in
+    record {
+      script = left.script;
+      book = kept.book names table opening known;
+      may = subst (λ o. IfSome o (λ (s : plains.Spawned). MaySplitNote (written_by b.tables.writer) s.process)) is
+          (if_spawned (shown b.plain) who d.0 (MaySplitNote (written_by b.tables.writer)) (λ spawns. may_split (shown b.plain) permit who d.0 d.1.0 spawns (written_by b.tables.writer) known.has.notes));
+      spawned = subst (λ o. IfSome o (λ (s : plains.Spawned). IsSpawnedIn plain.script plain.journal s.process)) is
+          (if_spawned (shown b.plain) who d.0 (IsSpawnedIn plain.script plain.journal) (λ spawns. spawned_now (shown b.plain) permit who d.0 d.1.0 spawns (shown plain) left.script left.commands));
+    }

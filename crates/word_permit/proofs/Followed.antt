@@ -1,0 +1,183 @@
+-- How the loader that has the permission goes on: what its book is before and after.
+use Rattle.std.proofs.Common.{◌≡◌, ℕ, List, [], Option, Some, None, IsSomeAnd, IfOk, OnErr, Result, Ok, Err, refl, sym, ap, subst, ◌∙◌}
+use Rattle.std.proofs.lemmas.Option.{none-some, same_Some}
+use Rattle.atomic_table.specs.Seated.{TableId}
+use Rattle.term_core.specs.declared.atom.Mfa.{Mfa}
+use Rattle.term_core.specs.declared.no_memory.NoMemory.{NoMemory}
+use Rattle.shared_words.specs.declared.opening.Opening.{Opening}
+use Rattle.shared_words.specs.declared.view.WriterView.{WriterView}
+use Rattle.server_core.specs.declared.change.Change.{Change}
+use Rattle.server_core.specs.declared.change.Change.TheVariants.{Nothing, SetTrace, ClearTrace}
+use Rattle.server_core.specs.declared.command.Cmd.{Cmd}
+use Rattle.server_core.specs.CommandTable.{apply_of}
+use Rattle.server_core.specs.Decided.{Fits, made}
+use Rattle.server_core.specs.ServerState.{ServerState}
+use Rattle.script_core.specs.declared.script.ScriptCmd.{ScriptCmd}
+use Rattle.script_core.specs.declared.script.ScriptCmd.TheVariants.{Purge}
+use Rattle.staging.specs.declared.tables.Tables.{Tables}
+use Rattle.staging.specs.Renewed.{IsClearOf, IsRenewal, KeepsDrop}
+use Rattle.staging.specs.Stages.{AreAtRest, IsStaged, StageStands}
+use Rattle.staging.specs.Whose.{KeepsKnown, KeepsWaits}
+use Rattle.write_permit.specs.declared.book.Book.{Book}
+use Rattle.write_permit.specs.declared.holder.Holder.{Holder}
+use Rattle.write_permit.specs.declared.holder.Holder.TheVariants.{Free, Held, Purging}
+use Rattle.write_permit.specs.Book.{HoldsJust, IsBook, shown}
+use Rattle.write_permit.specs.Permit.{PermitState, given_up, holder_of, next_of, opening}
+use Rattle.write_permit.proofs.EndBooks.{book_given}
+use Rattle.word_permit.specs.declared.answers.CommandStep.{CommandStep}
+use Rattle.word_permit.specs.declared.answers.CommandStep.TheVariants.{Done, NotYet, AwaitRelease, Lingers}
+use Rattle.word_permit.specs.declared.book.Decision.{Decision}
+use Rattle.word_permit.specs.declared.book.Waiting.{Waiting}
+use Rattle.word_permit.specs.declared.book.WordBook.{WordBook}
+use Rattle.word_permit.specs.Books.{HasGivenUp, HasItsTables, HasTakenBack, IsWordBook, JoinsUnpublished, OpAnswers, with_holder}
+use Rattle.word_permit.specs.Waiting.{GoesOverWords, IsDecided, IsTraceChange, IsWaiting, LeavesState, WordsStand}
+use Rattle.word_permit.proofs.Calls.{has_joined}
+
+-- ---- the command that waits is taken out of the book
+
+abbrev with_waiting : WordBook → Option Waiting → WordBook
+with_waiting b waiting = record b { waiting = waiting }
+
+pub has_without : (names : List Mfa) (table : TableId) (opening : Opening) (b : WordBook) (o : Option Waiting) → HasItsTables names table opening b → HasItsTables names table opening (with_waiting b o)
+has_without names table opening b o had = record { book = had.book; texts = had.texts; tables = had.tables; exports = had.exports; published = had.published; notes = had.notes; answered = had.answered; awaited = had.awaited }
+
+-- what the words are about, where nothing waits
+pub at_rest : (names : List Mfa) (p : PermitState) (t : Tables) (o : Option Waiting) → o ≡ None → WordsStand names p t o → AreAtRest names p.server t
+at_rest names p t o is h = subst (WordsStand names p t) is h
+
+-- and where a command does
+pub record WaitsFor (names : List Mfa) (p : PermitState) (t : Tables) (who : ℕ) (w : Waiting) : Type 0 where
+  pub decided : IsDecided p who w.decision
+  pub staged : IsStaged w.decision.change
+  pub stands : StageStands names p.server w.decision.change t w.stage
+
+held_same : (a b : ℕ) → Held a ≡ Held b → a ≡ b
+held_same a b e = same_Some a b (ap holder_of e)
+
+pub waits_for : (names : List Mfa) (p : PermitState) (t : Tables) (o : Option Waiting) (who : ℕ) (w : Waiting) → p.holder ≡ Held who → o ≡ Some w → WordsStand names p t o → WaitsFor names p t who w
+waits_for names p t o who w held is h =
+    let k : IsWaiting names p t w = subst (WordsStand names p t) is h in
+    record {
+      decided = subst (λ n. IsDecided p n w.decision) (held_same k.who who (sym k.holder ∙ held)) k.decided;
+      staged = k.staged;
+      stands = k.stands;
+    }
+
+-- what is said of a step speaks of no command that waited before
+pub answers_without : (who : ℕ) (b : WordBook) (o : Option Waiting) (c : WordBook) (step : CommandStep) → OpAnswers who (with_waiting b o) c step → OpAnswers who b c step
+answers_without who b o c (Done applied) h = h
+answers_without who b o c (NotYet answer) h = record { same = h.same; published = h.published; waits = h.waits; why = h.why }
+answers_without who b o c AwaitRelease h = record { same = h.same; published = h.published; waits = h.waits; why = h.why }
+answers_without who b o c (Lingers process turn place word) h = h
+
+pub taken_without : (b : WordBook) (o : Option Waiting) (c : WordBook) → HasTakenBack (with_waiting b o) c → HasTakenBack b c
+taken_without b o c h = record { same = h.same; published = h.published; none = h.none }
+
+-- ---- a command that begins
+
+-- its command is one that is made over the words
+pub goes_next : (o : Option ScriptCmd) (command : ScriptCmd) → o ≡ Some command → IsSomeAnd o GoesOverWords → GoesOverWords command
+goes_next o command is h = subst (λ x. IsSomeAnd x GoesOverWords) is h
+
+-- and no purge waits then
+pub held_over_words : (p : PermitState) (h : Holder) (who : ℕ) → HoldsJust p h → holder_of h ≡ Some who → IsSomeAnd (next_of p who) GoesOverWords → h ≡ Held who
+held_over_words p Free who holds own goes = absurd (none-some who own)
+held_over_words p (Held n) who holds own goes = ap Held (same_Some n who own)
+held_over_words p (Purging n name) who holds own goes =
+    let k : next_of p who ≡ Some (Purge name) = ap (next_of p) (sym (same_Some n who own)) ∙ holds.next in
+    absurd (goes_next (next_of p who) (Purge name) k goes)
+
+-- what was decided of it, put together
+pub decided_all : (p : PermitState) (who : ℕ) (command : ScriptCmd) (cmd : Cmd) (r : Result Decision NoMemory) → next_of p who ≡ Some command → GoesOverWords command → cmd ≡ opening p.server [] command
+    → IfOk r (λ d. Fits p.server d.change) → IfOk r (λ d. apply_of p.script.modules p.server cmd ≡ Some (made p.server d.change)) → IfOk r (λ d. (made p.server d.change).answer ≡ d.applied) → IfOk r (λ d. d.cmd ≡ cmd) → IfOk r (IsDecided p who)
+decided_all p who command cmd (Ok d) next goes is fits given answer same = record {
+  command = command;
+  next = next;
+  goes = goes;
+  cmd_is = same ∙ is;
+  fits = fits;
+  given = ap (apply_of p.script.modules p.server) same ∙ given;
+  answer = answer;
+}
+decided_all p who command cmd (Err fault) next goes is fits given answer same = tt
+
+-- ---- a change that leaves the server's state
+
+pub record Leaves (s : ServerState) (change : Change) : Type 0 where
+  pub state : (made s change).state ≡ s
+  pub published : (made s change).answer.published ≡ None
+
+pub leaves_state : (s : ServerState) (change : Change) → LeavesState change → Leaves s change
+leaves_state s (Nothing reply) h = record { state = refl; published = refl }
+leaves_state s change h = absurd h
+
+-- the book after it, where the words stay
+pub ended_book : (names : List Mfa) (table : TableId) (opening : Opening) (b : WordBook) (plain : Book) → HasItsTables names table opening b → AreAtRest names b.plain.server b.tables → b.waiting ≡ None → IsBook plain → plain.script ≡ b.plain.script
+    → plain.server ≡ b.plain.server → JoinsUnpublished b.plain.journal plain.journal → IsWordBook names table opening (record b { plain = plain })
+ended_book names table opening b plain had rest none book script server journal = record {
+  has = has_joined names table opening b (record b { plain = plain }) had book script journal refl refl;
+  words = subst (WordsStand names (shown plain) b.tables) (sym none) (subst (λ s. AreAtRest names s b.tables) (sym server) rest);
+}
+
+-- the book where want of memory came before any word was stored
+pub refused_book : (names : List Mfa) (table : TableId) (opening : Opening) (b : WordBook) → HasItsTables names table opening b → AreAtRest names b.plain.server b.tables → b.waiting ≡ None → IsWordBook names table opening b
+refused_book names table opening b had rest none = record { has = had; words = subst (WordsStand names (shown b.plain) b.tables) (sym none) rest }
+
+-- ---- a change of what is traced
+
+-- it goes over the blocks of the newest generation
+pub traces_renew : (change : Change) → IsTraceChange change → IsRenewal change
+traces_renew (SetTrace generation at traced) h = h
+traces_renew (ClearTrace generation at) h = h
+traces_renew change h = absurd h
+
+-- and drops no code
+pub traces_drop_none : (change : Change) (w : WriterView) → IsTraceChange change → IsClearOf change w
+traces_drop_none (SetTrace generation at traced) w h = h
+traces_drop_none (ClearTrace generation at) w h = h
+traces_drop_none change w h = absurd h
+
+-- so the writer keeps what it knows of processes
+pub traces_known : (change : Change) (old new : WriterView) → IsTraceChange change → new.notes ≡ old.notes → KeepsWaits old new → KeepsDrop change old new → KeepsKnown old new
+traces_known (SetTrace generation at traced) old new h notes waits looks = record { notes = notes; looks = looks; waits = waits }
+traces_known (ClearTrace generation at) old new h notes waits looks = record { notes = notes; looks = looks; waits = waits }
+traces_known change old new h notes waits looks = absurd h
+
+-- ---- the permission is given up
+
+pub given_word_book : (names : List Mfa) (table : TableId) (opening : Opening) (m c : WordBook) → IsWordBook names table opening m → m.waiting ≡ None → c ≡ with_holder m (given_up m.plain.holder) → IsWordBook names table opening c
+given_word_book names table opening m c known none is =
+    let h = given_up m.plain.holder in
+    subst (IsWordBook names table opening) (sym is)
+    (record {
+      has = record {
+        book = book_given m.plain (record (m.plain) { holder = h }) h known.has.book refl refl refl;
+        texts = known.has.texts;
+        tables = known.has.tables;
+        exports = known.has.exports;
+        published = known.has.published;
+        notes = known.has.notes;
+        answered = known.has.answered;
+        awaited = known.has.awaited;
+      };
+      words = subst (WordsStand names (record (shown m.plain) { holder = h }) m.tables) (sym none) (at_rest names (shown m.plain) m.tables m.waiting none known.words);
+    })
+
+pub given_up_by : (b m c : WordBook) → HasTakenBack b m → c ≡ with_holder m (given_up m.plain.holder) → HasGivenUp b c
+given_up_by b m c taken is =
+    subst (HasGivenUp b) (sym is)
+    (record {
+      same = ap (λ (x : PermitState). record x { holder = given_up x.holder }) taken.same;
+      published = taken.published;
+      none = taken.none;
+    })
+
+-- after want of memory too
+pub err_without : (r : Result CommandStep NoMemory) (b : WordBook) (o : Option Waiting) (c : WordBook) → OnErr r (HasTakenBack (with_waiting b o) c) → OnErr r (HasTakenBack b c)
+err_without (Ok step) b o c h = tt
+err_without (Err fault) b o c h = taken_without b o c h
+
+-- what is so anyway is so after want of memory
+pub after_any : {T E P : Type 0} (r : Result T E) → P → OnErr r P
+after_any (Ok x) h = tt
+after_any (Err fault) h = h

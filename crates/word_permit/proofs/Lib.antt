@@ -1,0 +1,14 @@
+pub mod Growing
+pub mod SpawnedBefore
+pub mod Answered
+pub mod Awaiting
+pub mod Kept
+pub mod Ended
+pub mod Settling
+pub mod Went
+pub mod Calls
+pub mod Noted
+pub mod Quiet
+pub mod Freed
+pub mod Followed
+pub mod Runs

@@ -1,0 +1,150 @@
+-- A note is split: what stood for the server stands still.
+use Rattle.std.proofs.Common.{◌≡◌, ℕ, List, Option, Some, None, IfSome, refl, sym, subst}
+use Rattle.atomic_table.specs.Seated.{TableId}
+use Rattle.term_core.specs.declared.area.AreaRef.{AreaRef}
+use Rattle.term_core.specs.declared.atom.Mfa.{Mfa}
+use Rattle.shared_words.specs.declared.opening.Opening.{Opening}
+use Rattle.shared_words.specs.declared.seats.Writer as writers
+use Rattle.shared_words.specs.declared.view.WriterView.{WriterView}
+use Rattle.shared_words.specs.Notes.{note_number, with_note}
+use Rattle.progress_words.specs.Tokens.{IsWriterOf, written_by}
+use Rattle.server_core.specs.declared.change.Change.{Change}
+use Rattle.server_core.specs.ServerState.{ServerState}
+use Rattle.code_index.specs.Laws as indices
+use Rattle.code_index.specs.Staging.{IsIndexOf, Stages}
+use Rattle.literal_areas.specs.declared.areas.Areas.{Areas}
+use Rattle.literal_areas.specs.Laws as areas
+use Rattle.literal_areas.specs.Owned.{AreOf}
+use Rattle.term_table.specs.Laws as terms
+use Rattle.term_table.specs.Tables.{IsTableOf}
+use Rattle.change_laws.specs.Changes.{Incoming, incoming}
+use Rattle.staging.specs.declared.stage.Stage.{Stage}
+use Rattle.staging.specs.declared.stage.Stage.TheVariants.{Untouched, Placed, Exported}
+use Rattle.staging.specs.declared.tables.Tables.{Tables}
+use Rattle.staging.specs.Placed.{ArePlaced}
+use Rattle.staging.specs.Stages.{AreAtRest, HavePlaced, StageStands}
+use Rattle.staging.specs.Standing.{StandFor}
+use Rattle.staging.specs.Whose.{AreTablesOf}
+use Rattle.write_permit.specs.declared.spawned.Spawned as plain
+use Rattle.write_permit.specs.Book.{shown}
+use Rattle.write_permit.specs.Permit.{PermitState}
+use Rattle.word_permit.specs.declared.book.Waiting.{Waiting}
+use Rattle.word_permit.specs.declared.book.WordBook.{WordBook}
+use Rattle.word_permit.specs.Books.{IsWordBook}
+use Rattle.word_permit.specs.Needs.{IsAwaited}
+use Rattle.word_permit.specs.Notes.{AreOfSpawned, IsSpawnedIn, noted_for}
+use Rattle.run_law.specs.Answers.{AreAnswersKept}
+use Rattle.run_law.specs.Published.{ArePublished}
+use Rattle.word_permit.specs.Waiting.{WordsStand}
+use Rattle.word_permit.proofs.Awaiting.{need_still}
+use Rattle.word_permit.proofs.SpawnedBefore.{notes_more}
+
+-- ---- the words
+
+stands_noted : (names : List Mfa) (s : ServerState) (pools : Areas) (w : WriterView) (process : ℕ) → StandFor names s pools w → StandFor names s pools (with_note process w)
+stands_noted names s pools w process h = record {
+  newest_is = h.newest_is;
+  numbered = h.numbered;
+  keys_once = h.keys_once;
+  narrow = h.narrow;
+  bp = h.bp;
+  listed = h.listed;
+  blocks = h.blocks;
+  placed = h.placed;
+  images = h.images;
+  words = record { retire = h.words.retire; since = h.words.since; free = h.words.free; doom = h.words.doom; untraced = h.words.untraced };
+  dropped = h.dropped;
+}
+
+placed_noted : (comes : List Incoming) (rest pools : Areas) (w : WriterView) (taken : List AreaRef) (process : ℕ) → ArePlaced comes rest pools w taken → ArePlaced comes rest pools (with_note process w) taken
+placed_noted comes rest pools w taken process h = record {
+  few = h.few;
+  taken_are = h.taken_are;
+  pools_are = h.pools_are;
+  each = λ place i area comes_in took.
+      let x = h.each place i area comes_in took in
+      record { small = x.small; first = x.first; last = x.last; room = x.room; unpublished = record { listed = x.unpublished.listed; kept = x.unpublished.kept }; written = x.written };
+}
+
+-- ---- the tables
+
+abbrev with_writer : Tables → writers.Writer → Tables
+with_writer t writer = record t { writer = writer }
+
+module _ (names : List Mfa) (s : ServerState) (t : Tables) (writer : writers.Writer) (process : ℕ) (view : written_by writer ≡ with_note process (written_by t.writer)) (by_notes : indices.KeptByNotes) where
+  rest_noted : AreAtRest names s t → AreAtRest names s (with_writer t writer)
+  rest_noted h = record {
+    stands = subst (StandFor names s t.pools) (sym view) (stands_noted names s t.pools (written_by t.writer) process h.stands);
+    staged = record { index = h.staged.index; terms = h.staged.terms };
+  }
+
+  areas_noted : (change : Change) (taken : List AreaRef) → HavePlaced names s change t taken → HavePlaced names s change (with_writer t writer) taken
+  areas_noted change taken h = record {
+    rest = h.rest;
+    stands = subst (StandFor names s h.rest) (sym view) (stands_noted names s h.rest (written_by t.writer) process h.stands);
+    placed = subst (λ v. ArePlaced (incoming change) h.rest t.pools v taken) (sym view) (placed_noted (incoming change) h.rest t.pools (written_by t.writer) taken process h.placed);
+    terms = h.terms;
+  }
+
+  stage_noted : (change : Change) (stage : Stage) → StageStands names s change t stage → StageStands names s change (with_writer t writer) stage
+  stage_noted change Untouched h = rest_noted h
+  stage_noted change (Placed areas) h = (areas_noted change areas.items h.0, h.1)
+  stage_noted change (Exported areas) h =
+      let kept = by_notes t.index (written_by t.writer) process in
+      record {
+        code = h.code;
+        placed = areas_noted change areas.items h.placed;
+        whole = h.whole;
+        exported = λ p upcoming. subst (Stages t.index p) (sym view) (kept.staged p (h.exported p upcoming));
+      }
+
+words_noted : (names : List Mfa) (p : PermitState) (t : Tables) (writer : writers.Writer) (process : ℕ) (o : Option Waiting) → written_by writer ≡ with_note process (written_by t.writer) → indices.KeptByNotes
+    → WordsStand names p t o → WordsStand names p (with_writer t writer) o
+words_noted names p t writer process None view by_notes h = rest_noted names p.server t writer process view by_notes h
+words_noted names p t writer process (Some w) view by_notes h = record {
+  who = h.who;
+  holder = h.holder;
+  decided = h.decided;
+  staged = h.staged;
+  stands = stage_noted names p.server t writer process view by_notes w.decision.change w.stage h.stands;
+}
+
+module _ (names : List Mfa) (table : TableId) (opening : Opening) (b : WordBook) (writer : writers.Writer) (token : IsWriterOf table opening writer) (by_index : indices.KeptByNotes) (by_terms : terms.KeptByNotes) (by_pools : areas.KeptByNotes) where
+  abbrev left : WordBook
+  left = record b { tables = with_writer b.tables writer }
+
+  tables_noted : (process : ℕ) → written_by writer ≡ with_note process (written_by b.tables.writer) → AreTablesOf table opening b.tables → AreTablesOf table opening (with_writer b.tables writer)
+  tables_noted process view h =
+      let index = by_index b.tables.index (written_by b.tables.writer) process in
+      let keys = by_terms b.tables.terms (written_by b.tables.writer) process in
+      record {
+        token = token;
+        index = subst (IsIndexOf b.tables.index) (sym view) (index.owned h.index);
+        terms = subst (IsTableOf b.tables.terms) (sym view) (keys.owned h.terms);
+        pools = subst (AreOf b.tables.pools) (sym view) (by_pools b.tables.pools (written_by b.tables.writer) process h.pools);
+      }
+
+  book_noted : (process : ℕ) → written_by writer ≡ with_note process (written_by b.tables.writer) → IsSpawnedIn b.plain.script b.plain.journal process → IsWordBook names table opening b → IsWordBook names table opening left
+  book_noted process view spawned h = record {
+    has = record {
+      book = h.has.book;
+      texts = h.has.texts;
+      tables = tables_noted process view h.has.tables;
+      exports = h.has.exports;
+      published = subst (λ (v : WriterView). ArePublished names b.plain.script.modules b.plain.journal v.published) (sym view) h.has.published;
+      notes = subst (λ (v : WriterView). AreOfSpawned b.plain.script b.plain.journal v.notes) (sym view)
+          (notes_more b.plain.script b.plain.journal (written_by b.tables.writer).notes (note_number process (written_by b.tables.writer)) h.has.notes spawned);
+      answered = subst (λ (v : WriterView). AreAnswersKept b.plain.script.modules b.plain.journal v.looks) (sym view) h.has.answered;
+      awaited = subst (λ (v : WriterView). IfSome b.need (IsAwaited v)) (sym view) (need_still (written_by b.tables.writer) (with_note process (written_by b.tables.writer)) b.need (λ pair had. had) refl h.has.awaited);
+    };
+    words = words_noted names (shown b.plain) b.tables writer process b.waiting view by_index h.words;
+  }
+
+  -- no note was split
+  book_unnoted : writer ≡ b.tables.writer → IsWordBook names table opening b → IsWordBook names table opening left
+  book_unnoted same h = subst (λ x. IsWordBook names table opening (record b { tables = with_writer b.tables x })) (sym same) h
+
+  pub book_after : (made : Option plain.Spawned) → (made ≡ None → writer ≡ b.tables.writer) → written_by writer ≡ noted_for made (written_by b.tables.writer) → IfSome made (λ (s : plain.Spawned). IsSpawnedIn b.plain.script b.plain.journal s.process)
+      → IsWordBook names table opening b → IsWordBook names table opening left
+  book_after None same view spawned h = book_unnoted (same refl) h
+  book_after (Some made) same view spawned h = book_noted made.process view spawned h

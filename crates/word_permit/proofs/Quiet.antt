@@ -1,0 +1,259 @@
+-- The counter is loaded, or slots are looked through: what stood for the server stands still.
+use Rattle.std.proofs.Common.{◌≡◌, ℕ, List, Option, Some, None, IfSome, slice_get, refl, sym, ap, subst}
+use Rattle.atomic_table.specs.Seated.{TableId}
+use Rattle.prgr_core.specs.declared.member.Retirement.{Retirement}
+use Rattle.term_core.specs.declared.area.AreaRef.{AreaRef}
+use Rattle.term_core.specs.declared.atom.Mfa.{Mfa}
+use Rattle.area_core.specs.declared.table.Published.{Published}
+use Rattle.area_core.specs.Blocks.{Among}
+use Rattle.marks.specs.declared.kept.DroppedArea.{DroppedArea}
+use Rattle.marks.specs.declared.kept.LingeringFrame.{LingeringFrame}
+use Rattle.marks.specs.declared.kept.ReadTurn.{ReadTurn}
+use Rattle.marks.specs.declared.kept.WriterKept.{WriterKept}
+use Rattle.shared_words.specs.declared.opening.Opening.{Opening}
+use Rattle.shared_words.specs.declared.seats.Writer as writers
+use Rattle.shared_words.specs.declared.view.NamedAnchor.{NamedAnchor}
+use Rattle.shared_words.specs.declared.view.WriterView.{WriterView}
+use Rattle.progress_words.specs.Needs.{HasLoadedCounter}
+use Rattle.progress_words.specs.Tokens.{IsWriterOf, written_by}
+use Rattle.anchors.specs.declared.answers.Scan.{Scan}
+use Rattle.anchors.specs.declared.answers.Scan.TheVariants as scans
+use Rattle.anchors.specs.Scans.{LooksMore, ScanCause, scan_wait}
+use Rattle.server_core.specs.declared.change.Change.{Change}
+use Rattle.server_core.specs.ServerState.{ServerState}
+use Rattle.code_index.specs.declared.index.Staging.{Staging}
+use Rattle.code_index.specs.declared.index.Staging.TheVariants as staged_as
+use Rattle.code_index.specs.Laws as indices
+use Rattle.code_index.specs.Staging as indices_at
+use Rattle.code_index.specs.Staging.{IsIndexOf, Stages}
+use Rattle.term_table.specs.Laws as terms
+use Rattle.term_table.specs.Tables.{GoesWith, IsTableOf, Terms}
+use Rattle.literal_areas.specs.Laws as areas
+use Rattle.literal_areas.specs.declared.areas.Areas.{Areas}
+use Rattle.change_laws.specs.Changes.{Incoming, incoming}
+use Rattle.staging.specs.declared.stage.Stage.{Stage}
+use Rattle.staging.specs.declared.stage.Stage.TheVariants.{Untouched, Placed, Exported}
+use Rattle.staging.specs.declared.tables.Tables.{Tables}
+use Rattle.staging.specs.Placed.{ArePlaced}
+use Rattle.staging.specs.Stages.{AreAtRest, HavePlaced, StageStands}
+use Rattle.staging.specs.Standing.{StandFor}
+use Rattle.staging.specs.Whose.{AreTablesOf}
+use Rattle.write_permit.specs.Book.{shown}
+use Rattle.write_permit.specs.Permit.{PermitState}
+use Rattle.run_law.specs.Published.{ArePublished}
+use Rattle.word_permit.specs.declared.book.AreaNeed.{AreaNeed}
+use Rattle.word_permit.specs.declared.book.Waiting.{Waiting}
+use Rattle.word_permit.specs.declared.book.WordBook.{WordBook}
+use Rattle.word_permit.specs.Books.{IsWordBook}
+use Rattle.word_permit.specs.Needs.{IsAwaited}
+use Rattle.word_permit.specs.Notes.{AreOfSpawned}
+use Rattle.word_permit.specs.Waiting.{WordsStand}
+use Rattle.word_permit.specs.Pumped.{LooksFound}
+use Rattle.word_permit.proofs.Answered.{KeepsAnswers, answered_more}
+use Rattle.word_permit.proofs.Awaiting.{need_still, waits_loaded, waits_same}
+
+-- ---- the words
+
+module _ (pairs : List Retirement) (counter : ℕ) (looks : WriterKept) (named : List NamedAnchor) (w : WriterView) where
+  abbrev now : WriterView
+  now = record w { pairs = pairs; counter = counter; looks = looks; named = named }
+
+  stands_now : (names : List Mfa) (s : ServerState) (pools : Areas) → StandFor names s pools w → StandFor names s pools now
+  stands_now names s pools h = record {
+    newest_is = h.newest_is;
+    numbered = h.numbered;
+    keys_once = h.keys_once;
+    narrow = h.narrow;
+    bp = h.bp;
+    listed = h.listed;
+    blocks = h.blocks;
+    placed = h.placed;
+    images = h.images;
+    words = record { retire = h.words.retire; since = h.words.since; free = h.words.free; doom = h.words.doom; untraced = h.words.untraced };
+    dropped = h.dropped;
+  }
+
+  placed_now : (comes : List Incoming) (rest pools : Areas) (taken : List AreaRef) → ArePlaced comes rest pools w taken → ArePlaced comes rest pools now taken
+  placed_now comes rest pools taken h = record {
+    few = h.few;
+    taken_are = h.taken_are;
+    pools_are = h.pools_are;
+    each = λ place i area comes_in took.
+        let x = h.each place i area comes_in took in
+        record { small = x.small; first = x.first; last = x.last; room = x.room; unpublished = record { listed = x.unpublished.listed; kept = x.unpublished.kept }; written = x.written };
+  }
+
+-- the writer has loaded the counter or words of slots, and nothing else
+abbrev pub IsQuiet : WriterView → WriterView → Type 0
+IsQuiet old new = new ≡ record old { pairs = new.pairs; counter = new.counter; looks = new.looks; named = new.named }
+
+pub quiet_loaded : (old new : WriterView) → HasLoadedCounter old new → IsQuiet old new
+quiet_loaded old new loaded = subst (IsQuiet old) (sym loaded.view) refl
+
+pub quiet_looked : (old new : WriterView) (looks : WriterKept) (named : List NamedAnchor) → new ≡ record old { looks = looks; named = named } → IsQuiet old new
+quiet_looked old new looks named is = subst (IsQuiet old) (sym is) refl
+
+-- ---- the tables
+
+abbrev pub with_writer : Tables → writers.Writer → Tables
+with_writer t writer = record t { writer = writer }
+
+module _ (names : List Mfa) (s : ServerState) (t : Tables) (writer : writers.Writer) (quiet : IsQuiet (written_by t.writer) (written_by writer))
+    (staged : (p : Published) → Stages t.index p (written_by t.writer) → Stages t.index p (written_by writer)) where
+  abbrev before : WriterView
+  before = written_by t.writer
+
+  abbrev after : WriterView
+  after = written_by writer
+
+  rest_quiet : AreAtRest names s t → AreAtRest names s (with_writer t writer)
+  rest_quiet h = record {
+    stands = subst (StandFor names s t.pools) (sym quiet) (stands_now after.pairs after.counter after.looks after.named before names s t.pools h.stands);
+    staged = record { index = h.staged.index; terms = h.staged.terms };
+  }
+
+  areas_quiet : (change : Change) (taken : List AreaRef) → HavePlaced names s change t taken → HavePlaced names s change (with_writer t writer) taken
+  areas_quiet change taken h = record {
+    rest = h.rest;
+    stands = subst (StandFor names s h.rest) (sym quiet) (stands_now after.pairs after.counter after.looks after.named before names s h.rest h.stands);
+    placed = subst (λ v. ArePlaced (incoming change) h.rest t.pools v taken) (sym quiet) (placed_now after.pairs after.counter after.looks after.named before (incoming change) h.rest t.pools taken h.placed);
+    terms = h.terms;
+  }
+
+  stage_quiet : (change : Change) (stage : Stage) → StageStands names s change t stage → StageStands names s change (with_writer t writer) stage
+  stage_quiet change Untouched h = rest_quiet h
+  stage_quiet change (Placed areas) h = (areas_quiet change areas.items h.0, h.1)
+  stage_quiet change (Exported areas) h = record {
+    code = h.code;
+    placed = areas_quiet change areas.items h.placed;
+    whole = h.whole;
+    exported = λ p upcoming. staged p (h.exported p upcoming);
+  }
+
+words_quiet : (names : List Mfa) (p : PermitState) (t : Tables) (writer : writers.Writer) (o : Option Waiting) → IsQuiet (written_by t.writer) (written_by writer)
+    → ((q : Published) → Stages t.index q (written_by t.writer) → Stages t.index q (written_by writer)) → WordsStand names p t o → WordsStand names p (with_writer t writer) o
+words_quiet names p t writer None quiet staged h = rest_quiet names p.server t writer quiet staged h
+words_quiet names p t writer (Some w) quiet staged h = record {
+  who = h.who;
+  holder = h.holder;
+  decided = h.decided;
+  staged = h.staged;
+  stands = stage_quiet names p.server t writer quiet staged w.decision.change w.stage h.stands;
+}
+
+-- ---- the book
+
+-- with another value to wait for, or none
+pub book_quiet : (names : List Mfa) (table : TableId) (opening : Opening) (b : WordBook) (writer : writers.Writer) (o : Option AreaNeed) → IsWordBook names table opening b → AreTablesOf table opening (with_writer b.tables writer)
+    → IsQuiet (written_by b.tables.writer) (written_by writer) → ((q : Published) → Stages b.tables.index q (written_by b.tables.writer) → Stages b.tables.index q (written_by writer))
+    → KeepsAnswers (written_by b.tables.writer).looks (written_by writer).looks → IfSome o (IsAwaited (written_by writer)) → IsWordBook names table opening (record b { tables = with_writer b.tables writer; need = o })
+book_quiet names table opening b writer o h tables quiet staged answers awaited = record {
+  has = record {
+    book = h.has.book;
+    texts = h.has.texts;
+    tables = tables;
+    exports = h.has.exports;
+    published = subst (λ (v : WriterView). ArePublished names b.plain.script.modules b.plain.journal v.published) (sym quiet) h.has.published;
+    notes = subst (λ (v : WriterView). AreOfSpawned b.plain.script b.plain.journal v.notes) (sym quiet) h.has.notes;
+    answered = answered_more b.plain.script.modules b.plain.journal (written_by b.tables.writer).looks (written_by writer).looks h.has.answered answers;
+    awaited = awaited;
+  };
+  words = words_quiet names (shown b.plain) b.tables writer b.waiting quiet staged h.words;
+}
+
+-- ---- the counter is loaded
+
+answers_same : (old new : WriterKept) → new ≡ old → KeepsAnswers old new
+answers_same old new is = record {
+  dropped = λ d had. subst (λ (k : WriterKept). Among k.dropped d) (sym is) had;
+  lingering = λ l had. subst (λ (k : WriterKept). Among k.lingering l) (sym is) had;
+}
+
+module _ (names : List Mfa) (table : TableId) (opening : Opening) (b : WordBook) (writer : writers.Writer) (known : IsWordBook names table opening b) (by_index : indices.KeptByCounters) (by_terms : terms.KeptByCounters) (by_pools : areas.KeptByCounters)
+    (token : IsWriterOf table opening writer) (loaded : HasLoadedCounter (written_by b.tables.writer) (written_by writer)) where
+  pub book_loaded : (o : Option AreaNeed) → IfSome o (IsAwaited (written_by writer)) → IsWordBook names table opening (record b { tables = with_writer b.tables writer; need = o })
+  book_loaded o awaited =
+      let index = by_index b.tables.index (written_by b.tables.writer) (written_by writer) loaded in
+      let keys = by_terms b.tables.terms (written_by b.tables.writer) (written_by writer) loaded in
+      book_quiet names table opening b writer o known
+      (record {
+        token = token;
+        index = index.owned known.has.tables.index;
+        terms = keys.owned known.has.tables.terms;
+        pools = by_pools b.tables.pools (written_by b.tables.writer) (written_by writer) loaded known.has.tables.pools;
+      })
+      (quiet_loaded (written_by b.tables.writer) (written_by writer) loaded) index.staged (answers_same (written_by b.tables.writer).looks (written_by writer).looks (ap (λ (w : WriterView). w.looks) loaded.view)) awaited
+
+  -- what is waited for is so still
+  pub book_asked : IsWordBook names table opening (record b { tables = with_writer b.tables writer })
+  book_asked = book_loaded b.need (need_still (written_by b.tables.writer) (written_by writer) b.need (waits_loaded (written_by b.tables.writer) (written_by writer) loaded) (ap (λ (w : WriterView). w.published) loaded.view) known.has.awaited)
+
+-- ---- slots are looked through
+
+module _ (w : WriterView) (looks : WriterKept) (named : List NamedAnchor) where
+  abbrev looked : WriterView
+  looked = record w { looks = looks; named = named }
+
+  goes_looked : (x : Staging) → indices_at.GoesWith x w → indices_at.GoesWith x looked
+  goes_looked staged_as.Nothing goes = goes
+  goes_looked (staged_as.Staged block) goes = goes
+  goes_looked (staged_as.Committing block need) goes = goes
+
+  index_looked : (x : Staging) → IsIndexOf x w → IsIndexOf x looked
+  index_looked x own = record { all = own.all; areas = own.areas; fits = own.fits; active = own.active; free = own.free; staged = goes_looked x own.staged }
+
+  stages_looked : (x : Staging) (p : Published) → Stages x p w → Stages x p looked
+  stages_looked staged_as.Nothing p stages = stages
+  stages_looked (staged_as.Staged block) p stages = stages
+  stages_looked (staged_as.Committing block need) p stages = stages
+
+  staged_looked : (staged : Option ℕ) → GoesWith staged w → GoesWith staged looked
+  staged_looked None goes = goes
+  staged_looked (Some table) goes = goes
+
+  table_looked : (t : Terms) → IsTableOf t w → IsTableOf t looked
+  table_looked t own = record {
+    all = own.all;
+    long = own.long;
+    areas = own.areas;
+    fits = own.fits;
+    table = own.table;
+    active = own.active;
+    counted = own.counted;
+    past = λ table g p fits differ at is. let past = own.past table g p fits differ at is in record { generation = past.generation; taken = past.taken; before = past.before };
+    staged = staged_looked t.staged own.staged;
+  }
+
+pub book_looked : (names : List Mfa) (table : TableId) (opening : Opening) (b : WordBook) (writer : writers.Writer) → IsWordBook names table opening b → areas.KeptByLooks → IsWriterOf table opening writer → LooksMore (written_by b.tables.writer) (written_by writer)
+    → IsWordBook names table opening (record b { tables = with_writer b.tables writer })
+book_looked names table opening b writer known by_pools token more =
+    let old = written_by b.tables.writer in
+    let new = written_by writer in
+    book_quiet names table opening b writer b.need known
+    (record {
+      token = token;
+      index = subst (IsIndexOf b.tables.index) (sym more.same) (index_looked old new.looks new.named b.tables.index known.has.tables.index);
+      terms = subst (IsTableOf b.tables.terms) (sym more.same) (table_looked old new.looks new.named b.tables.terms known.has.tables.terms);
+      pools = by_pools b.tables.pools old new more.same known.has.tables.pools;
+    })
+    (quiet_looked old new new.looks new.named more.same)
+    (λ q staged. subst (Stages b.tables.index q) (sym more.same) (stages_looked old new.looks new.named b.tables.index q staged))
+    (record {
+      dropped = λ d had. subst (λ (ds : List DroppedArea). Among ds d) (sym more.dropped) had;
+      lingering = λ l had. subst (λ (ls : List LingeringFrame). Among ls l) (sym more.lingering) had;
+    })
+    (need_still old new b.need (waits_same old new (ap (λ (w : WriterView). w.pairs) more.same)) (ap (λ (w : WriterView). w.published) more.same) known.has.awaited)
+
+-- what the look found
+pub looks_found : (serial : ℕ) (old new : WriterView) (told : Scan) → ScanCause (scan_wait old None serial) old new told → LooksFound serial new told
+looks_found serial old new (scans.Named process turn place word) h = record {
+  below = h.0;
+  first = h.1.first;
+  last = h.1.last;
+  names = h.1.names;
+  wait = scan_wait old None serial;
+  serial_is = refl;
+  found = (0, ap (λ (xs : List NamedAnchor). slice_get xs 0) h.1.found);
+  turn_read = (0, ap (λ (xs : List ReadTurn). slice_get xs 0) h.1.turn_read.1);
+}
+looks_found serial old new (scans.Clear killed) h = h.1

@@ -1,0 +1,67 @@
+-- What is made of a step's answer: the newest entry is taken back, or the change is made.
+use Rattle.std.proofs.Common.{◌≡◌, ℕ, ◌<◌, List, [], ◌∷◌, ◌++◌, length, slice_set, MatchOption, Option, Some, None, Result, Err, refl, sym, ap, subst, ◌∙◌, arith}
+use Rattle.std.proofs.lemmas.List.{same_from_push}
+use Rattle.term_core.specs.declared.no_memory.NoMemory.{NoMemory}
+use Rattle.server_core.specs.declared.change.Change.{Change}
+use Rattle.server_core.specs.declared.command.Applied.{Applied}
+use Rattle.server_core.specs.CommandTable.{Outcome}
+use Rattle.server_core.specs.Decided.{made}
+use Rattle.server_core.specs.ServerState.{IsSound, ServerState}
+use Rattle.run_log.specs.declared.logs.Entry.{Entry}
+use Rattle.module_table.specs.Modules.{Modules}
+use Rattle.staging.specs.declared.stage.Stage.{Stage}
+use Rattle.staging.specs.declared.stage.Step.{Step}
+use Rattle.write_permit.specs.declared.book.Book.{Book}
+use Rattle.write_permit.specs.declared.holder.Holder.TheVariants.{Free}
+use Rattle.write_permit.specs.declared.loader_run.LoaderRun.{LoaderRun}
+use Rattle.write_permit.specs.Agreement.{newest_followed, newest_of}
+use Rattle.write_permit.specs.Book.{shown}
+use Rattle.write_permit.specs.Permit.{PermitState}
+use Rattle.word_permit.specs.declared.book.Decision.{Decision}
+use Rattle.word_permit.specs.declared.book.WordBook.{WordBook}
+use Rattle.word_permit.specs.Settled.{IsFinished, IsSettled, WaitsAt, decision_of, waiting_with, without_newest}
+
+-- the newest entry is taken back, and what was decided for it waits
+pub waits_at : (b : WordBook) (change : Change) (stage : Stage) (journal : List Entry) (last : Entry) (d : Decision) → b.plain.journal ≡ journal ++ last ∷ [] → d ≡ decision_of last change
+    → WaitsAt change stage b (record (without_newest b journal) { waiting = Some (record { decision = d; stage = stage }) })
+waits_at b change stage journal last d is told = λ before e h.
+    let s = same_from_push journal before last e (sym is ∙ h) in
+    ap (λ (x : Decision). record (without_newest b journal) { waiting = Some (record { decision = x; stage = stage }) }) told
+    ∙ ap (λ (js : List Entry). waiting_with b js last change stage) s.0
+    ∙ ap (λ (x : Entry). waiting_with b before x change stage) s.1
+
+-- or it is taken back, and nothing waits
+pub goes_back : (b : WordBook) (journal : List Entry) (last : Entry) → b.plain.journal ≡ journal ++ last ∷ [] → (before : List Entry) (e : Entry) → b.plain.journal ≡ before ++ e ∷ [] → without_newest b journal ≡ without_newest b before
+goes_back b journal last is before e h =
+    let s = same_from_push journal before last e (sym is ∙ h) in
+    ap (without_newest b) s.0
+
+-- whatever was taken out
+pub popped : (b : WordBook) (journal : List Entry) (o : Option Entry) → 0 < length b.plain.journal → MatchOption o ((b.plain.journal ≡ []) × (journal ≡ [])) (λ last. b.plain.journal ≡ journal ++ last ∷ [])
+    → (before : List Entry) (e : Entry) → b.plain.journal ≡ before ++ e ∷ [] → without_newest b journal ≡ without_newest b before
+popped b journal (Some last) joined h before e is = goes_back b journal last h before e is
+popped b journal None joined h before e is =
+    let empty = ap length h.0 in
+    absurd (omega (arith, joined, empty))
+
+-- ---- by what the step is, where memory is refused
+
+module _ (who : ℕ) (change : Change) (stage : Stage) (after : LoaderRun) (b c : WordBook) (step : Result Step NoMemory) where
+  pub settled_back : (fault : NoMemory) → step ≡ Err fault → ((before : List Entry) (e : Entry) → b.plain.journal ≡ before ++ e ∷ [] → c ≡ without_newest b before) → IsSettled who change stage after b c step (Err fault)
+  settled_back fault is back = subst (λ x. IsSettled who change stage after b c x (Err fault)) (sym is) (refl, back)
+
+-- ---- the change is made
+
+abbrev outcome : ServerState → Applied → Outcome
+outcome s applied = record { state = s; answer = applied }
+
+pub is_finished : (who : ℕ) (change : Change) (after : LoaderRun) (p c : Book) (s : ServerState) (table : Modules) (applied : Applied) → made p.server change ≡ outcome s applied → IsSound s
+    → table.instances ≡ newest_followed p.modules.instances s (newest_of p.journal) → shown c ≡ record (shown p) { server = s; loaders = slice_set p.loaders.items who after; holder = Free } → c.modules ≡ table → IsFinished who change after p c applied
+is_finished who change after p c s table applied is sound follows left modules =
+    let server : s ≡ c.server = ap (λ (x : PermitState). x.server) (sym left) in
+    record {
+      made_is = is ∙ ap (λ (x : ServerState). outcome x applied) server;
+      state = left ∙ ap (λ (x : ServerState). record (shown p) { server = x; loaders = slice_set p.loaders.items who after; holder = Free }) server;
+      table = ap (λ (m : Modules). m.instances) modules ∙ follows ∙ ap (λ (x : ServerState). newest_followed p.modules.instances x (newest_of p.journal)) server;
+      sound = subst IsSound server sound;
+    }

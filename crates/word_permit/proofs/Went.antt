@@ -1,0 +1,198 @@
+-- What a step of a decided command leaves of a permit's book, by what the words answered.
+use Rattle.std.proofs.Common.{◌≡◌, ℕ, ◌≤◌, inl, inr, List, [], ◌∷◌, ◌++◌, slice_get, Option, Some, None, is_some, true, IfSome, IsSomeAnd, IfOk, OnErr, Result, Ok, Err, All, option_map, if◌then◌else◌, refl, sym, ap, subst, ◌∙◌}
+use Rattle.atomic_table.specs.Seated.{TableId}
+use Rattle.term_core.specs.declared.atom.Mfa.{Mfa}
+use Rattle.term_core.specs.declared.no_memory.NoMemory.{NoMemory}
+use Rattle.shared_words.specs.declared.opening.Opening.{Opening}
+use Rattle.progress_words.specs.declared.answers.NotYet as late
+use Rattle.literal_areas.specs.Blocks.{AwaitsRelease, blocks_of}
+use Rattle.literal_areas.specs.declared.blocks.Pool.{Pool}
+use Rattle.progress_words.specs.Tokens.{written_by}
+use Rattle.change_laws.specs.Names.{IsNumbered}
+use Rattle.server_core.specs.declared.change.Change.{Change}
+use Rattle.server_core.specs.declared.change.Change.TheVariants.{BringIn, MakeOld, HoldWord, HoldArea, Forget, SetTrace, ClearTrace}
+use Rattle.server_core.specs.declared.command.Applied.{Applied}
+use Rattle.server_core.specs.CommandTable.{Outcome}
+use Rattle.server_core.specs.Decided.{made}
+use Rattle.server_core.specs.ServerState.{ServerState}
+use Rattle.run_log.specs.declared.logs.Entry.{Entry}
+use Rattle.run_log.specs.Journal.{publishes}
+use Rattle.module_table.specs.Modules.{Modules}
+use Rattle.staging.specs.declared.stage.Stage.{Stage}
+use Rattle.staging.specs.declared.stage.Step.{Step}
+use Rattle.staging.specs.declared.stage.Step.TheVariants as steps
+use Rattle.staging.specs.declared.tables.Tables.{Tables}
+use Rattle.staging.specs.Stages.{AreAtRest, HasPublished, IsCodeChange, IsKeyChange, IsLate, IsStaged, StageStands, StepAnswers}
+use Rattle.staging.specs.Upcoming.{generation_shown}
+use Rattle.staging.specs.Whose.{AreTablesOf, KeepsKnown}
+use Rattle.write_permit.specs.declared.holder.Holder.TheVariants.{Held}
+use Rattle.write_permit.specs.declared.loader_run.LoaderRun.{LoaderRun}
+use Rattle.write_permit.specs.Agreement.{new_modules}
+use Rattle.write_permit.specs.Book.{shown}
+use Rattle.write_permit.specs.Permit.{PermitState, loader_after, next_of}
+use Rattle.word_permit.specs.declared.answers.CommandStep.{CommandStep}
+use Rattle.word_permit.specs.declared.answers.CommandStep.TheVariants.{Done, NotYet, AwaitRelease}
+use Rattle.word_permit.specs.declared.book.AreaNeed.{AreaNeed}
+use Rattle.word_permit.specs.declared.book.Decision.{Decision}
+use Rattle.word_permit.specs.declared.book.WordBook.{WordBook}
+use Rattle.word_permit.specs.Books.{HasItsTables, HasTakenBack, IsWordBook, OpAnswers, PublishesNone, TellsNone}
+use Rattle.word_permit.specs.Needs.{IsAwaited}
+use Rattle.word_permit.specs.Notes.{AreOfSpawned}
+use Rattle.run_law.specs.Answers.{AreAnswersKept}
+use Rattle.run_law.specs.Published.{ArePublished}
+use Rattle.word_permit.specs.Settled.{IsFinished, IsSettled, waiting_with, without_newest}
+use Rattle.word_permit.specs.Waiting.{IsDecided, IsTraceChange, WordsStand}
+use Rattle.word_permit.proofs.Answered.{answered_quietly, goes_quiet}
+use Rattle.word_permit.proofs.Awaiting.{need_on}
+use Rattle.word_permit.proofs.Ended.{PlainDone, entry_for, plain_done, state_joined}
+use Rattle.word_permit.proofs.Growing.{published_more}
+use Rattle.word_permit.proofs.Kept.{has_same, rests}
+use Rattle.word_permit.proofs.SpawnedBefore.{notes_later}
+
+-- a change that goes by stages publishes
+code_publishes : (s : ServerState) (change : Change) → IsCodeChange change → is_some (made s change).answer.published ≡ true
+code_publishes s (BringIn generation modules areas versions) h = refl
+code_publishes s (MakeOld generation name) h = refl
+code_publishes s change h = absurd h
+
+key_publishes : (s : ServerState) (change : Change) → IsKeyChange change → is_some (made s change).answer.published ≡ true
+key_publishes s (HoldWord generation key term keys retired) h = refl
+key_publishes s (HoldArea generation key term stored areas keys retired) h = refl
+key_publishes s (Forget generation key retired) h = refl
+key_publishes s change h = absurd h
+
+staged_publishes : (s : ServerState) (change : Change) → IsStaged change → is_some (made s change).answer.published ≡ true
+staged_publishes s change (inl code) = code_publishes s change code
+staged_publishes s change (inr key) = key_publishes s change key
+
+-- and so does one of what is traced
+pub trace_publishes : (s : ServerState) (change : Change) → IsTraceChange change → is_some (made s change).answer.published ≡ true
+trace_publishes s (SetTrace generation at traced) h = refl
+trace_publishes s (ClearTrace generation at) h = refl
+trace_publishes s change h = absurd h
+
+-- what a step leaves
+pub record Went (names : List Mfa) (table : TableId) (opening : Opening) (who : ℕ) (b c : WordBook) (told : Result CommandStep NoMemory) : Type 0 where
+  pub ok : IfOk told (OpAnswers who b c)
+  pub err : OnErr told (HasTakenBack b c)
+  pub book : IsWordBook names table opening c
+
+module _ (names : List Mfa) (table : TableId) (opening : Opening) (b : WordBook) (had : HasItsTables names table opening b) (who : ℕ) (d : Decision) (held : b.plain.holder ≡ Held who) (known : IsDecided (shown b.plain) who d) (none : b.waiting ≡ None) where
+  module _ (modules : Modules) (same : modules.instances ≡ b.plain.modules.instances) (journal : List Entry) (t : Tables) (of_table : AreTablesOf table opening t) (exports : t.exports ≡ names)
+      (keeps : KeepsKnown (written_by b.tables.writer) (written_by t.writer)) where
+    abbrev stepped : WordBook
+    stepped = record b { plain = record (b.plain) { journal = journal; modules = modules }; tables = t }
+
+    -- want of memory: the words are at rest, and the journal is as before
+    pub taken_back : (c : WordBook) (told : Result CommandStep NoMemory) (fault : NoMemory) → PublishesNone b stepped → AreAtRest names b.plain.server t → told ≡ Err fault → c ≡ without_newest stepped b.plain.journal → Went names table opening who b c told
+    taken_back c told fault published rest is left =
+        subst (λ x. Went names table opening who b x told) (sym left)
+        (subst (Went names table opening who b (without_newest stepped b.plain.journal)) (sym is)
+        (record {
+          ok = tt;
+          err = record { same = refl; published = published; none = none };
+          book = rests names table opening b (without_newest stepped b.plain.journal) had refl same of_table exports published keeps refl none rest;
+        }))
+
+    -- nothing is published: the command waits
+    module _ (stage : Stage) (staged : IsStaged d.change) (published : PublishesNone b stepped) (stands : StageStands names b.plain.server d.change t stage) where
+      abbrev waiting : WordBook
+      waiting = waiting_with stepped b.plain.journal (entry_for who d) d.change stage
+
+      waiting_book : IsWordBook names table opening waiting
+      waiting_book = record {
+        has = has_same names table opening b waiting had refl same of_table exports published keeps refl;
+        words = record { who = who; holder = held; decided = known; staged = staged; stands = stands };
+      }
+
+      left_waiting : (c : WordBook) (told : Result CommandStep NoMemory) (answer : CommandStep) → OpAnswers who b waiting answer → told ≡ Ok answer → c ≡ waiting → Went names table opening who b c told
+      left_waiting c told answer why is left =
+          subst (λ x. Went names table opening who b x told) (sym left)
+          (subst (Went names table opening who b waiting) (sym is) (record { ok = why; err = tt; book = waiting_book }))
+
+      pub is_late : (c : WordBook) (told : Result CommandStep NoMemory) (answer : late.NotYet) → IsLate t answer → told ≡ Ok (NotYet answer) → c ≡ waiting → Went names table opening who b c told
+      is_late c told answer why = left_waiting c told (NotYet answer) (record { same = refl; published = published; waits = (_, refl); why = why })
+
+      pub awaits_release : (c : WordBook) (told : Result CommandStep NoMemory) → (pool : Pool) × AwaitsRelease (blocks_of pool t.pools) → told ≡ Ok AwaitRelease → c ≡ waiting → Went names table opening who b c told
+      awaits_release c told why = left_waiting c told AwaitRelease (record { same = refl; published = published; waits = (_, refl); why = why })
+
+    -- the change is published: the server makes it
+    module _ (room : new_modules d.cmd ≤ modules.room) (more : journal ≡ b.plain.journal ++ entry_for who d ∷ []) (after : LoaderRun)
+        (counts : IsSomeAnd (next_of (shown b.plain) who) (λ command. option_map (loader_after command) (slice_get b.plain.loaders.items who) ≡ Some after)) where
+      module _ (publishing : is_some (made b.plain.server d.change).answer.published ≡ true) where
+        publishes_one : publishes (entry_for who d) ≡ 1
+        publishes_one = ap (λ yes. if yes then 1 else 0) (ap (λ (a : Applied). is_some a.published) (sym known.answer) ∙ publishing)
+
+        module _ (generation : ℕ) (published : HasPublished names (made b.plain.server d.change).state b.tables t generation) (c : WordBook) (applied : Applied) (finished : IsFinished who d.change after stepped.plain c.plain applied)
+            (left : c ≡ record stepped { plain = c.plain }) where
+          done : PlainDone who b.plain c.plain applied
+          done = plain_done b.plain had.book who d held known modules same room journal more c.plain after applied finished counts
+
+          tables_are : c.tables ≡ t
+          tables_are = ap (λ (x : WordBook). x.tables) left
+
+          server_is : (made b.plain.server d.change).state ≡ c.plain.server
+          server_is = ap (λ (o : Outcome). o.state) finished.made_is
+
+          published_is : ArePublished names c.plain.script.modules c.plain.journal (written_by c.tables.writer).published
+          published_is =
+              subst (λ (x : PermitState). ArePublished names x.script.modules x.journal (written_by c.tables.writer).published) (sym finished.state)
+              (subst (λ (x : Tables). ArePublished names b.plain.script.modules journal (written_by x.writer).published) (sym tables_are)
+              (subst (ArePublished names b.plain.script.modules journal) (sym published.published)
+              (subst (λ js. ArePublished names b.plain.script.modules js ((written_by b.tables.writer).published ++ published.next ∷ [])) (sym more)
+              (published_more names b.plain.script.modules b.plain.journal (entry_for who d) had.book.permit.log.replays (written_by b.tables.writer).published published.next had.published publishes_one
+              (published.shows ∙ ap (generation_shown names) (state_joined b.plain had.book who d held known))))))
+
+          notes_are : AreOfSpawned c.plain.script c.plain.journal (written_by c.tables.writer).notes
+          notes_are =
+              subst (λ (x : PermitState). AreOfSpawned x.script x.journal (written_by c.tables.writer).notes) (sym finished.state)
+              (subst (λ (x : Tables). AreOfSpawned b.plain.script journal (written_by x.writer).notes) (sym tables_are)
+              (subst (AreOfSpawned b.plain.script journal) (sym keeps.notes)
+              (subst (λ js. AreOfSpawned b.plain.script js (written_by b.tables.writer).notes) (sym more) (notes_later b.plain.script b.plain.journal (entry_for who d) (written_by b.tables.writer).notes had.notes))))
+
+          answers_are : AreAnswersKept c.plain.script.modules c.plain.journal (written_by c.tables.writer).looks
+          answers_are =
+              subst (λ (x : PermitState). AreAnswersKept x.script.modules x.journal (written_by c.tables.writer).looks) (sym finished.state)
+              (subst (λ (x : Tables). AreAnswersKept b.plain.script.modules journal (written_by x.writer).looks) (sym tables_are)
+              (subst (AreAnswersKept b.plain.script.modules journal) (sym keeps.looks)
+              (subst (λ js. AreAnswersKept b.plain.script.modules js (written_by b.tables.writer).looks) (sym more)
+              (answered_quietly b.plain.script.modules b.plain.journal (entry_for who d) (written_by b.tables.writer).looks had.answered
+              (subst TellsNone (sym known.cmd_is) (goes_quiet b.plain.server known.command known.goes))))))
+
+          need_is : IfSome c.need (IsAwaited (written_by c.tables.writer))
+          need_is =
+              subst (λ (o : Option AreaNeed). IfSome o (IsAwaited (written_by c.tables.writer))) (sym (ap (λ (x : WordBook). x.need) left))
+              (subst (λ (x : Tables). IfSome b.need (IsAwaited (written_by x.writer))) (sym tables_are)
+              (need_on (written_by b.tables.writer) (written_by t.writer) (published.next ∷ []) b.need keeps.waits published.published had.awaited))
+
+          done_has : HasItsTables names table opening c
+          done_has = record {
+            book = done.book;
+            texts = subst (λ (x : PermitState). All (IsNumbered names) x.script.modules) (sym finished.state) had.texts;
+            tables = subst (AreTablesOf table opening) (sym tables_are) of_table;
+            exports = ap (λ (x : Tables). x.exports) tables_are ∙ exports;
+            published = published_is;
+            notes = notes_are;
+            answered = answers_are;
+            awaited = need_is;
+          }
+
+          done_rest : AreAtRest names c.plain.server c.tables
+          done_rest = subst (AreAtRest names c.plain.server) (sym tables_are) (subst (λ s. AreAtRest names s t) server_is published.rest)
+
+          pub is_done : (told : Result CommandStep NoMemory) → told ≡ Ok (Done applied) → Went names table opening who b c told
+          is_done told is =
+              subst (Went names table opening who b c) (sym is)
+              (record {
+                ok = done.ended;
+                err = tt;
+                book = record { has = done_has; words = subst (WordsStand names (shown c.plain) c.tables) (sym (ap (λ (x : WordBook). x.waiting) left ∙ none)) done_rest };
+              })
+
+      -- whatever the words answered
+      pub went_on : (staged : IsStaged d.change) (c : WordBook) (stage : Stage) (step : Result Step NoMemory) (told : Result CommandStep NoMemory) → IsSettled who d.change stage after stepped c step told
+          → IfOk step (StepAnswers names b.plain.server d.change b.tables t stage) → OnErr step (AreAtRest names b.plain.server t) → OnErr step (PublishesNone b stepped) → Went names table opening who b c told
+      went_on staged c stage (Ok (steps.Published generation)) told settled ok rest same_published = is_done (staged_publishes b.plain.server d.change staged) generation ok c settled.0 settled.1.1.0 settled.1.1.1 told settled.1.0
+      went_on staged c stage (Ok (steps.NotYet answer)) told settled ok rest same_published = is_late stage staged ok.published ok.stands c told answer ok.why settled.0 (settled.1 b.plain.journal (entry_for who d) more)
+      went_on staged c stage (Ok steps.AwaitRelease) told settled ok rest same_published = awaits_release stage staged ok.published ok.stands c told ok.why settled.0 (settled.1 b.plain.journal (entry_for who d) more)
+      went_on staged c stage (Err fault) told settled ok rest same_published = taken_back c told fault same_published rest settled.0 (settled.1 b.plain.journal (entry_for who d) more)

@@ -1,0 +1,24 @@
+-- The counter was loaded, and nothing else.
+use Rattle.std.proofs.Common.{refl, ap}
+use Rattle.shared_words.specs.declared.view.WriterView.{WriterView}
+use Rattle.progress_words.specs.Tokens.{written_by}
+use Rattle.word_permit.proofs.Awaiting.{known_loaded, need_taken}
+use Rattle.word_permit.proofs.Quiet.{book_loaded}
+use Rattle.word_permit.proofs.pumping.take_need.Goals as goal
+
+pub returns-clause-awaited : goal.returns-clause-awaited
+returns-clause-awaited g c = need_taken g.K.Naming.names _ _ c.args.book.now (written_by c.later-value.new.writer) _ c.requires.book c.requires.waits c.later-value.ensures.loaded c.later-value.ensures.taken
+
+pub returns-clause-known : goal.returns-clause-known
+returns-clause-known g c = known_loaded (written_by c.args.book.now.tables.writer) (written_by c.later-value.new.writer) c.later-value.ensures.loaded
+
+pub returns-clause-named : goal.returns-clause-named
+returns-clause-named g c = ap (λ (w : WriterView). w.named) c.later-value.ensures.loaded.view
+
+pub returns-clause-none_released : goal.returns-clause-none_released
+returns-clause-none_released g c = record { same = refl; pools = refl; published = ap (λ (w : WriterView). w.published) c.later-value.ensures.loaded.view; waiting = refl }
+
+pub returns-clause-book : goal.returns-clause-book
+returns-clause-book g c =
+    book_loaded g.K.Naming.names _ _ c.args.book.now c.later-value.new.writer c.requires.book c.counters_keep_index.ensures c.counters_keep_tables.ensures c.counters_keep_pools.ensures c.later-value.ensures.token c.later-value.ensures.loaded _
+    (need_taken g.K.Naming.names _ _ c.args.book.now (written_by c.later-value.new.writer) _ c.requires.book c.requires.waits c.later-value.ensures.loaded c.later-value.ensures.taken)

@@ -1,0 +1,12 @@
+-- Nothing waits while nobody has the permission; who has it keeps it.
+use Rattle.word_permit.proofs.Calls.{kept_as_is, seized_kept}
+use Rattle.word_permit.proofs.steps.seize.Goals as goal
+
+pub returns-in-Free-clause-kept : goal.returns-in-Free-clause-kept
+returns-in-Free-clause-kept c = seized_kept c.args.book.now c.args.who c.in-Free.is c.requires
+
+pub returns-in-Held-clause-kept : goal.returns-in-Held-clause-kept
+returns-in-Held-clause-kept c = kept_as_is c.args.book.now
+
+pub returns-in-Held-2-clause-kept : goal.returns-in-Held-2-clause-kept
+returns-in-Held-2-clause-kept c = kept_as_is c.args.book.now

@@ -1,0 +1,127 @@
+-- What a permit keeps over the words that all threads share, and what each call leaves of it.
+-- Source: this project's profile; the phases of a load are those of erts internal documentation, CodeLoading.
+use Rattle.std.specs.Prelude.{◌≡◌, ℕ, List, [], ◌∷◌, ◌++◌, Option, Some, None, IfSome, IsSomeAnd, All}
+use Rattle.atomic_table.specs.Seated.{TableId}
+use Rattle.term_core.specs.declared.atom.Mfa.{Mfa}
+use Rattle.shared_words.specs.declared.opening.Opening.{Opening}
+use Rattle.progress_words.specs.Tokens.{written_by}
+use Rattle.change_laws.specs.Names.{IsNumbered}
+use Rattle.server_core.specs.declared.command.Applied.{Applied}
+use Rattle.server_core.specs.declared.command.Cmd.{Cmd}
+use Rattle.server_core.specs.declared.command.Cmd.TheVariants.{Purge, Release, SoftPurge}
+use Rattle.server_core.specs.ServerState.{empty_state}
+use Rattle.script_core.specs.declared.script.Script.{Script}
+use Rattle.staging.specs.declared.tables.Tables.{Tables}
+use Rattle.literal_areas.specs.Blocks.{AwaitsRelease, blocks_of}
+use Rattle.literal_areas.specs.declared.blocks.Pool.{Pool}
+use Rattle.staging.specs.Stages.{IsLate}
+use Rattle.staging.specs.Whose.{AreTablesOf}
+use Rattle.run_log.specs.declared.logs.Entry.{Entry}
+use Rattle.write_permit.specs.declared.answers.OpStep.TheVariants as steps
+use Rattle.write_permit.specs.declared.book.Book.{Book}
+use Rattle.write_permit.specs.declared.holder.Holder.{Holder}
+use Rattle.write_permit.specs.declared.holder.Holder.TheVariants.{Free}
+use Rattle.write_permit.specs.Book.{IsBook, shown}
+use Rattle.write_permit.specs.Permit.{advanced, given_up}
+use Rattle.word_permit.specs.declared.answers.CommandStep.{CommandStep}
+use Rattle.word_permit.specs.declared.answers.CommandStep.TheVariants.{Done, NotYet, AwaitRelease, Lingers}
+use Rattle.word_permit.specs.declared.book.Waiting.{Waiting}
+use Rattle.word_permit.specs.declared.book.WordBook.{WordBook}
+use Rattle.word_permit.specs.Needs.{IsAwaited}
+use Rattle.word_permit.specs.Notes.{AreOfSpawned}
+use Rattle.run_law.specs.Answers.{AreAnswersKept}
+use Rattle.run_law.specs.Published.{ArePublished}
+use Rattle.word_permit.specs.Runs.{Run}
+use Rattle.word_permit.specs.Waiting.{WordsStand}
+
+-- ---- what a permit keeps
+
+-- the journal leads to the server, each loader's entries are those of its commands that are done, the writer has published what the journal has, its
+-- notes are of processes that were spawned, and it keeps what the journal tells of processes and what it waits for before an area is released
+pub record HasItsTables (names : List Mfa) (table : TableId) (opening : Opening) (b : WordBook) : Type 0 where
+  pub book : IsBook b.plain
+  -- each name that a text exports has a number
+  pub texts : All (IsNumbered names) b.plain.script.modules
+  pub tables : AreTablesOf table opening b.tables
+  pub exports : b.tables.exports ≡ names
+  pub published : ArePublished names b.plain.script.modules b.plain.journal (written_by b.tables.writer).published
+  pub notes : AreOfSpawned b.plain.script b.plain.journal (written_by b.tables.writer).notes
+  pub answered : AreAnswersKept b.plain.script.modules b.plain.journal (written_by b.tables.writer).looks
+  pub awaited : IfSome b.need (IsAwaited (written_by b.tables.writer))
+
+-- and the words stand for the server
+pub record IsWordBook (names : List Mfa) (table : TableId) (opening : Opening) (b : WordBook) : Type 0 where
+  pub has : HasItsTables names table opening b
+  pub words : WordsStand names (shown b.plain) b.tables b.waiting
+
+-- a call keeps this, over whatever words and by whatever numbers of names, and the words are as before
+pub record IsKept (old new : WordBook) : Type 0 where
+  pub tables : new.tables ≡ old.tables
+  pub script : new.plain.script ≡ old.plain.script
+  pub book : (names : List Mfa) (table : TableId) (opening : Opening) → IsWordBook names table opening old → IsWordBook names table opening new
+
+-- so it is before the first command
+pub record IsBegun (script : Script) (t : Tables) (b : WordBook) : Type 0 where
+  pub script_is : b.plain.script ≡ script
+  pub journal : b.plain.journal ≡ []
+  pub server : b.plain.server ≡ empty_state
+  pub holder : b.plain.holder ≡ Free
+  pub tables : b.tables ≡ t
+  pub waiting : b.waiting ≡ None
+  pub need : b.need ≡ None
+
+-- a permit keeps it of the run that a name stands for
+abbrev pub KeepsRun : List Mfa → Option Run → WordBook → Type 0
+KeepsRun names run b = IsSomeAnd run (λ r. IsWordBook names r.table r.opening b × (b.plain.script ≡ r.script))
+
+-- ---- what a call leaves
+
+-- as many generations are published as before
+abbrev pub PublishesNone : WordBook → WordBook → Type 0
+PublishesNone old new = (written_by new.tables.writer).published ≡ (written_by old.tables.writer).published
+
+-- the loader's command is done: its entry joined the journal, the server made it, and the permission is free
+pub record EndsPlain (who : ℕ) (old new : Book) (applied : Applied) : Type 0 where
+  pub step : advanced (shown old) [] who old.holder ≡ Some (record { state = shown new; answer = steps.Done applied })
+  pub script : new.script ≡ old.script
+
+-- a command that tells nothing of processes
+abbrev pub TellsNone : Cmd → Type 0
+TellsNone (Release serial) = ⊥
+TellsNone (SoftPurge name linger) = ⊥
+TellsNone (Purge name killed) = ⊥
+TellsNone cmd = Unit {0}
+
+-- an entry joined that publishes nothing, and tells nothing of processes
+abbrev pub JoinsUnpublished : List Entry → List Entry → Type 0
+JoinsUnpublished old new = (e : Entry) × ((new ≡ old ++ e ∷ []) × ((e.published ≡ None) × TellsNone e.cmd))
+
+-- nothing is published and no entry joined, and this is why the command waits
+pub record HasWaited (old new : WordBook) (Why : Type 0) : Type 0 where
+  pub same : shown new.plain ≡ shown old.plain
+  pub published : PublishesNone old new
+  pub waits : (w : Waiting) × (new.waiting ≡ Some w)
+  pub why : Why
+
+-- what each answer says; a purge alone lingers
+abbrev pub OpAnswers : ℕ → WordBook → WordBook → CommandStep → Type 0
+OpAnswers who old new (Done applied) = EndsPlain who old.plain new.plain applied
+OpAnswers who old new (NotYet answer) = HasWaited old new (IsLate new.tables answer)
+OpAnswers who old new AwaitRelease = HasWaited old new ((pool : Pool) × AwaitsRelease (blocks_of pool new.tables.pools))
+OpAnswers who old new (Lingers process turn place word) = ⊥
+
+-- want of memory: no entry joined and nothing is published, what was staged is taken back, and nothing waits
+pub record HasTakenBack (old new : WordBook) : Type 0 where
+  pub same : shown new.plain ≡ shown old.plain
+  pub published : PublishesNone old new
+  pub none : new.waiting ≡ None
+
+-- another has the permission, or nobody
+abbrev pub with_holder : WordBook → Holder → WordBook
+with_holder b holder = record b { plain = record (b.plain) { holder = holder } }
+
+-- and the loader gave the permission up
+pub record HasGivenUp (old new : WordBook) : Type 0 where
+  pub same : shown new.plain ≡ record (shown old.plain) { holder = given_up old.plain.holder }
+  pub published : PublishesNone old new
+  pub none : new.waiting ≡ None

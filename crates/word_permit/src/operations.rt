@@ -1,0 +1,160 @@
+//! The loader that has the permission goes on with its next command.
+
+ghost use Rattle.std.specs.Prelude.{◌≡◌, IfOk, IsSomeAnd, None, OnErr, Some};
+ghost use Rattle.staging.specs.Stages.{AreAtRest};
+ghost use Rattle.write_permit.specs.declared.holder.Holder.TheVariants as holders;
+ghost use Rattle.write_permit.specs.Book.{IsBook, shown};
+ghost use Rattle.write_permit.specs.Permit.{given_up, holder_of, next_of};
+ghost use Rattle.word_permit.specs.Books.{HasGivenUp, HasItsTables, HasTakenBack, IsWordBook, KeepsRun, OpAnswers, with_holder};
+ghost use Rattle.word_permit.specs.Runs.{IsOverWords};
+ghost use Rattle.word_permit.specs.Waiting.{GoesOverWords, IsDecided};
+
+use crate::answers::CommandStep;
+use crate::book::{Decision, Waiting, WordBook};
+use crate::deciding::{Course, course_of, decide};
+use crate::going_on::{end_unchanged, go_on_decided};
+use crate::run_name::RunName;
+use crate::tracing::end_traced;
+use code_law::{CodeLaw, Naming};
+use shared_words::Shared;
+use staging::Stage;
+use term_core::NoMemory;
+use write_permit::MarkList;
+use write_permit::commands::opening;
+use write_permit::holder::given_up;
+use write_permit::steps::next_command;
+
+/// Goes on with the next command of the loader that has the permission in a run, over the words of that run.
+pub fn advance_run<K: Naming, N: RunName>(
+    book: &mut WordBook,
+    shared: &Shared<CodeLaw<K>>,
+    who: u32,
+) -> Result<CommandStep, NoMemory>
+    requires words { IsOverWords shared.now.table.shared.table_id shared.now.table.shared.key N.run }
+    requires kept { KeepsRun K.names N.run book.old }
+    requires holds { holder_of book.old.plain.holder ≡ Some who }
+    requires goes { IsSomeAnd (next_of (shown book.old.plain) who) GoesOverWords }
+    ensures ok { IfOk result (OpAnswers who book.old book.new) }
+    ensures err { OnErr result (HasGivenUp book.old book.new) }
+    ensures kept { KeepsRun K.names N.run book.new }
+{
+    advance(book, shared, who)
+}
+
+/// Goes on with the next command of the loader that has the permission, which is a load, a delete, a put, an erase or a trace. After want of memory
+/// the loader gives the permission up.
+fn advance<K: Naming>(
+    book: &mut WordBook,
+    shared: &Shared<CodeLaw<K>>,
+    who: u32,
+) -> Result<CommandStep, NoMemory>
+    requires book { IsWordBook K.names shared.now.table.shared.table_id shared.now.table.shared.key book.old }
+    requires holds { book.old.plain.holder ≡ holders.Held who }
+    requires goes { IsSomeAnd (next_of (shown book.old.plain) who) GoesOverWords }
+    ensures ok { IfOk result (OpAnswers who book.old book.new) }
+    ensures err { OnErr result (HasGivenUp book.old book.new) }
+    ensures book { IsWordBook K.names shared.now.table.shared.table_id shared.now.table.shared.key book.new }
+{
+    match go_on(book, shared, who) {
+        Ok(step) => Ok(step),
+        Err(NoMemory) => {
+            give_up(book);
+            Err(NoMemory)
+        }
+    }
+}
+
+/// The loader gives the permission up, unless an entry of its command is in the journal.
+fn give_up(book: &mut WordBook)
+    ensures { book.new ≡ with_holder book.old (given_up book.old.plain.holder) }
+{
+    book.plain.holder = given_up(book.plain.holder);
+}
+
+/// The loader's next command begins, or goes on from where it waits.
+fn go_on<K: Naming>(
+    book: &mut WordBook,
+    shared: &Shared<CodeLaw<K>>,
+    who: u32,
+) -> Result<CommandStep, NoMemory>
+    requires book { IsWordBook K.names shared.now.table.shared.table_id shared.now.table.shared.key book.old }
+    requires holds { book.old.plain.holder ≡ holders.Held who }
+    requires goes { IsSomeAnd (next_of (shown book.old.plain) who) GoesOverWords }
+    ensures ok { IfOk result (OpAnswers who book.old book.new) }
+    ensures err { OnErr result (HasTakenBack book.old book.new) }
+    ensures book { IsWordBook K.names shared.now.table.shared.table_id shared.now.table.shared.key book.new }
+{
+    match book.waiting.take() {
+        Some(waiting) => go_on_decided(book, shared, who, waiting),
+        None => begin(book, shared, who),
+    }
+}
+
+/// The loader's next command is decided, and goes on by what the words follow its change.
+fn begin<K: Naming>(
+    book: &mut WordBook,
+    shared: &Shared<CodeLaw<K>>,
+    who: u32,
+) -> Result<CommandStep, NoMemory>
+    requires tables { HasItsTables K.names shared.now.table.shared.table_id shared.now.table.shared.key book.old }
+    requires rest { AreAtRest K.names book.old.plain.server book.old.tables }
+    requires none { book.old.waiting ≡ None }
+    requires holds { book.old.plain.holder ≡ holders.Held who }
+    requires goes { IsSomeAnd (next_of (shown book.old.plain) who) GoesOverWords }
+    ensures ok { IfOk result (OpAnswers who book.old book.new) }
+    ensures err { OnErr result (HasTakenBack book.old book.new) }
+    ensures book { IsWordBook K.names shared.now.table.shared.table_id shared.now.table.shared.key book.new }
+{
+    match decide_next(book, who) {
+        Ok(decision) => follow(book, shared, who, decision),
+        Err(NoMemory) => Err(NoMemory),
+    }
+}
+
+/// The loader's next command, decided.
+fn decide_next(book: &WordBook, who: u32) -> Result<Decision, NoMemory>
+    requires book { IsBook book.now.plain }
+    requires holds { book.now.plain.holder ≡ holders.Held who }
+    requires goes { IsSomeAnd (next_of (shown book.now.plain) who) GoesOverWords }
+    ensures { IfOk result (IsDecided (shown book.now.plain) who) }
+{
+    let Some(command) = next_command(&book.plain, who) else {
+        unreachable!()
+    };
+    let alloc = book.plain.alloc;
+    let cmd = opening(alloc, command, &book.plain.server, &MarkList::new(alloc))?;
+    decide(&book.plain, cmd)
+}
+
+/// The words follow a decided command, as its change asks.
+fn follow<K: Naming>(
+    book: &mut WordBook,
+    shared: &Shared<CodeLaw<K>>,
+    who: u32,
+    decision: Decision,
+) -> Result<CommandStep, NoMemory>
+    requires tables { HasItsTables K.names shared.now.table.shared.table_id shared.now.table.shared.key book.old }
+    requires rest { AreAtRest K.names book.old.plain.server book.old.tables }
+    requires none { book.old.waiting ≡ None }
+    requires holds { book.old.plain.holder ≡ holders.Held who }
+    requires decided { IsDecided (shown book.old.plain) who decision }
+    ensures ok { IfOk result (OpAnswers who book.old book.new) }
+    ensures err { OnErr result (HasTakenBack book.old book.new) }
+    ensures book { IsWordBook K.names shared.now.table.shared.table_id shared.now.table.shared.key book.new }
+{
+    match course_of(&decision.change) {
+        Course::Staged => {
+            let stage = Stage::Untouched;
+            go_on_decided(book, shared, who, Waiting { decision, stage })
+        }
+        Course::Unchanged => {
+            let applied = end_unchanged(&mut book.plain, who, decision)?;
+            Ok(CommandStep::Done(applied))
+        }
+        Course::Traced => {
+            let applied = end_traced(book, shared, who, decision)?;
+            Ok(CommandStep::Done(applied))
+        }
+        Course::Unasked => Err(NoMemory),
+    }
+}
