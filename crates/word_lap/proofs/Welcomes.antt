@@ -1,0 +1,146 @@
+-- A process that comes to its place while its member reports and learns its note.
+use Rattle.std.proofs.Common.{◌≡◌, ◌≢◌, ℕ, ◌<◌, ◌≤◌, ◌%◌, List, [], ◌∷◌, ◌++◌, length, Option, Some, None, refl, sym, ap, subst, ◌∙◌, arith}
+use Rattle.std.specs.Prelude.{IsTrue, IsSomeAnd, ◌==◌, not, slice_set}
+use Rattle.std.proofs.lemmas.Bool.{and_from, eq-eqb, ne_eqb, not_from_false}
+use Rattle.atomic_table.specs.Seated.{TableId}
+use Rattle.term_core.specs.declared.atom.Mfa.{Mfa}
+use Rattle.area_core.specs.declared.map.TheConstants.{PROCESSES}
+use Rattle.shared_words.specs.declared.opening.Opening.{Opening}
+use Rattle.shared_words.specs.declared.seats.Member as tokens
+use Rattle.shared_words.specs.declared.seats.Note as notes
+use Rattle.shared_words.specs.declared.view.MemberView.{MemberView}
+use Rattle.shared_words.specs.Notes.{note_joined}
+use Rattle.shared_words.specs.Processes.{held_by_view}
+use Rattle.shared_words.specs.Views.{newest, published_at}
+use Rattle.progress_words.specs.Reports.{Reported}
+use Rattle.progress_words.specs.Tokens.{IsMemberOf, IsNoteOf, IsSameMember, noted_by}
+use Rattle.anchors.specs.Holds.{view_of}
+use Rattle.inbox.specs.Ends.{Taking, took}
+use Rattle.area_core.specs.Readers.{is_of}
+use Rattle.area_core.specs.declared.readers.Slots.TheVariants.{OfMember}
+use Rattle.code_law.specs.Served.{IsServed}
+use Rattle.run_law.specs.Newcomers.{Spawn}
+use Rattle.run_law.specs.Reading.{TracedBy}
+use Rattle.word_lap.specs.declared.process_run.ProcessRun.{ProcessRun}
+use Rattle.word_lap.specs.Newcomers.{IsNoted, IsNotedIn}
+use Rattle.word_lap.specs.Schedulers.{IsBetweenTurns, IsToken, KeepsProcesses}
+use Rattle.word_lap.specs.Taking.{BelongsNot, IsFreeFor}
+use Rattle.word_lap.proofs.Arrivals.{comes_here, learnt_already, let_go, newcomer_held}
+use Rattle.word_lap.proofs.Reports.{report_keeps}
+use Rattle.word_lap.proofs.Tokens.{token_moved}
+
+-- ---- the note
+
+-- it is of the words that the name stands for
+pub noted_in : (named : Option TableId) (table : TableId) (number published : ℕ) (note : notes.Note) → named ≡ Some table → IsNoted named number published note → IsNotedIn table number published note
+noted_in named table number published note is h = subst (λ (o : Option TableId). IsSomeAnd o (λ t. IsNotedIn t number published note)) is h
+
+pub note_of : (named : Option TableId) (table : TableId) (number published : ℕ) (note : notes.Note) → named ≡ Some table → IsNoted named number published note → IsNoteOf table note.process note
+note_of named table number published note is h = record { process = refl; seat = (noted_in named table number published note is h).of.seat }
+
+own_process : (member count process : ℕ) → 0 < count → process % count ≡ member → IsTrue (is_of (OfMember member count) process)
+own_process member count process some own =
+    and_from (not (count == 0)) (process % count == member) (not_from_false (count == 0) (ne_eqb count 0 (λ none. absurd (omega (arith, some, none))))) (eq-eqb (process % count) member own)
+
+-- and its process is one of the member's
+pub note_own : (named : Option TableId) (table : TableId) (number published member count : ℕ) (note : notes.Note) → named ≡ Some table → IsNoted named number published note → 0 < count → number % count ≡ member
+    → IsTrue (is_of (OfMember member count) note.process)
+note_own named table number published member count note is h some own =
+    subst (λ (p : ℕ). IsTrue (is_of (OfMember member count) p)) (sym (noted_in named table number published note is h).of.process) (own_process member count number some own)
+
+-- ---- the process
+
+-- the process before its first turn
+pub record IsFresh (spawn : Spawn) (run : ProcessRun) : Type 0 where
+  pub number : run.process.number ≡ spawn.number
+  pub target : run.process.target ≡ spawn.target
+  pub args : run.process.args ≡ spawn.args
+  pub turns : run.process.turns ≡ 0
+  pub frames : run.process.frames ≡ []
+  pub spans : run.spans ≡ []
+  pub fin : run.fin ≡ None
+
+module _ (functions : List Mfa) (opening : Opening) (table : TableId) (old mid new : tokens.Member) (note : notes.Note) (spawn : Spawn) (run : ProcessRun) (generation : ℕ) (processes : List (Option ProcessRun)) where
+  abbrev m : MemberView
+  m = view_of mid
+
+  module _ (token : IsToken table old) (reached : IsToken table mid) (number : mid.number ≡ old.number) (between : IsBetweenTurns m) (r : Reported (IsServed functions) (view_of old) m generation) (caught : spawn.published ≤ generation) (noted : IsNotedIn table spawn.number spawn.published note)
+      (joined : view_of new ≡ note_joined (noted_by note) m) (fresh : IsFresh spawn run) (free : IsFreeFor spawn.number old.number opening.members processes) where
+    own_newest : m.member.generation ≡ newest m.seen
+    own_newest = ap (λ (x : MemberView). x.member.generation) r.view
+
+    learnt : spawn.published ≤ m.member.generation
+    learnt = (let is = own_newest in let newest_is = r.newest in omega (arith, is, newest_is, caught))
+
+    few : length (noted_by note).seen ≤ length m.seen
+    few = (let most = learnt in let room = reached.rooted.learnt in let count = noted.learnt in omega (arith, most, room, count))
+
+    served : IsServed functions (held_by_view m)
+    served = subst (λ (n : ℕ). IsServed functions (published_at m.seen n)) (r.newest ∙ sym own_newest) r.served
+
+    own : spawn.number % opening.members ≡ m.member.number
+    own = free.own ∙ sym (reached.seat.numbered ∙ number)
+
+    process_is : (noted_by note).note.process ≡ spawn.number
+    process_is = noted.of.seat.process_is ∙ noted.of.process
+
+    -- the note has learnt of no more than the member
+    view_is : view_of new ≡ record m { notes = m.notes ++ (noted_by note).note ∷ [] }
+    view_is = joined ∙ learnt_already (noted_by note) m few
+
+    slots_are : (view_of new).slots ≡ m.slots
+    slots_are = ap (λ (x : MemberView). x.slots) view_is
+
+    pub welcome_token : IsMemberOf table new → IsSameMember mid new → new.root ≡ mid.root → IsToken table new
+    welcome_token seat same root = token_moved table mid new reached seat same root slots_are (ap (λ (x : MemberView). x.member.generation) view_is) (ap (λ (x : MemberView). x.seen) view_is)
+
+    -- what a scheduler keeps is kept, with one process more
+    pub welcome_keeps : (traced : TracedBy) (taken : List Spawn) → KeepsProcesses functions traced opening (view_of old) taken processes
+        → KeepsProcesses functions traced opening (view_of new) (taken ++ spawn ∷ []) (slice_set processes spawn.number (Some run))
+    welcome_keeps traced taken h =
+        let here = report_keeps functions traced opening (view_of old) m generation token.rooted.learnt between.awake r taken processes h in
+        let empty = (here.each spawn.number None free.free).0 in
+        let held = newcomer_held functions traced opening m (noted_by note).note spawn run between served r.areas free.below own learnt process_is noted.told
+        fresh.number fresh.target fresh.args fresh.turns fresh.frames fresh.spans fresh.fin empty in
+        let all = comes_here functions traced opening m taken spawn (noted_by note).note run process_is processes held here in
+        subst (λ (x : MemberView). KeepsProcesses functions traced opening x (taken ++ spawn ∷ []) (slice_set processes spawn.number (Some run))) (sym view_is) all
+
+-- ---- one after another
+
+-- what does not belong here is let go
+pub let_go_keeps : (functions : List Mfa) (table : TableId) (opening : Opening) (token : tokens.Member) (spawn : Spawn) (processes : List (Option ProcessRun)) → IsToken table token → BelongsNot spawn.number token.number opening.members processes
+    → (traced : TracedBy) (taken : List Spawn) → KeepsProcesses functions traced opening (view_of token) taken processes → KeepsProcesses functions traced opening (view_of token) (taken ++ spawn ∷ []) processes
+let_go_keeps functions table opening token spawn processes h apart traced taken kept =
+    let_go functions traced opening (view_of token) taken spawn processes (λ p at is. subst (λ (n : ℕ). p % opening.members ≢ n) (sym h.seat.numbered) (apart p at is)) kept
+
+-- the same where the code has these numbers otherwise
+pub let_go_here : (functions : List Mfa) (table : TableId) (opening : Opening) (token : tokens.Member) (spawn : Spawn) (number member members : ℕ) (processes : List (Option ProcessRun)) → spawn.number ≡ number → token.number ≡ member → members ≡ opening.members → IsToken table token
+    → BelongsNot number member members processes → (traced : TracedBy) (taken : List Spawn) → KeepsProcesses functions traced opening (view_of token) taken processes → KeepsProcesses functions traced opening (view_of token) (taken ++ spawn ∷ []) processes
+let_go_here functions table opening token spawn number member members processes is own count h apart =
+    let_go_keeps functions table opening token spawn processes h (λ p at same mine. apart p at (sym is ∙ same) (ap (λ (n : ℕ). p % n) count ∙ mine ∙ own))
+
+-- what came was taken in
+pub record TakenSteps (functions : List Mfa) (table : TableId) (opening : Opening) (old new : tokens.Member) (before after : Taking Spawn) (was now : List (Option ProcessRun)) : Type 0 where
+  pub token : IsToken table new
+  pub number : new.number ≡ old.number
+  pub between : IsBetweenTurns (view_of new)
+  pub all : length now ≡ PROCESSES
+  pub inbox : after.number ≡ before.number
+  pub kept : (traced : TracedBy) → KeepsProcesses functions traced opening (view_of old) before.taken was → KeepsProcesses functions traced opening (view_of new) after.taken now
+
+module _ (functions : List Mfa) (table : TableId) (opening : Opening) (old : tokens.Member) (before : Taking Spawn) (was : List (Option ProcessRun)) where
+  pub taken_begins : IsToken table old → IsBetweenTurns (view_of old) → length was ≡ PROCESSES → TakenSteps functions table opening old old before before was was
+  taken_begins token between all = record { token = token; number = refl; between = between; all = all; inbox = refl; kept = λ traced h. h }
+
+  pub taken_goes_on : (mid new : tokens.Member) (at after : Taking Spawn) (now later : List (Option ProcessRun)) (spawn : Spawn) → TakenSteps functions table opening old mid before at was now → after ≡ took at spawn → IsToken table new
+      → new.number ≡ mid.number → IsBetweenTurns (view_of new) → length later ≡ PROCESSES
+      → ((traced : TracedBy) (taken : List Spawn) → KeepsProcesses functions traced opening (view_of mid) taken now → KeepsProcesses functions traced opening (view_of new) (taken ++ spawn ∷ []) later)
+      → TakenSteps functions table opening old new before after was later
+  taken_goes_on mid new at after now later spawn h is token number between all kept = record {
+    token = token;
+    number = number ∙ h.number;
+    between = between;
+    all = all;
+    inbox = ap (λ (t : Taking Spawn). t.number) is ∙ h.inbox;
+    kept = λ traced first. subst (λ (t : Taking Spawn). KeepsProcesses functions traced opening (view_of new) t.taken later) (sym is) (kept traced at.taken (h.kept traced first));
+  }

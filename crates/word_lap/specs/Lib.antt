@@ -1,0 +1,9 @@
+pub mod Reading
+pub mod Newcomers
+pub mod Laps
+pub mod Schedulers
+pub mod Waiting
+pub mod Turning
+pub mod LapTurns
+pub mod Taking
+pub mod Laws
