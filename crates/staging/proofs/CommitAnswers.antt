@@ -39,6 +39,7 @@ module _ (names : List Mfa) (s : ServerState) (change : Change) (table : TableId
     pub by_roots : KeptByRoots
     pub terms : new.terms ≡ t.terms
     pub pools : new.pools ≡ t.pools
+    pub owned : IsIndexOf new.index (written_by new.writer)
     pub committed : IfOk r (λ generation. HasCommitted t.index new.index (committed (written_by t.writer) (generation_shown exports (state_after s change)) (areas_in t.pools)) (written_by t.writer) (written_by new.writer) generation)
     pub waits : IfErr r (λ answer. IsWaiting t.index new.index (written_by t.writer) (written_by new.writer) answer)
 
@@ -48,7 +49,7 @@ module _ (names : List Mfa) (s : ServerState) (change : Change) (table : TableId
       (subst (λ (ns : List Mfa). HasCommitted t.index new.index (committed (written_by t.writer) (generation_shown ns (state_after s change)) (areas_in t.pools)) (written_by t.writer) (written_by new.writer) generation) said.named said.committed)
 
   by_wait : (exports : List Mfa) (new : Tables) (answer : NotYet) → Answers exports new (Err answer) → AreWaiting names s change table opening t taken own sound fits had numbered new answer
-  by_wait exports new answer said = are_waiting names s change table opening t taken own sound fits had numbered new answer said.terms said.pools said.waits
+  by_wait exports new answer said = are_waiting names s change table opening t taken own sound fits had numbered new answer said.terms said.pools said.waits said.owned.staged
 
   pub published_after : (exports : List Mfa) (new : Tables) (r : Result ℕ NotYet) → Answers exports new r → IfOk r (λ generation. HasPublished names (state_after s change) t new generation)
   published_after exports new (Ok generation) said = (by_commit exports new generation said).published

@@ -34,7 +34,7 @@ use Rattle.term_table.specs.Tables.{IsTableOf, Terms, words_in}
 use Rattle.staging.specs.declared.tables.Tables.{Tables}
 use Rattle.staging.specs.Placed.{ArePlaced}
 use Rattle.staging.specs.Standing.{StandFor}
-use Rattle.staging.specs.Stages.{HasPublished, HaveExported, IsCodeChange, IsLate}
+use Rattle.staging.specs.Stages.{HasPublished, HaveExported, IsCodeChange, IsLateFor}
 use Rattle.staging.specs.Upcoming.{IsUpcoming, areas_in, generation_shown}
 use Rattle.staging.specs.Whose.{AreTablesOf}
 use Rattle.staging.proofs.CodeAfter.{code_after}
@@ -42,6 +42,7 @@ use Rattle.staging.proofs.CodeBlocks.{IsPlacedWhole, still_stands}
 use Rattle.staging.proofs.CodeComes.{code_comes_next}
 use Rattle.staging.proofs.Coming.{ComesNext}
 use Rattle.staging.proofs.Counted.{comes_counted, placed_counted, stands_counted, tables_counted}
+use Rattle.staging.proofs.Lateness.{late_code}
 use Rattle.staging.proofs.NextAreas.{apart_next, go_on, next_listed, used_kept}
 use Rattle.staging.proofs.NextStands.{is_listed, stands_next}
 use Rattle.staging.proofs.NextStays.{old_stays_next, retired_stays_next, served_next}
@@ -224,10 +225,10 @@ module _ (names : List Mfa) (s : ServerState) (change : Change) (table : TableId
     pub pools : AreOf t.pools (written_by new.writer)
     pub published : (written_by new.writer).published ≡ w.published
     pub stands : HaveExported names s change new taken
-    pub why : IsLate new answer
+    pub why : IsLateFor change t new answer
 
-  pub are_waiting : (new : Tables) (answer : NotYet) → new.terms ≡ t.terms → new.pools ≡ t.pools → IsWaiting t.index new.index w (written_by new.writer) answer → AreWaiting new answer
-  are_waiting new answer terms pools waiting =
+  pub are_waiting : (new : Tables) (answer : NotYet) → new.terms ≡ t.terms → new.pools ≡ t.pools → IsWaiting t.index new.index w (written_by new.writer) answer → staged.GoesWith new.index (written_by new.writer) → AreWaiting new answer
+  are_waiting new answer terms pools waiting goes =
       let held = held_waiting t.index waiting.asked.begun (written_by new.writer) answer.need waiting.asked.waits.taken waiting.asked.loaded in
       record {
         terms = held.tables;
@@ -244,5 +245,5 @@ module _ (names : List Mfa) (s : ServerState) (change : Change) (table : TableId
           code = code;
           exported = λ q is. staged_still t.index new.index q (written_by new.writer) answer.need waiting.asked.waits.index held.words (had.exported q (record { state = is.state; areas = is.areas ∙ ap areas_in pools }));
         };
-        why = record { loaded = waiting.loaded; below = waiting.below };
+        why = late_code change t new answer code waiting goes;
       }

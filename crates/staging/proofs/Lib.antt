@@ -16,6 +16,7 @@ mod TakenUses
 mod CodeAfter
 mod StagedTables
 mod StagedEnds
+mod Lateness
 mod TableStores
 mod PlacedAreas
 mod BlockUses

@@ -18,6 +18,7 @@ pub record PlacesOn (table : TableId) (opening : Opening) (names : List Mfa) (s 
   pub next : at ≡ length taken
   pub exports : now.exports ≡ first.exports
   pub index : now.index ≡ first.index
+  pub terms : now.terms ≡ first.terms
   pub published : (written_by now.writer).published ≡ (written_by first.writer).published
   pub known : KeepsKnown (written_by first.writer) (written_by now.writer)
 

@@ -1,19 +1,23 @@
 -- How far the words are with a change of the server that waits, and what a step of it leaves.
 -- Source: Erlang/OTP erts internal documentation, CodeLoading (stage, wait for thread progress, commit), and the manual page of persistent_term.
-use Rattle.std.specs.Prelude.{◌≡◌, ◌⊎◌, ℕ, ◌+◌, ◌<◌, ◌≤◌, List, [], ◌∷◌, ◌++◌, length, None}
+use Rattle.std.specs.Prelude.{◌≡◌, ◌⊎◌, ℕ, ◌+◌, ◌<◌, ◌≤◌, List, [], ◌∷◌, ◌++◌, length, slice_index, Option, Some, None}
 use Rattle.term_core.specs.declared.area.AreaRef.{AreaRef}
 use Rattle.term_core.specs.declared.atom.Mfa.{Mfa}
 use Rattle.area_core.specs.declared.table.Published.{Published}
+use Rattle.shared_words.specs.Views.{newest}
 use Rattle.progress_words.specs.declared.answers.NotYet.{NotYet}
+use Rattle.progress_words.specs.Needs.{HasTaken}
 use Rattle.progress_words.specs.Tokens.{written_by}
 use Rattle.server_core.specs.declared.change.Change.{Change}
 use Rattle.server_core.specs.declared.change.Change.TheVariants.{BringIn, MakeOld, HoldWord, HoldArea, Forget}
 use Rattle.server_core.specs.Decided.{made}
 use Rattle.server_core.specs.ServerState.{ServerState}
-use Rattle.code_index.specs.declared.index.Staging.TheVariants.{Nothing}
+use Rattle.code_index.specs.declared.index.Staging.{Staging}
+use Rattle.code_index.specs.declared.index.Staging.TheVariants.{Nothing, Staged, Committing}
 use Rattle.literal_areas.specs.declared.areas.Areas.{Areas}
 use Rattle.literal_areas.specs.declared.blocks.Pool.{Pool}
 use Rattle.literal_areas.specs.Blocks.{AwaitsRelease, blocks_of}
+use Rattle.term_table.specs.Tables.{staging_table}
 use Rattle.staging.specs.declared.tables.Tables.{Tables}
 use Rattle.staging.specs.declared.stage.Stage.{Stage}
 use Rattle.staging.specs.declared.stage.Stage.TheVariants.{Untouched, Placed, Exported}
@@ -75,6 +79,27 @@ abbrev pub NextAnswers : ℕ → Tables → List AreaRef → Placing → Type 0
 NextAnswers at t taken Whole = length taken ≡ at + 1
 NextAnswers at t taken AwaitRelease = (length taken ≡ at) × ((pool : Pool) × AwaitsRelease (blocks_of pool t.pools))
 
+-- ---- what is waited for
+
+-- the value that the commit of staged exports waits for, once it has taken one
+abbrev pub commit_need : Staging → Option ℕ
+commit_need Nothing = None
+commit_need (Staged block) = None
+commit_need (Committing block need) = Some need
+
+-- the value from which on nobody reads the term table in which a key is staged
+abbrev pub table_need : Tables → ℕ
+table_need t = slice_index t.terms.needs (staging_table (written_by t.writer))
+
+-- the value of the counter that a change waits for: a change of code for that of its commit, a change of a key for that of the term table
+abbrev pub awaited_by : Change → Tables → Option ℕ
+awaited_by (BringIn generation modules areas versions) t = commit_need t.index
+awaited_by (MakeOld generation name) t = commit_need t.index
+awaited_by (HoldWord generation key term keys retired) t = Some (table_need t)
+awaited_by (HoldArea generation key term kept areas keys retired) t = Some (table_need t)
+awaited_by (Forget generation key retired) t = Some (table_need t)
+awaited_by change t = None
+
 -- ---- a step
 
 -- a change of a key alone
@@ -107,10 +132,19 @@ pub record IsLate (new : Tables) (answer : NotYet) : Type 0 where
   pub loaded : answer.current ≡ (written_by new.writer).counter
   pub below : answer.current < answer.need
 
+-- and what is awaited is the value that the change waits for
+pub record IsLateFor (change : Change) (old new : Tables) (answer : NotYet) : Type 0 where
+  pub late : IsLate new answer
+  pub awaited : awaited_by change new ≡ Some answer.need
+  -- it is the one that the change waited for before this call, if it did
+  pub kept : (need : ℕ) → awaited_by change old ≡ Some need → answer.need ≡ need
+  -- that of a commit was taken while the newest generation was this one
+  pub taken : (need : ℕ) → commit_need new.index ≡ Some need → HasTaken (written_by new.writer) (newest (written_by new.writer).published) need
+
 -- what each answer says
 abbrev pub StepAnswers : List Mfa → ServerState → Change → Tables → Tables → Stage → Step → Type 0
 StepAnswers names s change old new stage (steps.Published generation) = HasPublished names (made s change).state old new generation
-StepAnswers names s change old new stage (steps.NotYet answer) = Waits names s change old new stage (IsLate new answer)
+StepAnswers names s change old new stage (steps.NotYet answer) = Waits names s change old new stage (IsLateFor change old new answer)
 StepAnswers names s change old new stage steps.AwaitRelease = Waits names s change old new stage ((pool : Pool) × AwaitsRelease (blocks_of pool new.pools))
 
 -- how far a stage is

@@ -4,7 +4,7 @@ ghost use Rattle.std.specs.Prelude.{◌≡◌, ◌<◌, ◌^◌, length, IfErr, 
 ghost use Rattle.progress_words.specs.Tokens.{written_by};
 ghost use Rattle.server_core.specs.Decided.{Fits, made};
 ghost use Rattle.server_core.specs.Generations.{AreNumbered};
-ghost use Rattle.staging.specs.Stages.{HasPublished, HaveExported, IsLate, Waits};
+ghost use Rattle.staging.specs.Stages.{HasPublished, HaveExported, IsLateFor, Waits};
 ghost use Rattle.staging.specs.Whose.{AreTablesOf, KeepsKnown};
 ghost use Rattle.staging.specs.declared.stage.Stage.TheVariants as stages;
 
@@ -40,7 +40,7 @@ pub fn commit_exports<K: Naming>(
     ensures names { tables.new.exports ≡ K.names }
     // the state that the change leaves is published, or a thread is waited for; the writer keeps what it knew
     ensures published { IfOk result (λ generation. HasPublished K.names (made server.now change.now).state tables.old tables.new generation) }
-    ensures waits { IfErr result (λ answer. Waits K.names server.now change.now tables.old tables.new (stages.Exported areas.now) (IsLate tables.new answer)) }
+    ensures waits { IfErr result (λ answer. Waits K.names server.now change.now tables.old tables.new (stages.Exported areas.now) (IsLateFor change.now tables.old tables.new answer)) }
     ensures known { KeepsKnown (written_by tables.old.writer) (written_by tables.new.writer) }
 {
     roots_keep_tables();

@@ -12,7 +12,7 @@ ghost use Rattle.term_table.specs.Keys.{key_of};
 ghost use Rattle.staging.specs.Keyed.{HasKeyWord, area_word, key_change};
 ghost use Rattle.change_laws.specs.Changes.{incoming};
 ghost use Rattle.staging.specs.Replaced.{FormerRetired, HaveKeyed, HaveReplaced, IsFormerArea, IsLiveThere, former_of};
-ghost use Rattle.staging.specs.Stages.{GoesOn, HasPublished, HavePlaced, IsKeyChange, IsLate, StageStands, StepAnswers, stage_number};
+ghost use Rattle.staging.specs.Stages.{GoesOn, HasPublished, HavePlaced, IsKeyChange, IsLateFor, StageStands, StepAnswers, stage_number};
 ghost use Rattle.staging.specs.Whose.{AreTablesOf, KeepsKnown};
 ghost use Rattle.staging.specs.declared.stage.Stage.TheVariants as stages;
 
@@ -227,7 +227,7 @@ fn stage_key<K: Naming>(
     ensures former { IfOk result (λ key. former_of server.now change.now ≡ key_area server.now key.0) }
     // or the table in which it would be staged may still be read
     ensures placed { OnErr result (HavePlaced K.names server.now change.now tables.new areas.now) }
-    ensures late { IfErr result (IsLate tables.new) }
+    ensures late { IfErr result (IsLateFor change.now tables.old tables.new) }
 {
     counters_keep_index();
     writes_keep_index();

@@ -120,6 +120,7 @@ pub fn place_incoming<K: Naming>(
     ensures tables { AreTablesOf shared.now.table.shared.table_id shared.now.table.shared.key tables.new }
     ensures exports { tables.new.exports ≡ tables.old.exports }
     ensures index { tables.new.index ≡ tables.old.index }
+    ensures terms { tables.new.terms ≡ tables.old.terms }
     // those that were taken now are placed besides
     ensures placed { HavePlaced K.names server.now change.now tables.new taken.new.items }
     ensures answers { IfOk result (PlacingAnswers change.now tables.new taken.new.items) }
@@ -158,6 +159,7 @@ fn place_next<K: Naming>(
     ensures tables { AreTablesOf shared.now.table.shared.table_id shared.now.table.shared.key tables.new }
     ensures exports { tables.new.exports ≡ tables.old.exports }
     ensures index { tables.new.index ≡ tables.old.index }
+    ensures terms { tables.new.terms ≡ tables.old.terms }
     // one more has its area, or none is free, or memory was refused
     ensures placed { HavePlaced K.names _server.now change.now tables.new taken.new.items }
     ensures answers { IfOk result (NextAnswers at tables.new taken.new.items) }

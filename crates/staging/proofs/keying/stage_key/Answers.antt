@@ -6,6 +6,7 @@ use Rattle.progress_words.specs.Roots.{newest_of}
 use Rattle.progress_words.specs.Tokens.{written_by}
 use Rattle.staging.proofs.KeyStaged.{newest_keys}
 use Rattle.staging.proofs.Known.{known_loaded, known_on, known_words}
+use Rattle.staging.proofs.Lateness.{late_key}
 use Rattle.staging.proofs.StagedEnds.{former_is, never_full, never_none, placed_waited, tables_waited}
 use Rattle.staging.proofs.StagedKey.{has_word}
 use Rattle.staging.proofs.StagedTables.{have_keyed, tables_staged}
@@ -68,4 +69,6 @@ returns-in-Err-clause-placed g c =
 pub returns-in-Err-clause-late : goal.returns-in-Err-clause-late
 returns-in-Err-clause-late g c =
     let waits = c.in-Err.ensures.not_yet c.awaited.result (ap Err c.awaited.ensures) in
-    record { loaded = waits.current; below = waits.below }
+    let tables =
+    tables_waited _ _ c.args.tables.now (record c.args.tables.now { writer = c.stage_copy.new.writer; terms = c.stage_copy.new.self }) c.counters_keep_index.ensures c.counters_keep_pools.ensures c.requires.tables c.stage_copy.ensures.token c.stage_copy.ensures.owned waits.loaded refl refl in
+    late_key c.args.change.now c.args.tables.now (record c.args.tables.now { writer = c.stage_copy.new.writer; terms = c.stage_copy.new.self }) c.awaited.result c.requires.key c.in-Err.ensures.err waits tables.index.staged
