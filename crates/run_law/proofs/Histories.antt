@@ -34,6 +34,8 @@ module _ (names : List Mfa) (traced : TracedBy) (s : Script) (log : RunLog) (w :
 
   pub table_closes : Closes names s log w
   table_closes = record {
+    numbered = over.journal.numbered;
+    staffed = over.come.staffed;
     published = over.published;
     marks = λ number process m at own.
         let line = line_of_process names traced s log w over number process at in

@@ -1,11 +1,12 @@
 -- What a run over the shared words answers: its log, and the table as it was closed, which has a mark for each turn of the log.
 -- Source: this project's profile. The log is read by the journal's states; the table keeps what threads stored.
-use Rattle.std.specs.Prelude.{◌≡◌, ℕ, ◌≤◌, List, length, reverse, slice_get, Some, All}
+use Rattle.std.specs.Prelude.{◌≡◌, ℕ, ◌<◌, ◌≤◌, List, length, reverse, slice_get, Some, All}
 use Rattle.std.specs.List.{AllByRecursion}
 use Rattle.term_core.specs.declared.atom.Mfa.{Mfa}
 use Rattle.shared_words.specs.declared.view.MemberView.{MemberView}
 use Rattle.shared_words.specs.declared.view.WriterView.{WriterView}
 use Rattle.shared_words.specs.Processes.{process_of}
+use Rattle.change_laws.specs.Names.{IsNumbered}
 use Rattle.script_core.specs.declared.script.Script.{Script}
 use Rattle.run_log.specs.declared.logs.ProcessLog.{ProcessLog}
 use Rattle.run_log.specs.declared.logs.RunLog.{RunLog}
@@ -24,9 +25,11 @@ pub record IsOver (names : List Mfa) (traced : TracedBy) (s : Script) (log : Run
   pub come : HaveCome w
   pub run : HaveRun names traced s log w
 
--- the closed table has published the generations of the journal, and has of each process of the log one mark for each turn, in order, of its generation
--- and with its names
+-- the closed table has published the generations of the journal, by names that have a number each, and has of each process of the log one mark for each
+-- turn, in order, of its generation and with its names: there are members, and each process is one of a member's
 pub record Closes (names : List Mfa) (s : Script) (log : RunLog) (w : WriterView) : Type 0 where
+  pub numbered : All (IsNumbered names) s.modules
+  pub staffed : 0 < length w.members
   pub published : ArePublished names s.modules log.journal w.published
   pub marks : (number : ℕ) (process : ProcessLog) (m : MemberView) → slice_get log.processes number ≡ Some process → IsMemberOf w number m
       → MarksTell (reverse (process_of m number).marks) (turns_in_log s log number process)
