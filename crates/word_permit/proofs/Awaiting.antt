@@ -1,8 +1,8 @@
 -- What is waited for: it was taken while the newest generation had the area retired, and stays known.
-use Rattle.std.proofs.Common.{◌≡◌, ℕ, Result, Ok, Err, OnOk, IfErr, ◌<◌, ◌≤◌, inl, inr, List, ◌++◌, length, slice_get, Option, Some, None, unwrap_or, IfSome, sym, ap, subst, ◌∙◌, arith}
+use Rattle.std.proofs.Common.{◌≡◌, ℕ, Result, Ok, Err, OnOk, ◌<◌, ◌≤◌, inl, inr, List, ◌++◌, length, slice_get, Option, Some, None, unwrap_or, IfSome, sym, ap, subst, ◌∙◌, arith}
 use Rattle.std.specs.Prelude.{IsTrue}
 use Rattle.std.proofs.lemmas.Bool.{false≢true}
-use Rattle.std.proofs.lemmas.Option.{slice_get-get_or}
+use Rattle.std.proofs.lemmas.Option.{same_Some, slice_get-get_or}
 use Rattle.atomic_table.specs.Seated.{TableId}
 use Rattle.term_core.specs.declared.atom.Mfa.{Mfa}
 use Rattle.term_core.specs.declared.generation.Generation.{Generation}
@@ -26,7 +26,7 @@ use Rattle.literal_areas.specs.declared.areas.Areas.{Areas}
 use Rattle.staging.specs.declared.stage.Stage.{Stage}
 use Rattle.staging.specs.declared.stage.Stage.TheVariants.{Untouched, Placed, Exported}
 use Rattle.staging.specs.declared.tables.Tables.{Tables}
-use Rattle.staging.specs.Stages.{IsLate, StageStands}
+use Rattle.staging.specs.Stages.{StageStands}
 use Rattle.staging.specs.Standing.{StandFor}
 use Rattle.staging.specs.Whose.{KeepsKnown, KeepsWaits}
 use Rattle.write_permit.specs.Book.{shown}
@@ -36,6 +36,7 @@ use Rattle.word_permit.specs.declared.book.Waiting.{Waiting}
 use Rattle.word_permit.specs.declared.book.WordBook.{WordBook}
 use Rattle.word_permit.specs.Books.{IsWordBook}
 use Rattle.word_permit.specs.Needs.{IsAwaited}
+use Rattle.word_permit.specs.Pumped.{IsAwaitedStill}
 use Rattle.word_permit.specs.Waiting.{WordsStand}
 
 -- ---- what is retired
@@ -114,6 +115,10 @@ pub need_still : (old new : WriterView) (o : Option AreaNeed) → KeepsWaits old
 need_still old new None waits published h = tt
 need_still old new (Some n) waits published h = awaited_still old new n waits published h
 
+-- the one that is kept is such a value
+pub need_at : (w : WriterView) (o : Option AreaNeed) (n : AreaNeed) → o ≡ Some n → IfSome o (IsAwaited w) → IsAwaited w n
+need_at w o n is h = subst (λ (x : Option AreaNeed). IfSome x (IsAwaited w)) is h
+
 -- once the value is reached, a look may begin
 pub look_may_begin : (w : WriterView) (n : AreaNeed) → IsAwaited w n → n.value ≤ w.counter → LookMayBegin w Both n.serial
 look_may_begin w n h reached = record {
@@ -135,7 +140,15 @@ pub reached_begins : {T : Type 0} (r : Result T NotYet) (old new : WriterView) (
 reached_begins (Ok x) old new n h loaded reached = look_may_begin new n (awaited_still old new n (waits_loaded old new loaded) (ap (λ (w : WriterView). w.published) loaded.view) h) reached
 reached_begins (Err answer) old new n h loaded reached = tt
 
--- or the counter is below it
-pub reached_late : {T : Type 0} (r : Result T NotYet) (need : ℕ) (new : Tables) → IfErr r (IsBelow need (written_by new.writer)) → IfErr r (IsLate new)
-reached_late (Ok x) need new h = tt
-reached_late (Err answer) need new h = record { loaded = h.loaded; below = h.below }
+-- or the counter is below it, and the value is awaited still
+pub told_late : (b m c : WordBook) (need : AreaNeed) (answer : NotYet) → m.need ≡ Some need → c.need ≡ m.need → IsTrue (is_retired b.plain.server need.serial) → IsAwaited (written_by c.tables.writer) need
+    → ((before : AreaNeed) → b.need ≡ Some before → IsTrue (is_retired b.plain.server before.serial) → Some need ≡ Some before) → IsBelow need.value (written_by c.tables.writer) answer → IsAwaitedStill b c answer
+told_late b m c need answer taken kept waits awaited same below = record {
+  need = need;
+  kept = kept ∙ taken;
+  waits = waits;
+  taken = awaited;
+  same = λ before had retired. same_Some need before (same before had retired);
+  value = below.asked;
+  below = record { loaded = below.loaded; below = below.below };
+}

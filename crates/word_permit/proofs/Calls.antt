@@ -42,6 +42,7 @@ use Rattle.word_permit.specs.declared.book.Decision.{Decision}
 use Rattle.word_permit.specs.declared.book.Waiting.{Waiting}
 use Rattle.word_permit.specs.declared.book.WordBook.{WordBook}
 use Rattle.word_permit.specs.Books.{HasItsTables, IsKept, IsWordBook, JoinsUnpublished, TellsNone}
+use Rattle.word_permit.specs.Looks.{IsLookTaken}
 use Rattle.word_permit.specs.Needs.{IsAwaited}
 use Rattle.word_permit.specs.Notes.{AreOfSpawned, IsSpawnedIn}
 use Rattle.run_law.specs.Answers.{AreAnswersKept}
@@ -62,9 +63,13 @@ pub published_first : (names : List Mfa) (texts : List Module) (journal : List E
 published_first names texts journal published begun opening =
     subst (λ js. ArePublished names texts js published) (sym begun) (subst (ArePublished names texts []) (sym opening) (record { many = refl; each = first_at names texts }))
 
+-- no look is waited for
+pub no_look : (b : WordBook) → b.look ≡ None → IfSome b.look (IsLookTaken (written_by b.tables.writer))
+no_look b none = subst (λ (o : Option ℕ). IfSome o (IsLookTaken (written_by b.tables.writer))) (sym none) tt
+
 pub begun_word_book : (names : List Mfa) (table : TableId) (opening : Opening) (b : WordBook) → IsBook b.plain → All (IsNumbered names) b.plain.script.modules → AreTablesOf table opening b.tables → b.tables.exports ≡ names → b.plain.journal ≡ []
-    → b.plain.server ≡ empty_state → (written_by b.tables.writer).published ≡ opening_published ∷ [] → (written_by b.tables.writer).notes ≡ [] → AreAtRest names empty_state b.tables → b.waiting ≡ None → b.need ≡ None → IsWordBook names table opening b
-begun_word_book names table opening b book texts tables exports journal server published notes rest none needs = record {
+    → b.plain.server ≡ empty_state → (written_by b.tables.writer).published ≡ opening_published ∷ [] → (written_by b.tables.writer).notes ≡ [] → AreAtRest names empty_state b.tables → b.waiting ≡ None → b.need ≡ None → b.look ≡ None → IsWordBook names table opening b
+begun_word_book names table opening b book texts tables exports journal server published notes rest none needs look = record {
   has = record {
     book = book;
     texts = texts;
@@ -76,6 +81,7 @@ begun_word_book names table opening b book texts tables exports journal server p
     awaited = subst (λ (o : Option AreaNeed). IfSome o (IsAwaited (written_by b.tables.writer))) (sym needs) tt;
   };
   words = subst (WordsStand names (shown b.plain) b.tables) (sym none) (subst (λ s. AreAtRest names s b.tables) (sym server) rest);
+  looked = no_look b look;
 }
 
 -- ---- the permission is given
@@ -118,6 +124,7 @@ seized_kept b who free needs = record {
       awaited = known.has.awaited;
     };
     words = words_free names (shown b.plain) (record (shown b.plain) { holder = Held who }) b.tables b.waiting free refl known.words;
+    looked = known.looked;
   };
 }
 
@@ -182,7 +189,7 @@ words_at_once names p q who command t (Some w) holds next free left h = record {
 }
 
 -- an entry that publishes nothing counts for none
-counts_none : (e : Entry) → e.published ≡ None → publishes e ≡ 0
+pub counts_none : (e : Entry) → e.published ≡ None → publishes e ≡ 0
 counts_none e none = ap (λ yes. if yes then 1 else 0) (ap (λ (o : Option ℕ). is_some o) none)
 
 -- a book to which an entry joined that publishes nothing, while the words stay
@@ -215,6 +222,7 @@ kept_at_once b plain who command next free known book left = record {
   book = λ names table opening k. record {
     has = has_joined names table opening b (record b { plain = plain }) k.has book left.script left.journal refl refl;
     words = words_at_once names (shown b.plain) (shown plain) who command b.tables b.waiting known.permit.holds next free left k.words;
+    looked = k.looked;
   };
 }
 
@@ -239,6 +247,7 @@ kept_shown b plain book same = record {
       awaited = known.has.awaited;
     };
     words = subst (λ (x : PermitState). WordsStand names x b.tables b.waiting) (sym same) known.words;
+    looked = known.looked;
   };
 }
 

@@ -1,5 +1,5 @@
 -- How the loader that has the permission goes on: what its book is before and after.
-use Rattle.std.proofs.Common.{◌≡◌, ℕ, List, [], Option, Some, None, IsSomeAnd, IfOk, OnErr, Result, Ok, Err, refl, sym, ap, subst, ◌∙◌}
+use Rattle.std.proofs.Common.{◌≡◌, ℕ, List, [], Option, Some, None, IfSome, IsSomeAnd, IfOk, OnErr, Result, Ok, Err, refl, sym, ap, subst, ◌∙◌}
 use Rattle.std.proofs.lemmas.Option.{none-some, same_Some}
 use Rattle.atomic_table.specs.Seated.{TableId}
 use Rattle.term_core.specs.declared.atom.Mfa.{Mfa}
@@ -31,7 +31,7 @@ use Rattle.word_permit.specs.declared.book.Waiting.{Waiting}
 use Rattle.word_permit.specs.declared.book.WordBook.{WordBook}
 use Rattle.word_permit.specs.Books.{HasGivenUp, HasItsTables, HasTakenBack, IsWordBook, JoinsUnpublished, OpAnswers, with_holder}
 use Rattle.word_permit.specs.Waiting.{GoesOverWords, IsDecided, IsTraceChange, IsWaiting, LeavesState, WordsStand}
-use Rattle.word_permit.proofs.Calls.{has_joined}
+use Rattle.word_permit.proofs.Calls.{has_joined, no_look}
 
 -- ---- the command that waits is taken out of the book
 
@@ -63,15 +63,48 @@ waits_for names p t o who w held is h =
       stands = k.stands;
     }
 
--- what is said of a step speaks of no command that waited before
-pub answers_without : (who : ℕ) (b : WordBook) (o : Option Waiting) (c : WordBook) (step : CommandStep) → OpAnswers who (with_waiting b o) c step → OpAnswers who b c step
-answers_without who b o c (Done applied) h = h
-answers_without who b o c (NotYet answer) h = record { same = h.same; published = h.published; waits = h.waits; why = h.why }
-answers_without who b o c AwaitRelease h = record { same = h.same; published = h.published; waits = h.waits; why = h.why }
-answers_without who b o c (Lingers process turn place word) h = h
+-- what is said of a step speaks of the command that waited before by its decision alone
+answers_without : (who : ℕ) (b : WordBook) (o : Option Waiting) (c : WordBook) (step : CommandStep) → ((w : Waiting) → c.waiting ≡ Some w → IfSome b.waiting (λ before. w.decision ≡ before.decision)) → OpAnswers who (with_waiting b o) c step → OpAnswers who b c step
+answers_without who b o c (Done applied) same h = h
+answers_without who b o c (NotYet answer) same h =
+    record { same = h.same; published = h.published; waits = h.waits; why = record { waiting = h.why.waiting; waits = h.why.waits; same = same h.why.waiting h.why.waits; late = h.why.late } }
+answers_without who b o c AwaitRelease same h = record { same = h.same; published = h.published; waits = h.waits; why = h.why }
+answers_without who b o c (Lingers process turn place word) same h = h
+
+-- where none waited
+pub answers_begun : (who : ℕ) (b : WordBook) (o : Option Waiting) (c : WordBook) (r : Result CommandStep NoMemory) → b.waiting ≡ None → IfOk r (OpAnswers who (with_waiting b o) c) → IfOk r (OpAnswers who b c)
+answers_begun who b o c (Ok step) none h = answers_without who b o c step (λ w is. subst (λ (x : Option Waiting). IfSome x (λ before. w.decision ≡ before.decision)) (sym none) tt) h
+answers_begun who b o c (Err fault) none h = tt
+
+-- and where one waits on as it was decided
+pub answers_waiting : (who : ℕ) (b : WordBook) (o : Option Waiting) (c : WordBook) (r : Result CommandStep NoMemory) (before : Waiting) → b.waiting ≡ Some before → IfOk r (λ step. IfSome c.waiting (λ w. w.decision ≡ before.decision)) → IfOk r (OpAnswers who (with_waiting b o) c) → IfOk r (OpAnswers who b c)
+answers_waiting who b o c (Ok step) before waited decision h =
+    answers_without who b o c step
+    (λ w is. subst (λ (x : Option Waiting). IfSome x (λ v. w.decision ≡ v.decision)) (sym waited) (subst (λ (x : Option Waiting). IfSome x (λ v. v.decision ≡ before.decision)) is decision)) h
+answers_waiting who b o c (Err fault) before waited decision h = tt
 
 pub taken_without : (b : WordBook) (o : Option Waiting) (c : WordBook) → HasTakenBack (with_waiting b o) c → HasTakenBack b c
 taken_without b o c h = record { same = h.same; published = h.published; none = h.none }
+
+-- a look that was waited for is forgotten
+pub unlooked : (names : List Mfa) (table : TableId) (opening : Opening) (b : WordBook) → IsWordBook names table opening b → IsWordBook names table opening (record b { look = None })
+unlooked names table opening b known =
+    let had = known.has in
+    record {
+      has = record { book = had.book; texts = had.texts; tables = had.tables; exports = had.exports; published = had.published; notes = had.notes; answered = had.answered; awaited = had.awaited };
+      words = known.words;
+      looked = tt;
+    }
+
+pub answers_unlooked : (who : ℕ) (b c : WordBook) (step : CommandStep) → OpAnswers who (record b { look = None }) c step → OpAnswers who b c step
+answers_unlooked who b c (Done applied) h = h
+answers_unlooked who b c (NotYet answer) h =
+    record { same = h.same; published = h.published; waits = h.waits; why = record { waiting = h.why.waiting; waits = h.why.waits; same = h.why.same; late = h.why.late } }
+answers_unlooked who b c AwaitRelease h = record { same = h.same; published = h.published; waits = h.waits; why = h.why }
+answers_unlooked who b c (Lingers process turn place word) h = h
+
+pub taken_unlooked : (b c : WordBook) → HasTakenBack (record b { look = None }) c → HasTakenBack b c
+taken_unlooked b c h = record { same = h.same; published = h.published; none = h.none }
 
 -- ---- a command that begins
 
@@ -112,16 +145,17 @@ leaves_state s (Nothing reply) h = record { state = refl; published = refl }
 leaves_state s change h = absurd h
 
 -- the book after it, where the words stay
-pub ended_book : (names : List Mfa) (table : TableId) (opening : Opening) (b : WordBook) (plain : Book) → HasItsTables names table opening b → AreAtRest names b.plain.server b.tables → b.waiting ≡ None → IsBook plain → plain.script ≡ b.plain.script
+pub ended_book : (names : List Mfa) (table : TableId) (opening : Opening) (b : WordBook) (plain : Book) → HasItsTables names table opening b → AreAtRest names b.plain.server b.tables → b.waiting ≡ None → b.look ≡ None → IsBook plain → plain.script ≡ b.plain.script
     → plain.server ≡ b.plain.server → JoinsUnpublished b.plain.journal plain.journal → IsWordBook names table opening (record b { plain = plain })
-ended_book names table opening b plain had rest none book script server journal = record {
+ended_book names table opening b plain had rest none look book script server journal = record {
   has = has_joined names table opening b (record b { plain = plain }) had book script journal refl refl;
   words = subst (WordsStand names (shown plain) b.tables) (sym none) (subst (λ s. AreAtRest names s b.tables) (sym server) rest);
+  looked = no_look b look;
 }
 
 -- the book where want of memory came before any word was stored
-pub refused_book : (names : List Mfa) (table : TableId) (opening : Opening) (b : WordBook) → HasItsTables names table opening b → AreAtRest names b.plain.server b.tables → b.waiting ≡ None → IsWordBook names table opening b
-refused_book names table opening b had rest none = record { has = had; words = subst (WordsStand names (shown b.plain) b.tables) (sym none) rest }
+pub refused_book : (names : List Mfa) (table : TableId) (opening : Opening) (b : WordBook) → HasItsTables names table opening b → AreAtRest names b.plain.server b.tables → b.waiting ≡ None → b.look ≡ None → IsWordBook names table opening b
+refused_book names table opening b had rest none look = record { has = had; words = subst (WordsStand names (shown b.plain) b.tables) (sym none) rest; looked = no_look b look }
 
 -- ---- a change of what is traced
 
@@ -161,6 +195,7 @@ given_word_book names table opening m c known none is =
         awaited = known.has.awaited;
       };
       words = subst (WordsStand names (record (shown m.plain) { holder = h }) m.tables) (sym none) (at_rest names (shown m.plain) m.tables m.waiting none known.words);
+      looked = known.looked;
     })
 
 pub given_up_by : (b m c : WordBook) → HasTakenBack b m → c ≡ with_holder m (given_up m.plain.holder) → HasGivenUp b c

@@ -47,6 +47,7 @@ use Rattle.word_permit.specs.Books.{IsWordBook}
 use Rattle.word_permit.specs.Needs.{IsAwaited}
 use Rattle.word_permit.specs.Notes.{AreOfSpawned}
 use Rattle.word_permit.specs.Waiting.{GoesOverWords, IsDecided, WordsStand}
+use Rattle.word_permit.proofs.Calls.{no_look}
 use Rattle.word_permit.proofs.Answered.{answered_joined, answered_more}
 use Rattle.word_permit.proofs.Awaiting.{need_still}
 use Rattle.word_permit.proofs.Growing.{published_same}
@@ -173,8 +174,8 @@ module _ (names : List Mfa) (table : TableId) (opening : Opening) (b c : WordBoo
     lingering = λ l had. subst (λ (k : WriterKept). Among k.lingering l) (sym keeps.looks) had;
   })
 
-  pub freed_book : c.need ≡ b.need → c.waiting ≡ b.waiting → DecidedStays → StayFit → StandReleased names serial b.tables c.tables → StagesReleased names serial b.tables c.tables → IsWordBook names table opening c
-  freed_book need waiting decided fit stands stages = record {
+  pub freed_book : c.need ≡ b.need → c.look ≡ None → c.waiting ≡ b.waiting → DecidedStays → StayFit → StandReleased names serial b.tables c.tables → StagesReleased names serial b.tables c.tables → IsWordBook names table opening c
+  freed_book need look waiting decided fit stands stages = record {
     has = record {
       book = book;
       texts = subst (λ (x : PermitState). All (IsNumbered names) x.script.modules) (sym freed.state) known.has.texts;
@@ -189,4 +190,5 @@ module _ (names : List Mfa) (table : TableId) (opening : Opening) (b c : WordBoo
       awaited = subst (λ (o : Option AreaNeed). IfSome o (IsAwaited after)) (sym need) (need_still before after b.need keeps.waits keeps.published known.has.awaited);
     };
     words = subst (WordsStand names (shown c.plain) c.tables) (sym waiting) (words_freed names (shown b.plain) (shown c.plain) serial b.tables c.tables b.waiting decided fit freed stands stages known.words);
+    looked = no_look c look;
   }

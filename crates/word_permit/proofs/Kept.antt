@@ -36,6 +36,7 @@ use Rattle.run_law.specs.Answers.{AreAnswersKept}
 use Rattle.run_law.specs.Published.{ArePublished}
 use Rattle.word_permit.specs.Waiting.{GoesOverWords, IsDecided, WordsStand}
 use Rattle.word_permit.proofs.Awaiting.{need_still}
+use Rattle.word_permit.proofs.Calls.{no_look}
 
 -- ---- a book that shows the same
 
@@ -65,10 +66,11 @@ has_same names table opening b c had same modules tables exports none known need
 
 -- with the words at rest and nothing that waits it is all that a permit keeps
 pub rests : (names : List Mfa) (table : TableId) (opening : Opening) (b c : WordBook) → HasItsTables names table opening b → shown c.plain ≡ shown b.plain → c.plain.modules.instances ≡ b.plain.modules.instances → AreTablesOf table opening c.tables
-    → c.tables.exports ≡ names → PublishesNone b c → KeepsAllKnown b c → c.need ≡ b.need → c.waiting ≡ None → AreAtRest names c.plain.server c.tables → IsWordBook names table opening c
-rests names table opening b c had same modules tables exports none known need waits rest = record {
+    → c.tables.exports ≡ names → PublishesNone b c → KeepsAllKnown b c → c.need ≡ b.need → c.waiting ≡ None → c.look ≡ None → AreAtRest names c.plain.server c.tables → IsWordBook names table opening c
+rests names table opening b c had same modules tables exports none known need waits look rest = record {
   has = has_same names table opening b c had same modules tables exports none known need;
   words = subst (WordsStand names (shown c.plain) c.tables) (sym waits) rest;
+  looked = no_look c look;
 }
 
 -- ---- a decided command

@@ -12,3 +12,10 @@ pub mod Quiet
 pub mod Freed
 pub mod Followed
 pub mod Runs
+pub mod Looked
+pub mod Told
+pub mod OldCode
+pub mod Dropped
+pub mod Lingered
+pub mod PurgeCalls
+mod PumpedThrough

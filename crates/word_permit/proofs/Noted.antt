@@ -31,12 +31,14 @@ use Rattle.write_permit.specs.Permit.{PermitState}
 use Rattle.word_permit.specs.declared.book.Waiting.{Waiting}
 use Rattle.word_permit.specs.declared.book.WordBook.{WordBook}
 use Rattle.word_permit.specs.Books.{IsWordBook}
+use Rattle.word_permit.specs.Looks.{IsLookTaken}
 use Rattle.word_permit.specs.Needs.{IsAwaited}
 use Rattle.word_permit.specs.Notes.{AreOfSpawned, IsSpawnedIn, noted_for}
 use Rattle.run_law.specs.Answers.{AreAnswersKept}
 use Rattle.run_law.specs.Published.{ArePublished}
 use Rattle.word_permit.specs.Waiting.{WordsStand}
 use Rattle.word_permit.proofs.Awaiting.{need_still}
+use Rattle.word_permit.proofs.Looked.{if_still}
 use Rattle.word_permit.proofs.SpawnedBefore.{notes_more}
 
 -- ---- the words
@@ -138,6 +140,7 @@ module _ (names : List Mfa) (table : TableId) (opening : Opening) (b : WordBook)
       awaited = subst (λ (v : WriterView). IfSome b.need (IsAwaited v)) (sym view) (need_still (written_by b.tables.writer) (with_note process (written_by b.tables.writer)) b.need (λ pair had. had) refl h.has.awaited);
     };
     words = words_noted names (shown b.plain) b.tables writer process b.waiting view by_index h.words;
+    looked = subst (λ (v : WriterView). IfSome b.look (IsLookTaken v)) (sym view) (if_still (written_by b.tables.writer) (with_note process (written_by b.tables.writer)) b.look refl refl h.looked);
   }
 
   -- no note was split

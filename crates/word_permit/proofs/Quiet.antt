@@ -45,12 +45,14 @@ use Rattle.word_permit.specs.declared.book.AreaNeed.{AreaNeed}
 use Rattle.word_permit.specs.declared.book.Waiting.{Waiting}
 use Rattle.word_permit.specs.declared.book.WordBook.{WordBook}
 use Rattle.word_permit.specs.Books.{IsWordBook}
+use Rattle.word_permit.specs.Looks.{IsLookTaken}
 use Rattle.word_permit.specs.Needs.{IsAwaited}
 use Rattle.word_permit.specs.Notes.{AreOfSpawned}
 use Rattle.word_permit.specs.Waiting.{WordsStand}
 use Rattle.word_permit.specs.Pumped.{LooksFound}
 use Rattle.word_permit.proofs.Answered.{KeepsAnswers, answered_more}
 use Rattle.word_permit.proofs.Awaiting.{need_still, waits_loaded, waits_same}
+use Rattle.word_permit.proofs.Looked.{if_loaded, if_still}
 
 -- ---- the words
 
@@ -144,10 +146,10 @@ words_quiet names p t writer (Some w) quiet staged h = record {
 -- ---- the book
 
 -- with another value to wait for, or none
-pub book_quiet : (names : List Mfa) (table : TableId) (opening : Opening) (b : WordBook) (writer : writers.Writer) (o : Option AreaNeed) → IsWordBook names table opening b → AreTablesOf table opening (with_writer b.tables writer)
+pub book_quiet : (names : List Mfa) (table : TableId) (opening : Opening) (b : WordBook) (writer : writers.Writer) (o : Option AreaNeed) (l : Option ℕ) → IsWordBook names table opening b → AreTablesOf table opening (with_writer b.tables writer)
     → IsQuiet (written_by b.tables.writer) (written_by writer) → ((q : Published) → Stages b.tables.index q (written_by b.tables.writer) → Stages b.tables.index q (written_by writer))
-    → KeepsAnswers (written_by b.tables.writer).looks (written_by writer).looks → IfSome o (IsAwaited (written_by writer)) → IsWordBook names table opening (record b { tables = with_writer b.tables writer; need = o })
-book_quiet names table opening b writer o h tables quiet staged answers awaited = record {
+    → KeepsAnswers (written_by b.tables.writer).looks (written_by writer).looks → IfSome o (IsAwaited (written_by writer)) → IfSome l (IsLookTaken (written_by writer)) → IsWordBook names table opening (record b { tables = with_writer b.tables writer; need = o; look = l })
+book_quiet names table opening b writer o l h tables quiet staged answers awaited looked = record {
   has = record {
     book = h.has.book;
     texts = h.has.texts;
@@ -159,6 +161,7 @@ book_quiet names table opening b writer o h tables quiet staged answers awaited 
     awaited = awaited;
   };
   words = words_quiet names (shown b.plain) b.tables writer b.waiting quiet staged h.words;
+  looked = looked;
 }
 
 -- ---- the counter is loaded
@@ -171,22 +174,33 @@ answers_same old new is = record {
 
 module _ (names : List Mfa) (table : TableId) (opening : Opening) (b : WordBook) (writer : writers.Writer) (known : IsWordBook names table opening b) (by_index : indices.KeptByCounters) (by_terms : terms.KeptByCounters) (by_pools : areas.KeptByCounters)
     (token : IsWriterOf table opening writer) (loaded : HasLoadedCounter (written_by b.tables.writer) (written_by writer)) where
-  pub book_loaded : (o : Option AreaNeed) → IfSome o (IsAwaited (written_by writer)) → IsWordBook names table opening (record b { tables = with_writer b.tables writer; need = o })
-  book_loaded o awaited =
+  pub book_loaded : (o : Option AreaNeed) (l : Option ℕ) → IfSome o (IsAwaited (written_by writer)) → IfSome l (IsLookTaken (written_by writer)) → IsWordBook names table opening (record b { tables = with_writer b.tables writer; need = o; look = l })
+  book_loaded o l awaited looked =
       let index = by_index b.tables.index (written_by b.tables.writer) (written_by writer) loaded in
       let keys = by_terms b.tables.terms (written_by b.tables.writer) (written_by writer) loaded in
-      book_quiet names table opening b writer o known
+      book_quiet names table opening b writer o l known
       (record {
         token = token;
         index = index.owned known.has.tables.index;
         terms = keys.owned known.has.tables.terms;
         pools = by_pools b.tables.pools (written_by b.tables.writer) (written_by writer) loaded known.has.tables.pools;
       })
-      (quiet_loaded (written_by b.tables.writer) (written_by writer) loaded) index.staged (answers_same (written_by b.tables.writer).looks (written_by writer).looks (ap (λ (w : WriterView). w.looks) loaded.view)) awaited
+      (quiet_loaded (written_by b.tables.writer) (written_by writer) loaded) index.staged (answers_same (written_by b.tables.writer).looks (written_by writer).looks (ap (λ (w : WriterView). w.looks) loaded.view)) awaited looked
 
-  -- what is waited for is so still
+  -- what is waited for before a look is so still
+  pub look_asked : IfSome b.look (IsLookTaken (written_by writer))
+  look_asked = if_loaded (written_by b.tables.writer) (written_by writer) b.look loaded known.looked
+
+  need_asked : IfSome b.need (IsAwaited (written_by writer))
+  need_asked = need_still (written_by b.tables.writer) (written_by writer) b.need (waits_loaded (written_by b.tables.writer) (written_by writer) loaded) (ap (λ (w : WriterView). w.published) loaded.view) known.has.awaited
+
+  -- and so is all that is waited for
   pub book_asked : IsWordBook names table opening (record b { tables = with_writer b.tables writer })
-  book_asked = book_loaded b.need (need_still (written_by b.tables.writer) (written_by writer) b.need (waits_loaded (written_by b.tables.writer) (written_by writer) loaded) (ap (λ (w : WriterView). w.published) loaded.view) known.has.awaited)
+  book_asked = book_loaded b.need b.look need_asked look_asked
+
+  -- with another value to wait for before a look
+  pub book_looking : (l : Option ℕ) → IfSome l (IsLookTaken (written_by writer)) → IsWordBook names table opening (record b { tables = with_writer b.tables writer; look = l })
+  book_looking l looked = book_loaded b.need l need_asked looked
 
 -- ---- slots are looked through
 
@@ -224,25 +238,37 @@ module _ (w : WriterView) (looks : WriterKept) (named : List NamedAnchor) where
     staged = staged_looked t.staged own.staged;
   }
 
+module _ (names : List Mfa) (table : TableId) (opening : Opening) (b : WordBook) (writer : writers.Writer) (known : IsWordBook names table opening b) (by_pools : areas.KeptByLooks) (token : IsWriterOf table opening writer) where
+  abbrev looked_from : WriterView
+  looked_from = written_by b.tables.writer
+
+  abbrev looked_to : WriterView
+  looked_to = written_by writer
+
+  -- the writer knows more of looks alone
+  pub book_found : looked_to ≡ record looked_from { looks = looked_to.looks; named = looked_to.named } → KeepsAnswers looked_from.looks looked_to.looks → IsWordBook names table opening (record b { tables = with_writer b.tables writer })
+  book_found same answers =
+      book_quiet names table opening b writer b.need b.look known
+      (record {
+        token = token;
+        index = subst (IsIndexOf b.tables.index) (sym same) (index_looked looked_from looked_to.looks looked_to.named b.tables.index known.has.tables.index);
+        terms = subst (IsTableOf b.tables.terms) (sym same) (table_looked looked_from looked_to.looks looked_to.named b.tables.terms known.has.tables.terms);
+        pools = by_pools b.tables.pools looked_from looked_to same known.has.tables.pools;
+      })
+      (quiet_looked looked_from looked_to looked_to.looks looked_to.named same)
+      (λ q staged. subst (Stages b.tables.index q) (sym same) (stages_looked looked_from looked_to.looks looked_to.named b.tables.index q staged))
+      answers
+      (need_still looked_from looked_to b.need (waits_same looked_from looked_to (ap (λ (w : WriterView). w.pairs) same)) (ap (λ (w : WriterView). w.published) same) known.has.awaited)
+      (if_still looked_from looked_to b.look (ap (λ (w : WriterView). w.pairs) same) (ap (λ (w : WriterView). w.published) same) known.looked)
+
 pub book_looked : (names : List Mfa) (table : TableId) (opening : Opening) (b : WordBook) (writer : writers.Writer) → IsWordBook names table opening b → areas.KeptByLooks → IsWriterOf table opening writer → LooksMore (written_by b.tables.writer) (written_by writer)
     → IsWordBook names table opening (record b { tables = with_writer b.tables writer })
 book_looked names table opening b writer known by_pools token more =
-    let old = written_by b.tables.writer in
-    let new = written_by writer in
-    book_quiet names table opening b writer b.need known
-    (record {
-      token = token;
-      index = subst (IsIndexOf b.tables.index) (sym more.same) (index_looked old new.looks new.named b.tables.index known.has.tables.index);
-      terms = subst (IsTableOf b.tables.terms) (sym more.same) (table_looked old new.looks new.named b.tables.terms known.has.tables.terms);
-      pools = by_pools b.tables.pools old new more.same known.has.tables.pools;
-    })
-    (quiet_looked old new new.looks new.named more.same)
-    (λ q staged. subst (Stages b.tables.index q) (sym more.same) (stages_looked old new.looks new.named b.tables.index q staged))
+    book_found names table opening b writer known by_pools token more.same
     (record {
       dropped = λ d had. subst (λ (ds : List DroppedArea). Among ds d) (sym more.dropped) had;
       lingering = λ l had. subst (λ (ls : List LingeringFrame). Among ls l) (sym more.lingering) had;
     })
-    (need_still old new b.need (waits_same old new (ap (λ (w : WriterView). w.pairs) more.same)) (ap (λ (w : WriterView). w.published) more.same) known.has.awaited)
 
 -- what the look found
 pub looks_found : (serial : ℕ) (old new : WriterView) (told : Scan) → ScanCause (scan_wait old None serial) old new told → LooksFound serial new told

@@ -22,7 +22,7 @@ use Rattle.staging.specs.declared.stage.Stage.{Stage}
 use Rattle.staging.specs.declared.stage.Step.{Step}
 use Rattle.staging.specs.declared.stage.Step.TheVariants as steps
 use Rattle.staging.specs.declared.tables.Tables.{Tables}
-use Rattle.staging.specs.Stages.{AreAtRest, HasPublished, IsCodeChange, IsKeyChange, IsLate, IsStaged, StageStands, StepAnswers}
+use Rattle.staging.specs.Stages.{AreAtRest, HasPublished, IsCodeChange, IsKeyChange, IsLateFor, IsStaged, StageStands, StepAnswers}
 use Rattle.staging.specs.Upcoming.{generation_shown}
 use Rattle.staging.specs.Whose.{AreTablesOf, KeepsKnown}
 use Rattle.write_permit.specs.declared.holder.Holder.TheVariants.{Held}
@@ -34,6 +34,7 @@ use Rattle.word_permit.specs.declared.answers.CommandStep.{CommandStep}
 use Rattle.word_permit.specs.declared.answers.CommandStep.TheVariants.{Done, NotYet, AwaitRelease}
 use Rattle.word_permit.specs.declared.book.AreaNeed.{AreaNeed}
 use Rattle.word_permit.specs.declared.book.Decision.{Decision}
+use Rattle.word_permit.specs.declared.book.Waiting.{Waiting}
 use Rattle.word_permit.specs.declared.book.WordBook.{WordBook}
 use Rattle.word_permit.specs.Books.{HasItsTables, HasTakenBack, IsWordBook, OpAnswers, PublishesNone, TellsNone}
 use Rattle.word_permit.specs.Needs.{IsAwaited}
@@ -44,6 +45,7 @@ use Rattle.word_permit.specs.Settled.{IsFinished, IsSettled, waiting_with, witho
 use Rattle.word_permit.specs.Waiting.{IsDecided, IsTraceChange, WordsStand}
 use Rattle.word_permit.proofs.Answered.{answered_quietly, goes_quiet}
 use Rattle.word_permit.proofs.Awaiting.{need_on}
+use Rattle.word_permit.proofs.Calls.{no_look}
 use Rattle.word_permit.proofs.Ended.{PlainDone, entry_for, plain_done, state_joined}
 use Rattle.word_permit.proofs.Growing.{published_more}
 use Rattle.word_permit.proofs.Kept.{has_same, rests}
@@ -72,26 +74,28 @@ trace_publishes s (ClearTrace generation at) h = refl
 trace_publishes s change h = absurd h
 
 -- what a step leaves
-pub record Went (names : List Mfa) (table : TableId) (opening : Opening) (who : ℕ) (b c : WordBook) (told : Result CommandStep NoMemory) : Type 0 where
+pub record Went (names : List Mfa) (table : TableId) (opening : Opening) (who : ℕ) (d : Decision) (b c : WordBook) (told : Result CommandStep NoMemory) : Type 0 where
   pub ok : IfOk told (OpAnswers who b c)
+  pub decision : IfOk told (λ step. IfSome c.waiting (λ w. w.decision ≡ d))
   pub err : OnErr told (HasTakenBack b c)
   pub book : IsWordBook names table opening c
 
-module _ (names : List Mfa) (table : TableId) (opening : Opening) (b : WordBook) (had : HasItsTables names table opening b) (who : ℕ) (d : Decision) (held : b.plain.holder ≡ Held who) (known : IsDecided (shown b.plain) who d) (none : b.waiting ≡ None) where
+module _ (names : List Mfa) (table : TableId) (opening : Opening) (b : WordBook) (had : HasItsTables names table opening b) (who : ℕ) (d : Decision) (held : b.plain.holder ≡ Held who) (known : IsDecided (shown b.plain) who d) (none : b.waiting ≡ None) (look : b.look ≡ None) where
   module _ (modules : Modules) (same : modules.instances ≡ b.plain.modules.instances) (journal : List Entry) (t : Tables) (of_table : AreTablesOf table opening t) (exports : t.exports ≡ names)
       (keeps : KeepsKnown (written_by b.tables.writer) (written_by t.writer)) where
     abbrev stepped : WordBook
     stepped = record b { plain = record (b.plain) { journal = journal; modules = modules }; tables = t }
 
     -- want of memory: the words are at rest, and the journal is as before
-    pub taken_back : (c : WordBook) (told : Result CommandStep NoMemory) (fault : NoMemory) → PublishesNone b stepped → AreAtRest names b.plain.server t → told ≡ Err fault → c ≡ without_newest stepped b.plain.journal → Went names table opening who b c told
+    pub taken_back : (c : WordBook) (told : Result CommandStep NoMemory) (fault : NoMemory) → PublishesNone b stepped → AreAtRest names b.plain.server t → told ≡ Err fault → c ≡ without_newest stepped b.plain.journal → Went names table opening who d b c told
     taken_back c told fault published rest is left =
-        subst (λ x. Went names table opening who b x told) (sym left)
-        (subst (Went names table opening who b (without_newest stepped b.plain.journal)) (sym is)
+        subst (λ x. Went names table opening who d b x told) (sym left)
+        (subst (Went names table opening who d b (without_newest stepped b.plain.journal)) (sym is)
         (record {
           ok = tt;
+          decision = tt;
           err = record { same = refl; published = published; none = none };
-          book = rests names table opening b (without_newest stepped b.plain.journal) had refl same of_table exports published keeps refl none rest;
+          book = rests names table opening b (without_newest stepped b.plain.journal) had refl same of_table exports published keeps refl none look rest;
         }))
 
     -- nothing is published: the command waits
@@ -103,17 +107,21 @@ module _ (names : List Mfa) (table : TableId) (opening : Opening) (b : WordBook)
       waiting_book = record {
         has = has_same names table opening b waiting had refl same of_table exports published keeps refl;
         words = record { who = who; holder = held; decided = known; staged = staged; stands = stands };
+        looked = no_look waiting look;
       }
 
-      left_waiting : (c : WordBook) (told : Result CommandStep NoMemory) (answer : CommandStep) → OpAnswers who b waiting answer → told ≡ Ok answer → c ≡ waiting → Went names table opening who b c told
+      left_waiting : (c : WordBook) (told : Result CommandStep NoMemory) (answer : CommandStep) → OpAnswers who b waiting answer → told ≡ Ok answer → c ≡ waiting → Went names table opening who d b c told
       left_waiting c told answer why is left =
-          subst (λ x. Went names table opening who b x told) (sym left)
-          (subst (Went names table opening who b waiting) (sym is) (record { ok = why; err = tt; book = waiting_book }))
+          subst (λ x. Went names table opening who d b x told) (sym left)
+          (subst (Went names table opening who d b waiting) (sym is) (record { ok = why; decision = refl; err = tt; book = waiting_book }))
 
-      pub is_late : (c : WordBook) (told : Result CommandStep NoMemory) (answer : late.NotYet) → IsLate t answer → told ≡ Ok (NotYet answer) → c ≡ waiting → Went names table opening who b c told
-      is_late c told answer why = left_waiting c told (NotYet answer) (record { same = refl; published = published; waits = (_, refl); why = why })
+      as_decided : IfSome b.waiting (λ before. d ≡ before.decision)
+      as_decided = subst (λ (o : Option Waiting). IfSome o (λ before. d ≡ before.decision)) (sym none) tt
 
-      pub awaits_release : (c : WordBook) (told : Result CommandStep NoMemory) → (pool : Pool) × AwaitsRelease (blocks_of pool t.pools) → told ≡ Ok AwaitRelease → c ≡ waiting → Went names table opening who b c told
+      pub is_late : (c : WordBook) (told : Result CommandStep NoMemory) (answer : late.NotYet) → IsLateFor d.change b.tables t answer → told ≡ Ok (NotYet answer) → c ≡ waiting → Went names table opening who d b c told
+      is_late c told answer why = left_waiting c told (NotYet answer) (record { same = refl; published = published; waits = (_, refl); why = record { waiting = record { decision = d; stage = stage }; waits = refl; same = as_decided; late = why } })
+
+      pub awaits_release : (c : WordBook) (told : Result CommandStep NoMemory) → (pool : Pool) × AwaitsRelease (blocks_of pool t.pools) → told ≡ Ok AwaitRelease → c ≡ waiting → Went names table opening who d b c told
       awaits_release c told why = left_waiting c told AwaitRelease (record { same = refl; published = published; waits = (_, refl); why = why })
 
     -- the change is published: the server makes it
@@ -180,18 +188,22 @@ module _ (names : List Mfa) (table : TableId) (opening : Opening) (b : WordBook)
           done_rest : AreAtRest names c.plain.server c.tables
           done_rest = subst (AreAtRest names c.plain.server) (sym tables_are) (subst (λ s. AreAtRest names s t) server_is published.rest)
 
-          pub is_done : (told : Result CommandStep NoMemory) → told ≡ Ok (Done applied) → Went names table opening who b c told
+          none_waits : IfSome c.waiting (λ w. w.decision ≡ d)
+          none_waits = subst (λ (o : Option Waiting). IfSome o (λ w. w.decision ≡ d)) (sym (ap (λ (x : WordBook). x.waiting) left ∙ none)) tt
+
+          pub is_done : (told : Result CommandStep NoMemory) → told ≡ Ok (Done applied) → Went names table opening who d b c told
           is_done told is =
-              subst (Went names table opening who b c) (sym is)
+              subst (Went names table opening who d b c) (sym is)
               (record {
                 ok = done.ended;
+                decision = none_waits;
                 err = tt;
-                book = record { has = done_has; words = subst (WordsStand names (shown c.plain) c.tables) (sym (ap (λ (x : WordBook). x.waiting) left ∙ none)) done_rest };
+                book = record { has = done_has; words = subst (WordsStand names (shown c.plain) c.tables) (sym (ap (λ (x : WordBook). x.waiting) left ∙ none)) done_rest; looked = no_look c (ap (λ (x : WordBook). x.look) left ∙ look) };
               })
 
       -- whatever the words answered
       pub went_on : (staged : IsStaged d.change) (c : WordBook) (stage : Stage) (step : Result Step NoMemory) (told : Result CommandStep NoMemory) → IsSettled who d.change stage after stepped c step told
-          → IfOk step (StepAnswers names b.plain.server d.change b.tables t stage) → OnErr step (AreAtRest names b.plain.server t) → OnErr step (PublishesNone b stepped) → Went names table opening who b c told
+          → IfOk step (StepAnswers names b.plain.server d.change b.tables t stage) → OnErr step (AreAtRest names b.plain.server t) → OnErr step (PublishesNone b stepped) → Went names table opening who d b c told
       went_on staged c stage (Ok (steps.Published generation)) told settled ok rest same_published = is_done (staged_publishes b.plain.server d.change staged) generation ok c settled.0 settled.1.1.0 settled.1.1.1 told settled.1.0
       went_on staged c stage (Ok (steps.NotYet answer)) told settled ok rest same_published = is_late stage staged ok.published ok.stands c told answer ok.why settled.0 (settled.1 b.plain.journal (entry_for who d) more)
       went_on staged c stage (Ok steps.AwaitRelease) told settled ok rest same_published = awaits_release stage staged ok.published ok.stands c told ok.why settled.0 (settled.1 b.plain.journal (entry_for who d) more)

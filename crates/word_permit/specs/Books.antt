@@ -4,6 +4,7 @@ use Rattle.std.specs.Prelude.{◌≡◌, ℕ, List, [], ◌∷◌, ◌++◌, Opt
 use Rattle.atomic_table.specs.Seated.{TableId}
 use Rattle.term_core.specs.declared.atom.Mfa.{Mfa}
 use Rattle.shared_words.specs.declared.opening.Opening.{Opening}
+use Rattle.progress_words.specs.declared.answers.NotYet as told
 use Rattle.progress_words.specs.Tokens.{written_by}
 use Rattle.change_laws.specs.Names.{IsNumbered}
 use Rattle.server_core.specs.declared.command.Applied.{Applied}
@@ -14,7 +15,7 @@ use Rattle.script_core.specs.declared.script.Script.{Script}
 use Rattle.staging.specs.declared.tables.Tables.{Tables}
 use Rattle.literal_areas.specs.Blocks.{AwaitsRelease, blocks_of}
 use Rattle.literal_areas.specs.declared.blocks.Pool.{Pool}
-use Rattle.staging.specs.Stages.{IsLate}
+use Rattle.staging.specs.Stages.{IsLateFor}
 use Rattle.staging.specs.Whose.{AreTablesOf}
 use Rattle.run_log.specs.declared.logs.Entry.{Entry}
 use Rattle.write_permit.specs.declared.answers.OpStep.TheVariants as steps
@@ -27,6 +28,7 @@ use Rattle.word_permit.specs.declared.answers.CommandStep.{CommandStep}
 use Rattle.word_permit.specs.declared.answers.CommandStep.TheVariants.{Done, NotYet, AwaitRelease, Lingers}
 use Rattle.word_permit.specs.declared.book.Waiting.{Waiting}
 use Rattle.word_permit.specs.declared.book.WordBook.{WordBook}
+use Rattle.word_permit.specs.Looks.{IsLookTaken}
 use Rattle.word_permit.specs.Needs.{IsAwaited}
 use Rattle.word_permit.specs.Notes.{AreOfSpawned}
 use Rattle.run_law.specs.Answers.{AreAnswersKept}
@@ -53,6 +55,8 @@ pub record HasItsTables (names : List Mfa) (table : TableId) (opening : Opening)
 pub record IsWordBook (names : List Mfa) (table : TableId) (opening : Opening) (b : WordBook) : Type 0 where
   pub has : HasItsTables names table opening b
   pub words : WordsStand names (shown b.plain) b.tables b.waiting
+  -- and what is waited for before a look for frames was taken at the newest generation
+  pub looked : IfSome b.look (IsLookTaken (written_by b.tables.writer))
 
 -- a call keeps this, over whatever words and by whatever numbers of names, and the words are as before
 pub record IsKept (old new : WordBook) : Type 0 where
@@ -69,6 +73,7 @@ pub record IsBegun (script : Script) (t : Tables) (b : WordBook) : Type 0 where
   pub tables : b.tables ≡ t
   pub waiting : b.waiting ≡ None
   pub need : b.need ≡ None
+  pub look : b.look ≡ None
 
 -- a permit keeps it of the run that a name stands for
 abbrev pub KeepsRun : List Mfa → Option Run → WordBook → Type 0
@@ -103,10 +108,18 @@ pub record HasWaited (old new : WordBook) (Why : Type 0) : Type 0 where
   pub waits : (w : Waiting) × (new.waiting ≡ Some w)
   pub why : Why
 
+-- the command waits on as it was decided, for the value that its change waits for: the same as before this call, if it waited then; and the newest counter
+-- that the writer loaded is below it
+pub record IsLateStill (old new : WordBook) (answer : told.NotYet) : Type 0 where
+  pub waiting : Waiting
+  pub waits : new.waiting ≡ Some waiting
+  pub same : IfSome old.waiting (λ before. waiting.decision ≡ before.decision)
+  pub late : IsLateFor waiting.decision.change old.tables new.tables answer
+
 -- what each answer says; a purge alone lingers
 abbrev pub OpAnswers : ℕ → WordBook → WordBook → CommandStep → Type 0
 OpAnswers who old new (Done applied) = EndsPlain who old.plain new.plain applied
-OpAnswers who old new (NotYet answer) = HasWaited old new (IsLate new.tables answer)
+OpAnswers who old new (NotYet answer) = HasWaited old new (IsLateStill old new answer)
 OpAnswers who old new AwaitRelease = HasWaited old new ((pool : Pool) × AwaitsRelease (blocks_of pool new.tables.pools))
 OpAnswers who old new (Lingers process turn place word) = ⊥
 

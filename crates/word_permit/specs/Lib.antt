@@ -3,5 +3,7 @@ pub mod Waiting
 pub mod Settled
 pub mod Notes
 pub mod Needs
+pub mod Looks
 pub mod Books
 pub mod Pumped
+pub mod Purged

@@ -8,6 +8,7 @@ use Rattle.marks.specs.declared.kept.LookKind.TheVariants.{Both}
 use Rattle.marks.specs.Names.{names_in}
 use Rattle.shared_words.specs.declared.view.WriterView.{WriterView}
 use Rattle.shared_words.specs.Slots.{IsClear}
+use Rattle.progress_words.specs.declared.answers.NotYet as late
 use Rattle.progress_words.specs.Tokens.{written_by}
 use Rattle.anchors.specs.declared.answers.Scan.{Scan}
 use Rattle.anchors.specs.declared.answers.Scan.TheVariants as scans
@@ -18,8 +19,10 @@ use Rattle.write_permit.specs.Book.{shown}
 use Rattle.write_permit.specs.Permit.{pumped}
 use Rattle.word_permit.specs.declared.answers.Pumped.{Pumped}
 use Rattle.word_permit.specs.declared.answers.Pumped.TheVariants.{Released, NotYet, Named, Nothing}
+use Rattle.word_permit.specs.declared.book.AreaNeed.{AreaNeed}
 use Rattle.word_permit.specs.declared.book.WordBook.{WordBook}
 use Rattle.word_permit.specs.Books.{PublishesNone}
+use Rattle.word_permit.specs.Needs.{IsAwaited}
 
 -- an anchor of a slot was found to name the area: after the last wait for it, and after the turn word of the slot was loaded
 pub record IsNamedBy (w : WriterView) (serial process turn place word : ℕ) : Type 0 where
@@ -51,10 +54,21 @@ pub record ReleasesNone (old new : WordBook) : Type 0 where
   pub published : PublishesNone old new
   pub waiting : new.waiting ≡ old.waiting
 
+-- the value was taken for an area that waits for its release, while the newest generation had that retired; it is the one that was awaited before this call,
+-- if its area waits still; and the newest counter that the writer loaded is below it
+pub record IsAwaitedStill (old new : WordBook) (answer : late.NotYet) : Type 0 where
+  pub need : AreaNeed
+  pub kept : new.need ≡ Some need
+  pub waits : IsTrue (is_retired old.plain.server need.serial)
+  pub taken : IsAwaited (written_by new.tables.writer) need
+  pub same : (before : AreaNeed) → old.need ≡ Some before → IsTrue (is_retired old.plain.server before.serial) → need ≡ before
+  pub value : answer.need ≡ need.value
+  pub below : IsLate new.tables answer
+
 -- what each answer says
 abbrev pub PumpAnswers : WordBook → WordBook → Pumped → Type 0
 PumpAnswers old new (Released serial) = HasReleased serial old new
-PumpAnswers old new (NotYet answer) = ReleasesNone old new × IsLate new.tables answer
+PumpAnswers old new (NotYet answer) = ReleasesNone old new × IsAwaitedStill old new answer
 PumpAnswers old new (Named serial process turn place word) =
     ReleasesNone old new × (IsTrue (is_retired old.plain.server serial) × IsNamedBy (written_by new.tables.writer) serial process turn place word)
 PumpAnswers old new Nothing = ReleasesNone old new × (old.plain.server.retired ≡ [])

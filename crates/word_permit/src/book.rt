@@ -37,4 +37,6 @@ pub struct WordBook {
     pub waiting: Option<Waiting>,
     /// What is waited for before the next area is looked for.
     pub need: Option<AreaNeed>,
+    /// The value of the counter that a purge waits for before it looks for processes in old code.
+    pub look: Option<u64>,
 }

@@ -1,6 +1,6 @@
 //! A decided command goes on over the words until an answer is due.
 
-ghost use Rattle.std.specs.Prelude.{◌≡◌, ◌<◌, length, None, IfOk, OnErr};
+ghost use Rattle.std.specs.Prelude.{◌≡◌, ◌<◌, length, None, IfOk, IfSome, OnErr};
 ghost use Rattle.server_core.specs.Decided.{Fits, made};
 ghost use Rattle.staging.specs.Stages.{IsStaged, StageStands};
 ghost use Rattle.write_permit.specs.declared.holder.Holder.TheVariants as holders;
@@ -34,11 +34,14 @@ pub fn go_on_decided<K: Naming>(
 ) -> Result<CommandStep, NoMemory>
     requires tables { HasItsTables K.names shared.now.table.shared.table_id shared.now.table.shared.key book.old }
     requires none { book.old.waiting ≡ None }
+    requires look { book.old.look ≡ None }
     requires holds { book.old.plain.holder ≡ holders.Held who }
     requires decided { IsDecided (shown book.old.plain) who waiting.decision }
     requires staged { IsStaged waiting.decision.change }
     requires stands { StageStands K.names book.old.plain.server waiting.decision.change book.old.tables waiting.stage }
     ensures ok { IfOk result (OpAnswers who book.old book.new) }
+    // where it waits on, it does so as it was decided
+    ensures decision { IfOk result (λ step. IfSome book.new.waiting (λ w. w.decision ≡ waiting.decision)) }
     ensures err { OnErr result (HasTakenBack book.old book.new) }
     ensures book { IsWordBook K.names shared.now.table.shared.table_id shared.now.table.shared.key book.new }
 {

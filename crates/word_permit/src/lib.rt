@@ -5,12 +5,17 @@
 mod answers;
 mod book;
 mod deciding;
+mod dooming;
+mod dropping;
 mod going_on;
+mod looking;
 mod noting;
 mod operations;
 mod permit;
 mod pumping;
+mod purging;
 mod run_name;
+mod softly;
 mod steps;
 mod tracing;
 

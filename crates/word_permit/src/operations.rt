@@ -6,6 +6,7 @@ ghost use Rattle.write_permit.specs.declared.holder.Holder.TheVariants as holder
 ghost use Rattle.write_permit.specs.Book.{IsBook, shown};
 ghost use Rattle.write_permit.specs.Permit.{given_up, holder_of, next_of};
 ghost use Rattle.word_permit.specs.Books.{HasGivenUp, HasItsTables, HasTakenBack, IsWordBook, KeepsRun, OpAnswers, with_holder};
+ghost use Rattle.word_permit.specs.Purged.{CommandAnswers, HasGrown, Purges};
 ghost use Rattle.word_permit.specs.Runs.{IsOverWords};
 ghost use Rattle.word_permit.specs.Waiting.{GoesOverWords, IsDecided};
 
@@ -13,6 +14,7 @@ use crate::answers::CommandStep;
 use crate::book::{Decision, Waiting, WordBook};
 use crate::deciding::{Course, course_of, decide};
 use crate::going_on::{end_unchanged, go_on_decided};
+use crate::purging::{advance_purge, purged_next};
 use crate::run_name::RunName;
 use crate::tracing::end_traced;
 use code_law::{CodeLaw, Naming};
@@ -33,12 +35,15 @@ pub fn advance_run<K: Naming, N: RunName>(
     requires words { IsOverWords shared.now.table.shared.table_id shared.now.table.shared.key N.run }
     requires kept { KeepsRun K.names N.run book.old }
     requires holds { holder_of book.old.plain.holder ≡ Some who }
-    requires goes { IsSomeAnd (next_of (shown book.old.plain) who) GoesOverWords }
-    ensures ok { IfOk result (OpAnswers who book.old book.new) }
+    ensures ok { IfOk result (CommandAnswers who book.old book.new) }
     ensures err { OnErr result (HasGivenUp book.old book.new) }
+    ensures grown { Purges (shown book.old.plain) who → HasGrown book.old.plain book.new.plain }
     ensures kept { KeepsRun K.names N.run book.new }
 {
-    advance(book, shared, who)
+    match purged_next(&book.plain, who) {
+        Some(purged) => advance_purge(book, shared, who, purged),
+        None => advance(book, shared, who),
+    }
 }
 
 /// Goes on with the next command of the loader that has the permission, which is a load, a delete, a put, an erase or a trace. After want of memory
@@ -55,6 +60,7 @@ fn advance<K: Naming>(
     ensures err { OnErr result (HasGivenUp book.old book.new) }
     ensures book { IsWordBook K.names shared.now.table.shared.table_id shared.now.table.shared.key book.new }
 {
+    book.look = None;
     match go_on(book, shared, who) {
         Ok(step) => Ok(step),
         Err(NoMemory) => {
@@ -65,7 +71,7 @@ fn advance<K: Naming>(
 }
 
 /// The loader gives the permission up, unless an entry of its command is in the journal.
-fn give_up(book: &mut WordBook)
+pub fn give_up(book: &mut WordBook)
     ensures { book.new ≡ with_holder book.old (given_up book.old.plain.holder) }
 {
     book.plain.holder = given_up(book.plain.holder);
@@ -78,6 +84,7 @@ fn go_on<K: Naming>(
     who: u32,
 ) -> Result<CommandStep, NoMemory>
     requires book { IsWordBook K.names shared.now.table.shared.table_id shared.now.table.shared.key book.old }
+    requires look { book.old.look ≡ None }
     requires holds { book.old.plain.holder ≡ holders.Held who }
     requires goes { IsSomeAnd (next_of (shown book.old.plain) who) GoesOverWords }
     ensures ok { IfOk result (OpAnswers who book.old book.new) }
@@ -99,6 +106,7 @@ fn begin<K: Naming>(
     requires tables { HasItsTables K.names shared.now.table.shared.table_id shared.now.table.shared.key book.old }
     requires rest { AreAtRest K.names book.old.plain.server book.old.tables }
     requires none { book.old.waiting ≡ None }
+    requires look { book.old.look ≡ None }
     requires holds { book.old.plain.holder ≡ holders.Held who }
     requires goes { IsSomeAnd (next_of (shown book.old.plain) who) GoesOverWords }
     ensures ok { IfOk result (OpAnswers who book.old book.new) }
@@ -136,6 +144,7 @@ fn follow<K: Naming>(
     requires tables { HasItsTables K.names shared.now.table.shared.table_id shared.now.table.shared.key book.old }
     requires rest { AreAtRest K.names book.old.plain.server book.old.tables }
     requires none { book.old.waiting ≡ None }
+    requires look { book.old.look ≡ None }
     requires holds { book.old.plain.holder ≡ holders.Held who }
     requires decided { IsDecided (shown book.old.plain) who decision }
     ensures ok { IfOk result (OpAnswers who book.old book.new) }

@@ -10,11 +10,11 @@ ghost use Rattle.script_core.specs.Sound.{IsScript};
 ghost use Rattle.staging.specs.Stages.{AreAtRest};
 ghost use Rattle.write_permit.specs.Book.{shown};
 ghost use Rattle.write_permit.specs.Permit.{at_once_of, holder_of, needs_permission, next_of, seize_answer, seized_by};
-ghost use Rattle.word_permit.specs.Books.{HasGivenUp, IsBegun, KeepsRun, OpAnswers};
+ghost use Rattle.word_permit.specs.Books.{HasGivenUp, IsBegun, KeepsRun};
 ghost use Rattle.word_permit.specs.Notes.{HandsOut, KeepsButNote, next_spawned};
 ghost use Rattle.word_permit.specs.Pumped.{PumpAnswers, ReleasesNone};
+ghost use Rattle.word_permit.specs.Purged.{CommandAnswers, HasGrown, Purges};
 ghost use Rattle.word_permit.specs.Runs.{IsBegunWith, IsOverWords};
-ghost use Rattle.word_permit.specs.Waiting.{GoesOverWords};
 
 use crate::answers::{AtOnce, CommandStep, Finished, Pumped};
 use crate::book::WordBook;
@@ -109,14 +109,16 @@ impl<K: Naming, N: RunName> Permit<K, N> {
         seize(&mut self.book, who)
     }
 
-    /// Goes on with the next command of the loader that has the permission, which is a load, a delete, a put, an erase or a trace, until an answer is due.
-    /// A trace is done in one call.
+    /// Goes on with the next command of the loader that has the permission, until an answer is due. A trace is done in one call.
     ///
-    /// `Done` gives the permission up. Its entry joined the journal in the call that stored the root. Until then nothing of the command is published, and
-    /// `NotYet` and `AwaitRelease` leave all but the phase as it was. After `NoMemory` what was staged is taken back, the active generation stays, and
-    /// the loader gives the permission up. The gate is passed once for each entry that published.
+    /// A soft purge waits at the newest generation, and then looks through the slots of all processes. A purge dooms the old code first, and gives the
+    /// permission up only once a look is clear of it: `Lingers` names the process for which it waits, and the next call looks again.
     ///
-    /// Rule: erts internal documentation, CodeLoading: stage, wait for thread progress, commit.
+    /// `Done` gives the permission up. Its entry joined the journal in the call that stored the root. Until then nothing of the command is published but
+    /// the doom of a purge, and else `NotYet` and `AwaitRelease` leave all but the phase as it was. After `NoMemory` what was staged is taken back, the
+    /// active generation stays, and the loader gives the permission up unless its old code is doomed. The gate is passed once for each entry that published.
+    ///
+    /// Rule: erts internal documentation, CodeLoading: stage, wait for thread progress, commit; and the manual page code (purge, soft_purge).
     pub fn advance_op<G: Gate>(
         &mut self,
         shared: &Shared<CodeLaw<K>>,
@@ -125,9 +127,9 @@ impl<K: Naming, N: RunName> Permit<K, N> {
     ) -> Result<CommandStep, NoMemory>
         requires words { IsOverWords shared.now.table.shared.table_id shared.now.table.shared.key N.run }
         requires holds { holder_of self.old.plain.holder ≡ Some who }
-        requires goes { IsSomeAnd (next_of (shown self.old.plain) who) GoesOverWords }
-        ensures ok { IfOk result (OpAnswers who self.old self.new) }
+        ensures ok { IfOk result (CommandAnswers who self.old self.new) }
         ensures err { OnErr result (HasGivenUp self.old self.new) }
+        ensures grown { Purges (shown self.old.plain) who → HasGrown self.old.plain self.new.plain }
         ensures kept { KeepsRun K.names N.run self.new }
     {
         let before = self.book.plain.server.generation();

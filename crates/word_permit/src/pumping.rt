@@ -1,12 +1,13 @@
 //! A retired area is released once no thread reads it and no slot names it.
 
-ghost use Rattle.std.specs.Prelude.{◌≡◌, [], IfErr, IfOk, IfSome, IsTrue, None, OnErr, OnOk};
+ghost use Rattle.std.specs.Prelude.{◌≡◌, [], IfErr, IfOk, IfSome, IsTrue, None, OnErr, OnOk, Some};
 ghost use Rattle.marks.specs.declared.kept.LookKind.TheVariants.{Both};
 ghost use Rattle.shared_words.specs.Slots.{IsClear, LookMayBegin};
+ghost use Rattle.progress_words.specs.Needs.{IsBelow};
 ghost use Rattle.progress_words.specs.Tokens.{written_by};
 ghost use Rattle.server_core.specs.ServerState.{is_retired, is_serial_in};
-ghost use Rattle.staging.specs.Stages.{IsLate};
 ghost use Rattle.staging.specs.Whose.{KeepsKnown};
+ghost use Rattle.word_permit.specs.declared.book.AreaNeed.{AreaNeed};
 ghost use Rattle.word_permit.specs.Books.{IsWordBook};
 ghost use Rattle.word_permit.specs.Needs.{IsAwaited};
 ghost use Rattle.word_permit.specs.Pumped.{LooksFound, PumpAnswers, ReleasesNone};
@@ -48,23 +49,43 @@ pub fn pump_book<K: Naming>(
 }
 
 /// What is waited for: the value that was taken for an area which waits still, or one that is taken now for the area that has waited longest.
+#[tactic(auto, using(crate::proofs::Awaiting::need_at))]
 fn awaited<K: Naming>(book: &mut WordBook, shared: &Shared<CodeLaw<K>>) -> Option<AreaNeed>
     requires book { IsWordBook K.names shared.now.table.shared.table_id shared.now.table.shared.key book.old }
     // one of an area that waits, or none does
     ensures some { IfSome result (λ n. IsTrue (is_retired book.old.plain.server n.serial) × IsAwaited (written_by book.new.tables.writer) n) }
     ensures none { result ≡ None → book.old.plain.server.retired ≡ [] }
+    // it is kept, and is the one before, if that is of an area that waits still
+    ensures kept { IfSome result (λ n. book.new.need ≡ Some n) }
+    ensures same { (before : AreaNeed) → book.old.need ≡ Some before → IsTrue (is_retired book.old.plain.server before.serial) → result ≡ Some before }
     // nothing is released
     ensures none_released { ReleasesNone book.old book.new }
     ensures plain { book.new.plain ≡ book.old.plain }
     ensures book { IsWordBook K.names shared.now.table.shared.table_id shared.now.table.shared.key book.new }
 {
-    if let Some(need) = book.need {
-        if book.plain.server.retired(need.serial) {
-            return Some(need);
-        }
+    if let Some(need) = still_awaited(book) {
+        return Some(need);
     }
     let serial = *book.plain.server.retired_areas().first()?;
     Some(take_need(book, shared, serial))
+}
+
+/// The value that was taken for an area which waits still.
+fn still_awaited(book: &WordBook) -> Option<AreaNeed>
+    ensures waits { IfSome result (λ n. IsTrue (is_retired book.now.plain.server n.serial)) }
+    ensures kept { IfSome result (λ n. book.now.need ≡ Some n) }
+    ensures same { (before : AreaNeed) → book.now.need ≡ Some before → IsTrue (is_retired book.now.plain.server before.serial) → result ≡ Some before }
+{
+    match book.need {
+        Some(need) => {
+            if book.plain.server.retired(need.serial) {
+                Some(need)
+            } else {
+                None
+            }
+        }
+        None => None,
+    }
 }
 
 /// Takes a value to wait for, by which no thread reads a generation that uses the area.
@@ -74,6 +95,7 @@ fn take_need<K: Naming>(book: &mut WordBook, shared: &Shared<CodeLaw<K>>, serial
     // it is waited for
     ensures serial { result.serial ≡ serial }
     ensures awaited { IsAwaited (written_by book.new.tables.writer) result }
+    ensures kept { book.new.need ≡ Some result }
     // the writer keeps what it knew, and has released nothing
     ensures known { KeepsKnown (written_by book.old.tables.writer) (written_by book.new.tables.writer) }
     ensures named { (written_by book.new.tables.writer).named ≡ (written_by book.old.tables.writer).named }
@@ -99,7 +121,10 @@ fn is_reached<K: Naming>(
     requires book { IsWordBook K.names shared.now.table.shared.table_id shared.now.table.shared.key book.old }
     requires awaited { IsAwaited (written_by book.old.tables.writer) need }
     ensures ok { OnOk result (LookMayBegin (written_by book.new.tables.writer) Both need.serial) }
-    ensures late { IfErr result (IsLate book.new.tables) }
+    ensures late { IfErr result (IsBelow need.value (written_by book.new.tables.writer)) }
+    // it is waited for as before
+    ensures awaited { IsAwaited (written_by book.new.tables.writer) need }
+    ensures kept { book.new.need ≡ book.old.need }
     ensures none_released { ReleasesNone book.old book.new }
     ensures plain { book.new.plain ≡ book.old.plain }
     ensures book { IsWordBook K.names shared.now.table.shared.table_id shared.now.table.shared.key book.new }
@@ -151,6 +176,7 @@ fn look_through<K: Naming>(book: &mut WordBook, shared: &Shared<CodeLaw<K>>, ser
     requires may { LookMayBegin (written_by book.old.tables.writer) Both serial }
     ensures found { LooksFound serial (written_by book.new.tables.writer) result }
     ensures none_released { ReleasesNone book.old book.new }
+    ensures need { book.new.need ≡ book.old.need }
     ensures plain { book.new.plain ≡ book.old.plain }
     ensures book { IsWordBook K.names shared.now.table.shared.table_id shared.now.table.shared.key book.new }
 {
@@ -195,5 +221,6 @@ fn release_area<K: Naming>(
     clear_areas_are_releasable::<K>();
     make(&mut book.plain, Who::Runtime, Cmd::Release(serial))?;
     release(&mut book.tables, shared, serial);
+    book.look = None;
     Ok(Pumped::Released(serial))
 }

@@ -44,6 +44,7 @@ pub fn begin_book<K: Naming>(
         tables,
         waiting: None,
         need: None,
+        look: None,
     })
 }
 

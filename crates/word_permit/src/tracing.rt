@@ -27,6 +27,7 @@ pub fn end_traced<K: Naming>(
     requires tables { HasItsTables K.names shared.now.table.shared.table_id shared.now.table.shared.key book.old }
     requires rest { AreAtRest K.names book.old.plain.server book.old.tables }
     requires none { book.old.waiting ≡ None }
+    requires look { book.old.look ≡ None }
     requires holds { book.old.plain.holder ≡ holders.Held who }
     requires decided { IsDecided (shown book.old.plain) who decision }
     requires traces { IsTraceChange decision.change }

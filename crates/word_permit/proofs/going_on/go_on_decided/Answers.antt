@@ -34,15 +34,23 @@ settle-requires-clause-joined g c =
 pub returns-in-Ok-clause-ok : goal.returns-in-Ok-clause-ok
 returns-in-Ok-clause-ok g c =
     let w =
-    went_on g.K.Naming.names _ _ c.args.book.now c.requires.tables c.args.who c.args.waiting.decision c.requires.holds c.requires.decided c.requires.none c.take_room.new.modules c.take_room.ensures.table c.take_room.new.journal c.step-stage.new.tables
+    went_on g.K.Naming.names _ _ c.args.book.now c.requires.tables c.args.who c.args.waiting.decision c.requires.holds c.requires.decided c.requires.none c.requires.look c.take_room.new.modules c.take_room.ensures.table c.take_room.new.journal c.step-stage.new.tables
     c.step-stage.ensures.tables c.step-stage.ensures.names c.step-stage.ensures.known (subst (λ (e : Entry). new_modules e.cmd ≤ c.take_room.new.modules.room) c.entry_of-entry.ensures c.in-Ok.ensures.room) (c.in-Ok.ensures.ok ∙ ap (λ (e : Entry). c.args.book.now.plain.journal ++ e ∷ []) c.entry_of-entry.ensures) c.after_next-after.result c.after_next-after.ensures.counted c.requires.staged
     c.settle.new.book c.step-stage.result.0 c.step-stage.result.1 c.settle.result c.settle.ensures c.step-stage.ensures.ok c.step-stage.ensures.err c.step-stage.ensures.err_published in
     w.ok
 
+pub returns-in-Ok-clause-decision : goal.returns-in-Ok-clause-decision
+returns-in-Ok-clause-decision g c =
+    let w =
+    went_on g.K.Naming.names _ _ c.args.book.now c.requires.tables c.args.who c.args.waiting.decision c.requires.holds c.requires.decided c.requires.none c.requires.look c.take_room.new.modules c.take_room.ensures.table c.take_room.new.journal c.step-stage.new.tables
+    c.step-stage.ensures.tables c.step-stage.ensures.names c.step-stage.ensures.known (subst (λ (e : Entry). new_modules e.cmd ≤ c.take_room.new.modules.room) c.entry_of-entry.ensures c.in-Ok.ensures.room) (c.in-Ok.ensures.ok ∙ ap (λ (e : Entry). c.args.book.now.plain.journal ++ e ∷ []) c.entry_of-entry.ensures) c.after_next-after.result c.after_next-after.ensures.counted c.requires.staged
+    c.settle.new.book c.step-stage.result.0 c.step-stage.result.1 c.settle.result c.settle.ensures c.step-stage.ensures.ok c.step-stage.ensures.err c.step-stage.ensures.err_published in
+    w.decision
+
 pub returns-in-Ok-clause-err : goal.returns-in-Ok-clause-err
 returns-in-Ok-clause-err g c =
     let w =
-    went_on g.K.Naming.names _ _ c.args.book.now c.requires.tables c.args.who c.args.waiting.decision c.requires.holds c.requires.decided c.requires.none c.take_room.new.modules c.take_room.ensures.table c.take_room.new.journal c.step-stage.new.tables
+    went_on g.K.Naming.names _ _ c.args.book.now c.requires.tables c.args.who c.args.waiting.decision c.requires.holds c.requires.decided c.requires.none c.requires.look c.take_room.new.modules c.take_room.ensures.table c.take_room.new.journal c.step-stage.new.tables
     c.step-stage.ensures.tables c.step-stage.ensures.names c.step-stage.ensures.known (subst (λ (e : Entry). new_modules e.cmd ≤ c.take_room.new.modules.room) c.entry_of-entry.ensures c.in-Ok.ensures.room) (c.in-Ok.ensures.ok ∙ ap (λ (e : Entry). c.args.book.now.plain.journal ++ e ∷ []) c.entry_of-entry.ensures) c.after_next-after.result c.after_next-after.ensures.counted c.requires.staged
     c.settle.new.book c.step-stage.result.0 c.step-stage.result.1 c.settle.result c.settle.ensures c.step-stage.ensures.ok c.step-stage.ensures.err c.step-stage.ensures.err_published in
     w.err
@@ -50,7 +58,7 @@ returns-in-Ok-clause-err g c =
 pub returns-in-Ok-clause-book : goal.returns-in-Ok-clause-book
 returns-in-Ok-clause-book g c =
     let w =
-    went_on g.K.Naming.names _ _ c.args.book.now c.requires.tables c.args.who c.args.waiting.decision c.requires.holds c.requires.decided c.requires.none c.take_room.new.modules c.take_room.ensures.table c.take_room.new.journal c.step-stage.new.tables
+    went_on g.K.Naming.names _ _ c.args.book.now c.requires.tables c.args.who c.args.waiting.decision c.requires.holds c.requires.decided c.requires.none c.requires.look c.take_room.new.modules c.take_room.ensures.table c.take_room.new.journal c.step-stage.new.tables
     c.step-stage.ensures.tables c.step-stage.ensures.names c.step-stage.ensures.known (subst (λ (e : Entry). new_modules e.cmd ≤ c.take_room.new.modules.room) c.entry_of-entry.ensures c.in-Ok.ensures.room) (c.in-Ok.ensures.ok ∙ ap (λ (e : Entry). c.args.book.now.plain.journal ++ e ∷ []) c.entry_of-entry.ensures) c.after_next-after.result c.after_next-after.ensures.counted c.requires.staged
     c.settle.new.book c.step-stage.result.0 c.step-stage.result.1 c.settle.result c.settle.ensures c.step-stage.ensures.ok c.step-stage.ensures.err c.step-stage.ensures.err_published in
     w.book
@@ -72,4 +80,5 @@ returns-in-Err-clause-book g c =
     (known_same _ _ c.abandon.ensures.view)
     refl
     c.requires.none
+    c.requires.look
     c.abandon.ensures.rest

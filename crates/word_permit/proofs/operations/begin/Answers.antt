@@ -10,4 +10,4 @@ pub returns-in-Err-clause-err : goal.returns-in-Err-clause-err
 returns-in-Err-clause-err g c = record { same = refl; published = refl; none = c.requires.none }
 
 pub returns-in-Err-clause-book : goal.returns-in-Err-clause-book
-returns-in-Err-clause-book g c = refused_book g.K.Naming.names _ _ c.args.book.now c.requires.tables c.requires.rest c.requires.none
+returns-in-Err-clause-book g c = refused_book g.K.Naming.names _ _ c.args.book.now c.requires.tables c.requires.rest c.requires.none c.requires.look

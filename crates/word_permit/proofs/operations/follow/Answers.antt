@@ -20,7 +20,7 @@ end_unchanged-requires-clause-unchanged g c = c.in-Unchanged.ensures
 pub returns-in_ok-applied-in-Unchanged-clause-book : goal.returns-in_ok-applied-in-Unchanged-clause-book
 returns-in_ok-applied-in-Unchanged-clause-book g c =
     let e : EndsPlain c.args.who c.args.book.now.plain c.end_unchanged.new.book c.in_ok-applied-in-Unchanged.applied = c.in_ok-applied-in-Unchanged.ensures.ok in
-    ended_book g.K.Naming.names _ _ c.args.book.now c.end_unchanged.new.book c.requires.tables c.requires.rest c.requires.none c.end_unchanged.ensures.book e.script c.in_ok-applied-in-Unchanged.ensures.server c.in_ok-applied-in-Unchanged.ensures.journal
+    ended_book g.K.Naming.names _ _ c.args.book.now c.end_unchanged.new.book c.requires.tables c.requires.rest c.requires.none c.requires.look c.end_unchanged.ensures.book e.script c.in_ok-applied-in-Unchanged.ensures.server c.in_ok-applied-in-Unchanged.ensures.journal
 
 pub returns-in_err-applied-in-Unchanged-clause-err : goal.returns-in_err-applied-in-Unchanged-clause-err
 returns-in_err-applied-in-Unchanged-clause-err g c =
@@ -30,7 +30,7 @@ returns-in_err-applied-in-Unchanged-clause-err g c =
 pub returns-in_err-applied-in-Unchanged-clause-book : goal.returns-in_err-applied-in-Unchanged-clause-book
 returns-in_err-applied-in-Unchanged-clause-book g c =
     let kept = kept_shown c.args.book.now c.end_unchanged.new.book c.end_unchanged.ensures.book c.in_err-applied-in-Unchanged.ensures.err in
-    kept.book g.K.Naming.names _ _ (refused_book g.K.Naming.names _ _ c.args.book.now c.requires.tables c.requires.rest c.requires.none)
+    kept.book g.K.Naming.names _ _ (refused_book g.K.Naming.names _ _ c.args.book.now c.requires.tables c.requires.rest c.requires.none c.requires.look)
 
 pub end_traced-requires-clause-traces : goal.end_traced-requires-clause-traces
 end_traced-requires-clause-traces g c = c.in-Traced.ensures
@@ -42,4 +42,4 @@ pub returns-in-Unasked-clause-err : goal.returns-in-Unasked-clause-err
 returns-in-Unasked-clause-err g c = record { same = refl; published = refl; none = c.requires.none }
 
 pub returns-in-Unasked-clause-book : goal.returns-in-Unasked-clause-book
-returns-in-Unasked-clause-book g c = refused_book g.K.Naming.names _ _ c.args.book.now c.requires.tables c.requires.rest c.requires.none
+returns-in-Unasked-clause-book g c = refused_book g.K.Naming.names _ _ c.args.book.now c.requires.tables c.requires.rest c.requires.none c.requires.look

@@ -1,8 +1,7 @@
 -- What waits is taken out of the book, and goes on; else the loader's next command begins.
 use Rattle.std.proofs.Common.{sym}
-use Rattle.std.proofs.lemmas.Result.{IfOk-weaker}
 use Rattle.write_permit.specs.Book.{shown}
-use Rattle.word_permit.proofs.Followed.{answers_without, at_rest, err_without, has_without, waits_for}
+use Rattle.word_permit.proofs.Followed.{answers_begun, answers_waiting, at_rest, err_without, has_without, waits_for}
 use Rattle.word_permit.proofs.operations.go_on.Goals as goal
 
 pub go_on_decided-requires-clause-tables : goal.go_on_decided-requires-clause-tables
@@ -30,13 +29,13 @@ pub begin-requires-clause-rest : goal.begin-requires-clause-rest
 begin-requires-clause-rest g c = at_rest g.K.Naming.names (shown c.args.book.now.plain) c.args.book.now.tables c.args.book.now.waiting (sym c.in-None.ensures.value) c.requires.book.words
 
 pub returns-in-Some-clause-ok : goal.returns-in-Some-clause-ok
-returns-in-Some-clause-ok g c = IfOk-weaker c.go_on_decided.result _ _ (λ step h. answers_without c.args.who c.args.book.now _ c.go_on_decided.new.book step h) c.go_on_decided.ensures.ok
+returns-in-Some-clause-ok g c = answers_waiting c.args.who c.args.book.now _ c.go_on_decided.new.book c.go_on_decided.result c.in-Some.waiting (sym c.in-Some.ensures.value) c.go_on_decided.ensures.decision c.go_on_decided.ensures.ok
 
 pub returns-in-Some-clause-err : goal.returns-in-Some-clause-err
 returns-in-Some-clause-err g c = err_without c.go_on_decided.result c.args.book.now _ c.go_on_decided.new.book c.go_on_decided.ensures.err
 
 pub returns-in-None-clause-ok : goal.returns-in-None-clause-ok
-returns-in-None-clause-ok g c = IfOk-weaker c.begin.result _ _ (λ step h. answers_without c.args.who c.args.book.now _ c.begin.new.book step h) c.begin.ensures.ok
+returns-in-None-clause-ok g c = answers_begun c.args.who c.args.book.now _ c.begin.new.book c.begin.result (sym c.in-None.ensures.value) c.begin.ensures.ok
 
 pub returns-in-None-clause-err : goal.returns-in-None-clause-err
 returns-in-None-clause-err g c = err_without c.begin.result c.args.book.now _ c.begin.new.book c.begin.ensures.err

@@ -2,15 +2,16 @@
 use Rattle.std.proofs.Common.{refl, ap}
 use Rattle.shared_words.specs.declared.view.WriterView.{WriterView}
 use Rattle.progress_words.specs.Tokens.{written_by}
-use Rattle.word_permit.proofs.Awaiting.{reached_begins, reached_late}
+use Rattle.word_permit.proofs.Awaiting.{awaited_still, reached_begins, waits_loaded}
 use Rattle.word_permit.proofs.Quiet.{book_asked}
 use Rattle.word_permit.proofs.pumping.is_reached.Goals as goal
 
 pub returns-clause-ok : goal.returns-clause-ok
 returns-clause-ok g c = reached_begins c.reached.result (written_by c.args.book.now.tables.writer) (written_by c.reached.new.writer) c.args.need c.requires.awaited c.reached.ensures.loaded c.reached.ensures.ok
 
-pub returns-clause-late : goal.returns-clause-late
-returns-clause-late g c = reached_late c.reached.result c.args.need.value _ c.reached.ensures.below
+pub returns-clause-awaited : goal.returns-clause-awaited
+returns-clause-awaited g c =
+    awaited_still (written_by c.args.book.now.tables.writer) (written_by c.reached.new.writer) c.args.need (waits_loaded _ _ c.reached.ensures.loaded) (ap (λ (w : WriterView). w.published) c.reached.ensures.loaded.view) c.requires.awaited
 
 pub returns-clause-none_released : goal.returns-clause-none_released
 returns-clause-none_released g c = record { same = refl; pools = refl; published = ap (λ (w : WriterView). w.published) c.reached.ensures.loaded.view; waiting = refl }

@@ -3,7 +3,7 @@ use Rattle.std.proofs.Common.{refl, ap}
 use Rattle.shared_words.specs.declared.view.WriterView.{WriterView}
 use Rattle.progress_words.specs.Tokens.{written_by}
 use Rattle.word_permit.proofs.Awaiting.{known_loaded, need_taken}
-use Rattle.word_permit.proofs.Quiet.{book_loaded}
+use Rattle.word_permit.proofs.Quiet.{book_loaded, look_asked}
 use Rattle.word_permit.proofs.pumping.take_need.Goals as goal
 
 pub returns-clause-awaited : goal.returns-clause-awaited
@@ -20,5 +20,6 @@ returns-clause-none_released g c = record { same = refl; pools = refl; published
 
 pub returns-clause-book : goal.returns-clause-book
 returns-clause-book g c =
-    book_loaded g.K.Naming.names _ _ c.args.book.now c.later-value.new.writer c.requires.book c.counters_keep_index.ensures c.counters_keep_tables.ensures c.counters_keep_pools.ensures c.later-value.ensures.token c.later-value.ensures.loaded _
+    book_loaded g.K.Naming.names _ _ c.args.book.now c.later-value.new.writer c.requires.book c.counters_keep_index.ensures c.counters_keep_tables.ensures c.counters_keep_pools.ensures c.later-value.ensures.token c.later-value.ensures.loaded _ _
     (need_taken g.K.Naming.names _ _ c.args.book.now (written_by c.later-value.new.writer) _ c.requires.book c.requires.waits c.later-value.ensures.loaded c.later-value.ensures.taken)
+    (look_asked g.K.Naming.names _ _ c.args.book.now c.later-value.new.writer c.requires.book c.counters_keep_index.ensures c.counters_keep_tables.ensures c.counters_keep_pools.ensures c.later-value.ensures.token c.later-value.ensures.loaded)

@@ -35,7 +35,7 @@ finish_change-requires-clause-can g c =
 pub returns-clause-ok : goal.returns-clause-ok
 returns-clause-ok g c =
     let w =
-    is_done g.K.Naming.names _ _ c.args.book.now c.requires.tables c.args.who c.args.decision c.requires.holds c.requires.decided c.requires.none c.take_room.new.modules c.take_room.ensures.table c.take_room.new.journal c.publish_same.new.tables
+    is_done g.K.Naming.names _ _ c.args.book.now c.requires.tables c.args.who c.args.decision c.requires.holds c.requires.decided c.requires.none c.requires.look c.take_room.new.modules c.take_room.ensures.table c.take_room.new.journal c.publish_same.new.tables
     c.publish_same.ensures.tables (c.publish_same.ensures.exports ∙ c.requires.tables.exports) (traces_known c.args.decision.change _ _ c.requires.traces c.publish_same.ensures.notes c.publish_same.ensures.waits c.publish_same.ensures.drop)
     (subst (λ (e : Entry). new_modules e.cmd ≤ c.take_room.new.modules.room) c.entry_of-entry.ensures c.in_ok-take_room.ensures.room) (c.in_ok-take_room.ensures.ok ∙ ap (λ (e : Entry). c.args.book.now.plain.journal ++ e ∷ []) c.entry_of-entry.ensures)
     c.after_next-after.result c.after_next-after.ensures.counted (trace_publishes c.args.book.now.plain.server c.args.decision.change c.requires.traces) c.publish_same.result c.publish_same.ensures.published
@@ -45,7 +45,7 @@ returns-clause-ok g c =
 pub returns-clause-book : goal.returns-clause-book
 returns-clause-book g c =
     let w =
-    is_done g.K.Naming.names _ _ c.args.book.now c.requires.tables c.args.who c.args.decision c.requires.holds c.requires.decided c.requires.none c.take_room.new.modules c.take_room.ensures.table c.take_room.new.journal c.publish_same.new.tables
+    is_done g.K.Naming.names _ _ c.args.book.now c.requires.tables c.args.who c.args.decision c.requires.holds c.requires.decided c.requires.none c.requires.look c.take_room.new.modules c.take_room.ensures.table c.take_room.new.journal c.publish_same.new.tables
     c.publish_same.ensures.tables (c.publish_same.ensures.exports ∙ c.requires.tables.exports) (traces_known c.args.decision.change _ _ c.requires.traces c.publish_same.ensures.notes c.publish_same.ensures.waits c.publish_same.ensures.drop)
     (subst (λ (e : Entry). new_modules e.cmd ≤ c.take_room.new.modules.room) c.entry_of-entry.ensures c.in_ok-take_room.ensures.room) (c.in_ok-take_room.ensures.ok ∙ ap (λ (e : Entry). c.args.book.now.plain.journal ++ e ∷ []) c.entry_of-entry.ensures)
     c.after_next-after.result c.after_next-after.ensures.counted (trace_publishes c.args.book.now.plain.server c.args.decision.change c.requires.traces) c.publish_same.result c.publish_same.ensures.published
@@ -56,4 +56,4 @@ pub returns-in_err-take_room-clause-book : goal.returns-in_err-take_room-clause-
 returns-in_err-take_room-clause-book g c =
     rests g.K.Naming.names _ _ c.args.book.now (record (c.args.book.now) { plain = record (c.args.book.now.plain) { journal = c.take_room.new.journal; modules = c.take_room.new.modules } }) c.requires.tables
     (ap (λ js. record (shown c.args.book.now.plain) { journal = js }) c.in_err-take_room.ensures.err)
-    c.take_room.ensures.table c.requires.tables.tables c.requires.tables.exports refl (record { notes = refl; looks = refl; waits = λ pair among. among }) refl c.requires.none c.requires.rest
+    c.take_room.ensures.table c.requires.tables.tables c.requires.tables.exports refl (record { notes = refl; looks = refl; waits = λ pair among. among }) refl c.requires.none c.requires.look c.requires.rest

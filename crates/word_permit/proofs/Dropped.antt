@@ -1,0 +1,306 @@
+-- A command of the server that publishes is made: what the book keeps then, and how far its loader is.
+use Rattle.std.proofs.Common.{◌≡◌, ℕ, suc, ◌≤◌, true, List, [], ◌∷◌, ◌++◌, slice_get, slice_set, Option, Some, None, is_some, IfSome, IsSomeAnd, IfOk, Result, Ok, Err, All, option_map, option_and_then, if◌then◌else◌, inl, inr, refl, sym, ap, subst, ◌∙◌, arith}
+use Rattle.std.proofs.lemmas.Option.{none-some, same_Some}
+use Rattle.std.proofs.lemmas.Bool.{cases_eq}
+use Rattle.atomic_table.specs.Seated.{TableId}
+use Rattle.term_core.specs.declared.atom.AtomId.{AtomId}
+use Rattle.term_core.specs.declared.atom.Mfa.{Mfa}
+use Rattle.term_core.specs.declared.no_memory.NoMemory.{NoMemory}
+use Rattle.mod_core.specs.declared.code.Module.{Module}
+use Rattle.area_core.specs.Blocks.{Among}
+use Rattle.marks.specs.declared.kept.LookKind.TheVariants.{Frame}
+use Rattle.marks.specs.declared.kept.WriterKept.{WriterKept}
+use Rattle.marks.specs.Steps.{with_dropped}
+use Rattle.shared_words.specs.declared.opening.Opening.{Opening}
+use Rattle.shared_words.specs.declared.view.WriterView.{WriterView}
+use Rattle.shared_words.specs.Drops.{AgreesWithLooks, drop_of}
+use Rattle.shared_words.specs.Slots.{IsClear}
+use Rattle.shared_words.specs.Views.{newest}
+use Rattle.progress_words.specs.Tokens.{written_by}
+use Rattle.change_laws.specs.Names.{IsNumbered}
+use Rattle.server_core.specs.declared.change.Change.{Change}
+use Rattle.server_core.specs.declared.change.Change.TheVariants.{Condemn, DropOld}
+use Rattle.server_core.specs.declared.command.Applied.{Applied}
+use Rattle.server_core.specs.declared.command.Cmd.{Cmd}
+use Rattle.server_core.specs.declared.command.Cmd.TheVariants as cmds
+use Rattle.server_core.specs.CommandTable.{Outcome, apply_of}
+use Rattle.server_core.specs.Decided.{Fits, made}
+use Rattle.server_core.specs.ServerState.{IsSound, ServerState, empty_state, old_of}
+use Rattle.script_core.specs.declared.script.Script.{Script}
+use Rattle.script_core.specs.declared.script.ScriptCmd.{ScriptCmd}
+use Rattle.script_core.specs.declared.script.ScriptCmd.TheVariants.{Purge}
+use Rattle.run_log.specs.declared.logs.Entry.{Entry}
+use Rattle.run_log.specs.declared.logs.Who.TheVariants.{Loader}
+use Rattle.run_log.specs.Journal.{newest_state, published_count, publishes}
+use Rattle.module_table.specs.Modules.{Modules}
+use Rattle.staging.specs.declared.tables.Tables.{Tables}
+use Rattle.staging.specs.Renewed.{IsClearOf, IsRenewal, KeepsDrop}
+use Rattle.staging.specs.Stages.{AreAtRest, HasPublished}
+use Rattle.staging.specs.Upcoming.{generation_shown}
+use Rattle.staging.specs.Whose.{AreTablesOf, KeepsWaits}
+use Rattle.run_law.specs.Answers.{AreAnswersKept, IsAnswerKept}
+use Rattle.run_law.specs.Published.{ArePublished}
+use Rattle.write_permit.specs.declared.answers.OpStep.{OpStep}
+use Rattle.write_permit.specs.declared.answers.OpStep.TheVariants as steps
+use Rattle.write_permit.specs.declared.book.Book.{Book}
+use Rattle.write_permit.specs.declared.commands.OldCode.{OldCode}
+use Rattle.write_permit.specs.declared.holder.Holder.TheVariants.{Free, Held, Purging}
+use Rattle.write_permit.specs.declared.loader_run.LoaderRun.{LoaderRun}
+use Rattle.write_permit.specs.Agreement.{Agrees, CanFollowNewest, new_modules, newest_followed, newest_of}
+use Rattle.write_permit.specs.Book.{IsBook, IsPermit, shown}
+use Rattle.write_permit.specs.Permit.{Advanced, PermitState, Step, counted_in, done_of, ended_with, freed, holder_of, joined, loader_after, made_of, next_of}
+use Rattle.write_permit.proofs.Agreement.{NewestFollows, newest_follows}
+use Rattle.write_permit.proofs.EndBooks.{DoomMade, EndMade, doom_left, end_made}
+use Rattle.write_permit.proofs.Kept.{there}
+use Rattle.write_permit.proofs.Logs.{counted_is, done_other, done_own, server_joined}
+use Rattle.word_permit.specs.declared.book.AreaNeed.{AreaNeed}
+use Rattle.word_permit.specs.declared.book.Decision.{Decision}
+use Rattle.word_permit.specs.declared.book.WordBook.{WordBook}
+use Rattle.word_permit.specs.Books.{HasItsTables, IsWordBook}
+use Rattle.word_permit.specs.Needs.{IsAwaited}
+use Rattle.word_permit.specs.Notes.{AreOfSpawned}
+use Rattle.word_permit.specs.Purged.{DoomsCode, DropsCode, EndsNext, HasGrown, IsDoomMade, IsMadeBy, IsToldBy, IsToldByDrop}
+use Rattle.word_permit.specs.Settled.{IsFinished}
+use Rattle.word_permit.specs.Waiting.{WordsStand}
+use Rattle.word_permit.proofs.Answered.{KeepsAnswers, answered_joined, answered_more}
+use Rattle.word_permit.proofs.Awaiting.{need_on}
+use Rattle.word_permit.proofs.Calls.{no_look}
+use Rattle.word_permit.proofs.Ended.{entry_for, told_entry}
+use Rattle.word_permit.proofs.Growing.{published_more}
+use Rattle.word_permit.proofs.SpawnedBefore.{notes_later}
+
+-- ---- the change that is decided
+
+pub drops_renew : (change : Change) (serial : ℕ) → DropsCode change serial → IsRenewal change
+drops_renew (DropOld generation name serial says retired) dropped h = tt
+drops_renew change dropped h = absurd h
+
+pub drops_clear : (change : Change) (serial : ℕ) (w : WriterView) → DropsCode change serial → IsClear w Frame serial → IsClearOf change w
+drops_clear (DropOld generation name serial says retired) dropped w h clear = subst (IsClear w Frame) (sym h) clear
+drops_clear change dropped w h clear = absurd h
+
+pub drops_publish : (s : ServerState) (change : Change) (serial : ℕ) → DropsCode change serial → is_some (made s change).answer.published ≡ true
+drops_publish s (DropOld generation name serial says retired) dropped h = refl
+drops_publish s change dropped h = absurd h
+
+-- the drop is kept, and what the command tells by it
+pub record KeepsTold (s : ServerState) (old new : WriterView) (cmd : Cmd) : Type 0 where
+  pub more : KeepsAnswers old.looks new.looks
+  pub told : IsToldBy s old new.looks cmd
+
+pub drops_kept : (s : ServerState) (change : Change) (serial : ℕ) (old new : WriterView) (cmd : Cmd) → DropsCode change serial → IsToldByDrop s old serial cmd → KeepsDrop change old new → KeepsTold s old new cmd
+drops_kept s (DropOld generation name serial says retired) dropped old new cmd h told keeps =
+    let looks : new.looks ≡ with_dropped old.looks (drop_of old Frame dropped) = keeps.0 ∙ ap (λ n. with_dropped old.looks (drop_of old Frame n)) h in
+    let agree : AgreesWithLooks old.looks (drop_of old Frame dropped) = subst (λ n. AgreesWithLooks old.looks (drop_of old Frame n)) h keeps.1 in
+    record {
+      more = record {
+        dropped = λ d had. subst (λ (k : WriterKept). Among k.dropped d) (sym looks) (suc had.0, had.1);
+        lingering = λ l had. subst (λ (k : WriterKept). Among k.lingering l) (sym looks) had;
+      };
+      told = told new.looks looks agree;
+    }
+drops_kept s change dropped old new cmd h told keeps = absurd h
+
+pub dooms_renew : (change : Change) → DoomsCode change → IsRenewal change
+dooms_renew (Condemn generation serial) h = tt
+dooms_renew change h = absurd h
+
+pub dooms_clear : (change : Change) (w : WriterView) → DoomsCode change → IsClearOf change w
+dooms_clear (Condemn generation serial) w h = tt
+dooms_clear change w h = absurd h
+
+pub dooms_publish : (s : ServerState) (change : Change) → DoomsCode change → is_some (made s change).answer.published ≡ true
+dooms_publish s (Condemn generation serial) h = refl
+dooms_publish s change h = absurd h
+
+pub dooms_kept : (s : ServerState) (change : Change) (old new : WriterView) (cmd : Cmd) → DoomsCode change → IsToldBy s old old.looks cmd → KeepsDrop change old new → KeepsTold s old new cmd
+dooms_kept s (Condemn generation serial) old new cmd h told keeps = record {
+  more = record {
+    dropped = λ d had. subst (λ (k : WriterKept). Among k.dropped d) (sym keeps) had;
+    lingering = λ l had. subst (λ (k : WriterKept). Among k.lingering l) (sym keeps) had;
+  };
+  told = subst (λ (k : WriterKept). IsToldBy s old k cmd) (sym keeps) told;
+}
+dooms_kept s change old new cmd h told keeps = absurd h
+
+-- ---- the entry of a decided command
+
+abbrev made_to : PermitState → Applied → Option Step
+made_to q answer = Some (record { state = q; answer = answer })
+
+module _ (p : Book) (book : IsBook p) (who : ℕ) (d : Decision) (known : IsMadeBy (shown p) d) where
+  -- the state behind it
+  pub state_behind : (made p.server d.change).state ≡ newest_state p.script.modules empty_state (p.journal ++ entry_for who d ∷ [])
+  state_behind =
+      server_joined p.script p.server p.journal p.loaders.items book.permit.log (Loader who) d.cmd (made p.server d.change) known.given
+      ∙ ap (λ a. newest_state p.script.modules empty_state (p.journal ++ told_entry who d a ∷ [])) known.answer
+
+  module _ (table : Modules) (same : table.instances ≡ p.modules.instances) (room : new_modules d.cmd ≤ table.room) (journal : List Entry) (more : journal ≡ p.journal ++ entry_for who d ∷ []) where
+    follows_by : (s : ServerState) (answer : Applied) → made p.server d.change ≡ record { state = s; answer = answer } → NewestFollows table s journal
+    follows_by s answer is =
+        newest_follows p.script.modules table p.server s answer d.cmd p.journal journal (entry_for who d)
+        (subst (λ ms. Agrees ms p.server) (sym same) book.agrees)
+        (known.given ∙ ap Some is)
+        room
+        refl
+        (ap (λ (a : Applied). a.published) (sym known.answer ∙ ap (λ (o : Outcome). o.answer) is))
+        more
+
+    pub may_follow : CanFollowNewest table (made p.server d.change).state (newest_of journal)
+    may_follow = let f = follows_by (made p.server d.change).state (made p.server d.change).answer refl in f.can
+
+    -- the book once the change is made, and the loader is as far as before
+    module _ (server : ServerState) (applied : Applied) (made_is : made p.server d.change ≡ record { state = server; answer = applied }) (modules : Modules) (follows : modules.instances ≡ newest_followed table.instances server (newest_of journal)) where
+      abbrev pub between : Book
+      between = record p { server = server; journal = journal; modules = modules }
+
+      pub made_between : made_of (shown p) (Loader who) d.cmd ≡ Some (record { state = shown between; answer = applied })
+      made_between =
+          ap (option_map {U = Step} (λ o. record { state = joined (shown p) (Loader who) d.cmd o; answer = o.answer })) (known.given ∙ ap Some made_is)
+          ∙ ap (λ (js : List Entry). made_to (record (shown p) { server = server; journal = js }) applied)
+          (ap (λ a. p.journal ++ told_entry who d a ∷ []) (sym (ap (λ (o : Outcome). o.answer) made_is) ∙ known.answer) ∙ sym more)
+
+      pub agrees_between : Agrees modules.instances server
+      agrees_between = let f = follows_by server applied made_is in subst (λ ms. Agrees ms server) (sym follows) f.agrees
+
+-- ---- the book once it is published
+
+module _ (names : List Mfa) (table : TableId) (opening : Opening) (b : WordBook) (had : HasItsTables names table opening b) (who : ℕ) (d : Decision) (known : IsMadeBy (shown b.plain) d) (publishing : is_some (made b.plain.server d.change).answer.published ≡ true)
+    (t : Tables) (of_table : AreTablesOf table opening t) (exports : t.exports ≡ names) (notes : (written_by t.writer).notes ≡ (written_by b.tables.writer).notes) (waits : KeepsWaits (written_by b.tables.writer) (written_by t.writer))
+    (keeps : KeepsTold b.plain.server (written_by b.tables.writer) (written_by t.writer) d.cmd) (generation : ℕ) (published : HasPublished names (made b.plain.server d.change).state b.tables t generation) where
+  abbrev texts : List Module
+  texts = b.plain.script.modules
+
+  abbrev longer : List Entry
+  longer = b.plain.journal ++ entry_for who d ∷ []
+
+  counts_one : publishes (entry_for who d) ≡ 1
+  counts_one = ap (λ yes. if yes then 1 else 0) (ap (λ (a : Applied). is_some a.published) (sym known.answer) ∙ publishing)
+
+  published_longer : ArePublished names texts longer (written_by t.writer).published
+  published_longer =
+      subst (ArePublished names texts longer) (sym published.published)
+      (published_more names texts b.plain.journal (entry_for who d) had.book.permit.log.replays (written_by b.tables.writer).published published.next had.published counts_one
+      (published.shows ∙ ap (generation_shown names) (state_behind b.plain had.book who d known)))
+
+  newest_counts : newest (written_by b.tables.writer).published ≡ published_count b.plain.journal
+  newest_counts = omega (arith, had.published.many)
+
+  told_now : IsAnswerKept (newest_state texts empty_state b.plain.journal) (published_count b.plain.journal) (written_by t.writer).looks d.cmd
+  told_now =
+      subst (λ s. IsAnswerKept s (published_count b.plain.journal) (written_by t.writer).looks d.cmd) had.book.permit.log.server_is
+      (subst (λ n. IsAnswerKept b.plain.server n (written_by t.writer).looks d.cmd) newest_counts keeps.told)
+
+  answers_longer : AreAnswersKept texts longer (written_by t.writer).looks
+  answers_longer =
+      answered_joined texts b.plain.journal (entry_for who d) (written_by t.writer).looks
+      (answered_more texts b.plain.journal (written_by b.tables.writer).looks (written_by t.writer).looks had.answered keeps.more) told_now
+
+  notes_longer : AreOfSpawned b.plain.script longer (written_by t.writer).notes
+  notes_longer = subst (AreOfSpawned b.plain.script longer) (sym notes) (notes_later b.plain.script b.plain.journal (entry_for who d) (written_by b.tables.writer).notes had.notes)
+
+  pub published_book : (c : WordBook) → IsBook c.plain → c.plain.script ≡ b.plain.script → c.plain.journal ≡ longer → c.plain.server ≡ (made b.plain.server d.change).state → c.tables ≡ t → c.need ≡ b.need → c.look ≡ None → c.waiting ≡ None → IsWordBook names table opening c
+  published_book c book script journal server tables_are need look waiting = record {
+    has = record {
+      book = book;
+      texts = subst (λ (x : Script). All (IsNumbered names) x.modules) (sym script) had.texts;
+      tables = subst (AreTablesOf table opening) (sym tables_are) of_table;
+      exports = ap (λ (x : Tables). x.exports) tables_are ∙ exports;
+      published = subst (λ (x : Tables). ArePublished names c.plain.script.modules c.plain.journal (written_by x.writer).published) (sym tables_are)
+          (subst (λ js. ArePublished names c.plain.script.modules js (written_by t.writer).published) (sym journal)
+          (subst (λ (x : Script). ArePublished names x.modules longer (written_by t.writer).published) (sym script) published_longer));
+      notes = subst (λ (x : Tables). AreOfSpawned c.plain.script c.plain.journal (written_by x.writer).notes) (sym tables_are)
+          (subst (λ js. AreOfSpawned c.plain.script js (written_by t.writer).notes) (sym journal)
+          (subst (λ (x : Script). AreOfSpawned x longer (written_by t.writer).notes) (sym script) notes_longer));
+      answered = subst (λ (x : Tables). AreAnswersKept c.plain.script.modules c.plain.journal (written_by x.writer).looks) (sym tables_are)
+          (subst (λ js. AreAnswersKept c.plain.script.modules js (written_by t.writer).looks) (sym journal)
+          (subst (λ (x : Script). AreAnswersKept x.modules longer (written_by t.writer).looks) (sym script) answers_longer));
+      awaited = subst (λ (o : Option AreaNeed). IfSome o (IsAwaited (written_by c.tables.writer))) (sym need)
+          (subst (λ (x : Tables). IfSome b.need (IsAwaited (written_by x.writer))) (sym tables_are)
+          (need_on (written_by b.tables.writer) (written_by t.writer) (published.next ∷ []) b.need waits published.published had.awaited));
+    };
+    words = subst (WordsStand names (shown c.plain) c.tables) (sym waiting) (subst (λ s. AreAtRest names s c.tables) (sym server) (subst (AreAtRest names (made b.plain.server d.change).state) (sym tables_are) published.rest));
+    looked = no_look c look;
+  }
+
+-- ---- how far the loader is
+
+-- what the end of a command left
+pub record WasEnded (p : PermitState) (who : ℕ) (cmd : Cmd) (q : PermitState) : Type 0 where
+  pub command : ScriptCmd
+  pub next : next_of p who ≡ Some command
+  pub outcome : Outcome
+  pub applied : apply_of p.script.modules p.server cmd ≡ Some outcome
+  pub state : q ≡ record (joined p (Loader who) cmd outcome) { loaders = counted_in p.loaders who command; holder = Free }
+
+abbrev advanced_as : PermitState → OpStep → Advanced
+advanced_as q answer = record { state = q; answer = answer }
+
+pub was_ended : (p q : PermitState) (who : ℕ) (cmd : Cmd) (answer : OpStep) → ended_with p who cmd ≡ Some (record { state = q; answer = answer }) → WasEnded p who cmd q
+was_ended p q who cmd answer h = by (next_of p who) (apply_of p.script.modules p.server cmd) refl refl h
+  where
+    by : (n : Option ScriptCmd) (o : Option Outcome) → next_of p who ≡ n → apply_of p.script.modules p.server cmd ≡ o
+        → option_and_then {U = Advanced} (λ command. option_map {U = Advanced} freed (option_map {U = Step} (λ s. record { state = record (s.state) { loaders = counted_in p.loaders who command }; answer = s.answer }) (option_map {U = Step} (λ x. record { state = joined p (Loader who) cmd x; answer = x.answer }) o))) n
+        ≡ Some (record { state = q; answer = answer }) → WasEnded p who cmd q
+    by None o e f g = absurd (none-some _ g)
+    by (Some command) None e f g = absurd (none-some _ g)
+    by (Some command) (Some x) e f g =
+        let s = same_Some (advanced_as (record (joined p (Loader who) cmd x) { loaders = counted_in p.loaders who command; holder = Free }) (steps.Done x.answer)) (advanced_as q answer) g in
+        record { command = command; next = e; outcome = x; applied = f; state = sym (ap (λ (a : Advanced). a.state) s) }
+
+-- one command more of the loader is done, and as many as before of each other one
+pub done_more : (p : PermitState) (known : IsPermit p) (who : ℕ) (command : ScriptCmd) → next_of p who ≡ Some command → (loader : ℕ) → done_of p.loaders loader ≤ done_of (counted_in p.loaders who command) loader
+done_more p known who command next loader =
+    let t = there p known who command next in
+    let counted = counted_is p.script p.server p.journal p.loaders known.log who command next t.0 t.1 in
+    subst (λ ls. done_of p.loaders loader ≤ done_of ls loader) (sym counted)
+    (elim (cases_eq loader who) as (λ _. done_of p.loaders loader ≤ done_of (slice_set p.loaders who (loader_after command t.0)) loader) [
+      | inl same ↦ omega (arith, ap (done_of p.loaders) same, ap (done_of (slice_set p.loaders who (loader_after command t.0))) same, done_own p.script p.server p.journal p.loaders known.log who command next t.0 t.1)
+      | inr other ↦ omega (arith, done_other p.script p.server p.journal p.loaders known.log who command next t.0 t.1 loader other)
+    ])
+
+pub ended_grown : (b c : Book) (who : ℕ) (cmd : Cmd) (answer : OpStep) → IsBook b → ended_with (shown b) who cmd ≡ Some (record { state = shown c; answer = answer }) → HasGrown b c
+ended_grown b c who cmd answer book step =
+    let e = was_ended (shown b) (shown c) who cmd answer step in
+    record {
+      script = ap (λ (x : PermitState). x.script) e.state;
+      more = record { who = Loader who; cmd = cmd; reply = e.outcome.answer.reply; published = e.outcome.answer.published } ∷ [];
+      journal = ap (λ (x : PermitState). x.journal) e.state;
+      done = λ loader. subst (λ ls. done_of b.loaders.items loader ≤ done_of ls loader) (sym (ap (λ (x : PermitState). x.loaders) e.state)) (done_more (shown b) book.permit who e.command e.next loader);
+    }
+
+-- ---- what is decided
+
+-- put together
+pub decided_made : (p : PermitState) (cmd : Cmd) (r : Result Decision NoMemory) → IfOk r (λ d. Fits p.server d.change) → IfOk r (λ d. apply_of p.script.modules p.server cmd ≡ Some (made p.server d.change)) → IfOk r (λ d. (made p.server d.change).answer ≡ d.applied)
+    → IfOk r (λ d. d.cmd ≡ cmd) → IfOk r (IsMadeBy p)
+decided_made p cmd (Ok d) fits given answer same = record { fits = fits; given = ap (apply_of p.script.modules p.server) same ∙ given; answer = answer }
+decided_made p cmd (Err fault) fits given answer same = tt
+
+-- a doom tells nothing of processes
+pub doom_tells : (s : ServerState) (w : WriterView) (kept : WriterKept) (cmd : Cmd) (name : AtomId) → cmd ≡ cmds.Doom name → IsToldBy s w kept cmd
+doom_tells s w kept cmd name is = subst (IsToldBy s w kept) (sym is) tt
+
+-- the purge waits once the change is made
+pub doom_finished : (who : ℕ) (name : AtomId) (change : Change) (old : Book) (server : ServerState) (modules : Modules) (applied : Applied) → made old.server change ≡ record { state = server; answer = applied } → IsSound server
+    → modules.instances ≡ newest_followed old.modules.instances server (newest_of old.journal) → IsDoomMade who name change old (record old { server = server; modules = modules; holder = Purging who name })
+doom_finished who name change old server modules applied made_is sound follows = record { applied = applied; made_is = made_is; state = refl; table = follows; sound = sound }
+
+module _ (p : Book) (book : IsBook p) (who : ℕ) (d : Decision) (known : IsMadeBy (shown p) d) (table : Modules) (same : table.instances ≡ p.modules.instances) (room : new_modules d.cmd ≤ table.room) (journal : List Entry) (more : journal ≡ p.journal ++ entry_for who d ∷ []) where
+  -- the drop ends the loader's command
+  pub drop_made : holder_of p.holder ≡ Some who → EndsNext (shown p) who d.cmd → (c : Book) (after : LoaderRun) (applied : Applied) → IsFinished who d.change after (record p { journal = journal; modules = table }) c applied
+      → IsSomeAnd (next_of (shown p) who) (λ command. option_map (loader_after command) (slice_get p.loaders.items who) ≡ Some after) → EndMade p c who d.cmd applied
+  drop_made own ends c after applied finished counts =
+      end_made p book who d.cmd ends (between p book who d known table same room journal more c.server applied finished.made_is c.modules finished.table) c applied after own counts
+      (made_between p book who d known table same room journal more c.server applied finished.made_is c.modules finished.table) finished.state refl finished.sound
+      (agrees_between p book who d known table same room journal more c.server applied finished.made_is c.modules finished.table)
+
+  -- the doom begins the loader's purge
+  pub doom_joined : (code : OldCode) → p.holder ≡ Held who → next_of (shown p) who ≡ Some (Purge code.«module») → old_of p.server code.«module».0 ≡ Some code.serial → d.cmd ≡ cmds.Doom code.«module» → (c : Book)
+      → IsDoomMade who code.«module» d.change (record p { journal = journal; modules = table }) c → DoomMade p c who code
+  doom_joined code held next old is c finished =
+      doom_left p book who code held next old (between p book who d known table same room journal more c.server finished.applied finished.made_is c.modules finished.table) c finished.applied
+      (subst (λ cmd. made_of (shown p) (Loader who) cmd ≡ made_to (shown (between p book who d known table same room journal more c.server finished.applied finished.made_is c.modules finished.table)) finished.applied) is
+      (made_between p book who d known table same room journal more c.server finished.applied finished.made_is c.modules finished.table))
+      finished.state refl finished.sound
+      (agrees_between p book who d known table same room journal more c.server finished.applied finished.made_is c.modules finished.table)

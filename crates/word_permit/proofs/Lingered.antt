@@ -1,0 +1,65 @@
+-- The answer that a process lingers is kept where the anchor names the instance still.
+use Rattle.std.proofs.Common.{◌≡◌, ℕ, suc, Bool, true, false, List, slice_get, Option, Some, None, IfSome, if◌then◌else◌, sym, ap, subst, ◌∙◌}
+use Rattle.std.proofs.lemmas.Option.{none-some}
+use Rattle.atomic_table.specs.Seated.{TableId}
+use Rattle.term_core.specs.declared.atom.Mfa.{Mfa}
+use Rattle.area_core.specs.Blocks.{Among}
+use Rattle.area_core.specs.Generations.{names_frame}
+use Rattle.marks.specs.declared.kept.LingeringFrame.{LingeringFrame}
+use Rattle.marks.specs.declared.kept.ReadTurn.{ReadTurn}
+use Rattle.shared_words.specs.declared.opening.Opening.{Opening}
+use Rattle.shared_words.specs.declared.seats.Writer as writers
+use Rattle.shared_words.specs.declared.view.WriterView.{WriterView}
+use Rattle.shared_words.specs.Lingering.{IsLooked, lingering_found, lingering_of, with_lingering}
+use Rattle.shared_words.specs.Views.{newest}
+use Rattle.progress_words.specs.Tokens.{IsWriterOf, written_by}
+use Rattle.anchors.specs.declared.answers.Scan.TheVariants as scans
+use Rattle.server_core.specs.declared.command.Linger.{Linger}
+use Rattle.literal_areas.specs.Laws as areas
+use Rattle.run_law.specs.Answers.{HasLingering}
+use Rattle.word_permit.specs.declared.book.WordBook.{WordBook}
+use Rattle.word_permit.specs.Books.{IsWordBook}
+use Rattle.word_permit.specs.Looks.{HasLookedFor, newest_wait}
+use Rattle.word_permit.proofs.Answered.{KeepsAnswers}
+use Rattle.word_permit.proofs.Looked.{linger_same}
+use Rattle.word_permit.proofs.Quiet.{book_found, with_writer}
+use Rattle.word_permit.proofs.Told.{linger_told}
+
+-- a look that named the instance may be kept
+pub may_linger : (w : WriterView) (serial process turn place word : ℕ) → HasLookedFor serial w (scans.Named process turn place word) → IsLooked w process serial turn
+may_linger w serial process turn place word found =
+    let read : Among w.looks.turns (record { wait = newest_wait w serial; process = process; turns = turn }) = (0, ap (λ (xs : List ReadTurn). slice_get xs 0) found.cause.1.turn_read.1) in
+    record {
+      read = subst (λ wait. Among w.looks.turns (record { wait = wait; process = process; turns = turn })) (sym found.wait_is) read;
+      newest_is = ap (λ wait. wait.generation) found.wait_is;
+    }
+
+abbrev linger_of : ℕ → ℕ → Linger
+linger_of process turn = record { process = process; turn = turn }
+
+-- it is kept
+pub if_kept : (old new : WriterView) (found serial process turn place word : ℕ) → HasLookedFor serial old (scans.Named process turn place word) → new ≡ lingering_found found (lingering_of old process serial turn) old
+    → (told : Option Linger) → told ≡ (if names_frame found serial then Some (linger_of process turn) else None) → IfSome told (HasLingering new.looks serial (newest old.published))
+if_kept old new found serial process turn place word looked is told same = subst (λ o. IfSome o (HasLingering new.looks serial (newest old.published))) (sym same) (by (names_frame found serial) is)
+  where
+    by : (b : Bool) → new ≡ (if b then with_lingering (lingering_of old process serial turn) old else old) → IfSome (if b then Some (linger_of process turn) else None) (HasLingering new.looks serial (newest old.published))
+    by true e = linger_told old new.looks serial (linger_of process turn) looked.cause.0 looked.wait_is (ap (λ (w : WriterView). w.looks) e)
+    by false e = tt
+
+-- or the writer knows what it knew
+pub if_left : (old new : WriterView) (found serial process turn : ℕ) → new ≡ lingering_found found (lingering_of old process serial turn) old → (told : Option Linger) → told ≡ (if names_frame found serial then Some (linger_of process turn) else None) → told ≡ None → new ≡ old
+if_left old new found serial process turn is told same none = by (names_frame found serial) is (sym same ∙ none)
+  where
+    by : (b : Bool) → new ≡ (if b then with_lingering (lingering_of old process serial turn) old else old) → (if b then Some (linger_of process turn) else None) ≡ None → new ≡ old
+    by true e none = absurd (none-some (linger_of process turn) (sym none))
+    by false e none = e
+
+answers_lingered : (w : WriterView) (l : LingeringFrame) (b : Bool) → KeepsAnswers w.looks (if b then with_lingering l w else w).looks
+answers_lingered w l true = record { dropped = λ d had. had; lingering = λ x had. (suc had.0, had.1) }
+answers_lingered w l false = record { dropped = λ d had. had; lingering = λ x had. had }
+
+pub book_lingered : (names : List Mfa) (table : TableId) (opening : Opening) (b : WordBook) (writer : writers.Writer) → IsWordBook names table opening b → areas.KeptByLooks → IsWriterOf table opening writer → (found : ℕ) (l : LingeringFrame)
+    → written_by writer ≡ lingering_found found l (written_by b.tables.writer) → IsWordBook names table opening (record b { tables = with_writer b.tables writer })
+book_lingered names table opening b writer known by_pools token found l is =
+    book_found names table opening b writer known by_pools token (linger_same found l (written_by b.tables.writer) (written_by writer) is)
+    (subst (λ (w : WriterView). KeepsAnswers (written_by b.tables.writer).looks w.looks) (sym is) (answers_lingered (written_by b.tables.writer) l (names_frame found l.wait.serial)))

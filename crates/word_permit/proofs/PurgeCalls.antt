@@ -1,0 +1,454 @@
+-- Soft purges and purges: what each call leaves of a permit's book.
+use Rattle.std.proofs.Common.{◌≡◌, ℕ, ◌&&◌, ◌||◌, ◌≤◌, Bool, true, false, List, [], ◌∷◌, ◌++◌, Option, Some, None, IfSome, IsSomeAnd, All, option_map, IfOk, IfErr, OnErr, OnOk, Result, Ok, Err, if◌then◌else◌, ◌⊎◌, inl, inr, refl, sym, ap, subst, ◌∙◌, arith}
+use Rattle.std.specs.Prelude.{IsTrue}
+use Rattle.std.proofs.lemmas.Bool.{eq-eqb, false≢true}
+use Rattle.std.proofs.lemmas.Option.{none-some, same_Some}
+use Rattle.atomic_table.specs.Seated.{TableId}
+use Rattle.term_core.specs.declared.atom.AtomId.{AtomId}
+use Rattle.term_core.specs.declared.atom.Mfa.{Mfa}
+use Rattle.term_core.specs.declared.hold.Kind.TheVariants as kinds
+use Rattle.term_core.specs.declared.no_memory.NoMemory.{NoMemory}
+use Rattle.marks.specs.declared.kept.LookKind.TheVariants.{Frame}
+use Rattle.marks.specs.declared.kept.WriterKept.{WriterKept}
+use Rattle.shared_words.specs.declared.opening.Opening.{Opening}
+use Rattle.shared_words.specs.declared.view.WriterView.{WriterView}
+use Rattle.shared_words.specs.Rule.{is_gone}
+use Rattle.shared_words.specs.Slots.{IsClear}
+use Rattle.shared_words.specs.Views.{newest}
+use Rattle.progress_words.specs.declared.answers.NotYet as late
+use Rattle.progress_words.specs.Needs.{IsBelow}
+use Rattle.progress_words.specs.Roots.{newest_of}
+use Rattle.progress_words.specs.Tokens.{written_by}
+use Rattle.anchors.specs.declared.answers.Scan.{Scan}
+use Rattle.anchors.specs.declared.answers.Scan.TheVariants as scans
+use Rattle.server_core.specs.declared.command.Cmd.{Cmd}
+use Rattle.server_core.specs.declared.command.Cmd.TheVariants as cmds
+use Rattle.server_core.specs.declared.command.Linger.{Linger}
+use Rattle.server_core.specs.declared.command.Reply.TheVariants as replies
+use Rattle.server_core.specs.CommandTable.{Outcome, apply_of, purge_of, soft_purge_of, unchanged, while_none_doomed}
+use Rattle.server_core.specs.ServerState.{ServerState, empty_state, old_of}
+use Rattle.mod_core.specs.declared.code.Module.{Module}
+use Rattle.script_core.specs.declared.script.ScriptCmd.{ScriptCmd}
+use Rattle.script_core.specs.declared.script.ScriptCmd.TheVariants.{Load, Delete, Put, Erase, Trace, Spawn, CheckOld, Purge, SoftPurge}
+use Rattle.run_log.specs.declared.logs.Entry.{Entry}
+use Rattle.run_log.specs.declared.logs.Who.TheVariants.{Loader}
+use Rattle.run_log.specs.Journal.{newest_state, published_count}
+use Rattle.run_log.proofs.SpanRuns.{some_at}
+use Rattle.change_laws.specs.Names.{IsNumbered}
+use Rattle.script_core.specs.declared.script.Script.{Script}
+use Rattle.run_law.specs.Answers.{AreAnswersKept, HasDrop, HasLingering, HasPurge, IsAnswerKept}
+use Rattle.run_law.specs.Published.{ArePublished}
+use Rattle.staging.specs.declared.tables.Tables.{Tables}
+use Rattle.staging.specs.Stages.{AreAtRest}
+use Rattle.write_permit.specs.declared.answers.OpStep.{OpStep}
+use Rattle.write_permit.specs.declared.answers.OpStep.TheVariants as steps
+use Rattle.write_permit.specs.declared.book.Book.{Book}
+use Rattle.write_permit.specs.declared.commands.OldCode.{OldCode}
+use Rattle.write_permit.specs.declared.holder.Holder.{Holder}
+use Rattle.write_permit.specs.declared.holder.Holder.TheVariants.{Free, Held, Purging}
+use Rattle.write_permit.specs.declared.mark.Mark.{Mark}
+use Rattle.write_permit.specs.Book.{HoldsJust, IsBook, PurgeWaits, shown}
+use Rattle.write_permit.specs.Looks.{lingering, lingering_in}
+use Rattle.write_permit.specs.Permit.{PermitState, Step, done_of, doomed_by, ended_with, holder_of, joined, needs_permission, next_of, purged_code}
+use Rattle.write_permit.proofs.EndBooks.{open_ends}
+use Rattle.write_permit.proofs.Ends.{code_of_module}
+use Rattle.word_permit.specs.declared.answers.CommandStep.{CommandStep}
+use Rattle.word_permit.specs.declared.answers.CommandStep.TheVariants.{Done, NotYet, AwaitRelease, Lingers}
+use Rattle.word_permit.specs.declared.book.Waiting.{Waiting}
+use Rattle.word_permit.specs.declared.book.WordBook.{WordBook}
+use Rattle.word_permit.specs.declared.purging.Purged.{Purged}
+use Rattle.word_permit.specs.declared.purging.Purged.TheVariants.{Softly, Wholly}
+use Rattle.word_permit.specs.Books.{HasGivenUp, HasTakenBack, IsWordBook}
+use Rattle.word_permit.specs.Looks.{HasLookedFor, IsLookTaken, IsReached}
+use Rattle.word_permit.specs.Notes.{AreOfSpawned}
+use Rattle.word_permit.specs.Purged.{EndsNext, HasDoomedCode, HasGrown, IsLookLate, IsOldCodeOf, IsToldBy, IsToldByDrop, JustLooks, LeavesServer, LookAnswers, PurgeAnswers, Purges, StillWaits, is_purge, purged_by, purging_command}
+use Rattle.word_permit.specs.Waiting.{GoesOverWords, WordsStand}
+use Rattle.word_permit.proofs.Answered.{answered_joined}
+use Rattle.word_permit.proofs.Calls.{counts_none}
+use Rattle.word_permit.proofs.Dropped.{ended_grown, was_ended}
+use Rattle.word_permit.proofs.Followed.{at_rest}
+use Rattle.word_permit.proofs.Growing.{published_same}
+use Rattle.word_permit.proofs.OldCode.{old_gone}
+use Rattle.word_permit.proofs.SpawnedBefore.{notes_later}
+use Rattle.word_permit.proofs.Told.{drop_told, purge_told}
+
+-- ---- which commands
+
+-- while a soft purge or a purge is the next command of the loader that has the permission, no other one waits
+pub none_waits : (names : List Mfa) (p : PermitState) (t : Tables) (o : Option Waiting) (who : ℕ) → holder_of p.holder ≡ Some who → Purges p who → WordsStand names p t o → o ≡ None
+none_waits names p t None who holds purges h = refl
+none_waits names p t (Some w) who holds purges h =
+    let same : h.who ≡ who = same_Some h.who who (sym (ap holder_of h.holder) ∙ holds) in
+    let next : next_of p who ≡ Some h.decided.command = ap (next_of p) (sym same) ∙ h.decided.next in
+    absurd (goes_no_purge h.decided.command h.decided.goes (subst (λ o. IsSomeAnd o (λ command. is_purge command ≡ true)) next purges))
+  where
+    goes_no_purge : (command : ScriptCmd) → GoesOverWords command → is_purge command ≡ true → ⊥
+    goes_no_purge (Load refs) goes h = false≢true h
+    goes_no_purge (Delete name) goes h = false≢true h
+    goes_no_purge (Put key term) goes h = false≢true h
+    goes_no_purge (Erase key) goes h = false≢true h
+    goes_no_purge (Trace target on) goes h = false≢true h
+    goes_no_purge command goes h = absurd goes
+
+-- the loader that has the permission has a next command, which needs it
+pub needs_next : (p : PermitState) (h : Holder) (who : ℕ) → HoldsJust p h → holder_of h ≡ Some who → IsSomeAnd (next_of p who) (λ command. needs_permission command ≡ true)
+needs_next p Free who holds own = absurd (none-some who own)
+needs_next p (Held n) who holds own = subst (λ k. IsSomeAnd (next_of p k) (λ command. needs_permission command ≡ true)) (same_Some n who own) holds.next
+needs_next p (Purging n name) who holds own = some_at (next_of p who) (λ command. needs_permission command ≡ true) (Purge name) (ap (next_of p) (sym (same_Some n who own)) ∙ holds.next) refl
+
+-- what it purges, as it is told
+pub some_purged : (o : Option ScriptCmd) (command : ScriptCmd) (told : Option Purged) → o ≡ Some command → told ≡ purged_by command → IfSome told (λ purged. o ≡ Some (purging_command purged))
+some_purged o command told is same = subst (λ x. IfSome x (λ purged. o ≡ Some (purging_command purged))) (sym same) (by command is)
+  where
+    by : (command : ScriptCmd) → o ≡ Some command → IfSome (purged_by command) (λ purged. o ≡ Some (purging_command purged))
+    by (SoftPurge name) e = e
+    by (Purge name) e = e
+    by _ e = tt
+
+pub none_purged : (o : Option ScriptCmd) (command : ScriptCmd) (told : Option Purged) → o ≡ Some command → IsSomeAnd o (λ x. needs_permission x ≡ true) → told ≡ purged_by command → told ≡ None → IsSomeAnd o GoesOverWords
+none_purged o command told is needs same none =
+    subst (λ x. IsSomeAnd x GoesOverWords) (sym is) (by command (subst (λ x. IsSomeAnd x (λ y. needs_permission y ≡ true)) is needs) (sym same ∙ none))
+  where
+    by : (command : ScriptCmd) → needs_permission command ≡ true → purged_by command ≡ None → GoesOverWords command
+    by (SoftPurge name) needs e = absurd (none-some (Softly name) (sym e))
+    by (Purge name) needs e = absurd (none-some (Wholly name) (sym e))
+    by (Spawn target args) needs e = absurd (false≢true needs)
+    by (CheckOld name) needs e = absurd (false≢true needs)
+    by _ needs e = tt
+
+-- it is a soft purge or a purge
+pub purges_next : (o : Option ScriptCmd) (purged : Purged) → o ≡ Some (purging_command purged) → IsSomeAnd o (λ x. is_purge x ≡ true)
+purges_next o purged is = subst (λ x. IsSomeAnd x (λ y. is_purge y ≡ true)) (sym is) (by purged)
+  where
+    by : (purged : Purged) → is_purge (purging_command purged) ≡ true
+    by (Softly name) = refl
+    by (Wholly name) = refl
+
+pub next_purges : (p : PermitState) (who : ℕ) (command : ScriptCmd) → next_of p who ≡ Some command → is_purge command ≡ true → Purges p who
+next_purges p who command next passes = some_at (next_of p who) (λ x. is_purge x ≡ true) command next passes
+
+-- the old code that it purges
+pub code_none : (s : ServerState) (name : AtomId) → purged_code s (Purge name) ≡ None → old_of s name.0 ≡ None
+code_none s name h = by (old_of s name.0) h
+  where
+    by : (o : Option ℕ) → option_map {U = OldCode} (λ serial. record { «module» = name; serial = serial }) o ≡ None → o ≡ None
+    by None e = refl
+    by (Some serial) e = absurd (none-some _ (sym e))
+
+pub module_found : (s : ServerState) (name : AtomId) (code : OldCode) → purged_code s (Purge name) ≡ Some code → name ≡ code.«module»
+module_found s name code found = code_of_module s name code found
+
+pub held_holds : (b : Book) (who : ℕ) → b.holder ≡ Held who → holder_of b.holder ≡ Some who
+held_holds b who held = ap holder_of held
+
+pub purging_holds : (b : Book) (who : ℕ) (name : AtomId) → b.holder ≡ Purging who name → holder_of b.holder ≡ Some who
+purging_holds b who name held = ap holder_of held
+
+-- one command is not both
+pub goes_apart : (o : Option ScriptCmd) → IsSomeAnd o GoesOverWords → IsSomeAnd o (λ x. is_purge x ≡ true) → ⊥
+goes_apart None goes purges = absurd goes
+goes_apart (Some (Load refs)) goes purges = false≢true purges
+goes_apart (Some (Delete name)) goes purges = false≢true purges
+goes_apart (Some (Put key term)) goes purges = false≢true purges
+goes_apart (Some (Erase key)) goes purges = false≢true purges
+goes_apart (Some (Trace target on)) goes purges = false≢true purges
+goes_apart (Some command) goes purges = absurd goes
+
+-- a purge of old code in its second half is the loader's next command
+pub second_next : (b : Book) (known : IsBook b) (who : ℕ) (code : OldCode) → b.holder ≡ Purging who code.«module» → next_of (shown b) who ≡ Some (Purge code.«module»)
+second_next b known who code held = let k : PurgeWaits (shown b) who code.«module» = subst (HoldsJust (shown b)) held known.permit.holds in k.next
+
+-- ---- the last command of the server
+
+-- a mark by which a process lingers in the instance
+abbrev mark_of : Linger → ℕ → Mark
+mark_of l serial = record { process = l.process; turn = l.turn; names = (serial, kinds.Frame) ∷ []; killed = None }
+
+stands_there : (l : Linger) (serial : ℕ) → lingering_in (mark_of l serial ∷ []) serial ≡ Some l
+stands_there l serial = ap (λ b. if (b && true) || false then Some l else None) (eq-eqb serial serial refl)
+
+module _ (b : Book) (who : ℕ) (name : AtomId) (held : b.holder ≡ Held who) where
+  -- a soft purge ends as no process lingers
+  pub soft_ends : next_of (shown b) who ≡ Some (SoftPurge name) → EndsNext (shown b) who (cmds.SoftPurge name None)
+  soft_ends next = open_ends b who (SoftPurge name) [] (cmds.SoftPurge name None) held next refl (ap (cmds.SoftPurge name) (sym (none_lingers (old_of b.server name.0))))
+    where
+      none_lingers : (o : Option ℕ) → lingering [] o ≡ None
+      none_lingers None = refl
+      none_lingers (Some serial) = refl
+
+  -- or as one does
+  pub linger_ends : (serial : ℕ) (l : Linger) → next_of (shown b) who ≡ Some (SoftPurge name) → old_of b.server name.0 ≡ Some serial → EndsNext (shown b) who (cmds.SoftPurge name (Some l))
+  linger_ends serial l next old =
+      open_ends b who (SoftPurge name) (mark_of l serial ∷ []) (cmds.SoftPurge name (Some l)) held next refl
+      (ap (cmds.SoftPurge name) (sym (ap (lingering (mark_of l serial ∷ [])) old ∙ stands_there l serial)))
+
+  -- a purge of no code ends at once
+  pub whole_ends : next_of (shown b) who ≡ Some (Purge name) → old_of b.server name.0 ≡ None → EndsNext (shown b) who (cmds.Purge name false)
+  whole_ends next none = open_ends b who (Purge name) [] (cmds.Purge name false) held next (ap (option_map {U = OldCode} (λ serial. record { «module» = name; serial = serial })) none) refl
+
+-- where nothing is doomed
+leaves_free : (s : ServerState) (x : Outcome) (o : Outcome) → (b : Bool) → (if b then None else Some x) ≡ Some o → x ≡ o
+leaves_free s x o true h = absurd (none-some o h)
+leaves_free s x o false h = same_Some x o h
+
+-- they leave the server
+pub soft_leaves : (texts : List Module) (s : ServerState) (name : AtomId) → old_of s name.0 ≡ None → LeavesServer texts s (cmds.SoftPurge name None)
+soft_leaves texts s name none o h =
+    let is = leaves_free s (unchanged s replies.True) o _ (sym (ap (λ x. while_none_doomed s (soft_purge_of s name.0 None x)) none) ∙ h) in
+    (ap (λ (x : Outcome). x.state) (sym is), ap (λ (x : Outcome). x.answer.published) (sym is))
+
+pub linger_leaves : (texts : List Module) (s : ServerState) (name : AtomId) (serial : ℕ) (l : Linger) → old_of s name.0 ≡ Some serial → LeavesServer texts s (cmds.SoftPurge name (Some l))
+linger_leaves texts s name serial l old o h =
+    let is = leaves_free s (unchanged s (replies.FalseBy l)) o _ (sym (ap (λ x. while_none_doomed s (soft_purge_of s name.0 (Some l) x)) old) ∙ h) in
+    (ap (λ (x : Outcome). x.state) (sym is), ap (λ (x : Outcome). x.answer.published) (sym is))
+
+pub whole_leaves : (texts : List Module) (s : ServerState) (name : AtomId) → old_of s name.0 ≡ None → LeavesServer texts s (cmds.Purge name false)
+whole_leaves texts s name none o h =
+    let is = leaves_free s (unchanged s replies.False) o _ (sym (ap (purge_of s name.0 false) none) ∙ h) in
+    (ap (λ (x : Outcome). x.state) (sym is), ap (λ (x : Outcome). x.answer.published) (sym is))
+
+-- and tell nothing of processes, where there is no old code
+pub soft_tells : (s : ServerState) (w : WriterView) (kept : WriterKept) (name : AtomId) → old_of s name.0 ≡ None → IsToldBy s w kept (cmds.SoftPurge name None)
+soft_tells s w kept name none = subst (λ (o : Option ℕ). IfSome o (λ serial. HasDrop kept Frame serial (newest w.published))) (sym none) tt
+
+pub whole_tells : (s : ServerState) (w : WriterView) (kept : WriterKept) (name : AtomId) → old_of s name.0 ≡ None → IsToldBy s w kept (cmds.Purge name false)
+whole_tells s w kept name none = subst (λ (o : Option ℕ). IfSome o (λ serial. HasPurge kept serial (newest w.published) false)) (sym none) tt
+
+-- a process that lingers is told of
+pub linger_tells : (s : ServerState) (w : WriterView) (kept : WriterKept) (name : AtomId) (serial : ℕ) (l : Linger) → old_of s name.0 ≡ Some serial → HasLingering kept serial (newest w.published) l → IsToldBy s w kept (cmds.SoftPurge name (Some l))
+linger_tells s w kept name serial l old has = subst (λ (o : Option ℕ). IfSome o (λ n. HasLingering kept n (newest w.published) l)) (sym old) has
+
+-- a drop is told of by a soft purge
+pub soft_told : (s : ServerState) (w : WriterView) (name : AtomId) (serial : ℕ) → old_of s name.0 ≡ Some serial → IsToldByDrop s w serial (cmds.SoftPurge name None)
+soft_told s w name serial old kept is agree = subst (λ (o : Option ℕ). IfSome o (λ n. HasDrop kept Frame n (newest w.published))) (sym old) (drop_told w kept serial is)
+
+-- and by a purge, with whom the code has killed
+pub whole_told : (s : ServerState) (w : WriterView) (name : AtomId) (serial : ℕ) (killed : Bool) → old_of s name.0 ≡ Some serial → HasLookedFor serial w (scans.Clear killed) → IsToldByDrop s w serial (cmds.Purge name killed)
+whole_told s w name serial killed old found kept is agree =
+    subst (λ (o : Option ℕ). IfSome o (λ n. HasPurge kept n (newest w.published) killed)) (sym old) (purge_told found.begun w serial killed found.cause.0 agree kept is)
+
+-- the look was clear
+pub found_clear : (w : WriterView) (serial : ℕ) (killed : Bool) → HasLookedFor serial w (scans.Clear killed) → IsClear w Frame serial
+found_clear w serial killed found = found.cause.1
+
+-- ---- a look
+
+module _ (b m : WordBook) (looks : JustLooks b m) where
+  server_same : m.plain.server ≡ b.plain.server
+  server_same = ap (λ (x : Book). x.server) looks.plain
+
+  shown_same : shown m.plain ≡ shown b.plain
+  shown_same = ap shown looks.plain
+
+  -- what ended behind it
+  pub ends_behind : (who : ℕ) (c : WordBook) (step : CommandStep) → LookAnswers who m c step → PurgeAnswers who b c step
+  ends_behind who c (Done applied) h = record {
+    cmd = h.cmd;
+    ends = subst (λ p. EndsNext p who h.cmd) shown_same h.ends;
+    step = subst (λ p. ended_with p who h.cmd ≡ Some (record { state = shown c.plain; answer = steps.Done applied })) shown_same h.step;
+    told = subst (λ s. IsToldBy s (written_by b.tables.writer) (written_by c.tables.writer).looks h.cmd) server_same
+        (subst (λ n. IsAnswerKept m.plain.server n (written_by c.tables.writer).looks h.cmd) (ap newest looks.published) h.told);
+    none = h.none;
+  }
+  ends_behind who c (NotYet answer) h = absurd h
+  ends_behind who c AwaitRelease h = absurd h
+  ends_behind who c (Lingers process turn place word) h = record {
+    same = h.same ∙ shown_same;
+    published = h.published ∙ looks.published;
+    none = h.none;
+    serial = h.serial;
+    code = subst (λ (p : PermitState). IsSomeAnd (next_of p who) (λ command. IsOldCodeOf p.server command h.serial)) shown_same h.code;
+    found = h.found;
+  }
+
+  pub ends_ok : (who : ℕ) (c : WordBook) (r : Result CommandStep NoMemory) → IfOk r (LookAnswers who m c) → IfOk r (PurgeAnswers who b c)
+  ends_ok who c (Ok step) h = ends_behind who c step h
+  ends_ok who c (Err fault) h = tt
+
+  pub taken_behind : (c : WordBook) (r : Result CommandStep NoMemory) → OnErr r (HasTakenBack m c) → OnErr r (HasTakenBack b c)
+  taken_behind c (Ok step) h = tt
+  taken_behind c (Err fault) h = record { same = h.same ∙ shown_same; published = h.published ∙ looks.published; none = h.none }
+
+  -- or who was found
+  looks_behind : (who : ℕ) (c : WordBook) (step : CommandStep) → LookAnswers who m c step → LookAnswers who b c step
+  looks_behind who c (Done applied) h = ends_behind who c (Done applied) h
+  looks_behind who c (NotYet answer) h = absurd h
+  looks_behind who c AwaitRelease h = absurd h
+  looks_behind who c (Lingers process turn place word) h = ends_behind who c (Lingers process turn place word) h
+
+  pub looks_ok : (who : ℕ) (c : WordBook) (r : Result CommandStep NoMemory) → IfOk r (LookAnswers who m c) → IfOk r (LookAnswers who b c)
+  looks_ok who c (Ok step) h = looks_behind who c step h
+  looks_ok who c (Err fault) h = tt
+
+  -- the purge waits still
+  pub late_behind : (who : ℕ) (answer : late.NotYet) → b.waiting ≡ None → IsLookLate m answer → IfSome b.look (λ value. value ≡ answer.need) → PurgeAnswers who b m (NotYet answer)
+  late_behind who answer none is still = record { waits = is; none = looks.waiting ∙ none; since = inl (record { same = shown_same; published = looks.published; still = still }) }
+
+-- a purge that has begun waits
+pub doom_waits : (who : ℕ) (b m c : WordBook) (name : AtomId) → b.plain.holder ≡ Held who → next_of (shown b.plain) who ≡ Some (Purge name) → doomed_by (shown b.plain) who name ≡ Some (shown m.plain) → m.waiting ≡ None → JustLooks m c → (answer : late.NotYet) → IsLookLate c answer
+    → PurgeAnswers who b c (NotYet answer)
+doom_waits who b m c name holds next doomed none looks answer is = record {
+  waits = is;
+  none = looks.waiting ∙ none;
+  since = inr (record { name = name; holds = holds; next = next; doomed = doomed ∙ ap (λ (x : Book). Some (shown x)) (sym looks.plain) });
+}
+
+-- nothing was looked at
+pub none_looked : (b : WordBook) → JustLooks b b
+none_looked b = record { plain = refl; published = refl; waiting = refl }
+
+pub two_looks : (b m c : WordBook) → JustLooks b m → JustLooks m c → JustLooks b c
+two_looks b m c first second = record { plain = second.plain ∙ first.plain; published = second.published ∙ first.published; waiting = second.waiting ∙ first.waiting }
+
+-- the old code is as it was
+pub code_still : (b m : WordBook) (name serial : ℕ) → JustLooks b m → old_of b.plain.server name ≡ Some serial → old_of m.plain.server name ≡ Some serial
+code_still b m name serial looks old = ap (λ (x : Book). old_of x.server name) looks.plain ∙ old
+
+-- the loader's next command is as it was
+pub next_still : (b m : WordBook) (who : ℕ) (command : ScriptCmd) → JustLooks b m → next_of (shown b.plain) who ≡ Some command → next_of (shown m.plain) who ≡ Some command
+next_still b m who command looks next = ap (λ (x : Book). next_of (shown x) who) looks.plain ∙ next
+
+pub holder_still : (b m : WordBook) (h : Holder) → JustLooks b m → b.plain.holder ≡ h → m.plain.holder ≡ h
+holder_still b m h looks held = ap (λ (x : Book). x.holder) looks.plain ∙ held
+
+-- old code is gone for frames in the newest generation
+pub gone_now : (names : List Mfa) (table : TableId) (opening : Opening) (b : WordBook) (name serial : ℕ) → IsWordBook names table opening b → b.waiting ≡ None → old_of b.plain.server name ≡ Some serial → IsTrue (is_gone (newest_of (written_by b.tables.writer)) Frame serial)
+gone_now names table opening b name serial known none old =
+    let rest = at_rest names (shown b.plain) b.tables b.waiting none known.words in
+    old_gone names b.plain.server (newest_of (written_by b.tables.writer)) name serial rest.stands.newest_is old
+
+-- the value that was taken is reached
+pub value_reached : {T : Type 0} (r : Result T late.NotYet) (w : WriterView) (need : ℕ) → IsLookTaken w need → OnOk r (need ≤ w.counter) → OnOk r (IsReached w)
+value_reached (Ok x) w need taken reached = record { need = need; taken = taken; reached = reached }
+value_reached (Err answer) w need taken reached = tt
+
+-- or the counter is below it
+pub value_late : {T : Type 0} (r : Result T late.NotYet) (c : WordBook) (need : ℕ) → c.look ≡ Some need → IsLookTaken (written_by c.tables.writer) need → IfErr r (IsBelow need (written_by c.tables.writer)) → IfErr r (IsLookLate c)
+value_late (Ok x) c need look taken below = tt
+value_late (Err answer) c need look taken below = record {
+  looks = look ∙ ap Some (sym below.asked);
+  taken = subst (IsLookTaken (written_by c.tables.writer)) (sym below.asked) taken;
+  loaded = below.loaded;
+  below = below.below;
+}
+
+-- the value that is waited for, by what the book keeps
+pub value_taken : (names : List Mfa) (table : TableId) (opening : Opening) (c : WordBook) (need : ℕ) → IsWordBook names table opening c → c.look ≡ Some need → IsLookTaken (written_by c.tables.writer) need
+value_taken names table opening c need known look = subst (λ (o : Option ℕ). IfSome o (IsLookTaken (written_by c.tables.writer))) look known.looked
+
+-- the purge waits for whom the look found
+pub lingers_found : (who : ℕ) (b : WordBook) (command : ScriptCmd) (serial process turn place word : ℕ) → next_of (shown b.plain) who ≡ Some command → IsOldCodeOf b.plain.server command serial → (c : WordBook) → JustLooks b c → b.waiting ≡ None
+    → HasLookedFor serial (written_by c.tables.writer) (scans.Named process turn place word) → LookAnswers who b c (Lingers process turn place word)
+lingers_found who b command serial process turn place word next code c looks none found = record {
+  same = ap shown looks.plain;
+  published = looks.published;
+  none = looks.waiting ∙ none;
+  serial = serial;
+  code = some_at (next_of (shown b.plain) who) (λ x. IsOldCodeOf b.plain.server x serial) command next code;
+  found = found;
+}
+
+-- what was found, by the scan's case
+pub found_as : (w : WriterView) (serial : ℕ) (scan is : Scan) → scan ≡ is → HasLookedFor serial w scan → HasLookedFor serial w is
+found_as w serial scan is same found = subst (HasLookedFor serial w) same found
+
+-- the answer that was kept is one of the newest generation still
+pub kept_still : (b m : WordBook) (serial : ℕ) (l : Linger) → JustLooks b m → HasLingering (written_by m.tables.writer).looks serial (newest (written_by b.tables.writer).published) l → HasLingering (written_by m.tables.writer).looks serial (newest (written_by m.tables.writer).published) l
+kept_still b m serial l looks h = subst (λ n. HasLingering (written_by m.tables.writer).looks serial n l) (sym (ap newest looks.published)) h
+
+-- ---- an end that leaves the server
+
+pub quiet_end : (names : List Mfa) (table : TableId) (opening : Opening) (b : WordBook) (plain : Book) (who : ℕ) (cmd : Cmd) (answer : OpStep) → IsWordBook names table opening b → b.waiting ≡ None → IsBook plain → ended_with (shown b.plain) who cmd ≡ Some (record { state = shown plain; answer = answer })
+    → LeavesServer b.plain.script.modules b.plain.server cmd → IsToldBy b.plain.server (written_by b.tables.writer) (written_by b.tables.writer).looks cmd → IsWordBook names table opening (record b { plain = plain; look = None })
+quiet_end names table opening b plain who cmd answer known none book step leaves told =
+    let e = was_ended (shown b.plain) (shown plain) who cmd answer step in
+    let left = leaves e.outcome e.applied in
+    let entry : Entry = record { who = Loader who; cmd = cmd; reply = e.outcome.answer.reply; published = e.outcome.answer.published } in
+    let script : plain.script ≡ b.plain.script = ap (λ (x : PermitState). x.script) e.state in
+    let journal : plain.journal ≡ b.plain.journal ++ entry ∷ [] = ap (λ (x : PermitState). x.journal) e.state in
+    let server : plain.server ≡ b.plain.server = ap (λ (x : PermitState). x.server) e.state ∙ left.0 in
+    let w = written_by b.tables.writer in
+    let tells : IsAnswerKept (newest_state b.plain.script.modules empty_state b.plain.journal) (published_count b.plain.journal) w.looks cmd =
+    subst (λ s. IsAnswerKept s (published_count b.plain.journal) w.looks cmd) known.has.book.permit.log.server_is
+    (subst (λ n. IsAnswerKept b.plain.server n w.looks cmd) (omega (arith, known.has.published.many)) told) in
+    record {
+      has = record {
+        book = book;
+        texts = subst (λ (x : Script). All (IsNumbered names) x.modules) (sym script) known.has.texts;
+        tables = known.has.tables;
+        exports = known.has.exports;
+        published = subst (λ (x : Script). ArePublished names x.modules plain.journal w.published) (sym script)
+            (subst (λ js. ArePublished names b.plain.script.modules js w.published) (sym journal)
+            (published_same names b.plain.script.modules b.plain.journal entry known.has.book.permit.log.replays w.published known.has.published (counts_none entry left.1)));
+        notes = subst (λ (x : Script). AreOfSpawned x plain.journal w.notes) (sym script)
+            (subst (λ js. AreOfSpawned b.plain.script js w.notes) (sym journal) (notes_later b.plain.script b.plain.journal entry w.notes known.has.notes));
+        answered = subst (λ (x : Script). AreAnswersKept x.modules plain.journal w.looks) (sym script)
+            (subst (λ js. AreAnswersKept b.plain.script.modules js w.looks) (sym journal) (answered_joined b.plain.script.modules b.plain.journal entry w.looks known.has.answered tells));
+        awaited = known.has.awaited;
+      };
+      words = subst (WordsStand names (shown plain) b.tables) (sym none) (subst (λ s. AreAtRest names s b.tables) (sym server) (at_rest names (shown b.plain) b.tables b.waiting none known.words));
+      looked = tt;
+    }
+
+-- ---- what the calls leave together
+
+append_none : {X : Type 0} (xs : List X) → xs ++ [] ≡ xs
+append_none [] = refl
+append_none (x ∷ xs) = ap (λ ys. x ∷ ys) (append_none xs)
+
+grown_same : (b c : Book) → shown c ≡ shown b → HasGrown b c
+grown_same b c same = record {
+  script = ap (λ (x : PermitState). x.script) same;
+  more = [];
+  journal = ap (λ (x : PermitState). x.journal) same ∙ sym (append_none b.journal);
+  done = λ loader. subst (λ ls. done_of b.loaders.items loader ≤ done_of ls loader) (sym (ap (λ (x : PermitState). x.loaders) same)) (omega arith);
+}
+
+-- what a doom left
+record Doomed (p : PermitState) (who : ℕ) (q : PermitState) : Type 0 where
+  pub entry : Entry
+  pub script : q.script ≡ p.script
+  pub journal : q.journal ≡ p.journal ++ entry ∷ []
+  pub loaders : q.loaders ≡ p.loaders
+
+was_doomed : (p q : PermitState) (who : ℕ) (name : AtomId) → doomed_by p who name ≡ Some q → Doomed p who q
+was_doomed p q who name h = by (apply_of p.script.modules p.server (cmds.Doom name)) h
+  where
+    by : (o : Option Outcome) → option_map {U = PermitState} (λ (s : Step). record (s.state) { holder = Purging who name }) (option_map {U = Step} (λ x. record { state = joined p (Loader who) (cmds.Doom name) x; answer = x.answer }) o) ≡ Some q → Doomed p who q
+    by None g = absurd (none-some q g)
+    by (Some x) g =
+        let is = same_Some (record (joined p (Loader who) (cmds.Doom name) x) { holder = Purging who name }) q g in
+        record {
+          entry = record { who = Loader who; cmd = cmds.Doom name; reply = x.answer.reply; published = x.answer.published };
+          script = ap (λ (y : PermitState). y.script) (sym is);
+          journal = ap (λ (y : PermitState). y.journal) (sym is);
+          loaders = ap (λ (y : PermitState). y.loaders) (sym is);
+        }
+
+grown_doomed : (b c : Book) (who : ℕ) (name : AtomId) → doomed_by (shown b) who name ≡ Some (shown c) → HasGrown b c
+grown_doomed b c who name h =
+    let d = was_doomed (shown b) (shown c) who name h in
+    record {
+      script = d.script;
+      more = d.entry ∷ [];
+      journal = d.journal;
+      done = λ loader. subst (λ ls. done_of b.loaders.items loader ≤ done_of ls loader) (sym d.loaders) (omega arith);
+    }
+
+pub grown_by : (who : ℕ) (b c : WordBook) (step : CommandStep) → IsBook b.plain → PurgeAnswers who b c step → HasGrown b.plain c.plain
+grown_by who b c (Done applied) book h = ended_grown b.plain c.plain who h.cmd (steps.Done applied) book h.step
+grown_by who b c (NotYet answer) book h = by h.since
+  where
+    by : StillWaits b c answer.need ⊎ HasDoomedCode who b c → HasGrown b.plain c.plain
+    by (inl still) = grown_same b.plain c.plain still.same
+    by (inr doomed) = grown_doomed b.plain c.plain who doomed.name doomed.doomed
+grown_by who b c AwaitRelease book h = absurd h
+grown_by who b c (Lingers process turn place word) book h = grown_same b.plain c.plain h.same
+
+pub grown_given : (b c : WordBook) → HasGivenUp b c → HasGrown b.plain c.plain
+grown_given b c h = record {
+  script = ap (λ (x : PermitState). x.script) h.same;
+  more = [];
+  journal = ap (λ (x : PermitState). x.journal) h.same ∙ sym (append_none b.plain.journal);
+  done = λ loader. subst (λ ls. done_of b.plain.loaders.items loader ≤ done_of ls loader) (sym (ap (λ (x : PermitState). x.loaders) h.same)) (omega arith);
+}

@@ -1,0 +1,13 @@
+-- The value stays, or one is taken.
+use Rattle.word_permit.proofs.Looked.{if_none, if_some}
+use Rattle.word_permit.proofs.PurgeCalls.{none_looked}
+use Rattle.word_permit.proofs.looking.awaited_look.Goals as goal
+
+pub returns-in-Some-clause-same : goal.returns-in-Some-clause-same
+returns-in-Some-clause-same g c = none_looked c.args.book.now
+
+pub returns-in-Some-clause-still : goal.returns-in-Some-clause-still
+returns-in-Some-clause-still g c = if_some c.args.book.now.look c.in-Some.value c.in-Some.is
+
+pub returns-in-None-clause-still : goal.returns-in-None-clause-still
+returns-in-None-clause-still g c = if_none c.args.book.now.look c.take_look.result c.in-None.is

@@ -1,0 +1,22 @@
+-- The value is waited for, and then slots are looked through.
+use Rattle.std.proofs.Common.{◌∙◌}
+use Rattle.word_permit.proofs.Looked.{still_asked}
+use Rattle.word_permit.proofs.PurgeCalls.{code_still, two_looks}
+use Rattle.word_permit.proofs.looking.look_for_code.Goals as goal
+
+pub look_through_frames-requires-clause-none : goal.look_through_frames-requires-clause-none
+look_through_frames-requires-clause-none g c = c.is_look_reached.ensures.same.waiting ∙ c.awaited_look-value.ensures.same.waiting ∙ c.requires.none
+
+pub look_through_frames-requires-clause-code : goal.look_through_frames-requires-clause-code
+look_through_frames-requires-clause-code g c =
+    code_still c.args.book.now c.is_look_reached.new.book c.args.«module».0 c.args.serial (two_looks c.args.book.now c.awaited_look-value.new.book c.is_look_reached.new.book c.awaited_look-value.ensures.same c.is_look_reached.ensures.same) c.requires.code
+
+pub returns-in-Ok-clause-same : goal.returns-in-Ok-clause-same
+returns-in-Ok-clause-same g c =
+    two_looks c.args.book.now c.is_look_reached.new.book c.look_through_frames.new.book (two_looks c.args.book.now c.awaited_look-value.new.book c.is_look_reached.new.book c.awaited_look-value.ensures.same c.is_look_reached.ensures.same) c.look_through_frames.ensures.same
+
+pub returns-in-Err-clause-same : goal.returns-in-Err-clause-same
+returns-in-Err-clause-same g c = two_looks c.args.book.now c.awaited_look-value.new.book c.is_look_reached.new.book c.awaited_look-value.ensures.same c.is_look_reached.ensures.same
+
+pub returns-in-Err-clause-still : goal.returns-in-Err-clause-still
+returns-in-Err-clause-still g c = still_asked c.args.book.now.look c.awaited_look-value.result c.in-Err.answer.need c.awaited_look-value.ensures.still c.in-Err.ensures.asked.asked

@@ -1,0 +1,15 @@
+-- The counter was loaded, and the value is the last that was taken.
+use Rattle.std.proofs.Common.{Some, refl, ap}
+use Rattle.shared_words.specs.declared.view.WriterView.{WriterView}
+use Rattle.progress_words.specs.Tokens.{written_by}
+use Rattle.word_permit.proofs.Looked.{taken_last}
+use Rattle.word_permit.proofs.Quiet.{book_looking}
+use Rattle.word_permit.proofs.looking.take_look.Goals as goal
+
+pub returns-clause-same : goal.returns-clause-same
+returns-clause-same g c = record { plain = refl; published = ap (λ (w : WriterView). w.published) c.later-value.ensures.loaded.view; waiting = refl }
+
+pub returns-clause-book : goal.returns-clause-book
+returns-clause-book g c =
+    book_looking g.K.Naming.names _ _ c.args.book.now c.later-value.new.writer c.requires.book c.counters_keep_index.ensures c.counters_keep_tables.ensures c.counters_keep_pools.ensures c.later-value.ensures.token c.later-value.ensures.loaded
+    (Some c.later-value.result) (taken_last (written_by c.args.book.now.tables.writer) (written_by c.later-value.new.writer) c.later-value.result c.later-value.ensures.loaded c.later-value.ensures.need)

@@ -1,0 +1,21 @@
+-- The value that is waited for is the one before, where its area waits still.
+use Rattle.std.proofs.Common.{◌∙◌}
+use Rattle.word_permit.specs.Pumped.{ReleasesNone}
+use Rattle.word_permit.proofs.Awaiting.{told_late}
+use Rattle.word_permit.proofs.PumpedThrough.{pump_through}
+use Rattle.word_permit.proofs.pumping.pump_book.Goals as goal
+
+pub returns-in-Err-clause-ok : goal.returns-in-Err-clause-ok
+returns-in-Err-clause-ok g c =
+    let a = c.awaited.ensures.none_released in
+    let b = c.is_reached.ensures.none_released in
+    let none : ReleasesNone c.args.book.now c.is_reached.new.book = record { same = b.same ∙ a.same; pools = b.pools ∙ a.pools; published = b.published ∙ a.published; waiting = b.waiting ∙ a.waiting } in
+    (none, told_late c.args.book.now c.awaited.new.book c.is_reached.new.book c.in-Some.need c.in-Err.answer c.in-Some.ensures.kept c.is_reached.ensures.kept c.in-Some.ensures.some.0 c.is_reached.ensures.awaited c.in-Some.ensures.same c.in-Err.ensures.late)
+
+pub returns-in-Ok-clause-ok : goal.returns-in-Ok-clause-ok
+returns-in-Ok-clause-ok g c =
+    let a = c.awaited.ensures.none_released in
+    let b = c.is_reached.ensures.none_released in
+    let none : ReleasesNone c.args.book.now c.is_reached.new.book = record { same = b.same ∙ a.same; pools = b.pools ∙ a.pools; published = b.published ∙ a.published; waiting = b.waiting ∙ a.waiting } in
+    pump_through c.args.book.now c.is_reached.new.book c.look_for.new.book none (c.is_reached.ensures.plain ∙ c.awaited.ensures.plain)
+    (λ before was waits. c.is_reached.ensures.kept ∙ c.in-Some.ensures.kept ∙ c.in-Some.ensures.same before was waits) c.look_for.result c.look_for.ensures.ok

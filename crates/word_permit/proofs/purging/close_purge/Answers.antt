@@ -1,0 +1,33 @@
+-- The look is waited for, and then tells.
+use Rattle.std.proofs.Common.{refl, ◌∙◌}
+use Rattle.script_core.specs.declared.script.ScriptCmd.TheVariants as commands
+use Rattle.write_permit.specs.Book.{shown}
+use Rattle.write_permit.specs.declared.holder.Holder.TheVariants as holders
+use Rattle.word_permit.proofs.PurgeCalls.{code_still, ends_ok, holder_still, late_behind, next_purges, none_waits, purging_holds, second_next, taken_behind}
+use Rattle.word_permit.proofs.purging.close_purge.Goals as goal
+
+pub look_for_code-requires-clause-none : goal.look_for_code-requires-clause-none
+look_for_code-requires-clause-none g c =
+    none_waits g.K.Naming.names (shown c.args.book.now.plain) c.args.book.now.tables c.args.book.now.waiting c.args.who (purging_holds c.args.book.now.plain c.args.who c.args.code.«module» c.requires.holds) (next_purges (shown c.args.book.now.plain) c.args.who (commands.Purge c.args.code.«module») (second_next c.args.book.now.plain c.requires.book.has.book c.args.who c.args.code c.requires.holds) refl) c.requires.book.words
+
+pub end_wholly-requires-clause-none : goal.end_wholly-requires-clause-none
+end_wholly-requires-clause-none g c =
+    c.look_for_code.ensures.same.waiting ∙ none_waits g.K.Naming.names (shown c.args.book.now.plain) c.args.book.now.tables c.args.book.now.waiting c.args.who (purging_holds c.args.book.now.plain c.args.who c.args.code.«module» c.requires.holds) (next_purges (shown c.args.book.now.plain) c.args.who (commands.Purge c.args.code.«module») (second_next c.args.book.now.plain c.requires.book.has.book c.args.who c.args.code c.requires.holds) refl) c.requires.book.words
+
+pub end_wholly-requires-clause-holds : goal.end_wholly-requires-clause-holds
+end_wholly-requires-clause-holds g c = holder_still c.args.book.now c.look_for_code.new.book (holders.Purging c.args.who c.args.code.«module») c.look_for_code.ensures.same c.requires.holds
+
+pub end_wholly-requires-clause-code : goal.end_wholly-requires-clause-code
+end_wholly-requires-clause-code g c = code_still c.args.book.now c.look_for_code.new.book c.args.code.«module».0 c.args.code.serial c.look_for_code.ensures.same c.requires.code
+
+pub returns-in-Ok-clause-ok : goal.returns-in-Ok-clause-ok
+returns-in-Ok-clause-ok g c = ends_ok c.args.book.now c.look_for_code.new.book c.look_for_code.ensures.same c.args.who c.end_wholly.new.book c.end_wholly.result c.end_wholly.ensures.ok
+
+pub returns-in-Ok-clause-err : goal.returns-in-Ok-clause-err
+returns-in-Ok-clause-err g c = taken_behind c.args.book.now c.look_for_code.new.book c.look_for_code.ensures.same c.end_wholly.new.book c.end_wholly.result c.end_wholly.ensures.err
+
+pub returns-in-Err-clause-ok : goal.returns-in-Err-clause-ok
+returns-in-Err-clause-ok g c =
+    late_behind c.args.book.now c.look_for_code.new.book c.look_for_code.ensures.same c.args.who c.in-Err.answer
+    (none_waits g.K.Naming.names (shown c.args.book.now.plain) c.args.book.now.tables c.args.book.now.waiting c.args.who (purging_holds c.args.book.now.plain c.args.who c.args.code.«module» c.requires.holds) (next_purges (shown c.args.book.now.plain) c.args.who (commands.Purge c.args.code.«module») (second_next c.args.book.now.plain c.requires.book.has.book c.args.who c.args.code c.requires.holds) refl) c.requires.book.words)
+    c.in-Err.ensures.late c.in-Err.ensures.still

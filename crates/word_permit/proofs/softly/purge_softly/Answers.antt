@@ -1,0 +1,36 @@
+-- The look is waited for, and then tells.
+use Rattle.std.proofs.Common.{refl, ◌∙◌}
+use Rattle.script_core.specs.declared.script.ScriptCmd.TheVariants as commands
+use Rattle.write_permit.specs.Book.{shown}
+use Rattle.write_permit.specs.declared.holder.Holder.TheVariants as holders
+use Rattle.word_permit.proofs.PurgeCalls.{code_still, ends_ok, held_holds, holder_still, late_behind, next_purges, next_still, none_waits, taken_behind}
+use Rattle.word_permit.proofs.softly.purge_softly.Goals as goal
+
+pub look_for_code-requires-clause-none : goal.look_for_code-requires-clause-none
+look_for_code-requires-clause-none g c =
+    none_waits g.K.Naming.names (shown c.args.book.now.plain) c.args.book.now.tables c.args.book.now.waiting c.args.who (held_holds c.args.book.now.plain c.args.who c.requires.holds) (next_purges (shown c.args.book.now.plain) c.args.who (commands.SoftPurge c.args.code.«module») (c.requires.next) refl) c.requires.book.words
+
+pub end_softly-requires-clause-none : goal.end_softly-requires-clause-none
+end_softly-requires-clause-none g c =
+    c.look_for_code.ensures.same.waiting ∙ none_waits g.K.Naming.names (shown c.args.book.now.plain) c.args.book.now.tables c.args.book.now.waiting c.args.who (held_holds c.args.book.now.plain c.args.who c.requires.holds) (next_purges (shown c.args.book.now.plain) c.args.who (commands.SoftPurge c.args.code.«module») (c.requires.next) refl) c.requires.book.words
+
+pub end_softly-requires-clause-holds : goal.end_softly-requires-clause-holds
+end_softly-requires-clause-holds g c = holder_still c.args.book.now c.look_for_code.new.book (holders.Held c.args.who) c.look_for_code.ensures.same c.requires.holds
+
+pub end_softly-requires-clause-next : goal.end_softly-requires-clause-next
+end_softly-requires-clause-next g c = next_still c.args.book.now c.look_for_code.new.book c.args.who (commands.SoftPurge c.args.code.«module») c.look_for_code.ensures.same c.requires.next
+
+pub end_softly-requires-clause-code : goal.end_softly-requires-clause-code
+end_softly-requires-clause-code g c = code_still c.args.book.now c.look_for_code.new.book c.args.code.«module».0 c.args.code.serial c.look_for_code.ensures.same c.requires.code
+
+pub returns-in-Ok-clause-ok : goal.returns-in-Ok-clause-ok
+returns-in-Ok-clause-ok g c = ends_ok c.args.book.now c.look_for_code.new.book c.look_for_code.ensures.same c.args.who c.end_softly.new.book c.end_softly.result c.end_softly.ensures.ok
+
+pub returns-in-Ok-clause-err : goal.returns-in-Ok-clause-err
+returns-in-Ok-clause-err g c = taken_behind c.args.book.now c.look_for_code.new.book c.look_for_code.ensures.same c.end_softly.new.book c.end_softly.result c.end_softly.ensures.err
+
+pub returns-in-Err-clause-ok : goal.returns-in-Err-clause-ok
+returns-in-Err-clause-ok g c =
+    late_behind c.args.book.now c.look_for_code.new.book c.look_for_code.ensures.same c.args.who c.in-Err.answer
+    (none_waits g.K.Naming.names (shown c.args.book.now.plain) c.args.book.now.tables c.args.book.now.waiting c.args.who (held_holds c.args.book.now.plain c.args.who c.requires.holds) (next_purges (shown c.args.book.now.plain) c.args.who (commands.SoftPurge c.args.code.«module») (c.requires.next) refl) c.requires.book.words)
+    c.in-Err.ensures.late c.in-Err.ensures.still

@@ -1,0 +1,189 @@
+-- What soft purges and purges leave, call by call: each waits at the newest generation, looks through all slots, and ends once a look tells how.
+-- Source: Erlang/OTP, the manual pages code (soft_purge, purge) and erlang (purge_module); that each call gives one answer is this project's own.
+use Rattle.std.specs.Prelude.{◌≡◌, ◌⊎◌, ℕ, ◌<◌, ◌≤◌, Bool, true, false, List, ◌++◌, Option, Some, None, IfSome, IsSomeAnd}
+use Rattle.term_core.specs.declared.atom.AtomId.{AtomId}
+use Rattle.mod_core.specs.declared.code.Module.{Module}
+use Rattle.marks.specs.declared.kept.LookKind.TheVariants.{Frame}
+use Rattle.marks.specs.declared.kept.WriterKept.{WriterKept}
+use Rattle.marks.specs.Steps.{with_dropped}
+use Rattle.shared_words.specs.declared.view.WriterView.{WriterView}
+use Rattle.shared_words.specs.Drops.{AgreesWithLooks, drop_of}
+use Rattle.shared_words.specs.Views.{newest}
+use Rattle.progress_words.specs.declared.answers.NotYet as late
+use Rattle.progress_words.specs.Tokens.{written_by}
+use Rattle.anchors.specs.declared.answers.Scan.TheVariants as scans
+use Rattle.server_core.specs.declared.change.Change.{Change}
+use Rattle.server_core.specs.declared.change.Change.TheVariants.{Condemn, DropOld}
+use Rattle.server_core.specs.declared.command.Applied.{Applied}
+use Rattle.server_core.specs.declared.command.Cmd.{Cmd}
+use Rattle.server_core.specs.CommandTable.{Outcome, apply_of}
+use Rattle.server_core.specs.Decided.{Fits, made}
+use Rattle.server_core.specs.ServerState.{IsSound, ServerState, old_of}
+use Rattle.script_core.specs.declared.script.ScriptCmd.{ScriptCmd}
+use Rattle.script_core.specs.declared.script.ScriptCmd.TheVariants.{Purge, SoftPurge}
+use Rattle.run_log.specs.declared.logs.Entry.{Entry}
+use Rattle.run_law.specs.Answers.{IsAnswerKept}
+use Rattle.write_permit.specs.declared.answers.OpStep.TheVariants as steps
+use Rattle.write_permit.specs.declared.book.Book.{Book}
+use Rattle.write_permit.specs.declared.holder.Holder.TheVariants.{Held, Purging}
+use Rattle.write_permit.specs.Agreement.{newest_followed, newest_of}
+use Rattle.write_permit.specs.Book.{EndsBy, shown}
+use Rattle.write_permit.specs.Permit.{PermitState, done_of, doomed_by, ended_with, next_of}
+use Rattle.word_permit.specs.declared.answers.CommandStep.{CommandStep}
+use Rattle.word_permit.specs.declared.answers.CommandStep.TheVariants.{Done, NotYet, AwaitRelease, Lingers}
+use Rattle.word_permit.specs.declared.book.Decision.{Decision}
+use Rattle.word_permit.specs.declared.book.WordBook.{WordBook}
+use Rattle.word_permit.specs.declared.purging.Purged.{Purged}
+use Rattle.word_permit.specs.declared.purging.Purged.TheVariants.{Softly, Wholly}
+use Rattle.word_permit.specs.Books.{OpAnswers, PublishesNone}
+use Rattle.word_permit.specs.Looks.{HasLookedFor, IsLookTaken}
+use Rattle.word_permit.specs.Waiting.{GoesOverWords}
+
+-- ---- which commands
+
+-- a soft purge or a purge
+abbrev pub is_purge : ScriptCmd → Bool
+is_purge (SoftPurge name) = true
+is_purge (Purge name) = true
+is_purge command = false
+
+-- a loader's next command is one
+abbrev pub Purges : PermitState → ℕ → Type 0
+Purges p who = IsSomeAnd (next_of p who) (λ command. is_purge command ≡ true)
+
+-- the command purges the old code with this serial
+abbrev pub IsOldCodeOf : ServerState → ScriptCmd → ℕ → Type 0
+IsOldCodeOf s (SoftPurge name) serial = old_of s name.0 ≡ Some serial
+IsOldCodeOf s (Purge name) serial = old_of s name.0 ≡ Some serial
+IsOldCodeOf s command serial = ⊥
+
+-- the last command of the server for the loader's next one is this one
+abbrev pub EndsNext : PermitState → ℕ → Cmd → Type 0
+EndsNext p who cmd = IsSomeAnd (next_of p who) (λ command. EndsBy p p.holder command cmd)
+
+-- ---- a command of the server
+
+-- the command table has a case for it, and what it answers was told
+pub record IsMadeBy (p : PermitState) (d : Decision) : Type 0 where
+  pub fits : Fits p.server d.change
+  pub given : apply_of p.script.modules p.server d.cmd ≡ Some (made p.server d.change)
+  pub answer : (made p.server d.change).answer ≡ d.applied
+
+-- the change drops the old code with this serial
+abbrev pub DropsCode : Change → ℕ → Type 0
+DropsCode (DropOld generation name serial says retired) dropped = serial ≡ dropped
+DropsCode change dropped = ⊥
+
+-- the change dooms old code
+abbrev pub DoomsCode : Change → Type 0
+DoomsCode (Condemn generation serial) = Unit {0}
+DoomsCode change = ⊥
+
+-- the command leaves the server's state
+abbrev pub LeavesServer : List Module → ServerState → Cmd → Type 0
+LeavesServer texts s cmd = (o : Outcome) → apply_of texts s cmd ≡ Some o → (o.state ≡ s) × (o.answer.published ≡ None)
+
+-- what the command tells of processes is kept, in this state and at the newest generation
+abbrev pub IsToldBy : ServerState → WriterView → WriterKept → Cmd → Type 0
+IsToldBy s w kept cmd = IsAnswerKept s (newest w.published) kept cmd
+
+-- so it is once the drop of the old code is kept besides
+abbrev pub IsToldByDrop : ServerState → WriterView → ℕ → Cmd → Type 0
+IsToldByDrop s w serial cmd =
+    (kept : WriterKept) → kept ≡ with_dropped w.looks (drop_of w Frame serial) → AgreesWithLooks w.looks (drop_of w Frame serial) → IsToldBy s w kept cmd
+
+-- ---- what a call leaves
+
+-- the counter was loaded or slots were, and nothing that the permit shows or publishes has changed
+pub record JustLooks (old new : WordBook) : Type 0 where
+  pub plain : new.plain ≡ old.plain
+  pub published : PublishesNone old new
+  pub waiting : new.waiting ≡ old.waiting
+
+-- the counter that was loaded in this call is below the value that is waited for, which is the last that was taken, at the newest generation
+pub record IsLookLate (new : WordBook) (answer : late.NotYet) : Type 0 where
+  pub looks : new.look ≡ Some answer.need
+  pub taken : IsLookTaken (written_by new.tables.writer) answer.need
+  pub loaded : answer.current ≡ (written_by new.tables.writer).counter
+  pub below : answer.current < answer.need
+
+-- nothing changes, and it is the value that was waited for before
+pub record StillWaits (old new : WordBook) (need : ℕ) : Type 0 where
+  pub same : shown new.plain ≡ shown old.plain
+  pub published : PublishesNone old new
+  pub still : IfSome old.look (λ value. value ≡ need)
+
+-- the loader's purge has begun: the old code is doomed, and the generation that shows it is published
+pub record HasDoomedCode (who : ℕ) (old new : WordBook) : Type 0 where
+  pub name : AtomId
+  pub holds : old.plain.holder ≡ Held who
+  pub next : next_of (shown old.plain) who ≡ Some (Purge name)
+  pub doomed : doomed_by (shown old.plain) who name ≡ Some (shown new.plain)
+
+-- the purge waits before it looks, as it did or since its old code is doomed
+pub record AwaitsLook (who : ℕ) (old new : WordBook) (answer : late.NotYet) : Type 0 where
+  pub waits : IsLookLate new answer
+  pub none : new.waiting ≡ None
+  pub since : StillWaits old new answer.need ⊎ HasDoomedCode who old new
+
+-- the purge waits: a look found an anchor that names its old code for a frame, behind a wait at the newest generation
+pub record LingersIn (who : ℕ) (old new : WordBook) (process turn place word : ℕ) : Type 0 where
+  pub same : shown new.plain ≡ shown old.plain
+  pub published : PublishesNone old new
+  pub none : new.waiting ≡ None
+  pub serial : ℕ
+  pub code : IsSomeAnd (next_of (shown old.plain) who) (λ command. IsOldCodeOf old.plain.server command serial)
+  pub found : HasLookedFor serial (written_by new.tables.writer) (scans.Named process turn place word)
+
+-- the loader's command is done by this last command of the server, and the writer keeps what that tells of processes
+pub record EndsPurge (who : ℕ) (old new : WordBook) (applied : Applied) : Type 0 where
+  pub cmd : Cmd
+  pub ends : EndsNext (shown old.plain) who cmd
+  pub step : ended_with (shown old.plain) who cmd ≡ Some (record { state = shown new.plain; answer = steps.Done applied })
+  pub told : IsToldBy old.plain.server (written_by old.tables.writer) (written_by new.tables.writer).looks cmd
+  pub none : new.waiting ≡ None
+
+-- what each answer says
+abbrev pub PurgeAnswers : ℕ → WordBook → WordBook → CommandStep → Type 0
+PurgeAnswers who old new (Done applied) = EndsPurge who old new applied
+PurgeAnswers who old new (NotYet answer) = AwaitsLook who old new answer
+PurgeAnswers who old new AwaitRelease = ⊥
+PurgeAnswers who old new (Lingers process turn place word) = LingersIn who old new process turn place word
+
+-- what is so where a call ends the command, or a look found who lingers
+abbrev pub LookAnswers : ℕ → WordBook → WordBook → CommandStep → Type 0
+LookAnswers who old new (Done applied) = EndsPurge who old new applied
+LookAnswers who old new (NotYet answer) = ⊥
+LookAnswers who old new AwaitRelease = ⊥
+LookAnswers who old new (Lingers process turn place word) = LingersIn who old new process turn place word
+
+-- the same of each command that needs the permission
+pub record CommandAnswers (who : ℕ) (old new : WordBook) (step : CommandStep) : Type 0 where
+  pub goes : IsSomeAnd (next_of (shown old.plain) who) GoesOverWords → OpAnswers who old new step
+  pub purges : Purges (shown old.plain) who → PurgeAnswers who old new step
+
+-- the command of the script that is purged by
+abbrev pub purging_command : Purged → ScriptCmd
+purging_command (Softly name) = SoftPurge name
+purging_command (Wholly name) = Purge name
+
+-- what a command of the script purges, if it does
+abbrev pub purged_by : ScriptCmd → Option Purged
+purged_by (SoftPurge name) = Some (Softly name)
+purged_by (Purge name) = Some (Wholly name)
+purged_by command = None
+
+-- the change with which old code is doomed is made: the module table follows the newest entry, and the purge waits
+pub record IsDoomMade (who : ℕ) (name : AtomId) (change : Change) (old new : Book) : Type 0 where
+  pub applied : Applied
+  pub made_is : made old.server change ≡ record { state = new.server; answer = applied }
+  pub state : shown new ≡ record (shown old) { server = new.server; holder = Purging who name }
+  pub table : new.modules.instances ≡ newest_followed old.modules.instances new.server (newest_of old.journal)
+  pub sound : IsSound new.server
+
+-- entries join, no loader has fewer commands done, and the script stays
+pub record HasGrown (old new : Book) : Type 0 where
+  pub script : new.script ≡ old.script
+  pub more : List Entry
+  pub journal : new.journal ≡ old.journal ++ more
+  pub done : (loader : ℕ) → done_of old.loaders.items loader ≤ done_of new.loaders.items loader
