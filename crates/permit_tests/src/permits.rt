@@ -2,31 +2,36 @@
 
 ghost use Rattle.std.specs.Prelude.{◌≡◌, [], ◌∷◌, All};
 ghost use Rattle.area_core.specs.Step.{opening_published};
+ghost use Rattle.shared_words.specs.Making.{IsMemberBegun};
 ghost use Rattle.progress_words.specs.Tokens.{written_by};
 ghost use Rattle.change_laws.specs.Names.{IsNumbered};
 ghost use Rattle.server_core.specs.ServerState.{empty_state};
 ghost use Rattle.script_core.specs.Sound.{IsScript};
 ghost use Rattle.staging.specs.Stages.{AreAtRest};
 ghost use Rattle.word_permit.specs.Runs.{IsBegunWith, IsOverWords};
+ghost use Rattle.permit_tests.specs.Leading.{IsLeading};
 
 use code_law::{CodeLaw, Naming};
 use export_table::ExportTable;
+use progress_words::{Lead, NotYet, advance, lead, report};
 use script_core::{Script, ScriptCmd};
 use script_text::read_script;
-use shared_words::{Parts, Shared};
+use shared_words::{Member, Parts, Shared};
 use staging::Tables;
 use std::alloc::Global;
 use std::marker::Brand;
 use std::test::Fail;
 use term_core::NoMemory;
-use word_permit::{AtOnce, CommandStep, Permit, RunName, Spawned};
+use word_permit::{AtOnce, CommandStep, Permit, Pumped, RunName, Spawned};
 use write_permit::{NoGate, Seize};
 
-/// A spawn, and a put.
+/// A spawn, a put of a word, and a put of a term that has an area, with its erase.
 const SCRIPT: &str = "beam script 1
 loader
 spawn m:main()
 put k 7
+put t {1,2}
+erase t
 go
 ";
 
@@ -35,9 +40,11 @@ go
 struct Seen {
     /// The process of the spawn.
     spawned: Option<u32>,
-    /// The put was published in one step.
-    is_put: bool,
+    /// Each put was published in one step, and so was the erase.
+    is_published: bool,
     is_all_done: bool,
+    /// What became of the area of the term that was erased.
+    pumped: [Pumped; 3],
     entries: usize,
     generation: u64,
 }
@@ -59,14 +66,14 @@ fn spawn<K: Naming, N: RunName>(
     }
 }
 
-/// The next command, where it is a put: whether it was done in one step.
-fn put<K: Naming, N: RunName>(
+/// The next command, which needs the permission: whether it was done in one step.
+fn publish<K: Naming, N: RunName>(
     permit: &mut Permit<K, N>,
     shared: &Shared<CodeLaw<K>>,
 ) -> Result<bool, NoMemory>
     requires { IsOverWords shared.now.table.shared.table_id shared.now.table.shared.key N.run }
 {
-    let Some(ScriptCmd::Put { .. }) = permit.next_command(0) else {
+    let Some(ScriptCmd::Put { .. } | ScriptCmd::Erase { .. }) = permit.next_command(0) else {
         return Ok(false);
     };
     let Seize::Seized = permit.seize(0) else {
@@ -78,19 +85,92 @@ fn put<K: Naming, N: RunName>(
     }
 }
 
-/// Both commands of the script.
-fn make_both<K: Naming, N: RunName>(
+/// The next three commands: whether each was done in one step.
+fn publish_all<K: Naming, N: RunName>(
     permit: &mut Permit<K, N>,
     shared: &Shared<CodeLaw<K>>,
-) -> Result<Seen, NoMemory>
+) -> Result<bool, NoMemory>
     requires { IsOverWords shared.now.table.shared.table_id shared.now.table.shared.key N.run }
 {
+    for _ in 0..3 {
+        if !publish(permit, shared)? {
+            return Ok(false);
+        }
+    }
+    Ok(true)
+}
+
+/// The leader reports, and raises the counter.
+#[tactic(auto, using(crate::proofs::Leading::leads_on))]
+fn lead_on<K: Naming>(shared: &Shared<CodeLaw<K>>, leader: &mut Member)
+    requires leads { IsLeading shared.now.table.shared.table_id leader.old }
+    ensures leads { IsLeading shared.now.table.shared.table_id leader.new }
+{
+    report(shared, leader);
+    let _answer = advance(shared, leader);
+}
+
+/// What is waited for, before the counter is raised.
+fn pump<K: Naming, N: RunName>(
+    permit: &mut Permit<K, N>,
+    shared: &Shared<CodeLaw<K>>,
+) -> Result<Pumped, NoMemory>
+    requires { IsOverWords shared.now.table.shared.table_id shared.now.table.shared.key N.run }
+{
+    permit.pump(shared)
+}
+
+/// What becomes of the areas that wait, before the leader raises the counter by two, behind that, and once more.
+fn pump_on<K: Naming, N: RunName>(
+    permit: &mut Permit<K, N>,
+    shared: &Shared<CodeLaw<K>>,
+    leader: &mut Member,
+) -> Result<[Pumped; 3], NoMemory>
+    requires words { IsOverWords shared.now.table.shared.table_id shared.now.table.shared.key N.run }
+    requires leads { IsLeading shared.now.table.shared.table_id leader.old }
+{
+    let waits = pump(permit, shared)?;
+    lead_on(shared, leader);
+    lead_on(shared, leader);
+    let released = pump(permit, shared)?;
+    let over = pump(permit, shared)?;
+    Ok([waits, released, over])
+}
+
+/// The one member takes the lead for it.
+#[tactic(auto, using(crate::proofs::Leading::leader_may, crate::proofs::Leading::leads_first, crate::proofs::Leading::begun_of))]
+fn pump_all<K: Naming, N: RunName>(
+    permit: &mut Permit<K, N>,
+    shared: &Shared<CodeLaw<K>>,
+    leader: &mut Member,
+) -> Result<[Pumped; 3], NoMemory>
+    requires words { IsOverWords shared.now.table.shared.table_id shared.now.table.shared.key N.run }
+    requires begun { IsMemberBegun shared.now.table.shared.table_id 0 leader.old }
+{
+    let Lead::Led = lead(shared, leader) else {
+        return Err(NoMemory);
+    };
+    pump_on(permit, shared, leader)
+}
+
+/// All commands of the script, and then the release of the area.
+fn make_all<K: Naming, N: RunName>(
+    permit: &mut Permit<K, N>,
+    shared: &Shared<CodeLaw<K>>,
+    leader: &mut Member,
+) -> Result<Seen, NoMemory>
+    requires words { IsOverWords shared.now.table.shared.table_id shared.now.table.shared.key N.run }
+    requires begun { IsMemberBegun shared.now.table.shared.table_id 0 leader.old }
+{
     let spawned = spawn(permit, shared)?;
-    let is_put = put(permit, shared)?;
+    let is_published = publish_all(permit, shared)?;
+    let is_all_done = permit.all_done();
+    let pumped = pump_all(permit, shared, leader)?;
     Ok(Seen {
         spawned,
-        is_put,
-        is_all_done: permit.all_done(),
+        is_published,
+        is_all_done,
+        pumped,
         entries: permit.journal().len(),
         generation: permit.generation(),
     })
@@ -102,6 +182,7 @@ fn over_run<K: Naming, N: RunName>(
     shared: &Shared<CodeLaw<K>>,
     script: Script,
     tables: Tables,
+    leader: &mut Member,
 ) -> Result<Seen, NoMemory>
     requires words { IsOverWords shared.now.table.shared.table_id shared.now.table.shared.key N.run }
     requires script { IsScript script }
@@ -111,9 +192,10 @@ fn over_run<K: Naming, N: RunName>(
     requires rest { AreAtRest K.names empty_state tables }
     requires opening { (written_by tables.writer).published ≡ opening_published ∷ [] }
     requires notes { (written_by tables.writer).notes ≡ [] }
+    requires begun { IsMemberBegun shared.now.table.shared.table_id 0 leader.old }
 {
     let mut permit = Permit::<K, N>::new(alloc, script, tables)?;
-    make_both(&mut permit, shared)
+    make_all(&mut permit, shared, leader)
 }
 
 /// The words are new, and nobody has them but the writer.
@@ -127,9 +209,15 @@ fn over_words<K: Naming>(
     requires names { exports ≡ K.names }
 {
     let (shared, parts) = Shared::<CodeLaw<K>>::new(alloc, 1, 0)?;
-    let Parts { writer, .. } = parts;
+    let Parts {
+        writer,
+        mut members,
+    } = parts;
+    let Some(mut leader) = members.pop() else {
+        return Err(NoMemory);
+    };
     let tables = Tables::new(alloc, writer, exports)?;
-    over_run::<K, Brand>(alloc, &shared, script, tables)
+    over_run::<K, Brand>(alloc, &shared, script, tables, &mut leader)
 }
 
 /// No name has a number.
@@ -141,7 +229,8 @@ fn over_script(alloc: Global, script: Script) -> Result<Seen, NoMemory>
     over_words::<Brand>(alloc, script, exports)
 }
 
-/// What `Permit::new` asks is what `Tables::new` gives of the writer of a new table, and each call of the permit can be made.
+/// What `Permit::new` asks is what `Tables::new` gives of the writer of a new table, and each call of the permit can be made. The counter begins at 1, the
+/// first area has the serial 1, and what was erased is awaited for two values of the counter.
 #[test]
 fn a_permit_over_new_words_makes_its_commands(rt: HostRuntime) -> Result<(), Fail> {
     let alloc = rt.alloc();
@@ -152,10 +241,18 @@ fn a_permit_over_new_words_makes_its_commands(rt: HostRuntime) -> Result<(), Fai
     }
     let wanted = Seen {
         spawned: Some(0),
-        is_put: true,
+        is_published: true,
         is_all_done: true,
-        entries: 2,
-        generation: 1,
+        pumped: [
+            Pumped::NotYet(NotYet {
+                need: 3,
+                current: 1,
+            }),
+            Pumped::Released(1),
+            Pumped::Nothing,
+        ],
+        entries: 5,
+        generation: 3,
     };
     assert_eq!(rt; seen, Some(wanted));
     Ok(())
