@@ -1,16 +1,17 @@
 -- The readers of the words of a line.
-use Rattle.mod_text.proofs.Common.{◌≡◌, ℕ, Bool, true, false, ◌&&◌, ◌==◌, nat_lt, List, [], ◌∷◌, length, cond}
+use Rattle.mod_text.proofs.Common.{◌≡◌, ℕ, Bool, true, false, ◌&&◌, ◌==◌, ◌≤◌, nat_lt, nat_le, List, [], ◌∷◌, length, cond}
 use Rattle.mod_text.proofs.Common.{Option, Some, option_map, refl, sym, ap, ◌∙◌, subst, arith, list_all}
 use Rattle.mod_text.proofs.Common.{is_ascii_digit, is_ascii_lowercase, is_in_range, and_parts, and_from, nat_tests, Decides-eqb}
 use Rattle.mod_text.proofs.Texts.{is_atom_text, is_name_byte, is_bracketed, is_term_text, is_complex_text}
 use Rattle.mod_text.proofs.Texts.{is_integer_text, is_positive_text, is_term_byte, shape_of, Zero, Minus}
-use Rattle.mod_text.proofs.Texts.{Plain, Positive-from, is_number_text, tested, some, some_is, map_some}
+use Rattle.mod_text.proofs.Texts.{Plain, Positive-from, is_number_text, number_value, tested, some, some_is, map_some}
 use Rattle.mod_text.proofs.Texts.{passed, failed, tested_is, tested_at, atom_lacks, number_lacks, lacks}
 use Rattle.mod_text.proofs.Texts.{lacks-all, lacks-append, lacks-cons, IsItem}
 use Rattle.mod_text.proofs.Forms.{OperandForm, register, integer, atom, complex, parted_by, operand_written}
 use Rattle.mod_text.proofs.Forms.{function_written, is_version_text, is_arity_text, is_operand_form}
 use Rattle.mod_text.proofs.Forms.{is_function_form, constant_reading, operand_reading, is_sound_operand}
 use Rattle.mod_text.proofs.Forms.{InstrForm, move, add, sub, eq, less, ret, pget_or, elem, print, is_instr_form, operands_of, each_operand}
+use Rattle.term_core.proofs.Truths.{test_le}
 use Rattle.mod_text.proofs.CanonicalParts.{complex_bytes, no_atom, no_integer, no_register}
 use Rattle.mod_text.proofs.Readers.{Reader, passing, pair, begun}
 
@@ -60,8 +61,16 @@ operand_lacks byte (complex text) out h = complex_lacks byte text out.term h
 pub arity_number : (text : List ℕ) → is_arity_text text ≡ true → is_number_text text ≡ true
 arity_number text h = (and_parts (is_number_text text) _ h).0
 
+pub arity_few : (text : List ℕ) → is_arity_text text ≡ true → number_value text ≤ 15
+arity_few text h = test_le (number_value text) 15 (and_parts (is_number_text text) _ h).1
+
 pub version_number : (text : List ℕ) → is_version_text text ≡ true → is_number_text text ≡ true
 version_number text h = (and_parts (is_number_text text) _ h).0
+
+pub version_bounds : (text : List ℕ) → is_version_text text ≡ true → (1 ≤ number_value text) × (number_value text ≤ 999999)
+version_bounds text h =
+    let p = and_parts (nat_le 1 (number_value text)) (nat_le (number_value text) 999999) (and_parts (is_number_text text) _ h).1 in
+    (test_le 1 (number_value text) p.0, test_le (number_value text) 999999 p.1)
 
 -- ---- operands
 

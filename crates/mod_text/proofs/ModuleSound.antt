@@ -30,6 +30,7 @@ use Rattle.mod_text.proofs.CanonicalParts.{IsSound, constant_is}
 use Rattle.mod_text.proofs.LineNames.{image_words, kept_sound}
 use Rattle.mod_text.proofs.Keepings.{headers_in-append, last_line-push}
 use Rattle.mod_text.proofs.Settles.{kept_body}
+use Rattle.mod_text.proofs.LineReaders.{arity_few, version_bounds}
 use Rattle.mod_text.proofs.TextLaws.{titled_is}
 
 -- ---- the limits that a line was within
@@ -92,9 +93,6 @@ call_place arity at h =
     let parts = or_parts (is_high at) (not (nat_le (number_value at + number_value arity) 16)) h in
     let fits : not (nat_le (number_value at + number_value arity) 16) ≡ false = parts.1 in
     record { back = low_register at parts.0; arguments = grind (arith, nat_tests) }
-
-arity_small : (arity : List ℕ) → is_arity_text arity ≡ true → number_value arity ≤ 15
-arity_small arity h = let fits : nat_le (number_value arity) 15 ≡ true = (and_parts (is_number_text arity) (nat_le (number_value arity) 15) h).1 in grind (arith, nat_tests)
 
 -- what stands at a place that passed
 pub record FoundAt {X : Type 0} (p : X → Bool) (xs : List X) (k : ℕ) : Type 0 where
@@ -241,7 +239,7 @@ module _ (names : Texts) (forms : List FunctionForm) (room : length names ≤ 40
       let first = and_parts (is_atom_text name) (is_function_form function arity && is_number_text at) kept.sound in
       let second = and_parts (is_function_form function arity) (is_number_text at) first.1 in
       let third = and_parts (is_atom_text function) (is_arity_text arity) second.0 in
-      (record { module_named = atom_small names name room; name_named = atom_small names function room; arity = arity_small arity third.1 }, call_place arity at kept.low)
+      (record { module_named = atom_small names name room; name_named = atom_small names function room; arity = arity_few arity third.1 }, call_place arity at kept.low)
   instr_is body (ret value) kept settled = operand_is names value room kept.sound kept.low kept.narrow kept.short
   instr_is body (pget key to) kept settled = (atom_small names key room, low_register to kept.low)
   instr_is body (pget_or key other to) kept settled =
@@ -275,7 +273,7 @@ module _ (names : Texts) (forms : List FunctionForm) (room : length names ≤ 40
       let code = map (instr_in names heads f.body) (instrs_in f.body) in
       record {
         named = atom_small names f.name room;
-        arity = arity_small f.arity parts.1;
+        arity = arity_few f.arity parts.1;
         code = subst (λ (n : ℕ). All (IsInstr made n) code) (sym (length-map (instrs_in f.body) (instr_in names heads f.body))) (code_is f.body f.body is.kept is.settled);
       }
 
@@ -423,8 +421,8 @@ number_text_is text h small =
 
 pub arities_one : (a b : List ℕ) → is_arity_text a ≡ true → is_arity_text b ≡ true → number_value a ≡ number_value b → a ≡ b
 arities_one a b is_a is_b same =
-    let small_a : number_value a < 2 ^ 64 = omega (arith, arity_small a is_a) in
-    let small_b : number_value b < 2 ^ 64 = omega (arith, arity_small b is_b) in
+    let small_a : number_value a < 2 ^ 64 = omega (arith, arity_few a is_a) in
+    let small_b : number_value b < 2 ^ 64 = omega (arith, arity_few b is_b) in
     number_text_is a (and_parts (is_number_text a) (nat_le (number_value a) 15) is_a).0 small_a ∙ ap decimal same ∙ sym (number_text_is b (and_parts (is_number_text b) (nat_le (number_value b) 15) is_b).0 small_b)
 
 -- ---- the image
@@ -461,13 +459,7 @@ image_short names after lines row sound short =
 
 -- what the title of a module has
 version_is : (lines : List LineForm) → IsTitled lines → All IsKept lines → (1 ≤ number_value (title_of lines).1) × (number_value (title_of lines).1 ≤ 999999)
-version_is (title name version ∷ lines) titled kept =
-    let sound = (All-head IsKept (title name version) lines kept).sound in
-    let bounds = (and_parts (is_number_text version) (nat_le 1 (number_value version) && nat_le (number_value version) 999999) (and_parts (is_atom_text name) (is_version_text version) sound).1).1 in
-    let both = and_parts (nat_le 1 (number_value version)) (nat_le (number_value version) 999999) bounds in
-    let low : nat_le 1 (number_value version) ≡ true = both.0 in
-    let high : nat_le (number_value version) 999999 ≡ true = both.1 in
-    (grind (arith, nat_tests), grind (arith, nat_tests))
+version_is (title name version ∷ lines) titled kept = version_bounds version (and_parts (is_atom_text name) (is_version_text version) (All-head IsKept (title name version) lines kept).sound).1
 version_is lines titled kept = absurd titled
 
 functions_apart : (names : Texts) (headers : List HeaderForm) (forms : List FunctionForm) → All (IsForm headers) forms → All (λ h. IsNamed names h.0) (map head_of forms) → HeadsApart (map head_of forms) → (i j : ℕ) → i < j → SameFunction (map (function_in names headers) forms) i j → ⊥

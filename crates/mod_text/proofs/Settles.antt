@@ -1,10 +1,11 @@
 -- The code and the functions that lines say, line by line.
-use Rattle.std.proofs.Common.{◌≡◌, ℕ, suc, ◌+◌, ◌-◌, ◌<◌, ◌≤◌, Bool, true, false, cond, ◌&&◌, ◌^◌, nat_le, List, [], ◌∷◌}
+use Rattle.std.proofs.Common.{◌≡◌, ℕ, suc, ◌+◌, ◌-◌, ◌<◌, ◌≤◌, Bool, true, false, cond, ◌^◌, List, [], ◌∷◌}
 use Rattle.std.proofs.Common.{◌++◌, length, take, drop, get_or, map, Option, Some, None, option_map, refl, sym, ap, ◌∙◌}
 use Rattle.std.proofs.Common.{subst, arith, add-one, add-zero, append_assoc, drop-cons, length-drop}
 use Rattle.mod_text.proofs.Common.{Bor, All, append-nil, length-map, get_or-map, drop-map, take_more, take_all}
 use Rattle.mod_text.proofs.Common.{drop_all, map-append, All-get_or, All-drop, All-nil, All-cons, Texts}
-use Rattle.mod_text.proofs.Common.{All-head, All-tail, and_parts, nat_tests}
+use Rattle.mod_text.proofs.Common.{All-head, All-tail, and_parts}
+use Rattle.mod_text.proofs.LineReaders.{version_number, version_bounds}
 use Rattle.std.specs.Bool.{OnTrue}
 use Rattle.mod_text.proofs.Texts.{is_atom_text, is_number_text, number_value}
 use Rattle.mod_text.proofs.Types.{AtomId, Instr, Function, FinishFault}
@@ -84,11 +85,7 @@ kept_body lines kept = All-nil IsKept
 
 -- a version is small
 pub version_small : (name version : List ℕ) → is_line_form (title name version) ≡ true → number_value version < 2 ^ 32
-version_small name version sound =
-    let version_is = (and_parts (is_atom_text name) (is_version_text version) sound).1 in
-    let bounds = (and_parts (is_number_text version) (nat_le 1 (number_value version) && nat_le (number_value version) 999999) version_is).1 in
-    let high : nat_le (number_value version) 999999 ≡ true = (and_parts (nat_le 1 (number_value version)) (nat_le (number_value version) 999999) bounds).1 in
-    grind (arith, nat_tests)
+version_small name version sound = let high = (version_bounds version (and_parts (is_atom_text name) (is_version_text version) sound).1).1 in omega (arith, high)
 
 -- what the title of a module has
 pub record HasVersion (text : List ℕ) : Type 0 where
@@ -98,7 +95,7 @@ pub record HasVersion (text : List ℕ) : Type 0 where
 pub title_version : (lines : List LineForm) → IsTitled lines → All IsKept lines → HasVersion (title_of lines).1
 title_version (title name version ∷ lines) titled kept =
     let sound = (All-head IsKept (title name version) lines kept).sound in
-    record { number = (and_parts (is_number_text version) (nat_le 1 (number_value version) && nat_le (number_value version) 999999) (and_parts (is_atom_text name) (is_version_text version) sound).1).0; small = version_small name version sound }
+    record { number = version_number version (and_parts (is_atom_text name) (is_version_text version) sound).1; small = version_small name version sound }
 title_version lines titled kept = absurd titled
 
 module _ (names : Texts) (headers : List HeaderForm) (behind body : List LineForm) (exported : Bool) (name arity : List ℕ) (atom : AtomId) (number : ℕ) (code : List Instr) where

@@ -4,11 +4,19 @@ use Rattle.std.specs.Prelude.{ℕ, ◌==◌, Bool, true, false, List, [], ◌∷
 use Rattle.term_core.specs.Names.{is_atom_text}
 use Rattle.term_core.specs.TermForms.{is_bracketed, is_term_text}
 use Rattle.term_core.specs.Written.{is_integer_text}
-use Rattle.term_core.specs.Text.Numbers.{is_number_text}
+use Rattle.term_core.specs.Text.Numbers.{is_number_text, number_value}
 use Rattle.term_core.specs.Text.Cuts.{cut_at}
 use Rattle.mod_text.specs.Sides.{paired, behind}
 use Rattle.term_core.specs.Text.Steps.{◌>>=◌, tested, numbered_reading}
 use Rattle.mod_text.specs.ModuleLine.{OperandForm, register, integer, atom, complex, InstrForm, move, add, sub, eq, less, jump, call, call_ext, ret, pget, pget_or, elem, print, yield, LineForm, title, header, label, instr, end, is_version_text, is_arity_text, operands_of, each_operand}
+
+-- the version that digits write
+abbrev pub version_reading : List ℕ → Option ℕ
+version_reading text = if is_version_text text then Some (number_value text) else None
+
+-- the arity that digits write
+abbrev pub arity_reading : List ℕ → Option ℕ
+arity_reading text = if is_arity_text text then Some (number_value text) else None
 
 -- the digits of a register
 abbrev pub register_reading : List ℕ → Option (List ℕ)

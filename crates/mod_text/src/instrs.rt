@@ -1,11 +1,12 @@
 //! Instructions that go to no label and call no local function, by their words.
 
-ghost use Rattle.std.specs.Prelude.{◌≡◌, IfOk};
-ghost use Rattle.mod_core.specs.declared.code.Instr.TheVariants.{Move, Add, Sub, Ret, Pget, PgetOr, Elem, Print};
+ghost use Rattle.std.specs.Prelude.{◌≡◌, false, IfOk, IsTrue};
+ghost use Rattle.mod_core.specs.declared.code.Instr.TheVariants.{Move, Ret, Pget, PgetOr, Print};
 ghost use Rattle.mod_text.specs.LineViews.{operand_form};
-ghost use Rattle.term_core.specs.Text.Numbers.{number_value};
-ghost use Rattle.mod_text.specs.ModuleLine.{move, add, sub, ret, pget, pget_or, elem, print};
+ghost use Rattle.term_core.specs.Text.Numbers.{is_number_text, number_value};
+ghost use Rattle.mod_text.specs.ModuleLine.{move, ret, pget, pget_or, print};
 ghost use Rattle.mod_text.specs.ModuleValue.{atom_in, operand_in};
+ghost use Rattle.mod_text.specs.LineFaults.{is_high};
 ghost use Rattle.mod_text.specs.Keeping.{IsKeptInstr, IsKeptOperand};
 
 use crate::values::{atom_of, operand_of, register_of};
@@ -45,36 +46,22 @@ pub fn move_of(
     Ok(Instr::Move { from, to })
 }
 
-#[tactic(auto, using(std::proofs::lemmas::Bool::and_parts, std::proofs::lemmas::Bool::or_parts))]
-pub fn add_of(
+/// Two operands and a register that are written so.
+pub fn sum_of(
     alloc: Global,
     names: &Names,
     a: &WrittenOperand<'_>,
     b: &WrittenOperand<'_>,
     to: &[u8],
-) -> Result<Instr, NoMemory>
-    requires { IsKeptInstr (add (operand_form a.now) (operand_form b.now) to.now) }
-    ensures { IfOk result (λ i. i ≡ Add (operand_in names.now (operand_form a.now)) (operand_in names.now (operand_form b.now)) (number_value to.now)) }
+) -> Result<(Operand, Operand, u32), NoMemory>
+    requires first { IsKeptOperand (operand_form a.now) }
+    requires second { IsKeptOperand (operand_form b.now) }
+    requires number { IsTrue (is_number_text to.now) }
+    requires low { is_high to.now ≡ false }
+    ensures { IfOk result (λ sum. sum ≡ (operand_in names.now (operand_form a.now), operand_in names.now (operand_form b.now), number_value to.now)) }
 {
-    let (a, b) = operands_of(alloc, names, a, b)?;
-    let to = register_of(to);
-    Ok(Instr::Add { a, b, to })
-}
-
-#[tactic(auto, using(std::proofs::lemmas::Bool::and_parts, std::proofs::lemmas::Bool::or_parts))]
-pub fn sub_of(
-    alloc: Global,
-    names: &Names,
-    a: &WrittenOperand<'_>,
-    b: &WrittenOperand<'_>,
-    to: &[u8],
-) -> Result<Instr, NoMemory>
-    requires { IsKeptInstr (sub (operand_form a.now) (operand_form b.now) to.now) }
-    ensures { IfOk result (λ i. i ≡ Sub (operand_in names.now (operand_form a.now)) (operand_in names.now (operand_form b.now)) (number_value to.now)) }
-{
-    let (a, b) = operands_of(alloc, names, a, b)?;
-    let to = register_of(to);
-    Ok(Instr::Sub { a, b, to })
+    let (first, second) = operands_of(alloc, names, a, b)?;
+    Ok((first, second, register_of(to)))
 }
 
 pub fn ret_of(alloc: Global, names: &Names, value: &WrittenOperand<'_>) -> Result<Instr, NoMemory>
@@ -110,22 +97,6 @@ pub fn pget_or_of(
     let key = atom_of(names, key);
     let to = register_of(to);
     Ok(Instr::PgetOr { key, other, to })
-}
-
-#[tactic(auto, using(std::proofs::lemmas::Bool::and_parts, std::proofs::lemmas::Bool::or_parts))]
-pub fn elem_of(
-    alloc: Global,
-    names: &Names,
-    index: &WrittenOperand<'_>,
-    from: &WrittenOperand<'_>,
-    to: &[u8],
-) -> Result<Instr, NoMemory>
-    requires { IsKeptInstr (elem (operand_form index.now) (operand_form from.now) to.now) }
-    ensures { IfOk result (λ i. i ≡ Elem (operand_in names.now (operand_form index.now)) (operand_in names.now (operand_form from.now)) (number_value to.now)) }
-{
-    let (index, from) = operands_of(alloc, names, index, from)?;
-    let to = register_of(to);
-    Ok(Instr::Elem { index, from, to })
 }
 
 pub fn print_of(alloc: Global, names: &Names, value: &WrittenOperand<'_>) -> Result<Instr, NoMemory>

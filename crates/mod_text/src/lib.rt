@@ -20,3 +20,4 @@ pub use fault::{FinishFault, LineFault, ModFault};
 pub use printing::{canonical_text_reads_back, print_module};
 pub use reader::ModuleReader;
 pub use reading::read_module;
+pub use words::{arity_of, version_of};

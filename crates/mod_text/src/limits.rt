@@ -4,8 +4,8 @@ ghost use Rattle.std.specs.Prelude.{◌≡◌, ◌≤◌, false, All, IsTrue, op
 ghost use Rattle.mod_text.specs.LineViews.{operand_form, instr_form, line_form, text_form, forms_of};
 ghost use Rattle.term_core.specs.Text.Numbers.{is_number_text};
 ghost use Rattle.mod_text.specs.ModuleLine.{is_operand_form, is_instr_form, is_line_form};
-ghost use Rattle.mod_text.specs.LineFaults.{is_open as is_open_behind, is_in_function as is_in_function_behind, may_follow as may_stand_behind, is_high as is_high_register, has_high_operand, is_high_call as is_call_too_high, has_high_instr, has_high_register as has_register_too_high, is_wide_operand as is_operand_too_wide, has_wide_instr as has_instr_too_wide, has_wide_integer as has_integer_too_wide, is_long_operand as is_operand_too_long, has_long_instr as has_instr_too_long, has_long_term as has_term_too_long};
-ghost use Rattle.mod_text.specs.Keeping.{IsKept, operand_form_words, instr_form_words, line_words as words_of_line, lines_words};
+ghost use Rattle.mod_text.specs.LineFaults.{is_open, is_in_function, may_follow, is_high, has_high_operand, is_high_call, has_high_instr, has_high_register, is_wide_operand, has_wide_instr, has_wide_integer, is_long_operand, has_long_instr, has_long_term};
+ghost use Rattle.mod_text.specs.Keeping.{IsKept, operand_form_words, instr_form_words, line_words, lines_words};
 
 use crate::line::line_of;
 use crate::written::{WrittenInstr, WrittenLine, WrittenOperand};
@@ -19,26 +19,23 @@ use term_core::{
 const HEAD_WORDS: usize = 4;
 
 fn is_open(before: Option<&WrittenLine<'_>>) -> bool
-    ensures { result ≡ is_open_behind (option_map (λ line. line_form line.now) before.entry) }
+    ensures { result ≡ is_open (option_map (λ line. line_form line.now) before.entry) }
 {
-    match before {
-        None | Some(WrittenLine::End) => false,
-        Some(_) => true,
-    }
+    !matches!(before, None | Some(WrittenLine::End))
 }
 
 fn is_in_function(before: Option<&WrittenLine<'_>>) -> bool
-    ensures { result ≡ is_in_function_behind (option_map (λ line. line_form line.now) before.entry) }
+    ensures { result ≡ is_in_function (option_map (λ line. line_form line.now) before.entry) }
 {
-    match before {
-        None | Some(WrittenLine::End | WrittenLine::Title { .. }) => false,
-        Some(_) => true,
-    }
+    !matches!(
+        before,
+        None | Some(WrittenLine::End | WrittenLine::Title { .. })
+    )
 }
 
 /// Whether a line may stand behind this one, or in front where there is none.
 pub fn may_follow(before: Option<&WrittenLine<'_>>, line: &WrittenLine<'_>) -> bool
-    ensures { result ≡ may_stand_behind (option_map (λ line. line_form line.now) before.entry) (line_form line.now) }
+    ensures { result ≡ may_follow (option_map (λ line. line_form line.now) before.entry) (line_form line.now) }
 {
     match line {
         WrittenLine::Title { .. } => before.is_none(),
@@ -49,7 +46,7 @@ pub fn may_follow(before: Option<&WrittenLine<'_>>, line: &WrittenLine<'_>) -> b
 
 fn is_high(digits: &[u8]) -> bool
     requires { IsTrue (is_number_text digits.now) }
-    ensures { result ≡ is_high_register digits.now }
+    ensures { result ≡ is_high digits.now }
 {
     match small_number(digits) {
         Some(register) => register >= REGISTERS,
@@ -70,7 +67,7 @@ fn is_high_operand(operand: &WrittenOperand<'_>) -> bool
 fn is_high_call(arity: &[u8], at: &[u8]) -> bool
     requires arity { IsTrue (is_number_text arity.now) }
     requires at { IsTrue (is_number_text at.now) }
-    ensures { result ≡ is_call_too_high arity.now at.now }
+    ensures { result ≡ is_high_call arity.now at.now }
 {
     match (small_number(arity), small_number(at)) {
         (Some(arity), Some(at)) => at >= REGISTERS || arity > REGISTERS - at,
@@ -110,7 +107,7 @@ fn is_high_instr(instr: &WrittenInstr<'_>) -> bool
 /// Whether a line has a register over 15, or is a call whose arguments pass register 15.
 pub fn has_high_register(line: &WrittenLine<'_>) -> bool
     requires { IsTrue (is_line_form (line_form line.now)) }
-    ensures { result ≡ has_register_too_high (line_form line.now) }
+    ensures { result ≡ has_high_register (line_form line.now) }
 {
     match line {
         WrittenLine::Instr(instr) => is_high_instr(instr),
@@ -120,7 +117,7 @@ pub fn has_high_register(line: &WrittenLine<'_>) -> bool
 
 fn is_wide_operand(operand: &WrittenOperand<'_>) -> bool
     requires { IsTrue (is_operand_form (operand_form operand.now)) }
-    ensures { result ≡ is_operand_too_wide (operand_form operand.now) }
+    ensures { result ≡ is_wide_operand (operand_form operand.now) }
 {
     match operand {
         WrittenOperand::Integer(text) => match parsed_integer(text) {
@@ -135,7 +132,7 @@ fn is_wide_operand(operand: &WrittenOperand<'_>) -> bool
 #[tactic(auto, using(std::proofs::lemmas::Bool::and_parts))]
 fn has_wide_instr(instr: &WrittenInstr<'_>) -> bool
     requires { IsTrue (is_instr_form (instr_form instr.now)) }
-    ensures { result ≡ has_instr_too_wide (instr_form instr.now) }
+    ensures { result ≡ has_wide_instr (instr_form instr.now) }
 {
     match instr {
         WrittenInstr::Move { from, .. } => is_wide_operand(from),
@@ -158,7 +155,7 @@ fn has_wide_instr(instr: &WrittenInstr<'_>) -> bool
 /// Whether a line has an integer of more than 60 bits.
 pub fn has_wide_integer(line: &WrittenLine<'_>) -> bool
     requires { IsTrue (is_line_form (line_form line.now)) }
-    ensures { result ≡ has_integer_too_wide (line_form line.now) }
+    ensures { result ≡ has_wide_integer (line_form line.now) }
 {
     match line {
         WrittenLine::Instr(instr) => has_wide_instr(instr),
@@ -167,7 +164,7 @@ pub fn has_wide_integer(line: &WrittenLine<'_>) -> bool
 }
 
 fn is_long_operand(operand: &WrittenOperand<'_>) -> bool
-    ensures { result ≡ is_operand_too_long (operand_form operand.now) }
+    ensures { result ≡ is_long_operand (operand_form operand.now) }
 {
     match operand {
         WrittenOperand::Complex(text) => text_words(text) > MOST_WORDS,
@@ -176,7 +173,7 @@ fn is_long_operand(operand: &WrittenOperand<'_>) -> bool
 }
 
 fn has_long_instr(instr: &WrittenInstr<'_>) -> bool
-    ensures { result ≡ has_instr_too_long (instr_form instr.now) }
+    ensures { result ≡ has_long_instr (instr_form instr.now) }
 {
     match instr {
         WrittenInstr::Add { a, b, .. }
@@ -202,7 +199,7 @@ fn has_long_instr(instr: &WrittenInstr<'_>) -> bool
 
 /// Whether a line has a term of more than 64 words.
 pub fn has_long_term(line: &WrittenLine<'_>) -> bool
-    ensures { result ≡ has_term_too_long (line_form line.now) }
+    ensures { result ≡ has_long_term (line_form line.now) }
 {
     match line {
         WrittenLine::Instr(instr) => has_long_instr(instr),
@@ -211,7 +208,7 @@ pub fn has_long_term(line: &WrittenLine<'_>) -> bool
 }
 
 fn operand_words(operand: &WrittenOperand<'_>) -> usize
-    requires { is_operand_too_long (operand_form operand.now) ≡ false }
+    requires { is_long_operand (operand_form operand.now) ≡ false }
     ensures value { result ≡ operand_form_words (operand_form operand.now) }
     ensures small { result ≤ MOST_WORDS }
 {
@@ -224,7 +221,7 @@ fn operand_words(operand: &WrittenOperand<'_>) -> usize
 /// How many words of an image are those of an instruction: its own, and those of its tuples and lists behind the code.
 #[tactic(auto, using(std::proofs::lemmas::Bool::or_parts))]
 fn instr_words(instr: &WrittenInstr<'_>) -> usize
-    requires { has_instr_too_long (instr_form instr.now) ≡ false }
+    requires { has_long_instr (instr_form instr.now) ≡ false }
     ensures { result ≡ instr_form_words (instr_form instr.now) }
 {
     match instr {
@@ -249,7 +246,7 @@ fn instr_words(instr: &WrittenInstr<'_>) -> usize
 /// How many words of an image are those of a line: a function has four of its own, and two of the return at its end.
 fn line_words(line: &[u8]) -> usize
     requires { IsKept (text_form line.now) }
-    ensures { result ≡ words_of_line (text_form line.now) }
+    ensures { result ≡ line_words (text_form line.now) }
 {
     match line_of(line) {
         WrittenLine::Header { .. } => 6,

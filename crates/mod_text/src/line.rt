@@ -5,11 +5,11 @@ ghost use Rattle.mod_text.specs.LineViews.{operand_form, instr_form, line_form, 
 ghost use Rattle.term_core.specs.Text.Numbers.{is_number_text as is_number};
 ghost use Rattle.mod_text.specs.ModuleLine.{is_version_text as is_version, is_arity_text as is_arity, is_line_form};
 ghost use Rattle.term_core.specs.Text.Steps.{tested, numbered_reading};
-ghost use Rattle.mod_text.specs.LineReading.{register_reading, constant_reading, operand_reading, sum_reading, branch_reading, move_reading, call_reading, call_ext_reading, add_reading, sub_reading, eq_reading, less_reading, jump_reading, ret_reading, pget_reading, pget_or_reading, elem_reading, print_reading, instr_reading, label_reading, title_reading, header_reading, instr_line_reading, lone_reading, keyed_reading, line_split, line_reading, is_sound_operand as is_sound, has_sound_operands as are_sound, has_sound_terms as are_terms_sound};
+ghost use Rattle.mod_text.specs.LineReading.{register_reading, constant_reading, operand_reading, sum_reading, branch_reading, move_reading, call_reading, call_ext_reading, add_reading, sub_reading, eq_reading, less_reading, jump_reading, ret_reading, pget_reading, pget_or_reading, elem_reading, print_reading, instr_reading, label_reading, title_reading, header_reading, instr_line_reading, lone_reading, keyed_reading, line_split, line_reading, is_sound_operand, has_sound_operands, has_sound_terms};
 ghost use Rattle.term_core.specs.Names.{is_atom_text as is_atom};
-ghost use Rattle.term_core.specs.TermForms.{is_bracketed as begins_with_bracket};
+ghost use Rattle.term_core.specs.TermForms.{is_bracketed};
 
-use crate::words::{is_arity_text, is_version_text};
+use crate::words::{arity_of, version_of};
 use crate::written::{WrittenInstr, WrittenLine, WrittenOperand};
 use std::alloc::Global;
 use term_core::{NoMemory, cut_at, is_atom_text, is_integer_text, is_number_text, is_term_text};
@@ -40,12 +40,9 @@ fn read_register(text: &[u8]) -> Option<&[u8]>
 }
 
 fn is_bracketed(text: &[u8]) -> bool
-    ensures { result ≡ begins_with_bracket text.now }
+    ensures { result ≡ is_bracketed text.now }
 {
-    match text.split_first() {
-        None => false,
-        Some((first, _)) => *first == b'{' || *first == b'[',
-    }
+    matches!(text.first(), Some(b'{' | b'['))
 }
 
 fn read_constant(text: &[u8]) -> Option<WrittenOperand<'_>>
@@ -81,11 +78,8 @@ fn read_function(text: &[u8]) -> Option<(&[u8], &[u8])>
 {
     let (name, arity) = cut_at(text, b'/')?;
     let name = read_atom(name)?;
-    if is_arity_text(arity) {
-        Some((name, arity))
-    } else {
-        None
-    }
+    let _number = arity_of(arity)?;
+    Some((name, arity))
 }
 
 /// A module's name and version, as `m.1`.
@@ -94,11 +88,8 @@ fn read_title(text: &[u8]) -> Option<(&[u8], &[u8])>
 {
     let (name, version) = cut_at(text, b'.')?;
     let name = read_atom(name)?;
-    if is_version_text(version) {
-        Some((name, version))
-    } else {
-        None
-    }
+    let _number = version_of(version)?;
+    Some((name, version))
 }
 
 /// Two operands and a register.
@@ -344,13 +335,13 @@ fn cut_line(text: &[u8]) -> Option<WrittenLine<'_>>
 /// The line with this text. Of a tuple or a list its first bracket alone was looked at. It takes no memory.
 pub fn split_line(text: &[u8]) -> Option<WrittenLine<'_>>
     ensures split { option_map line_form result ≡ line_split text.now }
-    ensures sound { IfSome result (λ line. are_terms_sound (line_form line) ≡ true → IsTrue (is_line_form (line_form line))) }
+    ensures sound { IfSome result (λ line. has_sound_terms (line_form line) ≡ true → IsTrue (is_line_form (line_form line))) }
 {
     cut_line(text)
 }
 
 fn is_sound_operand(alloc: Global, operand: &WrittenOperand<'_>) -> Result<bool, NoMemory>
-    ensures { IfOk result (λ sound. sound ≡ is_sound (operand_form operand.now)) }
+    ensures { IfOk result (λ sound. sound ≡ is_sound_operand (operand_form operand.now)) }
 {
     match operand {
         WrittenOperand::Complex(text) => is_term_text(alloc, text),
@@ -365,7 +356,7 @@ fn are_sound_operands(
     a: &WrittenOperand<'_>,
     b: &WrittenOperand<'_>,
 ) -> Result<bool, NoMemory>
-    ensures { IfOk result (λ sound. sound ≡ (is_sound (operand_form a.now) && is_sound (operand_form b.now))) }
+    ensures { IfOk result (λ sound. sound ≡ (is_sound_operand (operand_form a.now) && is_sound_operand (operand_form b.now))) }
 {
     let first = is_sound_operand(alloc, a)?;
     let second = is_sound_operand(alloc, b)?;
@@ -373,7 +364,7 @@ fn are_sound_operands(
 }
 
 fn has_sound_operands(alloc: Global, instr: &WrittenInstr<'_>) -> Result<bool, NoMemory>
-    ensures { IfOk result (λ sound. sound ≡ are_sound (instr_form instr.now)) }
+    ensures { IfOk result (λ sound. sound ≡ has_sound_operands (instr_form instr.now)) }
 {
     match instr {
         WrittenInstr::Add { a, b, .. }
@@ -398,7 +389,7 @@ fn has_sound_operands(alloc: Global, instr: &WrittenInstr<'_>) -> Result<bool, N
 }
 
 fn has_sound_terms(alloc: Global, line: &WrittenLine<'_>) -> Result<bool, NoMemory>
-    ensures { IfOk result (λ sound. sound ≡ are_terms_sound (line_form line.now)) }
+    ensures { IfOk result (λ sound. sound ≡ has_sound_terms (line_form line.now)) }
 {
     match line {
         WrittenLine::Instr(instr) => has_sound_operands(alloc, instr),

@@ -79,17 +79,6 @@ fn add_operands(
     add_operand(names, b)
 }
 
-fn add_function(names: &mut Names, module: &[u8], name: &[u8]) -> Result<(), LineFault>
-    requires first { IsTrue (is_atom_text «module».now) }
-    requires second { IsTrue (is_atom_text name.now) }
-    ensures named { Gives (λ _. names.new) result (naming names.old («module».now ∷ name.now ∷ [])) }
-    ensures grown { Extends names.old names.new }
-    ensures sound { IsNames names.new }
-{
-    add_atom(names, module)?;
-    add_atom(names, name)
-}
-
 fn add_keyed(names: &mut Names, key: &[u8], other: &WrittenOperand<'_>) -> Result<(), LineFault>
     requires first { IsTrue (is_atom_text key.now) }
     requires second { IsTrue (is_operand_form (operand_form other.now)) }
@@ -115,7 +104,10 @@ fn add_instr(names: &mut Names, instr: &WrittenInstr<'_>) -> Result<(), LineFaul
         WrittenInstr::Eq { a, b, .. } => add_operands(names, a, b),
         WrittenInstr::Less { a, b, .. } => add_operands(names, a, b),
         WrittenInstr::Call { name, .. } => add_atom(names, name),
-        WrittenInstr::CallExt { module, name, .. } => add_function(names, module, name),
+        WrittenInstr::CallExt { module, name, .. } => {
+            add_atom(names, module)?;
+            add_atom(names, name)
+        }
         WrittenInstr::Ret { value } => add_operand(names, value),
         WrittenInstr::Pget { key, .. } => add_atom(names, key),
         WrittenInstr::PgetOr { key, other, .. } => add_keyed(names, key, other),

@@ -4,7 +4,7 @@ ghost use Rattle.std.specs.Prelude.{◌≡◌, List, [], ◌∷◌, ◌++◌, tr
 ghost use Rattle.std.specs.List.{list_any};
 ghost use Rattle.mod_text.specs.LineViews.{line_form, headers_of, words_of};
 ghost use Rattle.mod_text.specs.LineReading.{has_sound_terms};
-ghost use Rattle.mod_text.specs.LineFaults.{may_follow as may_stand_behind, counted_name as name_counted};
+ghost use Rattle.mod_text.specs.LineFaults.{may_follow as may_stand_behind, counted_name};
 ghost use Rattle.mod_text.specs.ModuleLine.{LineForm, is_line_form};
 ghost use Rattle.mod_text.specs.ModuleValue.{is_header, title_of as title_of_lines};
 ghost use Rattle.mod_text.specs.Keeping.{IsKept, judged_behind, is_end_line};
@@ -26,10 +26,7 @@ use term_core::{AtomId, Mfa, Names, NoMemory};
 fn is_end(line: Option<&WrittenLine<'_>>) -> bool
     ensures { result ≡ is_end_line (option_map (λ line. line_form line.now) line.entry) }
 {
-    match line {
-        Some(WrittenLine::End) => true,
-        _ => false,
-    }
+    matches!(line, Some(WrittenLine::End))
 }
 
 fn has_header(functions: &[(&[u8], &[u8])], name: &[u8], arity: &[u8]) -> bool
@@ -76,7 +73,7 @@ fn judge<'b>(
 #[tactic(auto, using(std::proofs::lemmas::Bool::and_parts))]
 fn counted_name(names: &Names, title: &[u8], line: &WrittenLine<'_>) -> Option<Mfa>
     requires { has_sound_terms (line_form line.now) ≡ true → IsTrue (is_line_form (line_form line.now)) }
-    ensures { (lines : List LineForm) → title.now ≡ (title_of_lines lines).0 → result ≡ name_counted names.now lines (line_form line.now) }
+    ensures { (lines : List LineForm) → title.now ≡ (title_of_lines lines).0 → result ≡ counted_name names.now lines (line_form line.now) }
 {
     match line {
         WrittenLine::Header {

@@ -4,14 +4,12 @@ ghost use Rattle.std.specs.Prelude.{◌≡◌, ◌++◌, [], ◌∷◌, ◌+◌,
 ghost use Rattle.std.specs.Bool.{OnTrue};
 ghost use Rattle.mod_text.specs.LineViews.{operand_form, instr_form, text_form, forms_of, headers_of};
 ghost use Rattle.mod_text.specs.ModuleLine.{LineForm, eq, less, jump, call};
-ghost use Rattle.mod_text.specs.ModuleValue.{HeaderForm, is_header, headers_in, function_number, body_of as lines_of_body, instrs_in, functions_in, instr_in, function_in, module_of, is_settled_line, unsettled_in, unsettled_below, first_unsettled, unsettled_line, title_of as title_of_lines, IsTitled, IsMissing};
+ghost use Rattle.mod_text.specs.ModuleValue.{HeaderForm, is_header, headers_in, function_number, body_of, instrs_in, functions_in, instr_in, function_in, module_of, is_settled_line, unsettled_in, unsettled_below, first_unsettled, unsettled_line, title_of, IsTitled, IsMissing};
 ghost use Rattle.mod_text.specs.Keeping.{IsKept, IsKeptInstr};
-ghost use Rattle.mod_text.specs.Settling.{ArePlaces, settled_instr, is_body_line as is_line_of_body, function_at, IsUnsettled, IsUnsettledBelow, IsLater};
+ghost use Rattle.mod_text.specs.Settling.{ArePlaces, settled_instr, is_body_line, function_at, IsUnsettled, IsUnsettledBelow, IsLater};
 
 use crate::fault::FinishFault;
-use crate::instrs::{
-    add_of, elem_of, move_of, operands_of, pget_of, pget_or_of, print_of, ret_of, sub_of,
-};
+use crate::instrs::{move_of, operands_of, pget_of, pget_or_of, print_of, ret_of, sum_of};
 use crate::labels::{Places, place_of, places_of};
 use crate::line::line_of;
 use crate::values::{atom_of, mfa_of, register_of, value_of};
@@ -112,8 +110,14 @@ fn settled(
         WrittenInstr::Jump { target } => return Ok(jump_of(places, target)),
         WrittenInstr::Call { name, arity, at } => return Ok(call_of(functions, name, arity, at)),
         WrittenInstr::Move { from, to } => move_of(alloc, names, from, to)?,
-        WrittenInstr::Add { a, b, to } => add_of(alloc, names, a, b, to)?,
-        WrittenInstr::Sub { a, b, to } => sub_of(alloc, names, a, b, to)?,
+        WrittenInstr::Add { a, b, to } => {
+            let (a, b, to) = sum_of(alloc, names, a, b, to)?;
+            Instr::Add { a, b, to }
+        }
+        WrittenInstr::Sub { a, b, to } => {
+            let (a, b, to) = sum_of(alloc, names, a, b, to)?;
+            Instr::Sub { a, b, to }
+        }
         WrittenInstr::CallExt {
             module,
             name,
@@ -126,7 +130,10 @@ fn settled(
         WrittenInstr::Ret { value } => ret_of(alloc, names, value)?,
         WrittenInstr::Pget { key, to } => pget_of(names, key, to),
         WrittenInstr::PgetOr { key, other, to } => pget_or_of(alloc, names, key, other, to)?,
-        WrittenInstr::Elem { index, from, to } => elem_of(alloc, names, index, from, to)?,
+        WrittenInstr::Elem { index, from, to } => {
+            let (index, from, to) = sum_of(alloc, names, index, from, to)?;
+            Instr::Elem { index, from, to }
+        }
         WrittenInstr::Print { value } => print_of(alloc, names, value)?,
         WrittenInstr::Yield => Instr::Yield,
     };
@@ -134,17 +141,17 @@ fn settled(
 }
 
 fn is_body_line(line: &[u8]) -> bool
-    ensures { result ≡ is_line_of_body (text_form line.now) }
+    ensures { result ≡ is_body_line (text_form line.now) }
 {
-    match line_of(line) {
-        WrittenLine::Label { .. } | WrittenLine::Instr(_) => true,
-        WrittenLine::Title { .. } | WrittenLine::Header { .. } | WrittenLine::End => false,
-    }
+    matches!(
+        line_of(line),
+        WrittenLine::Label { .. } | WrittenLine::Instr(_)
+    )
 }
 
 /// The labels and instructions in front.
 fn body_of<'b, 'c>(lines: &'b [&'c [u8]]) -> &'b [&'c [u8]]
-    ensures body { forms_of result.now ≡ lines_of_body (forms_of lines.now) }
+    ensures body { forms_of result.now ≡ body_of (forms_of lines.now) }
     ensures within { length result.now ≤ length lines.now }
 {
     for (place, line) in lines.iter().enumerate() {
@@ -289,8 +296,8 @@ fn settled_functions(
 
 /// The name and version of the module whose title has this text.
 fn title_words(line: &[u8]) -> (&[u8], &[u8])
-    ensures name { result.0.now ≡ (title_of_lines (text_form line.now ∷ [])).0 }
-    ensures version { result.1.now ≡ (title_of_lines (text_form line.now ∷ [])).1 }
+    ensures name { result.0.now ≡ (title_of (text_form line.now ∷ [])).0 }
+    ensures version { result.1.now ≡ (title_of (text_form line.now ∷ [])).1 }
 {
     match line_of(line) {
         WrittenLine::Title { name, version } => (name, version),
@@ -300,8 +307,8 @@ fn title_words(line: &[u8]) -> (&[u8], &[u8])
 
 /// The name and version of the module whose text begins so.
 pub fn title_of<'b>(lines: &[&'b [u8]]) -> (&'b [u8], &'b [u8])
-    ensures name { result.0.now ≡ (title_of_lines (forms_of lines.now)).0 }
-    ensures version { result.1.now ≡ (title_of_lines (forms_of lines.now)).1 }
+    ensures name { result.0.now ≡ (title_of (forms_of lines.now)).0 }
+    ensures version { result.1.now ≡ (title_of (forms_of lines.now)).1 }
 {
     match lines {
         [first, ..] => title_words(first),

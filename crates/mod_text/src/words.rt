@@ -1,33 +1,27 @@
 //! The numbers of a line: versions and arities.
 
 ghost use Rattle.std.specs.Prelude.{◌≡◌};
-ghost use Rattle.mod_text.specs.ModuleLine.{is_version_text, is_arity_text};
+ghost use Rattle.mod_text.specs.LineReading.{version_reading, arity_reading};
 
 use mod_core::{GREATEST_VERSION, MOST_ARGUMENTS};
-use term_core::{is_number_text, small_number};
+use term_core::narrow_of;
 
-/// Whether this is a version, from 1 to 999999.
-pub fn is_version_text(text: &[u8]) -> bool
-    ensures { result ≡ is_version_text text.now }
+/// The version that digits write, from 1 to 999,999.
+pub fn version_of(text: &[u8]) -> Option<u32>
+    ensures { result ≡ version_reading text.now }
 {
-    if !is_number_text(text) {
-        return false;
-    }
-    match small_number(text) {
-        None => false,
-        Some(version) => 1 <= version && version <= GREATEST_VERSION,
+    match narrow_of(text) {
+        Some(version) if 1 <= version && version <= GREATEST_VERSION => Some(version),
+        _ => None,
     }
 }
 
-/// Whether this is an arity, at most 15.
-pub fn is_arity_text(text: &[u8]) -> bool
-    ensures { result ≡ is_arity_text text.now }
+/// The arity that digits write, at most 15.
+pub fn arity_of(text: &[u8]) -> Option<u32>
+    ensures { result ≡ arity_reading text.now }
 {
-    if !is_number_text(text) {
-        return false;
-    }
-    match small_number(text) {
-        None => false,
-        Some(arity) => arity <= MOST_ARGUMENTS,
+    match narrow_of(text) {
+        Some(arity) if arity <= MOST_ARGUMENTS => Some(arity),
+        _ => None,
     }
 }

@@ -11,5 +11,5 @@ pub use Rattle.report_text.specs.ReportText.{AreCounted, GoesOn, first_lines, St
 pub use Rattle.report_text.specs.Taking.{at, opening, taken, all_taken}
 pub use Rattle.report_text.specs.TermReading.{sided, ended_reading, paired, behind, plain_reading}
 pub use Rattle.report_text.specs.TermReading.{is_short_text, named_term, some_terms, terms_reading}
-pub use Rattle.report_text.specs.WordReading.{Reads, atom_reading, cut_last, cut_or, number_passing}
-pub use Rattle.report_text.specs.WordReading.{version_reading, arity_reading, atom_numbered}
+pub use Rattle.report_text.specs.WordReading.{Reads, atom_reading, cut_last, cut_or, atom_numbered}
+pub use Rattle.mod_text.specs.LineReading.{version_reading, arity_reading}

@@ -1,6 +1,6 @@
 -- Atoms, numbers and terms of a report's line, and texts cut at the last such byte.
 use Rattle.std.proofs.Common.{◌≡◌, ℕ, ◌+◌, ◌-◌, ◌<◌, Bool, true, false, ◌==◌, not, List, [], ◌∷◌, ◌++◌, length, get_or, take, drop, Option, Some}
-use Rattle.std.proofs.Common.{None, refl, sym, ap, ◌∙◌, subst, arith, add-one, drop-cons, length-drop, ◌≤◌, ◌^◌, cond, ◌&&◌, nat_le, nat_lt}
+use Rattle.std.proofs.Common.{None, refl, sym, ap, ◌∙◌, subst, arith, add-one, drop-cons, length-drop, ◌≤◌, ◌^◌, cond, nat_le, nat_lt}
 use Rattle.std.proofs.Common.{decimal, option_map, slice_get, unwrap_or, bytes_eq, append_assoc, append-nil, length-take, IsSome}
 use Rattle.report_text.proofs.Common.{and_parts, not-true, and_from, Decides-eqb, nat_tests}
 use Rattle.report_text.proofs.Common.{take-append-drop, take_all, slice_get-get_or, slice_get_within, Texts, map}
@@ -14,7 +14,7 @@ use Rattle.report_text.proofs.Texts.{parts_of_terms, joined, IsTerm, term_text, 
 use Rattle.report_text.proofs.Texts.{joined_parts_of_terms, joined_written, plain-term_of, is_term_byte}
 use Rattle.report_text.proofs.Texts.{term_bytes-term_text, is_some_at, none_by, same_bytes, bytes_are}
 use Rattle.report_text.proofs.Texts.{lacks-all, lacks-append, lacks-cons, each_reading, each_again, each_is, each_count, joined_lacks}
-use Rattle.report_text.proofs.Forms.{cut_or, cut_last, number_passing, version_reading, arity_reading}
+use Rattle.report_text.proofs.Forms.{cut_or, cut_last, version_reading, arity_reading}
 use Rattle.report_text.proofs.Forms.{atom_numbered, atom_reading, is_short_text, named_term, plain_reading}
 use Rattle.report_text.proofs.Forms.{some_terms, terms_reading}
 use Rattle.std.specs.Char.{is_ascii_digit}
@@ -23,6 +23,9 @@ use Rattle.term_core.proofs.GrownNames.{number_of-at}
 use Rattle.term_core.specs.Text.Numbers.{is_number_text, number_value}
 use Rattle.term_core.proofs.Text.Numbers.{decimal-writes}
 use Rattle.report_text.proofs.Logs.{IsWide, IsNarrow, IsNamed, IsTermOf, mfa_text, plain_text, call_text, IsFunctionOf, IsCallOf}
+use Rattle.mod_text.proofs.CanonicalParts.{arity_writes, version_writes}
+use Rattle.mod_text.proofs.LineReaders.{arity_number, arity_few, version_number, version_bounds}
+use Rattle.mod_text.specs.ModuleLine.{is_version_text, is_arity_text}
 use Rattle.mod_text.proofs.Readers.{Reader, fitting, pair, made, closed}
 use Rattle.term_core.specs.TermForms.{is_term_text, is_wide_text, term_in, text_words, tree_of}
 use Rattle.term_core.specs.Written.{WrittenTerm, written, parted, IsTermInteger, integer_of, outside_of, IntegersFit}
@@ -158,47 +161,38 @@ digit_apart byte h = grind (arith, nat_tests)
 
 -- ---- numbers that pass a test
 
-passing_again : (test : ℕ → Bool) (n : ℕ) → IsNarrow n → test n ≡ true → number_passing test (narrow_reading (decimal n)) ≡ Some n
-passing_again test n h passes = ap (number_passing test) (narrow_again n h) ∙ passed (test n) (some n) None passes
+-- a text that passes a test, as the number that its digits write
+abbrev passing : (List ℕ → Bool) → List ℕ → Option ℕ
+passing test text = cond (test text) (some (number_value text)) None
 
-passing_is : (test : ℕ → Bool) (Fits : ℕ → Type 0) (text : List ℕ) (n : ℕ) → (test n ≡ true → Fits n) → number_passing test (narrow_reading text) ≡ Some n → IsItem decimal Fits text n
-passing_is test Fits text n fit e = by_read (narrow_reading text) (narrow_is text) e
-  where
-    by_read : (o : Option ℕ) → ((m : ℕ) → o ≡ Some m → IsItem decimal IsNarrow text m) → number_passing test o ≡ Some n → IsItem decimal Fits text n
-    by_read None is e = absurd cc
-    by_read (Some m) is e =
-        let g = guard_some (test m) m n e in
-        let here = subst (IsItem decimal IsNarrow text) g.1 (is m refl) in
-        record { text_is = here.text_is; fits = fit (ap test (sym g.1) ∙ g.0) }
+passing_again : (test : List ℕ → Bool) (n : ℕ) → IsWide n → test (decimal n) ≡ true → passing test (decimal n) ≡ Some n
+passing_again test n wide h = passed (test (decimal n)) (some (number_value (decimal n))) None h ∙ ap some (decimal-writes n wide).value
+
+passing_is : (test : List ℕ → Bool) (Fits : ℕ → Type 0) (text : List ℕ) (n : ℕ) → (test text ≡ true → (is_number_text text ≡ true) × (number_value text < 2 ^ 64) × Fits (number_value text)) → passing test text ≡ Some n → IsItem decimal Fits text n
+passing_is test Fits text n fit e =
+    let g = guard_some (test text) (number_value text) n e in
+    let f = fit g.0 in
+    subst (IsItem decimal Fits text) g.1 (record { text_is = sym (decimal_again text f.0 f.1); fits = f.2 })
 
 -- a version
 abbrev pub IsVersion : ℕ → Type 0
 IsVersion n = (0 < n) × (n ≤ 999999)
 
 pub version_again : (n : ℕ) → IsVersion n → version_reading (decimal n) ≡ Some n
-version_again n h =
-    let low = h.0 in
-    let high = h.1 in
-    passing_again (λ k. nat_le 1 k && nat_le k 999999) n (omega (arith, high)) (and_from (nat_le 1 n) (nat_le n 999999) (grind (arith, nat_tests)) (grind (arith, nat_tests)))
-
-version_fits : (n : ℕ) → (nat_le 1 n && nat_le n 999999) ≡ true → IsVersion n
-version_fits n h = let q = and_parts (nat_le 1 n) (nat_le n 999999) h in let low = q.0 in let high = q.1 in (grind (arith, nat_tests), grind (arith, nat_tests))
+version_again n h = let low = h.0 in let high = h.1 in passing_again is_version_text n (omega (arith, high)) (version_writes n (omega (arith, low)) high)
 
 pub version_is : (text : List ℕ) (n : ℕ) → version_reading text ≡ Some n → IsItem decimal IsVersion text n
-version_is text n e = passing_is (λ k. nat_le 1 k && nat_le k 999999) IsVersion text n (version_fits n) e
+version_is text n e = passing_is is_version_text IsVersion text n (λ h. let b = version_bounds text h in let low = b.0 in let high = b.1 in (version_number text h, omega (arith, high), (omega (arith, low), high))) e
 
 abbrev pub version : Reader ℕ
 version = fitting decimal IsVersion version_reading version_is version_again
 
 -- an arity
 pub arity_again : (n : ℕ) → n ≤ 15 → arity_reading (decimal n) ≡ Some n
-arity_again n high = passing_again (λ k. nat_le k 15) n (omega (arith, high)) (grind (arith, nat_tests))
-
-arity_fits : (n : ℕ) → nat_le n 15 ≡ true → n ≤ 15
-arity_fits n h = grind (arith, nat_tests)
+arity_again n high = passing_again is_arity_text n (omega (arith, high)) (arity_writes n high)
 
 pub arity_is : (text : List ℕ) (n : ℕ) → arity_reading text ≡ Some n → IsItem decimal (λ k. k ≤ 15) text n
-arity_is text n e = passing_is (λ k. nat_le k 15) (λ k. k ≤ 15) text n (arity_fits n) e
+arity_is text n e = passing_is is_arity_text (λ k. k ≤ 15) text n (λ h. let few = arity_few text h in (arity_number text h, omega (arith, few), few)) e
 
 abbrev pub arity : Reader ℕ
 arity = fitting decimal (λ n. n ≤ 15) arity_reading arity_is arity_again

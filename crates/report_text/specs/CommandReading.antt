@@ -11,7 +11,8 @@ use Rattle.term_core.specs.Text.Cuts.{cut_at}
 use Rattle.term_core.specs.Text.Parts.{parts_of, each_reading}
 use Rattle.term_core.specs.Text.Words.{switch_reading}
 use Rattle.term_core.specs.Text.Words.{number_reading}
-use Rattle.report_text.specs.WordReading.{atom_reading, version_reading}
+use Rattle.mod_text.specs.LineReading.{version_reading}
+use Rattle.report_text.specs.WordReading.{atom_reading}
 use Rattle.report_text.specs.TermReading.{paired, plain_reading, function_reading, call_reading}
 
 -- a version of a module

@@ -11,10 +11,11 @@ use Rattle.mod_core.specs.declared.code.TheConstants.{MOST_ARGUMENTS}
 use Rattle.term_core.specs.Text.Steps.{◌>>=◌}
 use Rattle.term_core.specs.Text.Cuts.{cut_at}
 use Rattle.term_core.specs.Text.Parts.{each_reading}
+use Rattle.mod_text.specs.LineReading.{arity_reading}
 pub use Rattle.mod_text.specs.Sides.{sided, paired, ended_reading, behind}
 use Rattle.run_log.specs.Report.{plain_text}
 use Rattle.report_text.specs.declared.terms.Call.{Call}
-use Rattle.report_text.specs.WordReading.{atom_reading, arity_reading}
+use Rattle.report_text.specs.WordReading.{atom_reading}
 
 -- whether a text is that of a term of at most 64 words, with integers of 60 bits
 abbrev pub is_short_text : List ℕ → Bool

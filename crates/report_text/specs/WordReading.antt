@@ -1,11 +1,9 @@
 -- How the words of a report's line are read: numbers within their bounds, and atoms that have a name.
 -- Source: this project's report text. The texts of words stand in run_log; laws say that both agree.
-use Rattle.std.specs.Prelude.{◌≡◌, ℕ, ◌==◌, ◌&&◌, nat_le, Bool, List, [], ◌∷◌, Option, Some, None, Result, Ok, Err, option_map, if◌then◌else◌}
+use Rattle.std.specs.Prelude.{◌≡◌, ℕ, ◌==◌, List, [], ◌∷◌, Option, Some, None, Result, Ok, Err, option_map, if◌then◌else◌}
 use Rattle.term_core.specs.declared.atom.AtomId.{AtomId}
 use Rattle.term_core.specs.Names.{number_of}
-use Rattle.mod_core.specs.declared.code.TheConstants.{MOST_ARGUMENTS, GREATEST_VERSION}
 use Rattle.term_core.specs.Text.Cuts.{with_first}
-use Rattle.term_core.specs.Text.Words.{narrow_reading}
 use Rattle.report_text.specs.declared.line_fault.LineFault.{LineFault}
 use Rattle.report_text.specs.declared.line_fault.LineFault.TheVariants.{Form, NoMemory}
 
@@ -24,19 +22,6 @@ cut_or byte b bs None = if b == byte then Some ([], bs) else None
 abbrev pub cut_last : ℕ → List ℕ → Option (List ℕ × List ℕ)
 cut_last byte [] = None
 cut_last byte (b ∷ bs) = cut_or byte b bs (cut_last byte bs)
-
--- a number that passes a test
-abbrev pub number_passing : (ℕ → Bool) → Option ℕ → Option ℕ
-number_passing test None = None
-number_passing test (Some number) = if test number then Some number else None
-
--- a version
-abbrev pub version_reading : List ℕ → Option ℕ
-version_reading text = number_passing (λ n. nat_le 1 n && nat_le n GREATEST_VERSION) (narrow_reading text)
-
--- an arity
-abbrev pub arity_reading : List ℕ → Option ℕ
-arity_reading text = number_passing (λ n. nat_le n MOST_ARGUMENTS) (narrow_reading text)
 
 -- the atom of a number
 abbrev pub atom_numbered : ℕ → AtomId

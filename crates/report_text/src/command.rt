@@ -3,11 +3,12 @@
 ghost use Rattle.std.specs.Prelude.{◌≡◌};
 ghost use Rattle.term_core.specs.Text.Parts.{parts_of, each_reading};
 ghost use Rattle.report_text.specs.WordReading.{Reads};
-ghost use Rattle.report_text.specs.CommandReading.{reference_reading, load_reading, put_reading, trace_reading, spawn_reading, release_reading, on_atom_reading, worded_command, command_reading};
+ghost use Rattle.report_text.specs.CommandReading.{reference_reading, put_reading, trace_reading, spawn_reading, on_atom_reading, worded_command, command_reading};
 
 use crate::line_fault::LineFault;
 use crate::terms::{function_of, read_call, read_term};
-use crate::words::{atom_of, version_of};
+use crate::words::atom_of;
+use mod_text::version_of;
 use server_core::{Cmd, ModRef, RefList};
 use std::alloc::Global;
 use term_core::{Names, cut_at, cut_first, number_of, switch_of};
@@ -42,12 +43,6 @@ fn read_references(alloc: Global, names: &Names, text: &[u8]) -> Result<RefList,
     Ok(refs)
 }
 
-fn read_load(alloc: Global, names: &Names, text: &[u8]) -> Result<Cmd, LineFault>
-    ensures { Reads (λ cmd. cmd) result (load_reading names.now text.now) }
-{
-    Ok(Cmd::Load(read_references(alloc, names, text)?))
-}
-
 fn read_put(alloc: Global, names: &Names, text: &[u8]) -> Result<Cmd, LineFault>
     ensures { Reads (λ cmd. cmd) result (put_reading names.now text.now) }
 {
@@ -74,13 +69,6 @@ fn read_spawn(alloc: Global, names: &Names, text: &[u8]) -> Result<Cmd, LineFaul
         target: call.target,
         args: call.args,
     })
-}
-
-fn read_release(text: &[u8]) -> Result<Cmd, LineFault>
-    ensures { Reads (λ cmd. cmd) result (release_reading text.now) }
-{
-    let serial = number_of(text).ok_or(LineFault::Form)?;
-    Ok(Cmd::Release(serial))
 }
 
 /// A command of one atom. What processes did is in the reply: here none lingers and none was killed.
@@ -115,7 +103,7 @@ fn read_worded(alloc: Global, names: &Names, word: &[u8], text: &[u8]) -> Result
     ensures { Reads (λ cmd. cmd) result (worded_command names.now word.now text.now) }
 {
     if word == b"load".as_slice() {
-        read_load(alloc, names, text)
+        Ok(Cmd::Load(read_references(alloc, names, text)?))
     } else if word == b"put".as_slice() {
         read_put(alloc, names, text)
     } else if word == b"trace".as_slice() {
@@ -123,7 +111,7 @@ fn read_worded(alloc: Global, names: &Names, word: &[u8], text: &[u8]) -> Result
     } else if word == b"spawn".as_slice() {
         read_spawn(alloc, names, text)
     } else if word == b"release".as_slice() {
-        read_release(text)
+        Ok(Cmd::Release(number_of(text).ok_or(LineFault::Form)?))
     } else {
         read_on_atom(names, word, text)
     }

@@ -2,7 +2,7 @@
 
 ghost use Rattle.std.specs.Prelude.{◌≡◌};
 ghost use Rattle.report_text.specs.WordReading.{Reads};
-ghost use Rattle.report_text.specs.EntryReading.{who_reading, command_front, answer_behind, answer_reading, made_reading, entry_reading};
+ghost use Rattle.report_text.specs.EntryReading.{who_reading, command_front, answer_reading, made_reading, entry_reading};
 
 use crate::command::read_command;
 use crate::line_fault::LineFault;
@@ -50,22 +50,17 @@ fn read_command_front(alloc: Global, names: &Names, text: &[u8]) -> Result<Cmd, 
     read_command(alloc, names, cmd)
 }
 
-/// A reply, and behind its last space what was published.
-fn read_answer_behind(alloc: Global, names: &Names, text: &[u8]) -> Result<Answer, LineFault>
-    ensures { Reads (λ answer. answer) result (answer_behind names.now text.now) }
-{
-    let (reply, published) = cut_last(text, b' ').ok_or(LineFault::Form)?;
-    let reply = read_reply(alloc, names, reply)?;
-    let published = published_of(published).ok_or(LineFault::Form)?;
-    Ok(Answer { reply, published })
-}
-
-/// An answer, with one space in front of it.
+/// A reply with one space in front of it, and behind its last space what was published.
 fn read_answer(alloc: Global, names: &Names, text: &[u8]) -> Result<Answer, LineFault>
     ensures { Reads (λ answer. answer) result (answer_reading names.now text.now) }
 {
     match text.split_first() {
-        Some((b' ', answer)) => read_answer_behind(alloc, names, answer),
+        Some((b' ', answer)) => {
+            let (reply, published) = cut_last(answer, b' ').ok_or(LineFault::Form)?;
+            let reply = read_reply(alloc, names, reply)?;
+            let published = published_of(published).ok_or(LineFault::Form)?;
+            Ok(Answer { reply, published })
+        }
         _ => Err(LineFault::Form),
     }
 }

@@ -2,7 +2,7 @@
 
 ghost use Rattle.std.specs.Prelude.{◌≡◌};
 ghost use Rattle.report_text.specs.WordReading.{Reads};
-ghost use Rattle.report_text.specs.LineReading.{end_reading, longer_end, worded_end, process_reading, span_reading, export_reading, print_reading, trace_line_reading, number_line, plain_line, worded_line, longer_line, line_reading};
+ghost use Rattle.report_text.specs.LineReading.{end_reading, longer_end, worded_end, process_reading, span_reading, export_reading, trace_line_reading, number_line, plain_line, worded_line, longer_line, line_reading};
 
 use crate::entry::read_entry;
 use crate::line_fault::LineFault;
@@ -111,12 +111,6 @@ fn read_export(names: &Names, text: &[u8]) -> Option<ReportLine>
     Some(ReportLine::Export(function, serial))
 }
 
-fn read_print(alloc: Global, names: &Names, text: &[u8]) -> Result<ReportLine, LineFault>
-    ensures { Reads (λ line. line) result (print_reading names.now text.now) }
-{
-    Ok(ReportLine::Shown(Line::Print(read_term(alloc, names, text)?)))
-}
-
 fn read_trace(alloc: Global, names: &Names, text: &[u8]) -> Result<ReportLine, LineFault>
     ensures { Reads (λ line. line) result (trace_line_reading names.now text.now) }
 {
@@ -171,7 +165,7 @@ fn worded_line(
     } else if word == b"process".as_slice() {
         read_process(alloc, names, text)
     } else if word == b"print".as_slice() {
-        read_print(alloc, names, text)
+        Ok(ReportLine::Shown(Line::Print(read_term(alloc, names, text)?)))
     } else if word == b"trace".as_slice() {
         read_trace(alloc, names, text)
     } else {

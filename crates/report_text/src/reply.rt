@@ -4,7 +4,7 @@ ghost use Rattle.std.specs.Prelude.{◌≡◌};
 ghost use Rattle.term_core.specs.Text.Parts.{parts_of, each_reading};
 ghost use Rattle.report_text.specs.WordReading.{Reads, atom_reading};
 ghost use Rattle.run_log.specs.WellFormed.{lingering_in, is_true_reply};
-ghost use Rattle.report_text.specs.ReplyReading.{linger_reading, limit_reading, atoms_reading, closed_atoms, not_purged_reading, false_reading, duplicated_reading, system_limit_reading, worded_reply, longer_reply, reply_reading, published_reading, agreed};
+ghost use Rattle.report_text.specs.ReplyReading.{linger_reading, limit_reading, atoms_reading, closed_atoms, not_purged_reading, worded_reply, longer_reply, reply_reading, published_reading, agreed};
 
 use crate::line_fault::LineFault;
 use crate::words::atom_of;
@@ -86,38 +86,17 @@ fn read_not_purged(alloc: Global, names: &Names, text: &[u8]) -> Result<Reply, L
     }
 }
 
-fn read_false(text: &[u8]) -> Result<Reply, LineFault>
-    ensures { Reads (λ reply. reply) result (false_reading text.now) }
-{
-    let linger = linger_of(text).ok_or(LineFault::Form)?;
-    Ok(Reply::FalseBy(linger))
-}
-
-fn read_duplicated(names: &Names, text: &[u8]) -> Result<Reply, LineFault>
-    ensures { Reads (λ reply. reply) result (duplicated_reading names.now text.now) }
-{
-    let name = atom_of(names, text).ok_or(LineFault::Form)?;
-    Ok(Reply::Duplicated(name))
-}
-
-fn read_system_limit(text: &[u8]) -> Result<Reply, LineFault>
-    ensures { Reads (λ reply. reply) result (system_limit_reading text.now) }
-{
-    let limit = limit_of(text).ok_or(LineFault::Form)?;
-    Ok(Reply::SystemLimit(limit))
-}
-
 fn read_worded(alloc: Global, names: &Names, word: &[u8], text: &[u8]) -> Result<Reply, LineFault>
     ensures { Reads (λ reply. reply) result (worded_reply names.now word.now text.now) }
 {
     if word == b"false".as_slice() {
-        read_false(text)
+        Ok(Reply::FalseBy(linger_of(text).ok_or(LineFault::Form)?))
     } else if word == b"not_purged".as_slice() {
         read_not_purged(alloc, names, text)
     } else if word == b"duplicated".as_slice() {
-        read_duplicated(names, text)
+        Ok(Reply::Duplicated(read_atom(names, text)?))
     } else if word == b"system_limit".as_slice() {
-        read_system_limit(text)
+        Ok(Reply::SystemLimit(limit_of(text).ok_or(LineFault::Form)?))
     } else {
         Err(LineFault::Form)
     }

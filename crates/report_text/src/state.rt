@@ -2,7 +2,7 @@
 
 ghost use Rattle.std.specs.Prelude.{◌≡◌};
 ghost use Rattle.report_text.specs.WordReading.{Reads};
-ghost use Rattle.report_text.specs.Taking.{opening, head_taken, count_taken, close_taken, taken};
+ghost use Rattle.report_text.specs.Taking.{at, opening, head_taken, count_taken, close_taken, taken};
 
 mod journal;
 mod observer;
@@ -44,6 +44,12 @@ pub struct ReportState {
     pub stage: Stage,
 }
 
+fn at(log: RunLog, stage: Stage) -> ReportState
+    ensures { result ≡ at log stage }
+{
+    ReportState { log, stage }
+}
+
 /// Nothing is read yet. It takes no memory.
 pub fn opening(alloc: Global) -> ReportState
     ensures { result ≡ opening }
@@ -53,20 +59,14 @@ pub fn opening(alloc: Global) -> ReportState
         processes: ProcessLogList::new(alloc),
         observers: ObserverList::new(alloc),
     };
-    ReportState {
-        log,
-        stage: Stage::Head,
-    }
+    at(log, Stage::Head)
 }
 
 fn take_head(log: RunLog, stage: Stage) -> Result<ReportState, LineFault>
     ensures { Reads (λ state. state) result (head_taken log stage) }
 {
     match stage {
-        Stage::Head => Ok(ReportState {
-            log,
-            stage: Stage::Count,
-        }),
+        Stage::Head => Ok(at(log, Stage::Count)),
         _ => Err(LineFault::Form),
     }
 }
@@ -75,10 +75,7 @@ fn take_count(log: RunLog, stage: Stage, count: u64) -> Result<ReportState, Line
     ensures { Reads (λ state. state) result (count_taken log stage count) }
 {
     match stage {
-        Stage::Count => Ok(ReportState {
-            log,
-            stage: Stage::Entries(count),
-        }),
+        Stage::Count => Ok(at(log, Stage::Entries(count))),
         _ => Err(LineFault::Form),
     }
 }
@@ -87,10 +84,7 @@ fn take_close(log: RunLog, stage: Stage) -> Result<ReportState, LineFault>
     ensures { Reads (λ state. state) result (close_taken log stage) }
 {
     let log = observers_closed(log, stage)?;
-    Ok(ReportState {
-        log,
-        stage: Stage::Done,
-    })
+    Ok(at(log, Stage::Done))
 }
 
 /// The state behind a line.

@@ -9,8 +9,9 @@ ghost use Rattle.report_text.specs.WordReading.{Reads};
 ghost use Rattle.report_text.specs.TermReading.{is_short_text, plain_reading, some_terms, terms_reading, closed_reading, arity_part, function_reading, arguments_part, call_reading};
 
 use crate::line_fault::LineFault;
-use crate::words::{arity_of, atom_of};
+use crate::words::atom_of;
 use mod_core::MOST_ARGUMENTS;
+use mod_text::arity_of;
 use std::alloc::Global;
 use term_core::{
     AtomId, ByteList, MOST_WORDS, Mfa, Names, NoMemory, Term, TermList, cut_at, cut_term,

@@ -25,6 +25,7 @@ use Rattle.term_core.specs.Tops.{top_of, without_top}
 use Rattle.term_core.proofs.IntegerTexts.{signed_decimal-integer_of}
 use Rattle.term_core.proofs.Ranges.{fits_of_none}
 use Rattle.term_core.proofs.Text.Items.{IsItem}
+use Rattle.mod_text.proofs.LineReaders.{arity_number, arity_few, version_number, version_bounds}
 use Rattle.mod_text.proofs.Readers.{Reader, fitting}
 
 -- ---- forms
@@ -153,10 +154,7 @@ module _ (text : List ℕ) where
       ∙ ap (λ w. some w) (complex_words h)
 
   pub version_again : is_version_text text ≡ true → decimal (number_value text) ≡ text
-  version_again h =
-      let p = and_parts (is_number_text text) (nat_le 1 (number_value text) && nat_le (number_value text) 999999) h in
-      let q = and_parts (nat_le 1 (number_value text)) (nat_le (number_value text) 999999) p.1 in
-      decimal_again text p.0 (omega (arith, test_le (number_value text) 999999 q.1))
+  version_again h = decimal_again text (version_number text h) (omega (arith, (version_bounds text h).1))
 
   snapshots_number : is_snapshots_text text ≡ true → (is_number_text text ≡ true) × (1 ≤ number_value text) × (number_value text ≤ 16)
   snapshots_number h =
@@ -168,11 +166,8 @@ module _ (text : List ℕ) where
   pub snapshots_bounds : is_snapshots_text text ≡ true → (0 < number_value text) × (number_value text ≤ 16)
   snapshots_bounds h = let p = snapshots_number h in let some = p.1 in (omega (arith, some), p.2)
 
-  few_arguments : is_arity_text text ≡ true → number_value text ≤ 15
-  few_arguments h = test_le (number_value text) 15 (and_parts (is_number_text text) (nat_le (number_value text) 15) h).1
-
   pub arity_again : is_arity_text text ≡ true → decimal (number_value text) ≡ text
-  arity_again h = decimal_again text (and_parts (is_number_text text) (nat_le (number_value text) 15) h).0 (omega (arith, few_arguments h))
+  arity_again h = decimal_again text (arity_number text h) (omega (arith, arity_few text h))
 
 -- ---- the terms of a line by names that hold their atoms: they stay the same as the names grow, and are written as they were
 

@@ -15,10 +15,6 @@ use Rattle.term_core.specs.Text.Words.{switch_reading}
 use Rattle.mod_text.specs.Sides.{paired}
 use Rattle.script_text.specs.ScriptLine.{RefForm, AtomCommand, delete, soft_purge, purge, check_old, erase, is_snapshots_text}
 
--- the version that digits write
-abbrev pub version_reading : List ℕ → Option ℕ
-version_reading text = if is_version_text text then Some (number_value text) else None
-
 -- the number of snapshots that digits write
 abbrev pub snapshots_reading : List ℕ → Option ℕ
 snapshots_reading text = if is_snapshots_text text then Some (number_value text) else None
@@ -46,10 +42,6 @@ pub record TraceForm : Type 0 where
   pub name : List ℕ
   pub arity : List ℕ
   pub on : Bool
-
--- the arity that digits write
-abbrev pub arity_reading : List ℕ → Option ℕ
-arity_reading text = if is_arity_text text then Some (number_value text) else None
 
 -- a function of a module
 abbrev pub target_reading : List ℕ → Option (List ℕ × (List ℕ × List ℕ))

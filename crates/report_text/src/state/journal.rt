@@ -3,10 +3,9 @@
 ghost use Rattle.std.specs.Prelude.{◌≡◌};
 ghost use Rattle.report_text.specs.WordReading.{Reads};
 ghost use Rattle.report_text.specs.Taking.{count_after, entry_taken};
-ghost use Rattle.report_text.specs.declared.state.Stage.TheVariants as stages;
 
 use crate::line_fault::LineFault;
-use crate::state::{ReportState, Stage};
+use crate::state::{ReportState, Stage, at};
 use run_log::{Entry, RunLog};
 
 /// How many entries are still to publish behind one.
@@ -19,23 +18,16 @@ fn count_after(left: u64, published: Option<u64>) -> Option<u64>
     }
 }
 
-fn entry_behind(mut log: RunLog, left: u64, entry: Entry) -> Result<ReportState, LineFault>
-    ensures { Reads (λ state. state) result (entry_taken log (stages.Entries left) entry) }
-{
-    let left = count_after(left, entry.published).ok_or(LineFault::Form)?;
-    log.journal.push(entry)?;
-    Ok(ReportState {
-        log,
-        stage: Stage::Entries(left),
-    })
-}
-
 /// The state behind an `entry` line.
-pub fn take_entry(log: RunLog, stage: Stage, entry: Entry) -> Result<ReportState, LineFault>
+pub fn take_entry(mut log: RunLog, stage: Stage, entry: Entry) -> Result<ReportState, LineFault>
     ensures { Reads (λ state. state) result (entry_taken log stage entry) }
 {
     match stage {
-        Stage::Entries(left) => entry_behind(log, left, entry),
+        Stage::Entries(left) => {
+            let left = count_after(left, entry.published).ok_or(LineFault::Form)?;
+            log.journal.push(entry)?;
+            Ok(at(log, Stage::Entries(left)))
+        }
         _ => Err(LineFault::Form),
     }
 }

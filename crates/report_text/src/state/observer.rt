@@ -1,13 +1,12 @@
 //! The observers of a report's log: their snapshots and exports.
 
-ghost use Rattle.std.specs.Prelude.{◌≡◌, Some, IfOk};
+ghost use Rattle.std.specs.Prelude.{◌≡◌, IfOk};
 ghost use Rattle.report_text.specs.WordReading.{Reads};
-ghost use Rattle.report_text.specs.Taking.{shots_closed, observers_closed, observer_behind, observer_taken, snapshot_taken, export_in, export_taken};
-ghost use Rattle.report_text.specs.declared.state.Stage.TheVariants as stages;
+ghost use Rattle.report_text.specs.Taking.{shots_closed, observers_closed, observer_taken, snapshot_taken, export_taken};
 
 use crate::line_fault::LineFault;
 use crate::state::process::with_going;
-use crate::state::{ReportState, Stage};
+use crate::state::{ReportState, Stage, at};
 use run_log::{ExportList, RunLog, Snapshot, SnapshotList};
 use std::alloc::Global;
 use term_core::{Mfa, NoMemory};
@@ -37,18 +36,6 @@ pub fn observers_closed(log: RunLog, stage: Stage) -> Result<RunLog, LineFault>
     }
 }
 
-fn observer_behind(alloc: Global, log: RunLog, number: u64) -> Result<ReportState, LineFault>
-    ensures { Reads (λ state. state) result (observer_behind log number) }
-{
-    if number != log.observers.len() as u64 {
-        return Err(LineFault::Form);
-    }
-    Ok(ReportState {
-        log,
-        stage: Stage::Observer(SnapshotList::new(alloc), None),
-    })
-}
-
 /// The state behind an `observer` line.
 pub fn take_observer(
     alloc: Global,
@@ -59,27 +46,10 @@ pub fn take_observer(
     ensures { Reads (λ state. state) result (observer_taken log stage number) }
 {
     let log = observers_closed(log, stage)?;
-    observer_behind(alloc, log, number)
-}
-
-fn snapshot_behind(
-    alloc: Global,
-    log: RunLog,
-    shots: SnapshotList,
-    going: Option<Snapshot>,
-    generation: u64,
-) -> Result<ReportState, LineFault>
-    ensures { Reads (λ state. state) result (snapshot_taken log (stages.Observer shots going) generation) }
-{
-    let shots = with_going(shots, going)?;
-    let shot = Snapshot {
-        generation,
-        exports: ExportList::new(alloc),
-    };
-    Ok(ReportState {
-        log,
-        stage: Stage::Observer(shots, Some(shot)),
-    })
+    if number != log.observers.len() as u64 {
+        return Err(LineFault::Form);
+    }
+    Ok(at(log, Stage::Observer(SnapshotList::new(alloc), None)))
 }
 
 /// The state behind a `snapshot` line.
@@ -92,39 +62,16 @@ pub fn take_snapshot(
     ensures { Reads (λ state. state) result (snapshot_taken log stage generation) }
 {
     match stage {
-        Stage::Observer(shots, going) => snapshot_behind(alloc, log, shots, going, generation),
+        Stage::Observer(shots, going) => {
+            let shots = with_going(shots, going)?;
+            let exports = ExportList::new(alloc);
+            let shot = Snapshot {
+                generation,
+                exports,
+            };
+            Ok(at(log, Stage::Observer(shots, Some(shot))))
+        }
         _ => Err(LineFault::Form),
-    }
-}
-
-fn export_behind(
-    log: RunLog,
-    shots: SnapshotList,
-    mut shot: Snapshot,
-    function: Mfa,
-    serial: u64,
-) -> Result<ReportState, LineFault>
-    ensures { Reads (λ state. state) result (export_in log shots (Some shot) function serial) }
-{
-    shot.exports.push((function, serial))?;
-    Ok(ReportState {
-        log,
-        stage: Stage::Observer(shots, Some(shot)),
-    })
-}
-
-fn export_in(
-    log: RunLog,
-    shots: SnapshotList,
-    going: Option<Snapshot>,
-    function: Mfa,
-    serial: u64,
-) -> Result<ReportState, LineFault>
-    ensures { Reads (λ state. state) result (export_in log shots going function serial) }
-{
-    match going {
-        Some(shot) => export_behind(log, shots, shot, function, serial),
-        None => Err(LineFault::Form),
     }
 }
 
@@ -138,7 +85,13 @@ pub fn take_export(
     ensures { Reads (λ state. state) result (export_taken log stage function serial) }
 {
     match stage {
-        Stage::Observer(shots, going) => export_in(log, shots, going, function, serial),
+        Stage::Observer(shots, going) => match going {
+            Some(mut shot) => {
+                shot.exports.push((function, serial))?;
+                Ok(at(log, Stage::Observer(shots, Some(shot))))
+            }
+            None => Err(LineFault::Form),
+        },
         _ => Err(LineFault::Form),
     }
 }

@@ -13,11 +13,12 @@ ghost use Rattle.script_text.specs.Naming.{or_syntax};
 ghost use Rattle.script_text.specs.WrittenLine.{ref_words, kept_ref, kept_word, function_words, trace_words, kept_trace, argument_words, is_sound_word, kept_argument, put_words, kept_put, call_words, kept_call};
 
 use crate::reading::cause::LineCause;
-use crate::reading::words::{arity_of, integer_of, version_of};
+use crate::reading::words::integer_of;
 use crate::reading::written::{
     AtomWord, WrittenArgument, WrittenCall, WrittenPut, WrittenRef, WrittenTrace,
 };
 use mod_core::MOST_ARGUMENTS;
+use mod_text::{arity_of, version_of};
 use std::alloc::Global;
 use term_core::{
     NoMemory, cut_at, cut_first, cut_term, is_atom_text, is_integer_text, is_term_text, switch_of,

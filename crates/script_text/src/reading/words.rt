@@ -2,22 +2,11 @@
 
 ghost use Rattle.std.specs.Prelude.{◌≡◌, IsTrue};
 ghost use Rattle.term_core.specs.Written.{is_integer_text};
-ghost use Rattle.script_text.specs.LineReading.{version_reading, snapshots_reading, arity_reading};
+ghost use Rattle.script_text.specs.LineReading.{snapshots_reading};
 ghost use Rattle.script_text.specs.WrittenLine.{term_integer};
 
-use mod_core::{GREATEST_VERSION, MOST_ARGUMENTS};
 use script_core::MOST_SNAPSHOTS;
 use term_core::{GREATEST_INTEGER, LEAST_INTEGER, narrow_of, parsed_integer};
-
-/// The version that digits write, from 1 to 999,999.
-pub fn version_of(text: &[u8]) -> Option<u32>
-    ensures { result ≡ version_reading text.now }
-{
-    match narrow_of(text) {
-        Some(version) if 1 <= version && version <= GREATEST_VERSION => Some(version),
-        _ => None,
-    }
-}
 
 /// The number of snapshots that digits write, from 1 to 16.
 pub fn snapshots_of(text: &[u8]) -> Option<u64>
@@ -25,16 +14,6 @@ pub fn snapshots_of(text: &[u8]) -> Option<u64>
 {
     match narrow_of(text) {
         Some(count) if 1 <= count && u64::from(count) <= MOST_SNAPSHOTS => Some(u64::from(count)),
-        _ => None,
-    }
-}
-
-/// The arity that digits write, at most 15.
-pub fn arity_of(text: &[u8]) -> Option<u32>
-    ensures { result ≡ arity_reading text.now }
-{
-    match narrow_of(text) {
-        Some(arity) if arity <= MOST_ARGUMENTS => Some(arity),
         _ => None,
     }
 }
