@@ -31,6 +31,7 @@ pub fn operands_of(
     Ok((first, second))
 }
 
+/// A `move` of an operand to a register that are written so.
 #[tactic(auto, using(std::proofs::lemmas::Bool::and_parts, std::proofs::lemmas::Bool::or_parts))]
 pub fn move_of(
     alloc: Global,
@@ -64,6 +65,7 @@ pub fn sum_of(
     Ok((first, second, register_of(to)))
 }
 
+/// A `ret` of an operand that is written so.
 pub fn ret_of(alloc: Global, names: &Names, value: &WrittenOperand<'_>) -> Result<Instr, NoMemory>
     requires { IsKeptInstr (ret (operand_form value.now)) }
     ensures { IfOk result (λ i. i ≡ Ret (operand_in names.now (operand_form value.now))) }
@@ -72,6 +74,7 @@ pub fn ret_of(alloc: Global, names: &Names, value: &WrittenOperand<'_>) -> Resul
     Ok(Instr::Ret { value })
 }
 
+/// A `pget` of a key to a register that are written so.
 #[tactic(auto, using(std::proofs::lemmas::Bool::and_parts, std::proofs::lemmas::Bool::or_parts))]
 pub fn pget_of(names: &Names, key: &[u8], to: &[u8]) -> Instr
     requires { IsKeptInstr (pget key.now to.now) }
@@ -82,6 +85,7 @@ pub fn pget_of(names: &Names, key: &[u8], to: &[u8]) -> Instr
     Instr::Pget { key, to }
 }
 
+/// A `pget_or` of a key, what stands in for it, and a register that are written so.
 #[tactic(auto, using(std::proofs::lemmas::Bool::and_parts, std::proofs::lemmas::Bool::or_parts))]
 pub fn pget_or_of(
     alloc: Global,
@@ -99,6 +103,7 @@ pub fn pget_or_of(
     Ok(Instr::PgetOr { key, other, to })
 }
 
+/// A `print` of an operand that is written so.
 pub fn print_of(alloc: Global, names: &Names, value: &WrittenOperand<'_>) -> Result<Instr, NoMemory>
     requires { IsKeptInstr (print (operand_form value.now)) }
     ensures { IfOk result (λ i. i ≡ Print (operand_in names.now (operand_form value.now))) }
