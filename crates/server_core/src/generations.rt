@@ -6,7 +6,8 @@ use crate::server::Server;
 use crate::traces::in_numbers;
 use std::alloc::Global;
 use term_core::{
-    AreaWords, AreaWordsList, CountList, ExportList, Generation, KeyTermList, Mfa, NoMemory,
+    AreaWords, AreaWordsList, CountList, ExportList, FunctionRefList, Generation, KeyTermList, Mfa,
+    NoMemory,
 };
 
 impl Server {
@@ -18,7 +19,7 @@ impl Server {
     {
         Ok(Generation {
             exports: self.exports(alloc, names)?,
-            traced: self.traced.functions(alloc)?,
+            traced: self.traced_functions(alloc)?,
             keys: self.key_terms(alloc)?,
             current: self.current_serials(alloc)?,
             old: self.old_serials(alloc)?,
@@ -26,6 +27,13 @@ impl Server {
             retired: CountList::from_slice(alloc, self.retired.as_slice())?,
             areas: self.kept_areas(alloc)?,
         })
+    }
+
+    /// The functions that are traced, in plain numbers. It takes time by their count.
+    pub fn traced_functions(&self, alloc: Global) -> Result<FunctionRefList, NoMemory>
+        ensures { IfOk result (λ functions. functions ≡ map function_ref self.now.traced) }
+    {
+        self.traced.functions(alloc)
     }
 
     /// Each key with what it holds.
