@@ -96,10 +96,6 @@ pub killed_by_doomed : (s : Reads) (p : PlainProcess) (serial : ℕ) → (turn_b
 unfolding HasItsKiller
 killed_by_doomed s p serial e = ran_killer s p serial e
 
--- the same under a state of the server
-pub killed_is_doomed : (s : ServerState) (p : PlainProcess) (serial : ℕ) → (turn_of s p).end ≡ Ended (Killed serial) → HasKiller (reads_of s) p serial
-killed_is_doomed s p serial e = killed_by_doomed (reads_of s) p serial e
-
 ran_killed : (s : Reads) (p : PlainProcess) (serial : ℕ) → (p.turns == MOST_TURNS) ≡ false → doomed_serial s p.frames ≡ Some serial → ran_of s p ≡ ended_with (names_of p) [] (Killed serial)
 ran_killed s p serial t d = rw (t, d) refl
 

@@ -8,7 +8,6 @@ pub mod HoldLists
 pub mod LiteralPlaces
 pub mod Decoding
 pub mod Codes
-pub mod StateReads
 pub mod Viewing
 pub mod NextInstr
 pub mod Fetching
@@ -31,7 +30,6 @@ pub mod Runs
 pub mod Turns
 pub mod LaterWords
 pub mod TurnLaws
-pub mod TurnNames
 pub mod Killing
 pub mod TurnAgrees
 pub mod FewAreas

@@ -1,8 +1,7 @@
 -- Lists of histories: what stands in one that grew or was written, and tests of its elements.
-use Rattle.std.proofs.Common.{◌≡◌, ℕ, zero, suc, ◌<◌, Bool, ◌||◌, List, [], ◌∷◌, ◌++◌, length, map, slice_get, option_map, Option, Some, None, refl, sym, ap, subst, ◌∙◌, arith}
+use Rattle.std.proofs.Common.{◌≡◌, ℕ, zero, suc, ◌<◌, Bool, ◌||◌, List, [], ◌∷◌, ◌++◌, length, map, slice_get, option_map, Option, Some, None, refl, sym, ap, ◌∙◌, arith}
 use Rattle.std.proofs.lemmas.Option.{none-some, same_Some, slice_get-map}
 use Rattle.std.specs.List.{list_any}
-use Rattle.run_log.specs.History.{Each}
 
 -- what stands in a list with one element more: an element before it, or it
 pub data PushedAt {X : Type 0} (xs : List X) (y : X) (k : ℕ) (x : X) : Type 0 where
@@ -39,7 +38,3 @@ mapped_some g (Some x) y h = (x, (refl, same_Some (g x) y h))
 -- an element of a list that was made from another
 pub get_map : {X Y : Type 0} (g : X → Y) (xs : List X) (k : ℕ) (y : Y) → slice_get (map g xs) k ≡ Some y → (x : X) × ((slice_get xs k ≡ Some x) × (g x ≡ y))
 get_map g xs k y h = mapped_some g (slice_get xs k) y (sym (slice_get-map g xs k) ∙ h)
-
--- a fact of each element of a list that was made from another
-pub each_map : {X Y : Type 0} (P : Y → Type 0) (g : X → Y) (xs : List X) → Each xs (λ x. P (g x)) → Each (map g xs) P
-each_map P g xs each k y h = let x = get_map g xs k y h in subst P x.1.1 (each k x.0 x.1.0)

@@ -5,7 +5,6 @@ pub mod Steps
 pub mod Journals
 pub mod EntryCommands
 pub mod AreaWords
-pub mod Releases
 pub mod TurnRuns
 pub mod SpanRuns
 pub mod Marks
@@ -17,9 +16,4 @@ pub mod SortedFunctions
 pub mod KeptTexts
 pub mod ListPlaces
 pub mod HistoryLists
-pub mod HistoryTable
-pub mod HistoryMarks
-pub mod HistoryTurns
-pub mod HistorySteps
-pub mod History
 pub mod HistoryEnd

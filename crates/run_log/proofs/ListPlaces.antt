@@ -1,5 +1,5 @@
 -- Elements of a list by their places, after a write and behind one another; and what holds of each element.
-use Rattle.std.proofs.Common.{◌≡◌, ℕ, zero, suc, ◌<◌, List, [], ◌∷◌, ◌++◌, length, map, slice_get, slice_set, Some, refl, sym, ap, subst, ◌∙◌, arith}
+use Rattle.std.proofs.Common.{◌≡◌, ℕ, zero, suc, ◌<◌, List, [], ◌∷◌, ◌++◌, length, slice_get, slice_set, Some, refl, ap, subst, arith}
 use Rattle.std.proofs.lemmas.Option.{none-some, same_Some}
 use Rattle.std.specs.List.{AllByRecursion}
 
@@ -36,17 +36,6 @@ pub get_within : {X : Type 0} (xs : List X) (i : ℕ) → i < length xs → (x :
 get_within [] i h = absurd (omega (arith, h))
 get_within (x ∷ xs) zero h = (x, refl)
 get_within (x ∷ xs) (suc i) h = get_within xs i (omega (arith, h))
-
--- functions that agree at the elements give the same list
-pub map_same : {X Y : Type 0} (f g : X → Y) (xs : List X) → ((k : ℕ) (x : X) → slice_get xs k ≡ Some x → f x ≡ g x) → map f xs ≡ map g xs
-map_same f g [] h = refl
-map_same f g (x ∷ xs) h = ap (λ y. y ∷ map f xs) (h 0 x refl) ∙ ap (λ ys. g x ∷ ys) (map_same f g xs (λ k y e. h (suc k) y e))
-
--- and a write that a function does not tell apart leaves the list as it was
-pub map_kept : {X Y : Type 0} (f : X → Y) (xs : List X) (i : ℕ) (x y : X) → slice_get xs i ≡ Some x → f y ≡ f x → map f (slice_set xs i y) ≡ map f xs
-map_kept f [] i x y h e = refl
-map_kept f (z ∷ xs) zero x y h e = ap (λ w. w ∷ map f xs) (e ∙ ap f (sym (same_Some z x h)))
-map_kept f (z ∷ xs) (suc i) x y h e = ap (λ ws. f z ∷ ws) (map_kept f xs i x y h e)
 
 module _ {X : Type 0} where
   pub all_push : (P : X → Type 0) (xs : List X) (y : X) → AllByRecursion P xs → P y → AllByRecursion P (xs ++ y ∷ [])

@@ -94,13 +94,6 @@ module _ (states : ℕ → ServerState) where
   pub process_empty : (p : PlainProcess) (others : List Span) (g : ℕ) (made : List Line) → process_after states p (others ++ record { generation = g; turns = 0; lines = made } ∷ []) ≡ process_after states p others
   process_empty p others g made = process_front p others (record { generation = g; turns = 0; lines = made }) ∙ after_none (states g) (process_after states p others)
 
--- the states of the generations up to the newest decide the marks
-pub marks_under : (states others : ℕ → ServerState) (top : ℕ) → ((g : ℕ) → g ≤ top → others g ≡ states g) → (p : PlainProcess) (spans : List Span) → AllByRecursion (λ span. span.generation ≤ top) spans → marks_of others p spans ≡ marks_of states p spans
-marks_under states others top same p [] known = refl
-marks_under states others top same p (span ∷ spans) known =
-    ap (λ s. marks_in s span.generation span.turns p ++ marks_of others (after_turns s span.turns p) spans) (same span.generation known.0)
-    ∙ ap (λ ms. marks_in (states span.generation) span.generation span.turns p ++ ms) (marks_under states others top same (after_turns (states span.generation) span.turns p) spans known.1)
-
 go_on : (states : ℕ → ServerState) (span : Span) (spans : List Span) (p now : PlainProcess) → ((q : PlainProcess) → SpansGo states q spans now → process_after states q spans ≡ now)
     → (t : Turn) × ((turns_of (states span.generation) span.turns p [] ≡ Some t) × ((t.made ≡ span.lines) × (t.end ≡ Again) × SpansGo states t.process spans now)) → process_after states p (span ∷ spans) ≡ now
 go_on states span spans p now next h =
@@ -191,10 +184,6 @@ last_up_to_behind g (x ∷ marks) m =
     ∙ ap (later_of (if_up_to g x)) (last_up_to_behind g marks m)
     ∙ sym (later_assoc (if_up_to g x) (last_up_to g marks) (if_up_to g m))
     ∙ ap (λ (o : Option Mark). later_of o (if_up_to g m)) (sym (up_to_first g x marks))
-
--- a turn that joins under no later generation is the last
-pub last_here : (g : ℕ) (marks : List Mark) (m : Mark) → m.generation ≤ g → last_up_to g (marks ++ m ∷ []) ≡ Some m
-last_here g marks m low = last_up_to_behind g marks m ∙ ap (later_of (last_up_to g marks)) (here_up_to g m low)
 
 -- one that joins under a later generation changes nothing
 pub last_past : (g : ℕ) (marks : List Mark) (m : Mark) → g < m.generation → last_up_to g (marks ++ m ∷ []) ≡ last_up_to g marks

@@ -1,20 +1,17 @@
 -- What the answers of a journal tell of the processes, and that it stays true whatever turns come, under this and later generations.
 -- Source: this project's profile, as the sequential reading of erts internal documentation, CodeLoading.
 -- A lawful log speaks of the turns that were over when an entry was made; a run asks what its processes name now.
-use Rattle.std.specs.Prelude.{◌≡◌, ◌⊎◌, ℕ, ◌+◌, ◌<◌, ◌≤◌, Bool, false, List, [], ◌∷◌, ◌++◌, length, Option, Some, None, slice_get, IfSome, IsSome, IsSomeAnd, IsTrue}
-use Rattle.std.specs.List.{AllByRecursion, list_any}
+use Rattle.std.specs.Prelude.{◌≡◌, ℕ, ◌<◌, ◌≤◌, Bool, false, List, length, Option, Some, None, slice_get, IfSome, IsSomeAnd}
+use Rattle.std.specs.List.{list_any}
 use Rattle.mod_core.specs.declared.code.Module.{Module}
 use Rattle.server_core.specs.declared.command.Cmd.{Cmd}
 use Rattle.server_core.specs.declared.command.Cmd.TheVariants as cmds
 use Rattle.server_core.specs.declared.command.Linger.{Linger}
-use Rattle.server_core.specs.ServerState.{ServerState, IsDropped, current_of, empty_state, is_doomed, old_of}
+use Rattle.server_core.specs.ServerState.{ServerState, IsDropped, empty_state, old_of}
 use Rattle.machine_core.specs.declared.process.End.{End}
-use Rattle.machine_core.specs.declared.process.End.TheVariants.{Killed}
 use Rattle.machine_core.specs.declared.process.TurnEnd.{TurnEnd}
 use Rattle.machine_core.specs.declared.process.TurnEnd.TheVariants.{Again, Ended}
-use Rattle.machine_core.specs.Holds.{is_among}
-use Rattle.machine_core.specs.Process.{PlainProcess, names_of}
-use Rattle.machine_core.specs.Turn.{turn_of}
+use Rattle.machine_core.specs.Process.{PlainProcess}
 use Rattle.script_core.specs.declared.script.Script.{Script}
 use Rattle.run_log.specs.declared.logs.Entry.{Entry}
 use Rattle.run_log.specs.declared.logs.ProcessLog.{ProcessLog}
@@ -27,19 +24,6 @@ pub record History : Type 0 where
   pub marks : List Mark
   pub now : PlainProcess
   pub fin : Option End
-
--- the process is what its last turn left; where it has had none, it has no frames
-abbrev pub IsLeftBy : List Mark → PlainProcess → Type 0
-IsLeftBy [] now = now.frames ≡ []
-IsLeftBy (m ∷ []) now = m.process ≡ now
-IsLeftBy (m ∷ next ∷ marks) now = IsLeftBy (next ∷ marks) now
-
--- what is known of each process of a run whose newest generation is this
-pub record IsHistory (top : ℕ) (h : History) : Type 0 where
-  pub known : AllByRecursion (λ m. m.generation ≤ top) h.marks
-  pub left : IsLeftBy h.marks h.now
-  pub over : IsSome h.fin → h.now.frames ≡ []
-  pub counted : h.fin ≡ None → h.now.turns ≡ length h.marks
 
 -- a fact of each element of a list
 abbrev pub Each : {X : Type 0} → List X → (X → Type 0) → Type 0
@@ -90,55 +74,10 @@ pub record AnswersStand (texts : List Module) (journal : List Entry) (histories 
   pub each : (place : ℕ) (e : Entry) → slice_get journal place ≡ Some e
       → AnswerStands (newest texts journal) (state_before texts place journal) (published_to place journal) histories e.cmd
 
--- what is known of a run before its next step: its answers stand, and so much is known of each process
-pub record AreKnown (texts : List Module) (journal : List Entry) (histories : List History) : Type 0 where
-  pub stand : AnswersStand texts journal histories
-  pub processes : Each histories (IsHistory (newest texts journal).generation)
-
--- the instance of a frame after a turn was one before, or it is current; an area that is out of use and that was not named before is not named after
-pub record NamesAfter (s : ServerState) (before after : PlainProcess) : Type 0 where
-  pub frames : (serial : ℕ) → IsTrue (is_among (names_of after).frames serial) → IsTrue (is_among (names_of before).frames serial) ⊎ ((name : ℕ) × (current_of s name ≡ Some serial))
-  pub unnamed : (serial : ℕ) → IsDropped s serial → NamesNot serial before → NamesNot serial after
-
--- a process had a turn under a state: it has one mark more, and a kill is by an instance that is doomed
-pub record HasTurned (s : ServerState) (before after : History) : Type 0 where
-  pub going : before.fin ≡ None
-  pub marks : after.marks ≡ before.marks ++ record { generation = s.generation; process = after.now } ∷ []
-  pub names : NamesAfter s before.now after.now
-  pub killed : (serial : ℕ) → after.fin ≡ Some (Killed serial) → IsTrue (is_doomed s serial)
-  pub over : IsSome after.fin → after.now.frames ≡ []
-  pub counts : after.fin ≡ None → after.now.turns ≡ before.now.turns + 1
-
 -- the end of a process whose turn ended so, if it is one
 abbrev pub fin_after : TurnEnd → Option End
 fin_after Again = None
 fin_after (Ended end) = Some end
-
--- a process after a turn under a state
-abbrev pub history_after : ServerState → History → History
-history_after s h =
-    record {
-      marks = h.marks ++ record { generation = s.generation; process = (turn_of s h.now).process } ∷ [];
-      now = (turn_of s h.now).process;
-      fin = fin_after (turn_of s h.now).end;
-    }
-
--- a process between two steps of a run is as it was, or it had a turn
-pub data RestsOrTurns (s : ServerState) (before after : History) : Type 0 where
-  rests : after ≡ before → RestsOrTurns s before after
-  turns : HasTurned s before after → RestsOrTurns s before after
-
--- each of these processes is as it was, or had a turn under this state
-pub record AllRestOrTurn (s : ServerState) (before after : List History) : Type 0 where
-  pub many : length after ≡ length before
-  pub each : (number : ℕ) (h g : History) → slice_get before number ≡ Some h → slice_get after number ≡ Some g → RestsOrTurns s h g
-
--- a command that tells nothing of the processes: none but a release and a purge does, and no purge where there is no old code
-abbrev pub IsSilent : ServerState → Cmd → Type 0
-IsSilent s (cmds.SoftPurge name lingers) = old_of s name.0 ≡ None
-IsSilent s (cmds.Purge name killed) = old_of s name.0 ≡ None
-IsSilent s (cmds.Release serial) = ⊥
-IsSilent s _ = Unit {0}
 
 -- the histories are those of the processes of a log, which have all ended
 pub record AreHistoriesOf (s : Script) (log : RunLog) (histories : List History) : Type 0 where

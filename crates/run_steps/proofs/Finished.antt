@@ -2,7 +2,7 @@
 use Rattle.std.proofs.Common.{◌≡◌, ◌≢◌, ℕ, suc, ◌<◌, ◌≤◌, List, [], ◌∷◌, length, map, slice_get, Some, None, IfSome, All, refl, sym, ap, subst, ◌∙◌, arith}
 use Rattle.std.proofs.lemmas.List.{length-map, take_all}
 use Rattle.std.proofs.lemmas.List.Elements.{All-from_recursion}
-use Rattle.std.proofs.lemmas.Option.{same_Some, slice_get_within, slice_get-get_or}
+use Rattle.std.proofs.lemmas.Option.{slice_get_within, slice_get-get_or}
 use Rattle.server_core.specs.ServerState.{ServerState, empty_state}
 use Rattle.machine_core.specs.declared.process.End.{End}
 use Rattle.machine_core.specs.Process.{PlainProcess, new_process}
@@ -13,18 +13,17 @@ use Rattle.run_log.specs.declared.logs.Span.{Span}
 use Rattle.run_log.specs.declared.logs.ProcessLog.{ProcessLog}
 use Rattle.run_log.specs.declared.logs.RunLog.{RunLog}
 use Rattle.run_log.specs.Journal.{published_before, published_count}
-use Rattle.run_log.specs.History.{AreHistoriesOf, AreKnown, History}
-use Rattle.run_log.specs.Legal.{Complete, IsLogOf, Legal, LogsMatch, PurgesGo, SpansFollow, SpawnBeforeTurns, TurnsFollow, commands_of, first_generation, marks_of}
+use Rattle.run_log.specs.Legal.{Complete, IsLogOf, Legal, LogsMatch, PurgesGo, SpansFollow, SpawnBeforeTurns, TurnsFollow, commands_of, first_generation}
 use Rattle.run_log.specs.WholeSpans.{AreWhole}
 use Rattle.run_log.proofs.HistoryEnd.{lingers_told, purged_unnamed, released_unnamed}
 use Rattle.run_log.proofs.HistoryLists.{get_map}
 use Rattle.run_steps.specs.declared.phase.Phase.{Phase}
 use Rattle.run_steps.specs.declared.phase.Phase.TheVariants.{Waiting, Going, Ended}
 use Rattle.run_steps.specs.declared.observers.ObserverRun.{ObserverRun}
-use Rattle.run_steps.specs.Stands.{IsEnd, Rests, Stand, end_of, fin_in, history_of, log_of}
+use Rattle.run_steps.specs.Stands.{Rests, Stand, end_of, log_of}
 use Rattle.run_steps.specs.Standing.{IsSpawned, StandsIn}
 use Rattle.run_steps.specs.Observers.{HaveObserved, shots_of}
-use Rattle.run_steps.specs.Runs.{AreAsMany, EachStands, HasNoWork, JournalStands, RunState, histories_in, log_of_run, states_in}
+use Rattle.run_steps.specs.Runs.{AreAsMany, EachStands, HasNoWork, JournalStands, RunState, log_of_run, states_in}
 use Rattle.run_steps.specs.Laws.{AreAllTaken, IsWholeHistory, TellsTruth}
 use Rattle.run_steps.proofs.Ends.{line_text}
 use Rattle.run_steps.proofs.Joining.{generations_counted, line_for}
@@ -36,11 +35,6 @@ over_in : (journal : List Entry) (states : ℕ → ServerState) (top done number
 over_in journal states top done number line x Waiting past rests h = absurd (omega (arith, past, h.still))
 over_in journal states top done number line x Going past rests h = absurd rests
 over_in journal states top done number line x (Ended fin) past rests h = h
-
-end_in : (journal : List Entry) (states : ℕ → ServerState) (top done number : ℕ) (line : SpawnLine) (x : Stand) (phase : Phase) → line.place < done → Rests phase → StandsIn journal states top done number line x phase → IsEnd phase
-end_in journal states top done number line x Waiting past rests h = absurd (omega (arith, past, h.still))
-end_in journal states top done number line x Going past rests h = absurd rests
-end_in journal states top done number line x (Ended fin) past rests h = tt
 
 logs_match : (lines : List SpawnLine) (xs : List Stand) → length xs ≡ length lines → ((n : ℕ) (line : SpawnLine) (x : Stand) → slice_get lines n ≡ Some line → slice_get xs n ≡ Some x → IsLogOf line (log_of x)) → LogsMatch lines (map log_of xs)
 logs_match [] [] e h = tt
@@ -59,11 +53,6 @@ some_spans states p (span ∷ spans) fin h e = absurd (omega (arith, e))
 pub same_start : (number : ℕ) (line : SpawnLine) (p : PlainProcess) → p.target ≡ line.target → p.args ≡ line.args → new_process number line.target line.args ≡ new_process number p.target p.args
 same_start number line p t a = ap (λ x. new_process number x line.args) (sym t) ∙ ap (λ x. new_process number p.target x) (sym a)
 
-same_fin : (phase : Phase) → IsEnd phase → fin_in phase ≡ Some (end_of phase)
-same_fin Waiting h = absurd h
-same_fin Going h = absurd h
-same_fin (Ended fin) h = refl
-
 module _ (s : Script) (r : RunState) (stood : JournalStands s r) (many : AreAsMany s r) (each : EachStands s r) (over : HasNoWork s r) where
   abbrev states : ℕ → ServerState
   states = states_in s r
@@ -75,12 +64,6 @@ module _ (s : Script) (r : RunState) (stood : JournalStands s r) (many : AreAsMa
       → IsSpawned r.journal states r.server.generation (r.done line.loader) number line x (Some (end_of x.phase))
   over_at number line x line_is x_is =
       over_in r.journal states r.server.generation (r.done line.loader) number line x x.phase (past_place number line line_is) (over.processes number x x_is) (each number line x line_is x_is)
-
-  -- each process has ended
-  pub all_ended : (number : ℕ) (x : Stand) → slice_get r.stands number ≡ Some x → IsEnd x.phase
-  all_ended number x h =
-      let line = line_for s r many number x h in
-      end_in r.journal states r.server.generation (r.done (line.0).loader) number line.0 x x.phase (past_place number line.0 line.1) (over.processes number x h) (each number line.0 x line.1 h)
 
   abbrev logs : List ProcessLog
   logs = map log_of r.stands
@@ -108,12 +91,6 @@ module _ (s : Script) (r : RunState) (stood : JournalStands s r) (many : AreAsMa
       all_logs (λ log. AreWhole log.spans) logs
       (λ number log h. let x = process_of_log number log h in let line = line_for s r many number x.0 x.1.0 in subst (λ (y : ProcessLog). AreWhole y.spans) x.1.1 (over_at number line.0 x.0 line.1 x.1.0).was.whole)
 
-  process_of_history : (number : ℕ) (h : History) → slice_get (histories_in s r) number ≡ Some h → (x : Stand) × ((slice_get r.stands number ≡ Some x) × (history_of states x ≡ h))
-  process_of_history number h at = get_map (history_of states) r.stands number h at
-
-  same_marks : (number : ℕ) (x : Stand) → slice_get r.stands number ≡ Some x → marks_of states (new_process x.process.number x.process.target x.process.args) x.spans ≡ marks_of states (new_process number x.process.target x.process.args) x.spans
-  same_marks number x h = let line = line_for s r many number x h in ap (λ n. marks_of states (new_process n x.process.target x.process.args) x.spans) (over_at number line.0 x line.1 h).was.numbered
-
   -- with what the observers saw after the last look
   module _ (observers : List ObserverRun) (observed : HaveObserved s r.journal observers) (all_taken : AreAllTaken observers) where
     abbrev the_log : RunLog
@@ -139,25 +116,6 @@ module _ (s : Script) (r : RunState) (stood : JournalStands s r) (many : AreAsMa
       snapshots = seen_published s r.journal observers observed (published_count r.journal) (omega (arith, generations_counted s r stood, ap (λ (x : ServerState). x.generation) stood.server));
     }
 
-    -- the history of a process and its log
-    are_histories : AreHistoriesOf s the_log (histories_in s r)
-    are_histories = record {
-      many = length-map r.stands (history_of states) ∙ sym (length-map r.stands log_of);
-      marks = λ number h log h_is log_is.
-          let x = process_of_history number h h_is in
-          let y = process_of_log number log log_is in
-          let same : x.0 ≡ y.0 = same_Some x.0 y.0 (sym x.1.0 ∙ y.1.0) in
-          ap (λ (z : History). z.marks) (sym x.1.1)
-          ∙ same_marks number x.0 x.1.0
-          ∙ ap (λ (z : Stand). marks_of states (new_process number z.process.target z.process.args) z.spans) same
-          ∙ ap (λ (z : ProcessLog). marks_of states (new_process number z.target z.args) z.spans) y.1.1;
-      fin = λ number h log h_is log_is.
-          let x = process_of_history number h h_is in
-          let y = process_of_log number log log_is in
-          let same : x.0 ≡ y.0 = same_Some x.0 y.0 (sym x.1.0 ∙ y.1.0) in
-          ap (λ (z : History). z.fin) (sym x.1.1) ∙ same_fin x.0.phase (all_ended number x.0 x.1.0) ∙ ap (λ (z : Stand). Some (end_of z.phase)) same ∙ ap (λ (z : ProcessLog). Some z.fin) y.1.1;
-    }
-
     -- what was done is lawful, where what the journal tells of processes is so
     pub run_legal : TellsTruth s the_log → Legal s the_log
     run_legal truth = record {
@@ -179,11 +137,3 @@ module _ (s : Script) (r : RunState) (stood : JournalStands s r) (many : AreAsMa
     -- and its spans are whole
     pub true_history : TellsTruth s the_log → IsWholeHistory s r observers
     true_history truth = record { legal = run_legal truth; whole = all_whole }
-
-    -- it is so where it was known of each moment of the run
-    pub whole_history : AreKnown s.modules r.journal (histories_in s r) → IsWholeHistory s r observers
-    whole_history answers = true_history (record {
-      released = released_unnamed s the_log (histories_in s r) answers.stand are_histories;
-      lingers = lingers_told s the_log (histories_in s r) answers.stand are_histories;
-      purged = purged_unnamed s the_log (histories_in s r) answers.stand are_histories;
-    })

@@ -1,13 +1,8 @@
 pub mod Generations
 pub mod TurnDefinition
 pub mod Turning
-pub mod Frames
 pub mod Joining
-pub mod Looking
-pub mod Entries
 pub mod Ends
-pub mod Turns
 pub mod MadeTurns
-pub mod Beginning
 pub mod Observing
 pub mod Finished

@@ -18,7 +18,6 @@ use Rattle.run_log.specs.ExportedFunctions.{AreExportedFunctions}
 use Rattle.run_log.specs.SeenExports.{IsSnapshotOf}
 use Rattle.run_log.proofs.KeptTexts.{empty_of_texts, newest_of_texts}
 use Rattle.run_steps.specs.declared.observers.ObserverRun.{ObserverRun}
-use Rattle.run_steps.specs.Runs.{JournalStands, RunState}
 use Rattle.run_steps.specs.Observers.{EachBecame, HasLooked, HaveObserved, IsTrueOf, KeepsGenerations, Observes, TakesAll, TakesOne, not_begun, shots_of}
 use Rattle.run_log.proofs.ListPlaces.{SetAt, get_within, here, set_at, set_there, there, all_join, all_weaker}
 
@@ -161,20 +160,6 @@ none_left server functions before after now is looked k o h =
     let b = get_within before k (omega (arith, slice_get_within after k o at, looked.many)) in
     let own = looked.each k b.0 o b.1 at in
     omega (arith, own.left)
-
--- a look between two steps, as a program makes it
-looks_true : (s : Script) (r : RunState) → JournalStands s r → (functions : List Mfa) → AreExportedFunctions s.names s.modules functions → (looks : ObserverRun → ℕ) (held before after now : List ObserverRun) → before ≡ held → now ≡ after
-    → HaveObserved s r.journal held → EachBecame (λ b a. HasLooked (looks b) r.server functions b a) before after → HaveObserved s r.journal now
-looks_true s r known functions all looks held before after now was is observed looked =
-    subst (HaveObserved s r.journal) (sym is) (all_observe s r.journal functions r.server looks before after all known.server (subst (HaveObserved s r.journal) (sym was) observed) looked)
-
-pub looks_one : (s : Script) (r : RunState) → JournalStands s r → (functions : List Mfa) → AreExportedFunctions s.names s.modules functions → (held before after now : List ObserverRun) → before ≡ held → now ≡ after → HaveObserved s r.journal held
-    → EachBecame (TakesOne r.server functions) before after → HaveObserved s r.journal now
-looks_one s r known functions all = looks_true s r known functions all (λ b. min 1 b.left)
-
-pub looks_all : (s : Script) (r : RunState) → JournalStands s r → (functions : List Mfa) → AreExportedFunctions s.names s.modules functions → (held before after now : List ObserverRun) → before ≡ held → now ≡ after → HaveObserved s r.journal held
-    → EachBecame (TakesAll r.server functions) before after → HaveObserved s r.journal now
-looks_all s r known functions all = looks_true s r known functions all (λ b. b.left)
 
 -- ---- looks, one after the other
 

@@ -1,20 +1,13 @@
 -- A turn that joins its span to those before is the turn of the definition, and each turn can be made so.
-use Rattle.std.proofs.Common.{◌≡◌, ◌≢◌, ℕ, ◌+◌, ◌==◌, Bool, true, false, List, [], ◌∷◌, ◌++◌, IfSome, refl, sym, ap, subst, ◌↔◌, ◌∙◌, arith}
+use Rattle.std.proofs.Common.{◌≡◌, ◌≢◌, ℕ, ◌+◌, ◌==◌, Bool, true, false, List, [], ◌∷◌, ◌++◌, refl, sym, ap, subst, arith}
 use Rattle.std.proofs.lemmas.Bool.{eqb-false, eqb-true}
 use Rattle.std.proofs.lemmas.Bool.Decides.{nat_tests}
 use Rattle.server_core.specs.ServerState.{ServerState}
 use Rattle.machine_core.specs.declared.process.Line.{Line}
 use Rattle.machine_core.specs.Turn.{turn_of}
 use Rattle.run_log.specs.declared.logs.Span.{Span}
-use Rattle.run_log.specs.WholeSpans.{last_generation}
 use Rattle.run_steps.specs.Stands.{Stand}
 use Rattle.run_steps.specs.Turns.{HadTurn, IsTaken, joined, joined_last, last_one, new_one, one_turn, turned}
-
--- the last span alone changes
-joined_front : (g : ℕ) (made : List Line) (others : List Span) (last : Span) → joined g made (others ++ last ∷ []) ≡ others ++ joined_last g made last
-joined_front g made [] last = refl
-joined_front g made (x ∷ []) last = refl
-joined_front g made (x ∷ y ∷ others) last = ap (λ r. x ∷ r) (joined_front g made (y ∷ others) last)
 
 -- a last span of another generation is left alone
 apart_last : (g : ℕ) (made : List Line) (last : Span) → last.generation ≢ g → joined_last g made last ≡ last ∷ one_turn g made ∷ []
@@ -22,25 +15,6 @@ apart_last g made last other = grind (arith, nat_tests)
 
 same_last : (g : ℕ) (made : List Line) (last : Span) → last.generation ≡ g → joined_last g made last ≡ record { generation = g; turns = last.turns + 1; lines = last.lines ++ made } ∷ []
 same_last g made last same = grind (arith, nat_tests)
-
-apart_joined : (g : ℕ) (made : List Line) (spans : List Span) → IfSome (last_generation spans) (λ n. n ≢ g) → joined g made spans ≡ spans ++ one_turn g made ∷ []
-apart_joined g made [] other = refl
-apart_joined g made (last ∷ []) other = apart_last g made last other
-apart_joined g made (x ∷ y ∷ spans) other = ap (λ r. x ∷ r) (apart_joined g made (y ∷ spans) other)
-
--- the spans that a program leaves
-joined_as : (g : ℕ) (made : List Line) (before others after : List Span) (span : Span) → IsTaken g before others span
-    → after ≡ others ++ record { generation = g; turns = span.turns + 1; lines = span.lines ++ made } ∷ [] → after ≡ joined g made before
-joined_as g made before others after span (last_one same parts) now =
-    now ∙ sym (ap (joined g made) parts ∙ joined_front g made others span ∙ ap (λ r. others ++ r) (same_last g made span same))
-joined_as g made before others after span (new_one new same other) now =
-    now ∙ ap (λ (x : Span). others ++ record { generation = g; turns = x.turns + 1; lines = x.lines ++ made } ∷ []) new ∙ ap (λ r. r ++ one_turn g made ∷ []) same ∙ sym (apart_joined g made before other)
-
--- what a turn does is what the definition says
-pub had_turned : (s : ServerState) (before after : Stand) → HadTurn s before after → after ≡ turned s before
-had_turned s before after had =
-    let spans : after.spans ≡ joined s.generation (turn_of s before.process).made before.spans = joined_as s.generation (turn_of s before.process).made before.spans had.others after.spans had.span had.taken had.spans in
-    λ i. record { process = sym had.process i; spans = spans i; phase = had.phase i }
 
 -- the span that a turn joins, and the spans before it
 record Opens (g : ℕ) (made : List Line) (spans : List Span) : Type 0 where
@@ -77,7 +51,3 @@ had_defined s before =
 
 pub turned_had : (s : ServerState) (before after : Stand) → after ≡ turned s before → HadTurn s before after
 turned_had s before after is = subst (HadTurn s before) (sym is) (had_defined s before)
-
--- so both say the same
-pub turn_defined : (s : ServerState) (before after : Stand) → HadTurn s before after ↔ (after ≡ turned s before)
-turn_defined s before after = (had_turned s before after, turned_had s before after)

@@ -6,4 +6,3 @@ pub mod Observers
 pub mod Runs
 pub mod Steps
 pub mod Laws
-pub mod Names

@@ -7,11 +7,10 @@ use Rattle.script_core.specs.Processes.{SpawnLine, spawns_of}
 use Rattle.run_log.specs.declared.logs.Entry.{Entry}
 use Rattle.run_log.specs.declared.logs.RunLog.{RunLog}
 use Rattle.run_log.specs.declared.underway.HalfPurge.{HalfPurge}
-use Rattle.run_log.specs.History.{AreKnown, History}
 use Rattle.run_log.specs.Journal.{newest_state, state_at}
 use Rattle.run_log.specs.Legal.{PurgesGo, Replays, commands_in, commands_of}
 use Rattle.run_steps.specs.declared.observers.ObserverRun.{ObserverRun}
-use Rattle.run_steps.specs.Stands.{Rests, Stand, histories_of, log_of}
+use Rattle.run_steps.specs.Stands.{Rests, Stand, log_of}
 use Rattle.run_steps.specs.Standing.{StandsIn}
 use Rattle.run_steps.specs.Observers.{shots_of}
 
@@ -26,10 +25,6 @@ pub record RunState : Type 0 where
 -- the states of the journal's generations
 abbrev pub states_in : Script → RunState → ℕ → ServerState
 states_in s r = state_at s.modules empty_state r.journal
-
--- the histories of the processes
-abbrev pub histories_in : Script → RunState → List History
-histories_in s r = histories_of (states_in s r) r.stands
 
 -- the server is at the journal's newest state, the entries of each loader end the first of its commands, and purges stand in their halves
 pub record JournalStands (s : Script) (r : RunState) : Type 0 where
@@ -48,17 +43,6 @@ AreAsMany s r = length r.stands ≡ length (spawns_of 0 s.loaders)
 abbrev pub EachStands : Script → RunState → Type 0
 EachStands s r = (number : ℕ) (line : SpawnLine) (x : Stand) → slice_get (spawns_of 0 s.loaders) number ≡ Some line → slice_get r.stands number ≡ Some x
     → StandsIn r.journal (states_in s r) r.server.generation (r.done line.loader) number line x x.phase
-
--- so it is, and what the journal tells of processes is so
-pub record ProcessesStand (s : Script) (r : RunState) : Type 0 where
-  pub many : AreAsMany s r
-  pub each : EachStands s r
-  pub answers : AreKnown s.modules r.journal (histories_in s r)
-
--- what holds of a run of the script between two of its steps
-pub record IsRun (s : Script) (r : RunState) : Type 0 where
-  pub journal : JournalStands s r
-  pub processes : ProcessesStand s r
 
 -- each loader has made all its commands, no purge waits, no process goes on, and nothing waits for its release
 pub record HasNoWork (s : Script) (r : RunState) : Type 0 where

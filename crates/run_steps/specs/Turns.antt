@@ -1,15 +1,12 @@
 -- What turns do to a process and to the spans of its turns.
 -- Source: this project's profile: turns in a row under one generation are one span. The definitions compute the process after a turn, or relate it to the one before.
-use Rattle.std.specs.Prelude.{◌≡◌, ◌≢◌, ℕ, zero, suc, ◌+◌, ◌≤◌, ◌==◌, List, [], ◌∷◌, ◌++◌, IfSome, if◌then◌else◌}
+use Rattle.std.specs.Prelude.{◌≡◌, ◌≢◌, ℕ, ◌+◌, ◌==◌, List, [], ◌∷◌, ◌++◌, IfSome, if◌then◌else◌}
 use Rattle.server_core.specs.ServerState.{ServerState}
 use Rattle.machine_core.specs.declared.process.Line.{Line}
 use Rattle.machine_core.specs.Turn.{turn_of}
 use Rattle.run_log.specs.declared.logs.Span.{Span}
 use Rattle.run_log.specs.WholeSpans.{last_generation}
-use Rattle.run_steps.specs.declared.phase.Phase.{Phase}
-use Rattle.run_steps.specs.declared.phase.Phase.TheVariants.{Waiting, Going, Ended}
 use Rattle.run_steps.specs.Stands.{Stand, phase_after}
-use Rattle.run_steps.specs.Observers.{EachBecame}
 
 -- ---- the process after a turn
 
@@ -31,21 +28,6 @@ joined generation made (span ∷ next ∷ spans) = span ∷ joined generation ma
 abbrev pub turned : ServerState → Stand → Stand
 turned s x = record { process = (turn_of s x.process).process; spans = joined s.generation (turn_of s x.process).made x.spans; phase = phase_after (turn_of s x.process).end }
 
--- a process after a lap, by its phase: one that goes on has a turn
-abbrev pub lapped_as : ServerState → Stand → Phase → Stand
-lapped_as s x Waiting = x
-lapped_as s x Going = turned s x
-lapped_as s x (Ended end) = x
-
--- a process after a lap, in which each that goes on has one turn
-abbrev pub lapped : ServerState → Stand → Stand
-lapped s x = lapped_as s x x.phase
-
--- a process after so many laps: so many turns, or as many as it had until its end
-abbrev pub after_laps : ℕ → ServerState → Stand → Stand
-after_laps zero s x = x
-after_laps (suc n) s x = lapped s (after_laps n s x)
-
 -- ---- the same, as a program does it
 
 -- the span that a turn under a generation joins was taken out of the spans: the last one where it is of that generation, else a new one
@@ -63,20 +45,3 @@ pub record HadTurn (s : ServerState) (before after : Stand) : Type 0 where
   pub phase : after.phase ≡ phase_after (turn_of s before.process).end
 
 -- ---- turns of all processes
-
--- a process is as it was, or it went on and had a turn
-pub data IsSameOrTurned (s : ServerState) (before after : Stand) : Type 0 where
-  is_same : after ≡ before → IsSameOrTurned s before after
-  has_turned : before.phase ≡ Going → HadTurn s before after → IsSameOrTurned s before after
-
--- each process is as it was, or went on and had a turn
-abbrev pub AllSameOrTurned : ServerState → List Stand → List Stand → Type 0
-AllSameOrTurned s before after = EachBecame (IsSameOrTurned s) before after
-
--- a process had so many laps at most
-abbrev pub HadLaps : ℕ → ServerState → Stand → Stand → Type 0
-HadLaps most s before after = (laps : ℕ) × ((laps ≤ most) × (after ≡ after_laps laps s before))
-
--- each process had so many laps at most, some fewer than others
-abbrev pub AllHadLaps : ℕ → ServerState → List Stand → List Stand → Type 0
-AllHadLaps most s before after = EachBecame (HadLaps most s) before after

@@ -5,9 +5,6 @@ mod laws;
 mod observers;
 mod phase;
 
-pub use laws::{
-    entries_keep_runs, laps_keep_runs, logs_of_runs_are_lawful, made_turns_follow, runs_begin,
-    true_logs_are_lawful, turns_are_made, turns_are_their_definition,
-};
+pub use laws::{made_turns_follow, true_logs_are_lawful, turns_are_made};
 pub use observers::{ObserverRun, observe, observe_rest, observer_logs, waiting_observers};
 pub use phase::Phase;

@@ -1,14 +1,12 @@
 -- What each step of a permit leaves of its book.
-use Rattle.std.proofs.Common.{◌≡◌, ℕ, zero, suc, length, get_or, slice_set, take, sum_by, slice_get, unwrap_or, ◌==◌, ◌||◌, Bool, true, false, if◌then◌else◌, ◌+◌, ◌≤◌, Option, Some, None, IsSome, is_some, List, [], ◌∷◌, option_map, option_and_then, refl, sym, ap, subst, ◌∙◌, arith}
-use Rattle.std.proofs.lemmas.Bool.{eq-eqb}
+use Rattle.std.proofs.Common.{◌≡◌, ℕ, zero, suc, length, get_or, slice_set, take, sum_by, slice_get, unwrap_or, Bool, false, if◌then◌else◌, ◌+◌, ◌≤◌, Option, Some, None, List, [], ◌∷◌, option_map, option_and_then, refl, sym, ap, subst, ◌∙◌, arith}
 use Rattle.std.proofs.lemmas.List.Sums.{sum_by-cons}
 use Rattle.std.proofs.lemmas.Option.{none-some, same_Some, slice_get_read, slice_get_within}
 use Rattle.server_core.specs.declared.command.Applied.{Applied}
 use Rattle.server_core.specs.declared.command.Cmd.{Cmd}
 use Rattle.server_core.specs.declared.command.Cmd.TheVariants as cmds
-use Rattle.server_core.specs.ServerState.{IsSound, is_serial_in}
-use Rattle.server_core.specs.CommandTable.{Outcome, apply_of, unchanged, with_released}
-use Rattle.server_core.specs.declared.command.Reply.TheVariants as replies
+use Rattle.server_core.specs.ServerState.{IsSound}
+use Rattle.server_core.specs.CommandTable.{Outcome, apply_of}
 use Rattle.script_core.specs.declared.script.ScriptCmd.{ScriptCmd}
 use Rattle.script_core.specs.declared.script.ScriptCmd.TheVariants.{Load, Spawn}
 use Rattle.script_core.specs.Processes.{spawn_count, spawn_number, spawns_in}
@@ -18,10 +16,8 @@ use Rattle.run_log.specs.declared.logs.Who.TheVariants.{Loader, Runtime}
 use Rattle.write_permit.specs.declared.book.Book.{Book}
 use Rattle.write_permit.specs.declared.spawned.Spawned.{Spawned}
 use Rattle.write_permit.specs.declared.loader_run.LoaderRun.{LoaderRun}
-use Rattle.write_permit.specs.declared.mark.Mark.{Mark}
 use Rattle.write_permit.specs.Agreement.{Agrees}
 use Rattle.write_permit.specs.Book.{IsBook, IsPermit, shown}
-use Rattle.write_permit.specs.Looks.{first_free, is_named}
 use Rattle.write_permit.specs.Permit.{PermitState, Step, at_once_of, counted_in, done_by, done_of, is_spawn, joined, made_of, needs_permission, next_of, loader_after, opening, spawned_by}
 use Rattle.write_permit.proofs.Kept.{at_once_keeps, release_keeps, there}
 
@@ -51,25 +47,6 @@ book_released b c serial answer known made sound agrees =
     let w = was_made (shown b) Runtime (cmds.Release serial) (shown c) answer made in
     book_by c (joined (shown b) Runtime (cmds.Release serial) w.outcome) w.state
     (release_keeps (shown b) serial w.outcome known.permit w.applied (subst IsSound (ap (λ (x : PermitState). x.server) w.state) sound)) agrees
-
--- ---- the area that is released
-
--- an area that is free of names is one of those that wait
-free_waits : (marks : List Mark) (serials : List ℕ) (serial : ℕ) → first_free marks serials ≡ Some serial → is_serial_in serials serial ≡ true
-free_waits marks [] serial h = absurd (none-some serial h)
-free_waits marks (n ∷ ns) serial h = by (is_named marks n) h (free_waits marks ns serial)
-  where
-    or_true : (b : Bool) → (b || true) ≡ true
-    or_true true = refl
-    or_true false = refl
-
-    by : (b : Bool) → (if b then first_free marks ns else Some n) ≡ Some serial → (first_free marks ns ≡ Some serial → is_serial_in ns serial ≡ true) → ((n == serial) || is_serial_in ns serial) ≡ true
-    by true e more = ap (λ b. (n == serial) || b) (more e) ∙ or_true (n == serial)
-    by false e more = ap (λ b. b || is_serial_in ns serial) (eq-eqb n serial (same_Some n serial e))
-
--- so the command table has a case for its release
-pub release_enabled : (p : PermitState) (marks : List Mark) (serial : ℕ) → first_free marks p.server.retired ≡ Some serial → IsSome (apply_of p.script.modules p.server (cmds.Release serial))
-release_enabled p marks serial h = ap (λ b. is_some (if b then Some (unchanged (with_released p.server serial) replies.Ok) else None)) (free_waits marks p.server.retired serial h)
 
 -- ---- a command that is made at once
 

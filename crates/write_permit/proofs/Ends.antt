@@ -1,5 +1,5 @@
 -- What every permit shows goes on to hold while the loader goes on that has the permission: its command ends, its purge begins, or it gives up.
-use Rattle.std.proofs.Common.{◌≡◌, ℕ, zero, suc, ◌≤◌, Bool, true, false, List, [], ◌∷◌, ◌++◌, length, slice_set, slice_get, Option, Some, None, IsSome, IsSomeAnd, is_some, option_map, unwrap_or, refl, sym, ap, subst, ◌∙◌}
+use Rattle.std.proofs.Common.{◌≡◌, ℕ, zero, suc, ◌≤◌, Bool, false, List, [], ◌∷◌, ◌++◌, length, slice_set, slice_get, Option, Some, None, IsSome, IsSomeAnd, is_some, option_map, unwrap_or, refl, sym, ap, subst, ◌∙◌}
 use Rattle.std.proofs.lemmas.Option.{none-some, same_Some}
 use Rattle.term_core.specs.declared.atom.AtomId.{AtomId}
 use Rattle.term_core.specs.declared.names.TheConstants.{MOST_NAMES}
@@ -27,7 +27,7 @@ use Rattle.write_permit.specs.declared.loader_run.LoaderRun.{LoaderRun}
 use Rattle.write_permit.specs.declared.mark.Mark.{Mark}
 use Rattle.write_permit.specs.Book.{EndsBy, HoldsJust, IsHeld, IsLog, IsPermit, PurgeWaits}
 use Rattle.write_permit.specs.Looks.{lingering}
-use Rattle.write_permit.specs.Permit.{PermitState, counted_in, given_up, half_of, holder_of, joined, loader_after, needs_permission, next_of, opening, purged_code}
+use Rattle.write_permit.specs.Permit.{PermitState, counted_in, given_up, half_of, holder_of, joined, loader_after, next_of, opening, purged_code}
 use Rattle.write_permit.proofs.Dooms.{at_rest, doom_dooms, idle_purge_enabled, load_enabled, purge_enabled, purge_lifts, rest_kept}
 use Rattle.write_permit.proofs.Kept.{there}
 use Rattle.write_permit.proofs.Logs.{counted_is, entry_of, log_counted, log_joined, purges_joined}
@@ -210,14 +210,6 @@ pub waiting_code : (p : PermitState) (by : ℕ) (name : AtomId) → PurgeWaits p
 waiting_code p by name waits =
     let d = some_and (old_of p.server name.0) (λ serial. p.server.doomed ≡ serial ∷ []) waits.doomed in
     ap (λ o. is_some (option_map {U = OldCode} (λ serial. record { «module» = name; serial = serial }) o)) d.1.0
-
--- a loader that has the permission has a next command
-pub holder_next : (p : PermitState) (h : Holder) (who : ℕ) → HoldsJust p h → holder_of h ≡ Some who → IsSome (next_of p who)
-holder_next p Free who holds own = absurd (none-some who own)
-holder_next p (Held n) who holds own =
-    let d = some_and (next_of p n) (λ command. needs_permission command ≡ true) holds.next in
-    subst (λ k. IsSome (next_of p k)) (same_Some n who own) (ap is_some d.1.0)
-holder_next p (Purging n name) who holds own = subst (λ k. IsSome (next_of p k)) (same_Some n who own) (ap is_some holds.next)
 
 -- ---- the loader that is counted
 

@@ -7,5 +7,4 @@ pub mod Ends
 pub mod Begun
 pub mod BookKeeps
 pub mod EndBooks
-pub mod BothHalves
 pub mod Over

@@ -2,4 +2,3 @@ pub mod Looks
 pub mod Agreement
 pub mod Permit
 pub mod Book
-pub mod Purges

@@ -20,10 +20,6 @@ is_frame_of serial name = name.0 == serial && is_frame name.1
 abbrev pub stands_in : ℕ → Mark → Bool
 stands_in serial mark = list_any (is_frame_of serial) mark.names
 
--- whether it names the area, in any way
-abbrev pub names_area : ℕ → Mark → Bool
-names_area serial mark = list_any (λ name. name.0 == serial) mark.names
-
 -- whether this is the instance that killed the process
 abbrev pub is_killer : ℕ → Option ℕ → Bool
 is_killer serial None = false
@@ -32,10 +28,6 @@ is_killer serial (Some by) = by == serial
 -- whether the instance killed one of them
 abbrev pub some_killed : ℕ → List Mark → Bool
 some_killed serial marks = list_any (λ m. is_killer serial m.killed) marks
-
--- whether one of them names the area
-abbrev pub is_named : List Mark → ℕ → Bool
-is_named marks serial = list_any (names_area serial) marks
 
 -- the first of them that stands in the instance, with its number of turns
 abbrev pub lingering_in : List Mark → ℕ → Option Linger
@@ -46,8 +38,3 @@ lingering_in (m ∷ marks) serial = if stands_in serial m then Some (record { pr
 abbrev pub lingering : List Mark → Option ℕ → Option Linger
 lingering marks None = None
 lingering marks (Some serial) = lingering_in marks serial
-
--- the area that has waited longest of those that no process names
-abbrev pub first_free : List Mark → List ℕ → Option ℕ
-first_free marks [] = None
-first_free marks (serial ∷ serials) = if is_named marks serial then first_free marks serials else Some serial

@@ -29,7 +29,7 @@ use Rattle.write_permit.specs.declared.holder.Holder.TheVariants.{Free, Held, Pu
 use Rattle.write_permit.specs.declared.loader_run.LoaderRun.{LoaderRun}
 use Rattle.write_permit.specs.declared.mark.Mark.{Mark}
 use Rattle.write_permit.specs.declared.spawned.Spawned.{Spawned}
-use Rattle.write_permit.specs.Looks.{first_free, lingering, lingering_in, some_killed}
+use Rattle.write_permit.specs.Looks.{lingering, lingering_in, some_killed}
 
 -- what a permit shows
 pub record PermitState : Type 0 where
@@ -160,10 +160,6 @@ purged_code s command = None
 abbrev pub doomed_by : PermitState → ℕ → AtomId → Option PermitState
 doomed_by p who name = option_map (λ s. record (s.state) { holder = Purging who name }) (made_of p (Loader who) (cmds.Doom name))
 
--- both halves of a purge are made, one after the other
-abbrev pub halves_made : PermitState → ℕ → AtomId → Bool → Option Step
-halves_made p who name killed = option_and_then (λ s. made_of s.state (Loader who) (cmds.Purge name killed)) (made_of p (Loader who) (cmds.Doom name))
-
 -- what a loader is told whose purge waits for a process; marks have no place and no word
 abbrev pub lingers_by : Linger → OpStep
 lingers_by l = Lingers l.process l.turn 0 0
@@ -204,7 +200,3 @@ waiting_count (serial ∷ serials) = Waiting (min (suc (length serials)) 4294967
 abbrev pub pumped : PermitState → Option ℕ → Option PumpStep
 pumped p None = Some (record { state = p; answer = waiting_count p.server.retired })
 pumped p (Some serial) = option_map (λ s. record { state = s.state; answer = Released serial }) (made_of p Runtime (cmds.Release serial))
-
--- the area that has waited longest of those that no process names is released
-abbrev pub pump_of : PermitState → List Mark → Option PumpStep
-pump_of p marks = pumped p (first_free marks p.server.retired)

@@ -1,5 +1,4 @@
 use crate::spawned::Spawned;
-use run_log::EntryList;
 use server_core::Applied;
 
 /// Whether a loader has the permission now.
@@ -44,10 +43,4 @@ pub enum Pumped {
     Waiting { areas: u32 },
     /// No area waits.
     Nothing,
-}
-
-/// What is left of a permit.
-#[derive(Debug, Drop)]
-pub struct Finished {
-    pub journal: EntryList,
 }

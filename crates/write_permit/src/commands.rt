@@ -19,16 +19,6 @@ pub struct OldCode {
     pub serial: u64,
 }
 
-/// The old code that the command purges in two halves: that of a purge, where there is some.
-pub fn purged_code(command: &ScriptCmd, server: &Server) -> Option<OldCode>
-    ensures { result ≡ purged_code server.now command.now }
-{
-    match command {
-        ScriptCmd::Purge(module) => old_code(*module, server),
-        _ => None,
-    }
-}
-
 /// The old code of a module, as a purge of it meets it.
 pub fn old_code(module: AtomId, server: &Server) -> Option<OldCode>
     ensures { result ≡ purged_code server.now (Purge «module») }

@@ -1,5 +1,5 @@
 ghost use Rattle.std.specs.Prelude.{◌≡◌};
-ghost use Rattle.write_permit.specs.Looks.{first_free, is_frame, is_frame_of, is_killer, is_named, lingering_in, names_area, some_killed, stands_in};
+ghost use Rattle.write_permit.specs.Looks.{is_frame, is_frame_of, lingering_in, stands_in};
 
 use crate::mark::{Mark, MarkList};
 use server_core::Linger;
@@ -20,35 +20,6 @@ pub fn lingering_in(marks: &MarkList, serial: u64) -> Option<Linger>
     None
 }
 
-/// Whether the instance killed one of the processes.
-pub fn some_killed(marks: &MarkList, serial: u64) -> bool
-    ensures { result ≡ some_killed serial marks.now }
-{
-    marks
-        .as_slice()
-        .iter()
-        .any(|mark| is_killer(serial, mark.killed))
-}
-
-/// The area that has waited longest of those that no process names.
-pub fn first_free(marks: &MarkList, retired: &[u64]) -> Option<u64>
-    ensures { result ≡ first_free marks.now retired.now }
-{
-    for serial in retired {
-        if !is_named(marks, *serial) {
-            return Some(*serial);
-        }
-    }
-    None
-}
-
-/// Whether one of the processes names the area.
-fn is_named(marks: &MarkList, serial: u64) -> bool
-    ensures { result ≡ is_named marks.now serial }
-{
-    marks.as_slice().iter().any(|mark| names_area(mark, serial))
-}
-
 /// Whether the process stands in the instance.
 fn stands_in(mark: &Mark, serial: u64) -> bool
     ensures { result ≡ stands_in serial mark.now }
@@ -57,13 +28,6 @@ fn stands_in(mark: &Mark, serial: u64) -> bool
         .as_slice()
         .iter()
         .any(|name| is_frame_of(serial, *name))
-}
-
-/// Whether the process names the area, in any way.
-fn names_area(mark: &Mark, serial: u64) -> bool
-    ensures { result ≡ names_area serial mark.now }
-{
-    mark.names.as_slice().iter().any(|name| name.0 == serial)
 }
 
 /// Whether this is how a process that stands in the instance names it.
@@ -79,15 +43,5 @@ fn is_frame(kind: Kind) -> bool
     match kind {
         Kind::Frame => true,
         Kind::Literal => false,
-    }
-}
-
-/// Whether this instance is the one that killed a process.
-fn is_killer(serial: u64, killed: Option<u64>) -> bool
-    ensures { result ≡ is_killer serial killed }
-{
-    match killed {
-        Some(by) => by == serial,
-        None => false,
     }
 }

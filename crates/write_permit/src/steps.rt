@@ -1,18 +1,16 @@
 ghost use Rattle.std.specs.Prelude.{◌≡◌, ◌+◌, ◌^◌, ◌<◌, ◌↔◌, ℕ, false, is_some, length, IfOk, IsSome, IsSomeAnd, IsTrue, OnErr, None, Some, if◌then◌else◌};
 ghost use Rattle.std.specs.Option.{option_copied};
 ghost use Rattle.write_permit.specs.Book.{IsBook, shown};
-ghost use Rattle.write_permit.specs.Permit.{at_once_of, done_of, needs_permission, next_of, pump_of, spawned_by, waiting_count};
+ghost use Rattle.write_permit.specs.Permit.{at_once_of, done_of, needs_permission, next_of, spawned_by};
 
-use crate::answers::{AtOnce, Pumped};
+use crate::answers::AtOnce;
 use crate::book::{Book, make};
 use crate::commands::{is_spawn, opening};
 use crate::loader_run::LoaderRun;
-use crate::looks::first_free;
 use crate::mark::MarkList;
 use crate::spawned::Spawned;
 use run_log::Who;
 use script_core::ScriptCmd;
-use server_core::Cmd;
 use term_core::NoMemory;
 
 /// The first command of a loader that is not done.
@@ -98,31 +96,5 @@ pub fn count(loader: &mut LoaderRun, spawns: bool)
     loader.done += 1;
     if spawns {
         loader.next_process += 1;
-    }
-}
-
-/// Releases the area that has waited longest of those that no process names.
-pub fn release_one(book: &mut Book, marks: &MarkList) -> Result<Pumped, NoMemory>
-    requires book { IsBook book.old }
-    ensures ok { IfOk result (λ pumped. pump_of (shown book.old) marks.now ≡ Some (record { state = shown book.new; answer = pumped })) }
-    ensures err { OnErr result (shown book.new ≡ shown book.old) }
-    ensures book { IsBook book.new }
-{
-    let Some(serial) = first_free(marks, book.server.retired_areas()) else {
-        return Ok(waiting(book.server.retired_areas()));
-    };
-    make(book, Who::Runtime, Cmd::Release(serial))?;
-    Ok(Pumped::Released(serial))
-}
-
-/// How many areas wait.
-fn waiting(retired: &[u64]) -> Pumped
-    ensures { result ≡ waiting_count retired.now }
-{
-    if retired.is_empty() {
-        return Pumped::Nothing;
-    }
-    Pumped::Waiting {
-        areas: u32::try_from(retired.len()).unwrap_or(u32::MAX),
     }
 }
