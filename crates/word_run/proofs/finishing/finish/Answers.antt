@@ -1,0 +1,66 @@
+use Rattle.std.proofs.Common.{refl, ◌∙◌, arith}
+use Rattle.std.proofs.lemmas.List.{with_items_is}
+use Rattle.std.specs.Vec.{with_items}
+use Rattle.run_steps.proofs.Observing.{none_left}
+use Rattle.word_run.proofs.Closing.{all_members, finished, looked_last, places_some, script_sound, writer_token}
+use Rattle.word_run.proofs.finishing.finish.Goals as goal
+
+-- each inbox has its two ends
+pub gather-requires-clause-many : goal.gather-requires-clause-many
+gather-requires-clause-many g c = omega (arith, c.requires.run.homes, c.requires.run.many)
+
+pub gather-requires-clause-inboxes : goal.gather-requires-clause-inboxes
+gather-requires-clause-inboxes g c = c.requires.run.inboxes_are
+
+pub gather-requires-clause-takers : goal.gather-requires-clause-takers
+gather-requires-clause-takers g c = λ k seat at. let kept = c.requires.run.kept k seat at in kept.1.inbox ∙ kept.0
+
+-- the script is sound, and there is a scheduler
+pub log_run-requires-clause-script : goal.log_run-requires-clause-script
+log_run-requires-clause-script g c =
+    let here = c.args.run.shared.table.shared in
+    script_sound g.K.Naming.names c.args.script.now here.table_id here.key c.args.run.desk c.args.run.inboxes.items c.args.run.seats.items c.args.run.sight c.requires.run g.N.RunName.run c.requires.words c.in_ok-gathered.ensures.kept
+
+pub log_run-requires-clause-some : goal.log_run-requires-clause-some
+log_run-requires-clause-some g c =
+    let here = c.args.run.shared.table.shared in
+    let had = c.in_ok-gathered.gathered in
+    let is = c.in_ok-gathered.ensures in
+    places_some g.K.Naming.names c.args.script.now here.table_id here.key c.args.run.desk c.args.run.inboxes.items c.args.run.seats.items c.args.run.sight c.requires.run had.members.items is.takers had.processes.items is.parted
+
+-- all tokens come in
+pub close-requires-clause-token : goal.close-requires-clause-token
+close-requires-clause-token g c =
+    let here = c.args.run.shared.table.shared in
+    let had = c.in_ok-gathered.gathered in
+    let is = c.in_ok-gathered.ensures in
+    writer_token g.K.Naming.names c.args.script.now here.table_id here.key c.args.run.desk c.args.run.inboxes.items c.args.run.seats.items c.args.run.sight c.requires.run g.N.RunName.run c.requires.words is.kept had.writer is.writer_is
+
+pub close-requires-clause-members : goal.close-requires-clause-members
+close-requires-clause-members g c =
+    let here = c.args.run.shared.table.shared in
+    let had = c.in_ok-gathered.gathered in
+    let is = c.in_ok-gathered.ensures in
+    all_members g.K.Naming.names c.args.script.now here.table_id here.key c.args.run.desk c.args.run.inboxes.items c.args.run.seats.items c.args.run.sight c.requires.run had.members.items is.takers had.processes.items is.parted
+
+-- the log is a history
+pub returns : goal.returns
+returns g c =
+    let here = c.args.run.shared.table.shared in
+    let d = c.args.run.desk in
+    let had = c.in_ok-gathered.gathered in
+    let is = c.in_ok-gathered.ensures in
+    let log = c.in_ok-log.log in
+    let now = (with_items c.args.observers c.observe_rest.new.observers).items in
+    let items = with_items_is c.args.observers c.observe_rest.new.observers (c.observe_rest.auto.observers ∙ c.deref_mut.ensures.len) in
+    finished g.K.Naming.names c.args.script.now here.table_id here.key c.args.run.desk c.args.run.inboxes.items c.args.run.seats.items c.args.run.sight c.requires.run g.N.RunName.run c.requires.words is.kept
+    had.members.items is.takers had.processes.items is.parted
+    c.journals_are_sound.ensures.said c.reads_are_those_of_states.ensures.traces c.closed_tables_tell.ensures c.kept_processes_have_run.ensures.taken c.kept_processes_have_run.ensures.others c.runs_are_histories.ensures
+    is.desk c.requires.done c.requires.idle d.posted refl is.settled
+    had.writer is.writer_is _ c.in_ok-closed.ensures.members c.in_ok-closed.ensures.marks c.in_ok-closed.ensures.seen
+    log.processes c.in_ok-log.ensures.processes
+    now
+    (looked_last g.K.Naming.names c.args.script.now here.table_id here.key c.args.run.desk c.args.run.inboxes.items c.args.run.seats.items c.args.run.sight c.requires.run g.N.RunName.run c.requires.words is.kept
+    c.args.functions.now c.requires.functions c.server.result.now c.server.ensures c.args.observers.items c.deref_mut.result.now c.observe_rest.new.observers now c.deref_mut.ensures.value items c.requires.observed c.in_ok-observe_rest.ensures)
+    (none_left c.server.result.now c.args.functions.now c.deref_mut.result.now c.observe_rest.new.observers now items c.in_ok-observe_rest.ensures)
+    log.journal (c.in_ok-log.ensures.journal ∙ is.journal_is) log.observers c.in_ok-log.ensures.observers

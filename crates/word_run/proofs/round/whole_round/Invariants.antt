@@ -1,0 +1,6 @@
+use Rattle.std.proofs.Common.{Some}
+use Rattle.word_run.proofs.round.whole_round.Given as goal
+
+-- the desk as it lies when the round begins
+abbrev pub ghosts-named_round : goal.ghosts-named_round
+ghosts-named_round g a = record { began = Some a.desk }

@@ -1,0 +1,11 @@
+use Rattle.std.proofs.Common.{◌≡◌, false}
+use Rattle.word_run.specs.Schedulers.{KeepsOn}
+use Rattle.word_run.proofs.scheduler.Scheduler.laps.Given as goal
+
+-- some laps were made
+abbrev pub invariant-loop : goal.invariant-loop
+invariant-loop g l = record {
+  number : l.self.number ≡ l.fn.self.number;
+  kept : KeepsOn g.K.Naming.names l.shared.table.shared.table_id l.shared.table.shared.key l.sight l.fn.self l.self;
+  awake : l.self.waits ≡ false;
+}

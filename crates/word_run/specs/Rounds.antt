@@ -1,0 +1,94 @@
+-- What a run has between two of its rounds.
+-- Source: this project's profile.
+use Rattle.std.specs.Prelude.{◌≡◌, ℕ, ◌<◌, ◌≤◌, List, [], length, slice_get, Option, Some, None, Ok, IfOk}
+use Rattle.atomic_table.specs.Seated.{TableId}
+use Rattle.term_core.specs.declared.atom.Mfa.{Mfa}
+use Rattle.shared_words.specs.declared.opening.Opening.{Opening}
+use Rattle.script_core.specs.declared.script.Script.{Script}
+use Rattle.run_log.specs.declared.logs.Entry.{Entry}
+use Rattle.inbox.specs.Ends.{Posting, heard}
+use Rattle.run_law.specs.Newcomers.{Spawn}
+use Rattle.run_law.specs.Reading.{traced_by}
+use Rattle.write_permit.specs.Permit.{next_of}
+use Rattle.write_permit.specs.Book.{shown}
+use Rattle.word_lap.specs.declared.process_run.ProcessRun.{ProcessRun}
+use Rattle.word_run.specs.declared.scheduler.Slice.TheVariants.{Idle}
+use Rattle.word_run.specs.declared.seat.Seat.{Seat}
+use Rattle.word_run.specs.declared.sight.Sight.{Sight}
+use Rattle.word_run.specs.Desks.{DeskState}
+use Rattle.word_run.specs.Loaders.{AreInboxes}
+use Rattle.word_run.specs.Schedulers.{Keeps, KeepsGiven, KeepsOn}
+
+-- a place without a process that goes on
+abbrev pub RestsAt : Option ProcessRun → Type 0
+RestsAt None = Unit {0}
+RestsAt (Some run) = run.fin ≡ None → ⊥
+
+-- no process goes on
+abbrev pub NoneGoOn : List (Option ProcessRun) → Type 0
+NoneGoOn processes = (p : ℕ) (place : Option ProcessRun) → slice_get processes p ≡ Some place → RestsAt place
+
+-- all commands are done, and no area waits for its release
+pub record IsDone (d : DeskState) : Type 0 where
+  pub commands : (who : ℕ) → next_of (shown d.book.plain) who ≡ None
+  pub retired : d.book.plain.server.retired ≡ []
+
+module _ {T : Type 0} {I : Type 0} where
+  -- a scheduler may have a slice: it is one of so many, and keeps what it knows of its processes with what the slice is given
+  pub record CanGo (functions : List Mfa) (table : TableId) (opening : Opening) (sight : Sight) (count : ℕ) (seat : Seat T I) : Type 0 where
+    pub below : seat.scheduler.number < count
+    pub kept : KeepsGiven functions table opening sight seat.scheduler
+
+  -- a scheduler had a slice: it keeps what it knows of its processes, and where it was idle none goes on
+  pub record HadSlice (functions : List Mfa) (table : TableId) (opening : Opening) (sight : Sight) (before after : Seat T I) : Type 0 where
+    pub number : after.scheduler.number ≡ before.scheduler.number
+    pub kept : IfOk after.answer (λ _. KeepsOn functions table opening sight before.scheduler after.scheduler)
+    pub idle : after.answer ≡ Ok Idle → NoneGoOn after.scheduler.processes.items
+
+  -- the ends that take are those of their schedulers' inboxes
+  abbrev pub CanTell : List (Seat T I) → Type 0
+  CanTell seats = (k : ℕ) (seat : Seat T I) → slice_get seats k ≡ Some seat → seat.scheduler.taker.number ≡ k
+
+  -- a scheduler was told of what was posted to it; nothing else changed
+  pub record WasTold (before after : Seat T I) : Type 0 where
+    pub put : List Spawn
+    pub is : after ≡ record before { scheduler = record (before.scheduler) { taker = heard before.scheduler.taker put } }
+
+  -- each scheduler was told of all that was posted to it
+  abbrev pub KnowPosted : List (Posting Spawn) → List (Seat T I) → Type 0
+  KnowPosted ends seats = (k : ℕ) (end : Posting Spawn) (seat : Seat T I) → slice_get ends k ≡ Some end → slice_get seats k ≡ Some seat → seat.scheduler.taker.told ≡ end.put
+
+  -- each scheduler has its number, and keeps what it knows of its processes, by what a journal traces
+  abbrev pub AreKept : List Mfa → Script → List Entry → TableId → Opening → List (Seat T I) → Type 0
+  AreKept functions s journal table opening seats =
+      (k : ℕ) (seat : Seat T I) → slice_get seats k ≡ Some seat → (seat.scheduler.number ≡ k) × Keeps functions (traced_by s.modules journal) table opening seat.scheduler
+
+  -- each scheduler holds a generation that was published
+  abbrev pub ArePublishedTo : ℕ → List (Seat T I) → Type 0
+  ArePublishedTo newest seats = (k : ℕ) (seat : Seat T I) → slice_get seats k ≡ Some seat → seat.scheduler.generation ≤ newest
+
+  -- no scheduler had anything left to do
+  abbrev pub AreIdle : List (Seat T I) → Type 0
+  AreIdle seats = (k : ℕ) (seat : Seat T I) → slice_get seats k ≡ Some seat → seat.answer ≡ Ok Idle
+
+  -- no scheduler has a process that goes on
+  abbrev pub AreAllIdle : List (Seat T I) → Type 0
+  AreAllIdle seats = (k : ℕ) (seat : Seat T I) → slice_get seats k ≡ Some seat → NoneGoOn seat.scheduler.processes.items
+
+  -- a run of the script between two of its rounds, over these words: as many inboxes, ends and schedulers as there are members, each of its number, and
+  -- each scheduler keeps what it knows of its processes
+  pub record IsRun (functions : List Mfa) (s : Script) (table : TableId) (opening : Opening) (d : DeskState) (inboxes : List ℕ) (seats : List (Seat T I)) (sight : Sight) : Type 0 where
+    pub some : 0 < length seats
+    pub members : opening.members ≡ length seats
+    pub inboxes_are : AreInboxes inboxes
+    pub many : length inboxes ≡ length seats
+    pub homes : length d.posted ≡ length seats
+    pub exports : sight.exports ≡ functions
+    pub script_is : d.book.plain.script ≡ s
+    pub kept : AreKept functions s d.book.plain.journal table opening seats
+
+  -- what is traced under the generations that the schedulers hold, and under older ones, is what was traced there
+  abbrev pub TracesStay : DeskState → DeskState → List (Seat T I) → Type 0
+  TracesStay d e seats =
+      (k : ℕ) (seat : Seat T I) → slice_get seats k ≡ Some seat → (g : ℕ) → g ≤ seat.scheduler.generation
+      → traced_by d.book.plain.script.modules d.book.plain.journal g ≡ traced_by d.book.plain.script.modules e.book.plain.journal g

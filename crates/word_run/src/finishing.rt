@@ -1,0 +1,265 @@
+//! The end of a run: all tokens come in, and what was done is told.
+
+ghost use Rattle.std.specs.Prelude.{◌≡◌, ◌<◌, IfOk, OnOk, length, map};
+ghost use Rattle.run_law.specs.Ends.{IsHistory};
+ghost use Rattle.run_steps.specs.Observers.{HaveObserved, shots_of};
+ghost use Rattle.run_log.specs.ExportedFunctions.{AreExportedFunctions};
+ghost use Rattle.script_core.specs.Processes.{spawns_of};
+ghost use Rattle.script_core.specs.Sound.{IsScript};
+ghost use Rattle.shared_words.specs.Seats.{writer_of};
+ghost use Rattle.word_permit.specs.Books.{KeepsRun};
+ghost use Rattle.word_permit.specs.Runs.{IsOverWords};
+ghost use Rattle.word_run.specs.Desks.{IsDesk};
+ghost use Rattle.word_run.specs.Finished.{AddsParts, AreLogged, AreParted, AreSettled, HasGathered};
+ghost use Rattle.word_run.specs.Loaders.{AreEnds, AreInboxes, AreTakers};
+ghost use Rattle.word_run.specs.Names.{HasTable};
+ghost use Rattle.word_run.specs.Rounds.{AreAllIdle, CanTell, IsDone, IsRun};
+
+use crate::desk::Desk;
+use crate::process_logs::process_logs;
+use crate::ran::Ran;
+use crate::run::Run;
+use crate::scheduler::Scheduler;
+use crate::seat::Seat;
+use code_law::Naming;
+use inbox::{Inbox, InboxNames, Poster, Taker};
+use run_law::{
+    closed_tables_tell, journals_are_sound, reads_are_those_of_states, runs_are_histories,
+};
+use run_log::{EntryList, MfaList, RunLog};
+use run_steps::{ObserverRun, observe_rest, observer_logs};
+use script_core::Script;
+use shared_words::{Member, Parts, Writer, close};
+use staging::Tables;
+use std::alloc::Global;
+use std::sync::Wait;
+use term_core::NoMemory;
+use word_lap::{Newcomer, ProcessRun, TableName, kept_processes_have_run};
+use word_permit::{Finished, RunName};
+
+/// What the schedulers of a run give back, each by number.
+#[derive(Drop)]
+pub struct Parted<T: TableName, I: InboxNames> {
+    pub members: Vec<Member>,
+    pub takers: Vec<Taker<Newcomer<T>, I>>,
+    pub processes: Vec<Vec<Option<ProcessRun>>>,
+}
+
+/// What is left of a desk.
+#[derive(Drop)]
+struct Handed<T: TableName, I: InboxNames> {
+    journal: EntryList,
+    writer: Writer,
+    posters: Vec<Poster<Newcomer<T>, I>>,
+}
+
+/// What a run has once the ends of its inboxes came together.
+#[derive(Drop)]
+struct Gathered {
+    journal: EntryList,
+    writer: Writer,
+    members: Vec<Member>,
+    processes: Vec<Vec<Option<ProcessRun>>>,
+}
+
+/// The log of a run that has nothing left to do, after the last look of its observers, and its words.
+pub fn finish<K: Naming, N: RunName, T: TableName, I: InboxNames, R: Wait>(
+    rt: &R,
+    alloc: Global,
+    script: &Script,
+    functions: &MfaList,
+    run: Run<K, N, T, I>,
+    observers: Vec<ObserverRun>,
+) -> Result<Ran, NoMemory>
+    requires words { IsOverWords run.shared.table.shared.table_id run.shared.table.shared.key N.run }
+    requires table { HasTable N.run T.table }
+    requires run { IsRun K.names script.now run.shared.table.shared.table_id run.shared.table.shared.key run.desk run.inboxes.items run.seats.items run.sight }
+    requires done { IsDone run.desk }
+    requires idle { AreAllIdle run.seats.items }
+    requires functions { AreExportedFunctions script.now.names script.now.modules functions.now }
+    requires observed { HaveObserved script.now run.desk.book.plain.journal observers.items }
+    ensures { IfOk result (λ ran. IsHistory K.names script.now ran.log (writer_of ran.closed.writer.seat.me.0)) }
+{
+    journals_are_sound();
+    reads_are_those_of_states();
+    closed_tables_tell();
+    kept_processes_have_run();
+    runs_are_histories();
+    let mut observers = observers;
+    observe_rest(alloc, run.desk.server(), functions, &mut observers)?;
+    let Run {
+        shared,
+        desk,
+        inboxes,
+        seats,
+        ..
+    } = run;
+    let gathered = gather(rt, alloc, desk, inboxes, seats)?;
+    let Gathered {
+        journal,
+        writer,
+        members,
+        processes,
+    } = gathered;
+    let log = log_run(alloc, script, journal, processes, observers)?;
+    let closed = close(alloc, shared, Parts { writer, members })?;
+    Ok(Ran { log, closed })
+}
+
+/// The ends of all inboxes come together, and the schedulers and the desk are taken apart.
+fn gather<K: Naming, N: RunName, T: TableName, I: InboxNames, R: Wait>(
+    rt: &R,
+    alloc: Global,
+    desk: Desk<K, N, T, I>,
+    inboxes: Vec<Inbox<Newcomer<T>, I>>,
+    seats: Vec<Seat<T, I>>,
+) -> Result<Gathered, NoMemory>
+    requires many { length desk.posted ≡ length inboxes.items }
+    requires inboxes { AreInboxes inboxes.items }
+    requires takers { CanTell seats.items }
+    ensures { IfOk result (λ gathered. HasGathered K.names N.run desk seats.items gathered.journal gathered.writer gathered.members.items gathered.processes.items) }
+{
+    let handed = hand_in(desk);
+    let Handed {
+        journal,
+        writer,
+        posters,
+    } = handed;
+    let parted = take_apart(alloc, seats)?;
+    let Parted {
+        members,
+        takers,
+        processes,
+    } = parted;
+    settle(rt, inboxes, posters, takers)?;
+    Ok(Gathered {
+        journal,
+        writer,
+        members,
+        processes,
+    })
+}
+
+/// The log of a run: its journal, and what is told of its processes and of its observers.
+fn log_run(
+    alloc: Global,
+    script: &Script,
+    journal: EntryList,
+    processes: Vec<Vec<Option<ProcessRun>>>,
+    observers: Vec<ObserverRun>,
+) -> Result<RunLog, NoMemory>
+    requires script { IsScript script.now }
+    requires some { 0 < length processes.items }
+    ensures journal { IfOk result (λ log. log.journal ≡ journal) }
+    ensures processes { IfOk result (λ log. AreLogged processes.items (length (spawns_of 0 script.now.loaders)) log.processes) }
+    ensures observers { IfOk result (λ log. log.observers ≡ map shots_of observers.items) }
+{
+    let processes = process_logs(alloc, script, processes)?;
+    let observers = observer_logs(alloc, observers)?;
+    Ok(RunLog {
+        journal,
+        processes,
+        observers,
+    })
+}
+
+/// The desk taken apart.
+fn hand_in<K: Naming, N: RunName, T: TableName, I: InboxNames>(
+    desk: Desk<K, N, T, I>,
+) -> Handed<T, I>
+    ensures journal { result.journal ≡ desk.book.plain.journal }
+    ensures writer { result.writer ≡ desk.book.tables.writer }
+    ensures posters { result.posters.items ≡ desk.posted }
+    ensures kept { KeepsRun K.names N.run desk.book }
+    ensures desk { IsDesk desk }
+{
+    let Desk { permit, posters } = desk;
+    permit.journal();
+    let finished = permit.finish();
+    let Finished { journal, tables } = finished;
+    let writer = token_of(tables);
+    Handed {
+        journal,
+        writer,
+        posters,
+    }
+}
+
+/// The token of the writer.
+fn token_of(tables: Tables) -> Writer
+    ensures { result ≡ tables.writer }
+{
+    tables.writer
+}
+
+/// The schedulers taken apart.
+fn take_apart<T: TableName, I: InboxNames>(
+    alloc: Global,
+    seats: Vec<Seat<T, I>>,
+) -> Result<Parted<T, I>, NoMemory>
+    ensures { IfOk result (λ parted. AreParted seats.items parted.members.items parted.takers.items parted.processes.items) }
+{
+    let mut parted = Parted {
+        members: Vec::new(alloc),
+        takers: Vec::new(alloc),
+        processes: Vec::new(alloc),
+    };
+    for seat in seats {
+        part(seat, &mut parted)?;
+    }
+    Ok(parted)
+}
+
+/// A scheduler taken apart.
+fn part<T: TableName, I: InboxNames>(
+    seat: Seat<T, I>,
+    parted: &mut Parted<T, I>,
+) -> Result<(), NoMemory>
+    ensures { OnOk result (AddsParts seat parted.old.members.items parted.new.members.items parted.old.takers.items parted.new.takers.items parted.old.processes.items parted.new.processes.items) }
+{
+    let Seat { scheduler, .. } = seat;
+    let Scheduler {
+        member,
+        taker,
+        processes,
+        ..
+    } = scheduler;
+    let Some(member) = member else {
+        return Err(NoMemory);
+    };
+    parted.members.push(member)?;
+    parted.takers.push(taker)?;
+    parted.processes.push(processes)?;
+    Ok(())
+}
+
+/// The ends of all inboxes come together. Nothing is left in one: all that was posted before the last round was taken in it, and no clause of a lock tells
+/// that nothing was posted since, so it is counted.
+fn settle<T: TableName, I: InboxNames, R: Wait>(
+    rt: &R,
+    inboxes: Vec<Inbox<Newcomer<T>, I>>,
+    posters: Vec<Poster<Newcomer<T>, I>>,
+    takers: Vec<Taker<Newcomer<T>, I>>,
+) -> Result<(), NoMemory>
+    requires many { length posters.items ≡ length inboxes.items }
+    requires inboxes { AreInboxes inboxes.items }
+    requires ends { AreEnds posters.items }
+    requires takers { AreTakers takers.items }
+    ensures { OnOk result (AreSettled posters.items takers.items) }
+{
+    let mut posters = posters.into_iter();
+    let mut takers = takers.into_iter();
+    for inbox in inboxes {
+        let Some(poster) = posters.next() else {
+            return Err(NoMemory);
+        };
+        let Some(taker) = takers.next() else {
+            return Err(NoMemory);
+        };
+        let left = inbox.settle(rt, poster, taker);
+        if left != 0 {
+            return Err(NoMemory);
+        }
+    }
+    Ok(())
+}

@@ -1,0 +1,315 @@
+//! The steps of a scheduler's loaders: each locks the desk, makes one call of the permit, and unlocks.
+
+ghost use Rattle.std.specs.Prelude.{◌≡◌, ◌<◌, false, true, List, length, IsSomeAnd, Some};
+ghost use Rattle.std.specs.Option.{option_copied};
+ghost use Rattle.inbox.specs.Ends.{Posting};
+ghost use Rattle.run_law.specs.Newcomers.{Spawn as SpawnedSo};
+ghost use Rattle.script_core.specs.declared.script.ScriptCmd.TheVariants.{Spawn};
+ghost use Rattle.write_permit.specs.Book.{shown};
+ghost use Rattle.write_permit.specs.Permit.{holder_of, needs_permission, next_of, seized_by};
+ghost use Rattle.word_permit.specs.Books.{KeepsRun};
+ghost use Rattle.word_permit.specs.Runs.{IsOverWords};
+ghost use Rattle.word_run.specs.Desks.{AddsInSlices, GoesInSlices, HasHomes, MakesOn};
+ghost use Rattle.word_run.specs.Loaders.{AreEnds, AreInboxes, IsStepFor};
+ghost use Rattle.word_run.specs.Names.{HasTable};
+
+use crate::desk::Desk;
+use crate::posting::post_home;
+use crate::purging::purge;
+use crate::slicing::{RoundName, Slicing};
+use code_law::{CodeLaw, Naming};
+use inbox::{Inbox, InboxNames, Poster};
+use script_core::ScriptCmd;
+use shared_words::Shared;
+use std::alloc::Global;
+use std::sync::{Mutex, Wait};
+use term_core::{Mfa, NoMemory, TermList};
+use word_lap::{Newcomer, TableName};
+use word_permit::{AtOnce, Permit, RunName};
+use write_permit::{Gate, Seize};
+
+/// What a loader does in a slice, by its next command.
+#[derive(Clone, Copy, Debug, PartialEq, Eq)]
+pub enum SliceStep {
+    /// All its commands are done.
+    Over,
+    /// It asks for old code to go. Where a function of that code is traced this waits for the end of the round.
+    Purges,
+    /// It sets or clears a trace, which waits for the end of the round.
+    Traces,
+    /// It makes a spawn, or looks for old code.
+    AtOnce,
+    /// It goes on with a load, a delete, a put or an erase.
+    Operates,
+}
+
+/// What a loader does in a slice whose next command is this.
+pub fn slice_step(command: Option<&ScriptCmd>) -> SliceStep
+    ensures { IsStepFor (option_copied command.entry) result }
+{
+    match command {
+        None => SliceStep::Over,
+        Some(command) => step_for(command),
+    }
+}
+
+/// What a loader does in a slice with this command.
+fn step_for(command: &ScriptCmd) -> SliceStep
+    ensures { IsStepFor (Some command.now) result }
+{
+    match command {
+        ScriptCmd::Spawn { .. } => SliceStep::AtOnce,
+        ScriptCmd::CheckOld(_) => SliceStep::AtOnce,
+        ScriptCmd::Load(_) => SliceStep::Operates,
+        ScriptCmd::Delete(_) => SliceStep::Operates,
+        ScriptCmd::Put { .. } => SliceStep::Operates,
+        ScriptCmd::Erase(_) => SliceStep::Operates,
+        ScriptCmd::SoftPurge(_) => SliceStep::Purges,
+        ScriptCmd::Purge(_) => SliceStep::Purges,
+        ScriptCmd::Trace { .. } => SliceStep::Traces,
+    }
+}
+
+impl<K: Naming, N: RunName, T: TableName, I: InboxNames, E: RoundName> Slicing<K, N, T, I, E> {
+    /// One step of a loader's next command, where it goes in slices. Answers whether all its commands are done.
+    #[tactic(auto, using(crate::proofs::Slices::slices_same, crate::proofs::Slices::slice_on))]
+    pub fn step<R: Wait, G: Gate>(
+        &mut self,
+        alloc: Global,
+        rt: &R,
+        shared: &Shared<CodeLaw<K>>,
+        inboxes: &[Inbox<Newcomer<T>, I>],
+        gate: &G,
+        who: u32,
+    ) -> Result<bool, NoMemory>
+        requires words { IsOverWords shared.now.table.shared.table_id shared.now.table.shared.key N.run }
+        requires table { HasTable N.run T.table }
+        requires homes { HasHomes E.began (length inboxes.now) }
+        requires inboxes { AreInboxes inboxes.now }
+        ensures { AddsInSlices self.old self.new }
+    {
+        let desk = &mut self.desk;
+        match slice_step(desk.permit.next_command(who)) {
+            SliceStep::Over => Ok(true),
+            SliceStep::Traces => Ok(false),
+            SliceStep::Purges => {
+                purge(alloc, shared, gate, who, desk)?;
+                Ok(false)
+            }
+            SliceStep::AtOnce => {
+                make_at_once(alloc, rt, shared, inboxes, who, desk)?;
+                Ok(false)
+            }
+            SliceStep::Operates => {
+                operate(shared, gate, who, desk)?;
+                Ok(false)
+            }
+        }
+    }
+}
+
+/// The loader makes its spawn, whose process is posted home, or looks for old code.
+fn make_at_once<K: Naming, N: RunName, T: TableName, I: InboxNames, R: Wait>(
+    alloc: Global,
+    rt: &R,
+    shared: &Shared<CodeLaw<K>>,
+    inboxes: &[Inbox<Newcomer<T>, I>],
+    who: u32,
+    desk: &mut Desk<K, N, T, I>,
+) -> Result<(), NoMemory>
+    requires words { IsOverWords shared.now.table.shared.table_id shared.now.table.shared.key N.run }
+    requires table { HasTable N.run T.table }
+    requires next { IsSomeAnd (next_of (shown desk.old.book.plain) who) (λ command. needs_permission command ≡ false) }
+    requires homes { length inboxes.now ≡ length desk.old.posted }
+    requires inboxes { AreInboxes inboxes.now }
+    ensures { AddsInSlices desk.old desk.new }
+{
+    desk.permit.journal();
+    make_and_post(
+        alloc,
+        rt,
+        shared,
+        inboxes,
+        who,
+        &mut desk.permit,
+        &mut desk.posters,
+    )
+}
+
+/// The same, with the permit and the ends apart.
+fn make_and_post<K: Naming, N: RunName, T: TableName, I: InboxNames, R: Wait>(
+    alloc: Global,
+    rt: &R,
+    shared: &Shared<CodeLaw<K>>,
+    inboxes: &[Inbox<Newcomer<T>, I>],
+    who: u32,
+    permit: &mut Permit<K, N>,
+    posters: &mut [Poster<Newcomer<T>, I>],
+) -> Result<(), NoMemory>
+    requires words { IsOverWords shared.now.table.shared.table_id shared.now.table.shared.key N.run }
+    requires table { HasTable N.run T.table }
+    requires next { IsSomeAnd (next_of (shown permit.old.plain) who) (λ command. needs_permission command ≡ false) }
+    requires some { 0 < length posters.old }
+    requires homes { length inboxes.now ≡ length posters.old }
+    requires inboxes { AreInboxes inboxes.now }
+    requires ends { AreEnds posters.old }
+    ensures made { MakesOn (shown permit.old.plain) (shown permit.new.plain) posters.old posters.new }
+    ensures kept { KeepsRun K.names N.run permit.new }
+{
+    permit.journal();
+    if let Some(ScriptCmd::Spawn { target, args }) = permit.next_command(who) {
+        let target = *target;
+        let args = args.copy(alloc)?;
+        return spawn(rt, shared, inboxes, who, target, args, permit, posters);
+    }
+    permit.at_once(shared, who)?;
+    Ok(())
+}
+
+/// The loader makes its spawn, and the process is posted home.
+fn spawn<K: Naming, N: RunName, T: TableName, I: InboxNames, R: Wait>(
+    rt: &R,
+    shared: &Shared<CodeLaw<K>>,
+    inboxes: &[Inbox<Newcomer<T>, I>],
+    who: u32,
+    target: Mfa,
+    args: TermList,
+    permit: &mut Permit<K, N>,
+    posters: &mut [Poster<Newcomer<T>, I>],
+) -> Result<(), NoMemory>
+    requires words { IsOverWords shared.now.table.shared.table_id shared.now.table.shared.key N.run }
+    requires table { HasTable N.run T.table }
+    requires next { next_of (shown permit.old.plain) who ≡ Some (Spawn target args) }
+    requires some { 0 < length posters.old }
+    requires homes { length inboxes.now ≡ length posters.old }
+    requires inboxes { AreInboxes inboxes.now }
+    requires ends { AreEnds posters.old }
+    ensures made { MakesOn (shown permit.old.plain) (shown permit.new.plain) posters.old posters.new }
+    ensures kept { KeepsRun K.names N.run permit.new }
+{
+    permit.journal();
+    let published = permit.generation();
+    let AtOnce { spawned, .. } = permit.at_once(shared, who)?;
+    match spawned {
+        Some(spawned) => post_home(rt, spawned, published, target, args, inboxes, posters),
+        None => Ok(()),
+    }
+}
+
+/// The loader goes on with its command, if it has the permission or gets it.
+fn operate<K: Naming, N: RunName, T: TableName, I: InboxNames, G: Gate>(
+    shared: &Shared<CodeLaw<K>>,
+    gate: &G,
+    who: u32,
+    desk: &mut Desk<K, N, T, I>,
+) -> Result<(), NoMemory>
+    requires words { IsOverWords shared.now.table.shared.table_id shared.now.table.shared.key N.run }
+    requires next { IsSomeAnd (next_of (shown desk.old.book.plain) who) GoesInSlices }
+    ensures { AddsInSlices desk.old desk.new }
+{
+    desk.permit.journal();
+    let _homes = desk.posters.len();
+    operate_permit(shared, gate, who, &mut desk.permit)
+}
+
+/// The same, on the permit.
+fn operate_permit<K: Naming, N: RunName, G: Gate>(
+    shared: &Shared<CodeLaw<K>>,
+    gate: &G,
+    who: u32,
+    permit: &mut Permit<K, N>,
+) -> Result<(), NoMemory>
+    requires words { IsOverWords shared.now.table.shared.table_id shared.now.table.shared.key N.run }
+    requires next { IsSomeAnd (next_of (shown permit.old.plain) who) GoesInSlices }
+    ensures made { (ends : List (Posting SpawnedSo)) → MakesOn (shown permit.old.plain) (shown permit.new.plain) ends ends }
+    ensures kept { KeepsRun K.names N.run permit.new }
+{
+    permit.journal();
+    if !has_permission(permit, who) {
+        return Ok(());
+    }
+    go_on(shared, gate, who, permit)
+}
+
+/// The loader that has the permission goes on.
+fn go_on<K: Naming, N: RunName, G: Gate>(
+    shared: &Shared<CodeLaw<K>>,
+    gate: &G,
+    who: u32,
+    permit: &mut Permit<K, N>,
+) -> Result<(), NoMemory>
+    requires words { IsOverWords shared.now.table.shared.table_id shared.now.table.shared.key N.run }
+    requires holds { holder_of permit.old.plain.holder ≡ Some who }
+    requires next { IsSomeAnd (next_of (shown permit.old.plain) who) GoesInSlices }
+    ensures made { (ends : List (Posting SpawnedSo)) → MakesOn (shown permit.old.plain) (shown permit.new.plain) ends ends }
+    ensures kept { KeepsRun K.names N.run permit.new }
+{
+    permit.journal();
+    permit.advance_op(shared, who, gate)?;
+    Ok(())
+}
+
+/// Asks for the permission. Answers whether the loader has it now.
+pub fn has_permission<K: Naming, N: RunName>(permit: &mut Permit<K, N>, who: u32) -> bool
+    requires { IsSomeAnd (next_of (shown permit.old.plain) who) (λ command. needs_permission command ≡ true) }
+    ensures state { shown permit.new.plain ≡ record (shown permit.old.plain) { holder = seized_by who permit.old.plain.holder } }
+    ensures held { result ≡ true → holder_of permit.new.plain.holder ≡ Some who }
+    ensures kept { KeepsRun K.names N.run permit.new }
+{
+    match permit.seize(who) {
+        Seize::Seized => true,
+        Seize::Held { by } => by == who,
+    }
+}
+
+/// One step of one loader, under the lock.
+fn step_loader<K: Naming, N: RunName, T: TableName, I: InboxNames, E: RoundName, R: Wait, G: Gate>(
+    alloc: Global,
+    rt: &R,
+    shared: &Shared<CodeLaw<K>>,
+    desk: &Mutex<Slicing<K, N, T, I, E>>,
+    inboxes: &[Inbox<Newcomer<T>, I>],
+    gate: &G,
+    who: u32,
+) -> Result<bool, NoMemory>
+    requires words { IsOverWords shared.now.table.shared.table_id shared.now.table.shared.key N.run }
+    requires table { HasTable N.run T.table }
+    requires homes { HasHomes E.began (length inboxes.now) }
+    requires inboxes { AreInboxes inboxes.now }
+{
+    desk.lock(rt).step(alloc, rt, shared, inboxes, gate, who)
+}
+
+/// One step of each loader of the scheduler of this number: loader j is on scheduler j modulo their count. Answers whether all their commands are done.
+pub fn step_loaders<
+    K: Naming,
+    N: RunName,
+    T: TableName,
+    I: InboxNames,
+    E: RoundName,
+    R: Wait,
+    G: Gate,
+>(
+    alloc: Global,
+    rt: &R,
+    shared: &Shared<CodeLaw<K>>,
+    desk: &Mutex<Slicing<K, N, T, I, E>>,
+    inboxes: &[Inbox<Newcomer<T>, I>],
+    gate: &G,
+    number: u32,
+    loaders: u32,
+) -> Result<bool, NoMemory>
+    requires words { IsOverWords shared.now.table.shared.table_id shared.now.table.shared.key N.run }
+    requires table { HasTable N.run T.table }
+    requires homes { HasHomes E.began (length inboxes.now) }
+    requires inboxes { AreInboxes inboxes.now }
+    requires some { 0 < length inboxes.now }
+{
+    let mut over = true;
+    for who in 0..loaders {
+        if who as usize % inboxes.len() == number as usize {
+            over &= step_loader(alloc, rt, shared, desk, inboxes, gate, who)?;
+        }
+    }
+    Ok(over)
+}

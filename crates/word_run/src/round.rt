@@ -1,0 +1,189 @@
+//! A round: a slice of each scheduler, in threads, over the desk as it lies when the round begins.
+
+ghost use Rattle.std.specs.Prelude.{◌≡◌, ◌<◌, ℕ, All, length, slice_index_or, Some};
+ghost use Rattle.run_steps.specs.Observers.{EachBecame};
+ghost use Rattle.word_permit.specs.Runs.{IsOverWords};
+ghost use Rattle.word_run.specs.declared.seat.Seat.{Seat};
+ghost use Rattle.word_run.specs.Desks.{AddsInSlices, HasHomes, IsSliceOf};
+ghost use Rattle.word_run.specs.Loaders.{AreInboxes};
+ghost use Rattle.word_run.specs.Names.{HasTable};
+ghost use Rattle.word_run.specs.Rounds.{CanGo, HadSlice};
+
+use crate::desk::Desk;
+use crate::run::Run;
+use crate::seat::Seat;
+use crate::sight::Sight;
+use crate::slicing::{RoundName, Slicing};
+use code_law::{CodeLaw, Naming};
+use inbox::{Inbox, InboxNames};
+use shared_words::Shared;
+use std::marker::{Brand, PhantomData};
+use std::sync::{Mutex, Wait};
+use std::thread;
+use std::thread::Threads;
+use word_lap::{Newcomer, TableName};
+use word_permit::RunName;
+use write_permit::Gate;
+
+/// A slice of each scheduler, each in a thread of its own where one can be made. All have ended when it returns. The journal that comes back is the one
+/// of before, and what was added in the round.
+pub fn whole_round<K, N, T, I, R, G>(rt: &R, gate: &G, run: Run<K, N, T, I>) -> Run<K, N, T, I>
+where
+    K: Naming + Send + Sync,
+    N: RunName + Send + Sync,
+    T: TableName + Send + Sync,
+    I: InboxNames + Send + Sync,
+    R: Threads + Wait + Sync,
+    G: Gate,
+    requires words { IsOverWords run.shared.table.shared.table_id run.shared.table.shared.key N.run }
+    requires table { HasTable N.run T.table }
+    requires homes { length run.inboxes.items ≡ length run.desk.posted }
+    requires inboxes { AreInboxes run.inboxes.items }
+    requires exports { run.sight.exports ≡ K.names }
+    requires members { run.shared.table.shared.key.members ≡ length run.inboxes.items }
+    requires go { All (CanGo K.names run.shared.table.shared.table_id run.shared.table.shared.key run.sight (length run.inboxes.items)) run.seats.items }
+    ensures adds { AddsInSlices run.desk result.desk }
+    ensures seats { EachBecame (HadSlice K.names run.shared.table.shared.table_id run.shared.table.shared.key run.sight) run.seats.items result.seats.items }
+    ensures shared { result.shared ≡ run.shared }
+    ensures inboxes { result.inboxes ≡ run.inboxes }
+    ensures sight { result.sight ≡ run.sight }
+{
+    let Run {
+        shared,
+        desk,
+        inboxes,
+        mut seats,
+        sight,
+    } = run;
+    Run {
+        desk: named_round::<K, N, T, I, Brand, R, G>(
+            rt, &shared, desk, &sight, &inboxes, gate, &mut seats,
+        ),
+        shared,
+        inboxes,
+        seats,
+        sight,
+    }
+}
+
+/// The same, where what lies on the desk has a name.
+fn named_round<K, N, T, I, E, R, G>(
+    rt: &R,
+    shared: &Shared<CodeLaw<K>>,
+    desk: Desk<K, N, T, I>,
+    sight: &Sight,
+    inboxes: &[Inbox<Newcomer<T>, I>],
+    gate: &G,
+    seats: &mut [Seat<T, I>],
+) -> Desk<K, N, T, I>
+where
+    K: Naming + Send + Sync,
+    N: RunName + Send + Sync,
+    T: TableName + Send + Sync,
+    I: InboxNames + Send + Sync,
+    E: RoundName + Send + Sync,
+    R: Threads + Wait + Sync,
+    G: Gate,
+    requires began { E.began ≡ Some desk }
+    requires homes { length inboxes.now ≡ length desk.posted }
+    requires words { IsOverWords shared.now.table.shared.table_id shared.now.table.shared.key N.run }
+    requires table { HasTable N.run T.table }
+    requires inboxes { AreInboxes inboxes.now }
+    requires exports { sight.now.exports ≡ K.names }
+    requires members { shared.now.table.shared.key.members ≡ length inboxes.now }
+    requires go { All (CanGo K.names shared.now.table.shared.table_id shared.now.table.shared.key sight.now (length inboxes.now)) seats.old }
+    ensures adds { AddsInSlices desk result }
+    ensures seats { EachBecame (HadSlice K.names shared.now.table.shared.table_id shared.now.table.shared.key sight.now) seats.old seats.new }
+{
+    let desk = Mutex::new(Slicing::<K, N, T, I, E>::of_round(desk));
+    take_round(rt, shared, &desk, sight, inboxes, gate, seats);
+    desk.into_inner().into_desk()
+}
+
+impl<K: Naming, N: RunName, T: TableName, I: InboxNames, E: RoundName> Slicing<K, N, T, I, E> {
+    /// What lies under the lock as a round begins.
+    fn of_round(desk: Desk<K, N, T, I>) -> Slicing<K, N, T, I, E>
+        requires { IsSliceOf E.began desk }
+        ensures { result ≡ desk }
+    {
+        Slicing {
+            desk,
+            of: PhantomData,
+        }
+    }
+
+    /// The desk as a round ends.
+    fn into_desk(self) -> Desk<K, N, T, I>
+        ensures { IsSliceOf E.began result }
+    {
+        self.desk
+    }
+}
+
+/// A slice of each scheduler, in threads.
+fn take_round<K, N, T, I, E, R, G>(
+    rt: &R,
+    shared: &Shared<CodeLaw<K>>,
+    desk: &Mutex<Slicing<K, N, T, I, E>>,
+    sight: &Sight,
+    inboxes: &[Inbox<Newcomer<T>, I>],
+    gate: &G,
+    seats: &mut [Seat<T, I>],
+)
+where
+    K: Naming + Send + Sync,
+    N: RunName + Send + Sync,
+    T: TableName + Send + Sync,
+    I: InboxNames + Send + Sync,
+    E: RoundName + Send + Sync,
+    R: Threads + Wait + Sync,
+    G: Gate,
+    requires homes { HasHomes E.began (length inboxes.now) }
+    requires words { IsOverWords shared.now.table.shared.table_id shared.now.table.shared.key N.run }
+    requires table { HasTable N.run T.table }
+    requires inboxes { AreInboxes inboxes.now }
+    requires exports { sight.now.exports ≡ K.names }
+    requires members { shared.now.table.shared.key.members ≡ length inboxes.now }
+    requires go { All (CanGo K.names shared.now.table.shared.table_id shared.now.table.shared.key sight.now (length inboxes.now)) seats.old }
+    ensures { (k : ℕ) (seat : Seat T I) → k < length seats.old → HadSlice K.names shared.now.table.shared.table_id shared.now.table.shared.key sight.now (slice_index_or seats.old k seat) (slice_index_or seats.new k seat) }
+{
+    if seats.is_empty() {
+        return;
+    }
+    thread::for_each_mut(
+        rt,
+        seats,
+        seats.len(),
+        &|_: usize, seat: &mut Seat<T, I>|
+            requires homes { HasHomes E.began (length inboxes.now) }
+            requires words { IsOverWords shared.now.table.shared.table_id shared.now.table.shared.key N.run }
+            requires table { HasTable N.run T.table }
+            requires inboxes { AreInboxes inboxes.now }
+            requires exports { sight.now.exports ≡ K.names }
+            requires members { shared.now.table.shared.key.members ≡ length inboxes.now }
+            requires go { CanGo K.names shared.now.table.shared.table_id shared.now.table.shared.key sight.now (length inboxes.now) seat.now }
+        { take_slice(rt, shared, desk, sight, inboxes, gate, seat) },
+    );
+}
+
+/// A slice of one scheduler.
+fn take_slice<K: Naming, N: RunName, T: TableName, I: InboxNames, E: RoundName, R: Wait, G: Gate>(
+    rt: &R,
+    shared: &Shared<CodeLaw<K>>,
+    desk: &Mutex<Slicing<K, N, T, I, E>>,
+    sight: &Sight,
+    inboxes: &[Inbox<Newcomer<T>, I>],
+    gate: &G,
+    seat: &mut Seat<T, I>,
+)
+    requires homes { HasHomes E.began (length inboxes.now) }
+    requires words { IsOverWords shared.now.table.shared.table_id shared.now.table.shared.key N.run }
+    requires table { HasTable N.run T.table }
+    requires inboxes { AreInboxes inboxes.now }
+    requires exports { sight.now.exports ≡ K.names }
+    requires members { shared.now.table.shared.key.members ≡ length inboxes.now }
+    requires go { CanGo K.names shared.now.table.shared.table_id shared.now.table.shared.key sight.now (length inboxes.now) seat.old }
+    ensures { HadSlice K.names shared.now.table.shared.table_id shared.now.table.shared.key sight.now seat.old seat.new }
+{
+    seat.answer = seat.scheduler.slice(rt, shared, desk, sight, inboxes, gate);
+}
