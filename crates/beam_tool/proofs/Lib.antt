@@ -1,3 +1,4 @@
+pub mod Closings
 pub mod Complete
 pub mod Counts
 pub mod Forms

@@ -158,14 +158,20 @@ sink_failed_of (cut_off status log text v r p) e = record { rose = r; status = s
 sink_failed_of (source_failed f r) e = absurd (omega arith)
 sink_failed_of (no_memory f) e = absurd (omega arith)
 
+pub judged_log : {bytes : List ℕ} {status : ℕ} {log : Option RunLog} {text : List ℕ} → CheckVerdict bytes status log text → log ≡ None
+judged_log (script_refused _ q bare) = refl
+judged_log (judged _ _ _ _ rs v) = report_log v
+
 check_log : {left left' : Option (List ℕ)} {status : ℕ} {log : Option RunLog} {text : List ℕ} → ReadVerdict LONGEST_CHECK left left' CheckVerdict status log text → log ≡ None
-check_log (whole_text _ _ _ _ r (script_refused _ q bare)) = refl
-check_log (whole_text _ _ _ _ r (judged _ _ _ _ rs v)) = report_log v
+check_log (whole_text _ _ _ _ r v) = judged_log v
 check_log (long_text l) = refl
 
+pub replayed_log : {bytes : List ℕ} {status : ℕ} {log : Option RunLog} {text : List ℕ} → ListVerdict bytes status log text → log ≡ None
+replayed_log (replay _ _ _ _ t v) = replay_log v
+replayed_log (fault _ e) = refl
+
 list_log : {left left' : Option (List ℕ)} {status : ℕ} {log : Option RunLog} {text : List ℕ} → ReadVerdict LONGEST_SCRIPT left left' ListVerdict status log text → log ≡ None
-list_log (whole_text _ _ _ _ r (replay _ _ _ _ t v)) = replay_log v
-list_log (whole_text _ _ _ _ r (fault _ e)) = refl
+list_log (whole_text _ _ _ _ r v) = replayed_log v
 list_log (long_text l) = refl
 
 no_log_verdict : {left left' : Option (List ℕ)} {form : Option Form} {status : ℕ} {log : Option RunLog} {text : List ℕ} → Verdict left left' form status log text → status ≢ 0 → log ≡ None
@@ -201,6 +207,10 @@ no_log_unrun_of (no_memory g) f = refl
 ends_delivered : (form : Option Form) (left left' : Option (List ℕ)) (sf sf' : ℕ) (got got' : Option (List ℕ)) (kf kf' : ℕ) (status : ℕ) (log : Option RunLog) (text : List ℕ) (status' : ℕ) → Verdict left left' form status log text → Delivered got got' kf kf' status text status' → Ends form left left' sf sf' got got' kf kf' status' log
 ends_delivered form left left' sf sf' got got' kf kf' status log text _ v (whole a) = written status log text v a
 ends_delivered form left left' sf sf' got got' kf kf' status log text _ v (cut r p) = cut_off status log text v r p
+
+-- what was delivered of a text, as what was delivered of one that it is equal to
+pub delivered_by : (got got' : Option (List ℕ)) (kf kf' status : ℕ) (text slice : List ℕ) (status' : ℕ) → slice ≡ text → Delivered got got' kf kf' status slice status' → Delivered got got' kf kf' status text status'
+delivered_by got got' kf kf' status text slice status' same d = subst (λ (x : List ℕ). Delivered got got' kf kf' status x status') same d
 
 -- the same, where form, text and log are equal to those of the verdict
 pub ends_of : (f form : Option Form) (left left' : Option (List ℕ)) (sf sf' : ℕ) (got got' : Option (List ℕ)) (kf kf' : ℕ) (status : ℕ) (log log' : Option RunLog) (text slice : List ℕ) (status' : ℕ) → f ≡ form → log' ≡ log → slice ≡ text → Verdict left left' form status log text → Delivered got got' kf kf' status slice status' → Ends f left left' sf sf' got got' kf kf' status' log'

@@ -1,5 +1,5 @@
 -- What a form comes to, from what was read and from its line.
-use Rattle.std.proofs.Common.{◌≡◌, ℕ, Bool, true, false, List, length, Option, Some, None, Result, Ok, Err, sym, subst, inl, inr, ◌⊎◌}
+use Rattle.std.proofs.Common.{◌≡◌, ℕ, Bool, true, false, List, length, Option, Some, None, Result, Ok, Err, sym, subst, ap, ◌∙◌, inl, inr, ◌⊎◌}
 use Rattle.std.specs.Prelude.{IfOk}
 use Rattle.prgr_core.specs.declared.event.Events.{Events}
 use Rattle.prgr_core.specs.declared.progress.Progress.{Progress}
@@ -12,12 +12,15 @@ use Rattle.script_text.specs.declared.fault.ScriptFault.TheVariants as faults
 use Rattle.script_text.specs.Canonical.{canonical_text}
 use Rattle.script_text.specs.ScriptText.{ScriptText, FaultOf}
 use Rattle.run_log.specs.declared.logs.RunLog.{RunLog}
+use Rattle.shared_words.specs.declared.closing.Closed.{Closed}
 use Rattle.outside.specs.declared.check_input.TheConstants.{LONGEST_CHECK}
+use Rattle.outside.specs.declared.answer.Answer.{Answer}
 use Rattle.outside.specs.Answers.{IsLine, refusal_text}
 use Rattle.outside.specs.Inputs.{HasNoFault, IsNoScript, WasRead}
 use Rattle.outside.specs.Parting.{script_part}
 use Rattle.beam_tool.specs.declared.form.Form.{Form}
 use Rattle.beam_tool.specs.declared.form.Form.TheVariants as forms
+use Rattle.beam_tool.specs.ClosedTables.{IsUnrun}
 use Rattle.beam_tool.specs.TopCall.{CheckVerdict, ListVerdict, ReadVerdict, ReplayOf, ReportOf, ScriptVerdict, TrialOf, Verdict, all_made, check, done_text, make, not_enabled_text, progress, refusal, replay, report, run, script_refused, seeded_script, stopped, trial, whole_text}
 
 -- what holds of an answer where something else does
@@ -44,6 +47,14 @@ by_line P wanted line status log text p h =
 -- what a slice of the bytes comes to, where the whole was read
 pub by_slice : (P : List ℕ → ℕ → Option RunLog → List ℕ → Type 0) (limit : ℕ) (left left' : Option (List ℕ)) (bytes slice : List ℕ) (status : ℕ) (log : Option RunLog) (text : List ℕ) → slice ≡ bytes → WasRead limit left left' bytes → P slice status log text → ReadVerdict limit left left' P status log text
 by_slice P limit left left' bytes slice status log text e read p = whole_text bytes status log text read (subst (λ (b : List ℕ). P b status log text) e p)
+
+-- what holds of an answer holds of the same one in a work
+pub by_work : (P : ℕ → Option RunLog → List ℕ → Type 0) (a b : Answer) → b ≡ a → P a.status a.log a.text → P b.status b.log b.text
+by_work P a b e h = subst (λ (x : Answer). P x.status x.log x.text) (sym e) h
+
+-- an answer without a log, and no table
+pub unrun_of : (a b : Answer) (closed : Option Closed) → b ≡ a → closed ≡ None → a.log ≡ None → IsUnrun b.log closed
+unrun_of a b closed e c none = (ap (λ (x : Answer). x.log) e ∙ none, c)
 
 -- ---- a form's verdict
 

@@ -1,1 +1,2 @@
 pub mod TopCall
+pub mod ClosedTables

@@ -11,7 +11,7 @@ use Rattle.prgr_core.specs.EventText.{EventText}
 use Rattle.prgr_core.specs.Faults.{IsFirstFault}
 use Rattle.prgr_core.specs.Step.{after_all, opening, StopsAt}
 use Rattle.outside.specs.declared.check_input.TheConstants.{LONGEST_CHECK}
-use Rattle.scheduler.specs.declared.beginning.TheConstants.{MOST_SCHEDULERS}
+use Rattle.word_run.specs.declared.beginning.TheConstants.{MOST_SCHEDULERS}
 use Rattle.beam_tool.specs.declared.form.Form.{Form}
 use Rattle.beam_tool.specs.declared.form.Form.TheVariants as forms
 use Rattle.script_core.specs.declared.script.TheConstants.{LONGEST_SCRIPT}

@@ -2,8 +2,10 @@ ghost use Rattle.std.specs.Prelude.{◌+◌, ◌≤◌, ℕ, List, length, IfOk,
 ghost use Rattle.script_core.specs.Sound.{IsScript};
 ghost use Rattle.outside.specs.Outside.{Rose, TakesUpTo};
 ghost use Rattle.outside.specs.Inputs.{IsReportRead};
+ghost use Rattle.beam_tool.specs.ClosedTables.{IsUnrun};
 ghost use Rattle.beam_tool.specs.TopCall.{ReadVerdict, CheckVerdict, ReportVerdict};
 
+use crate::work::{Work, unrun};
 use legality::legal;
 use outside::{
     Answer, CheckInput, DONE, Input, LONGEST_CHECK, NOT_ALLOWED, Source, Stop, line_answer,
@@ -16,16 +18,17 @@ use std::alloc::Global;
 use term_core::NoMemory;
 
 /// What the check of a report comes to apart from writing.
-pub fn check_answer<S: Source>(alloc: Global, source: &mut S) -> Result<Answer, Stop>
+pub fn check_answer<S: Source>(alloc: Global, source: &mut S) -> Result<Work, Stop>
     ensures verdict { IfOk result
-        (λ a. ReadVerdict LONGEST_CHECK (S.left source.old) (S.left source.new) CheckVerdict a.status a.log a.text) }
+        (λ w. ReadVerdict LONGEST_CHECK (S.left source.old) (S.left source.new) CheckVerdict w.answer.status w.answer.log w.answer.text) }
+    ensures unrun { IfOk result (λ w. IsUnrun w.answer.log w.closed) }
     ensures failed { IsErrOf result Stop.SourceFault
         → Rose (S.faults source.old) (S.faults source.new) }
     ensures stops { TakesUpTo (LONGEST_CHECK + 1) (S.left source.old) (S.left source.new) }
 {
     match read_whole(alloc, source, LONGEST_CHECK)? {
-        Input::Whole(bytes) => Ok(judged(alloc, bytes.as_slice())?),
-        Input::TooLong => Ok(refusal(alloc, ScriptFault::FileTooLong)?),
+        Input::Whole(bytes) => Ok(unrun(judged(alloc, bytes.as_slice())?)),
+        Input::TooLong => Ok(unrun(refusal(alloc, ScriptFault::FileTooLong)?)),
     }
 }
 

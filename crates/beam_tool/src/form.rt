@@ -3,9 +3,9 @@ ghost use Rattle.term_core.specs.Text.Words.{narrow_reading};
 ghost use Rattle.beam_tool.specs.TopCall.{form_of as the_form_of, make_form as the_make_form, name_seed_and_size as the_name_seed_and_size, name_trial as the_name_trial, run_words as the_run_words, schedulers_of as the_schedulers_of, size_of as the_size_of, trial_form as the_trial_form, word_form as the_word_form};
 
 use itoa::Buffer;
-use scheduler::MOST_SCHEDULERS;
 use script_maker::MOST_COMMANDS;
 use term_core::narrow_of;
+use word_run::MOST_SCHEDULERS;
 
 /// How many schedulers run a script where the words do not say it.
 const SCHEDULERS: u32 = 2;

@@ -16,9 +16,9 @@ mod run_tests;
 mod tests;
 mod top;
 mod trial_form;
+mod work;
 
 use outside::{NO_MEMORY, StdSink, StdSource};
-use scheduler::NoGate;
 use std::alloc::Global;
 use std::env;
 use std::io::ErrorKind;
@@ -26,6 +26,7 @@ use std::process::ExitCode;
 use std::rt::Env;
 use term_core::NoMemory;
 use top::beam_top;
+use write_permit::NoGate;
 
 /// Runs the top call on the words after the program's name, standard input and standard output.
 fn main(rt: HostRuntime) -> ExitCode {

@@ -1,8 +1,10 @@
 ghost use Rattle.std.specs.Prelude.{◌+◌, IfOk, IsErrOf};
 ghost use Rattle.outside.specs.Outside.{Rose, TakesUpTo};
 ghost use Rattle.outside.specs.Answers.{IsLine};
+ghost use Rattle.beam_tool.specs.ClosedTables.{IsUnrun};
 ghost use Rattle.beam_tool.specs.TopCall.{ReadVerdict, ListVerdict, ReplayOf, IsReplayable, not_enabled_text, done_text};
 
+use crate::work::{Work, unrun};
 use outside::{Answer, DONE, Input, NOT_ALLOWED, Source, Stop, read_whole, refusal};
 use prgr_core::{EventFault, Events, PrgrState, ReplayFault, read_events, replay};
 use script_core::LONGEST_SCRIPT;
@@ -11,16 +13,17 @@ use std::alloc::Global;
 use term_core::{ByteList, NoMemory, print_number};
 
 /// What the replay of an event list comes to apart from writing.
-pub fn progress_answer<S: Source>(alloc: Global, source: &mut S) -> Result<Answer, Stop>
+pub fn progress_answer<S: Source>(alloc: Global, source: &mut S) -> Result<Work, Stop>
     ensures verdict { IfOk result
-        (λ a. ReadVerdict LONGEST_SCRIPT (S.left source.old) (S.left source.new) ListVerdict a.status a.log a.text) }
+        (λ w. ReadVerdict LONGEST_SCRIPT (S.left source.old) (S.left source.new) ListVerdict w.answer.status w.answer.log w.answer.text) }
+    ensures unrun { IfOk result (λ w. IsUnrun w.answer.log w.closed) }
     ensures failed { IsErrOf result Stop.SourceFault
         → Rose (S.faults source.old) (S.faults source.new) }
     ensures stops { TakesUpTo (LONGEST_SCRIPT + 1) (S.left source.old) (S.left source.new) }
 {
     match read_whole(alloc, source, LONGEST_SCRIPT)? {
-        Input::Whole(bytes) => Ok(judged(alloc, bytes.as_slice())?),
-        Input::TooLong => Ok(refusal(alloc, ScriptFault::FileTooLong)?),
+        Input::Whole(bytes) => Ok(unrun(judged(alloc, bytes.as_slice())?)),
+        Input::TooLong => Ok(unrun(refusal(alloc, ScriptFault::FileTooLong)?)),
     }
 }
 

@@ -22,6 +22,23 @@ pub fn runs_as<R: Threads + Wait + Sync + AllocGlobal + Abort>(
     Ok(run.status == 0 && run.got.as_slice() == report.as_bytes())
 }
 
+/// Runs a script with these lines between its first and its last, and compares how the report begins and how it ends. What
+/// stands between depends on when the process has its turns.
+fn runs_from_to<R: Threads + Wait + Sync + AllocGlobal + Abort>(
+    rt: &R,
+    lines: &str,
+    told: &str,
+    end: &str,
+) -> Result<bool, AllocError> {
+    let alloc = rt.alloc();
+    let script = format!(in alloc; "beam script 1\n{lines}go\n")?;
+    let Ok(run) = outcome_of(rt, &["run"], script.as_bytes(), CALM) else {
+        return Err(AllocError);
+    };
+    let report = run.got.as_slice();
+    Ok(run.status == 0 && report.starts_with(told.as_bytes()) && report.ends_with(end.as_bytes()))
+}
+
 /// Three versions of a module, and one of another.
 const VERSIONS: &str =
     "module m.1\nend\nmodule m.2\nend\nmodule m.3\nend\nmodule n.1\nend\nloader\n";
@@ -96,8 +113,9 @@ fn purge_kills(rt: HostRuntime) -> Result<(), Fail> {
     let lines =
         "module m.1\nexport main/0\nlabel a\nyield\njump a\nend\nmodule m.2\nend\nloader\nload m.1\nspawn m:main()\nload m.2\npurge m\npurge m\n";
     let told =
-        "entry L0 load m.1 = ok @1\nentry L0 spawn m:main() = ok -\nentry L0 load m.2 = ok @2\nentry L0 doom m = ok @3\nentry L0 purge m = true @4\nentry rt release 1 = ok -\nentry L0 purge m = false -\nprocess 0 m:main()\nspan 1 16\nspan 2 16\nspan 3 1\nend killed 1\n";
-    assert!(rt; runs_as(&rt, lines, 4, told)?);
+        "beam report 1\ngenerations 4\nentry L0 load m.1 = ok @1\nentry L0 spawn m:main() = ok -\nentry L0 load m.2 = ok @2\nentry L0 doom m = ok @3\nentry L0 purge m = true @4\n";
+    let end = "end killed 1\nend report\n";
+    assert!(rt; runs_from_to(&rt, lines, told, end)?);
     Ok(())
 }
 

@@ -1,12 +1,13 @@
 use crate::top::beam_top;
 use outside::{MemSink, MemSource, SureSink, SureSource};
-use scheduler::NoGate;
+use shared_words::Closed;
 use std::alloc::{AllocError, Global};
 use std::process::Abort;
 use std::sync::Wait;
 use std::test::Fail;
 use std::thread::Threads;
 use term_core::{ByteList, CountList, NoMemory};
+use write_permit::NoGate;
 
 /// The words of a run.
 pub const RUN: &[&str] = &["run", "--schedulers", "1"];
@@ -53,11 +54,13 @@ pub const CALM: Outside = Outside {
     write_fails: 0,
 };
 
-/// What a call came to: its status, whether it made a log, what the sink got, and how often the source was read.
+/// What a call came to: its status, whether it made a log, what its table published, what the sink got, and how often the source was read.
 #[derive(Drop)]
 pub struct Outcome {
     pub status: u8,
     pub logged: bool,
+    /// How many generations the closed table of a run has published.
+    pub published: Option<u64>,
     pub got: ByteList,
     pub reads: u64,
 }
@@ -94,6 +97,14 @@ pub fn outcome_of<R: Threads + Wait + Sync + AllocGlobal + Abort>(
     Ok(outcome)
 }
 
+/// How many generations a table has published.
+fn published_of(closed: &Option<Closed>) -> Option<u64> {
+    match closed {
+        Some(closed) => Some(closed.published()),
+        None => None,
+    }
+}
+
 fn called<R: Threads + Wait + Sync + AllocGlobal>(
     rt: &R,
     words: &[&str],
@@ -121,6 +132,7 @@ fn called<R: Threads + Wait + Sync + AllocGlobal>(
     Ok(Outcome {
         status: finish.status,
         logged: finish.log.is_some(),
+        published: published_of(&finish.closed),
         got: sink.got,
         reads: source.calls,
     })
@@ -140,6 +152,24 @@ fn a_script_runs_by_any_number_of_schedulers(rt: HostRuntime) -> Result<(), Fail
             assert!(rt; run.logged);
         }
     }
+    Ok(())
+}
+
+/// A run that keeps its server in plain memory alone has no such table.
+#[test]
+fn closed_table(rt: HostRuntime) -> Result<(), Fail> {
+    for words in RUNS {
+        for (script, published) in [(FIRST, 1), (THREE_VERSIONS, 2)] {
+            let run = outcome_of(&rt, words, script.as_bytes(), CALM)?;
+            assert_eq!(rt; run.published, Some(published), "at {words:?}");
+        }
+    }
+    let both = format!(in rt.alloc(); "{FIRST}{FIRST_REPORT}")?;
+    let check = outcome_of(&rt, CHECK, both.as_bytes(), CALM)?;
+    assert_eq!(rt; (check.status, check.published), (0, None));
+    let make = &["make", "--seed", "1", "--size", "6"];
+    let made = outcome_of(&rt, make, b"", CALM)?;
+    assert_eq!(rt; (made.status, made.published), (0, None));
     Ok(())
 }
 
@@ -208,18 +238,18 @@ fn the_report_of_the_empty_script_is_cut(rt: HostRuntime) -> Result<(), Fail> {
 
 #[test]
 fn a_source_that_fails_leaves_nothing_written(rt: HostRuntime) -> Result<(), Fail> {
-    // The 97 bytes of the script are read in so many calls, the last of which finds the end.
-    for (piece, calls) in [(1, 98), (7, 15), (65_536, 2)] {
-        for call in 1..=100 {
+    // The 97 bytes of the script are read in calls up to this one, which is not made: the one before finds the end.
+    for (piece, unmade) in [(1, 99), (7, 16), (65_536, 3)] {
+        for call in 1..=unmade {
             let outside = Outside {
                 read_piece: piece,
                 read_fails: call,
                 ..CALM
             };
             let run = outcome_of(&rt, RUN, FIRST.as_bytes(), outside)?;
-            let wanted = if call > calls { 0 } else { 4 };
+            let wanted = if call == unmade { 0 } else { 4 };
             assert_eq!(rt; run.status, wanted, "pieces of {piece}, fails at {call}");
-            assert_eq!(rt; run.got.is_empty(), call <= calls);
+            assert_eq!(rt; run.got.is_empty(), call != unmade);
         }
     }
     Ok(())

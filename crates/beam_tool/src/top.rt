@@ -1,4 +1,4 @@
-ghost use Rattle.std.specs.Prelude.{◌≡◌, ◌≢◌, ◌≤◌, ◌<◌, ◌⊎◌, ℕ, false, List, Some, None, IfOk, IsErrOf, IsTrue, length, map, string_bytes};
+ghost use Rattle.std.specs.Prelude.{◌≡◌, ◌≢◌, ◌≤◌, ◌<◌, ◌⊎◌, ◌↔◌, ℕ, false, List, Some, None, IfOk, IsErrOf, IsTrue, length, map, string_bytes};
 ghost use Rattle.prgr_core.specs.EventText.{EventText};
 ghost use Rattle.prgr_core.specs.declared.event.Events.{Events};
 ghost use Rattle.prgr_core.specs.declared.progress.Progress.{Progress};
@@ -12,6 +12,7 @@ ghost use Rattle.report_text.specs.declared.fault.ReportFault.{ReportFault};
 ghost use Rattle.outside.specs.Outside.{Rose, TakesUpTo};
 ghost use Rattle.outside.specs.Parting.{script_part};
 ghost use Rattle.outside.specs.Inputs.{HasScriptAndReport, HasFaultyReport};
+ghost use Rattle.beam_tool.specs.ClosedTables.{ClosingBy, HasTable, HasTableOfMade};
 ghost use Rattle.beam_tool.specs.TopCall.{form_of as the_form_of, most_taken, IsAccepted, IsNoList, IsUnlawful, lawful_text, not_lawful_text, Verdict, Answered, Reported, Checked, SourceFailed, SinkFailed, Delivered, Ends, IsWithinLimits, reads, runs, Summarized, Made};
 
 use crate::check_form::check_answer;
@@ -20,22 +21,26 @@ use crate::make_form::make_answer;
 use crate::progress_form::progress_answer;
 use crate::run_form::run_answer;
 use crate::trial_form::trial_answer;
+use crate::work::{Work, unrun};
 use outside::{
     Answer, DONE, LONGEST_CHECK, NO_MEMORY, NOT_ALLOWED, NOT_UNDERSTOOD, REFUSED, SINK_FAULT,
     SOURCE_FAULT, Sink, Source, Stop, write_whole,
 };
 use run_log::RunLog;
-use scheduler::Gate;
 use script_core::LONGEST_SCRIPT;
+use shared_words::Closed;
 use std::alloc::Global;
 use std::sync::Wait;
 use std::thread::Threads;
+use write_permit::Gate;
 
-/// How a call ended: its status, and the log of the run that it made.
-#[derive(Debug, Drop)]
+/// How a call ended: its status, the log of the run that it made, and the table of words that the threads of this run shared,
+/// as it was closed.
+#[derive(Drop)]
 pub struct Finish {
     pub status: u8,
     pub log: Option<RunLog>,
+    pub closed: Option<Closed>,
 }
 
 /// All that the program does: it takes the words after the program's name, reads the source where their form
@@ -55,6 +60,14 @@ pub fn beam_top<R: Threads + Wait + Sync, S: Source, K: Sink, G: Gate>(
         → Reported (S.left source.old) (S.left source.new) (K.got sink.old) (K.got sink.new) result.log }
     ensures headline_of_made { (seed size schedulers : ℕ) → the_form_of (map string_bytes words.now) ≡ Some (Form.Trial seed size schedulers) → result.status ≡ DONE
         → Summarized seed size (K.got sink.old) (K.got sink.new) result.log }
+
+    // Beside the log, and only there, stands the table that the run closed: it has published the generations of the log's journal, and
+    // has of each process one mark for each turn, in order, with that turn's generation and names.
+    ensures closed { (result.closed ≡ None) ↔ (result.log ≡ None) }
+    ensures closed_of_run { (schedulers : ℕ) → the_form_of (map string_bytes words.now) ≡ Some (Form.Run schedulers) → result.log ≢ None
+        → HasTable (S.left source.old) (S.left source.new) result.log result.closed }
+    ensures closed_of_made { (seed size schedulers : ℕ) → the_form_of (map string_bytes words.now) ≡ Some (Form.Trial seed size schedulers) → result.log ≢ None
+        → HasTableOfMade seed size result.log result.closed }
 
     // A script that is made is written by its canonical text, which reads as this script.
     ensures made { (seed size : ℕ) → the_form_of (map string_bytes words.now) ≡ Some (Form.Make seed size) → result.status ≡ DONE
@@ -158,15 +171,20 @@ fn ended<R: Threads + Wait + Sync, S: Source, K: Sink, G: Gate>(
     ensures ends { Ends (the_form_of (map string_bytes words.now)) (S.left source.old) (S.left source.new)
         (S.faults source.old) (S.faults source.new) (K.got sink.old) (K.got sink.new)
         (K.faults sink.old) (K.faults sink.new) result.status result.log }
+    ensures closing { ClosingBy (S.left source.old) (S.left source.new) (the_form_of (map string_bytes words.now)) result.log result.closed }
     ensures stops { TakesUpTo (most_taken (the_form_of (map string_bytes words.now))) (S.left source.old) (S.left source.new) }
     ensures unread { reads (the_form_of (map string_bytes words.now)) ≡ false → source.new ≡ source.old }
     ensures unwritten_at_source_fault { result.status ≡ SOURCE_FAULT → sink.new ≡ sink.old }
     ensures unwritten_at_no_memory { result.status ≡ NO_MEMORY → sink.new ≡ sink.old }
 {
     match form_of(words) {
-        None => deliver(sink, NOT_UNDERSTOOD, b"words not understood\n", None),
+        None => Finish {
+            status: deliver(sink, NOT_UNDERSTOOD, b"words not understood\n"),
+            log: None,
+            closed: None,
+        },
         Some(form) => match form_answer(rt, alloc, form, source, gate) {
-            Ok(Answer { status, log, text }) => deliver(sink, status, text.as_slice(), log),
+            Ok(work) => finished(sink, work),
             Err(Stop::SourceFault) => stopped(SOURCE_FAULT),
             Err(Stop::NoMemory) => stopped(NO_MEMORY),
         },
@@ -175,9 +193,14 @@ fn ended<R: Threads + Wait + Sync, S: Source, K: Sink, G: Gate>(
 
 /// A call that wrote nothing.
 fn stopped(status: u8) -> Finish
-    ensures { (result.status ≡ status) × (result.log ≡ None) }
+    ensures end { (result.status ≡ status) × (result.log ≡ None) }
+    ensures closed { result.closed ≡ None }
 {
-    Finish { status, log: None }
+    Finish {
+        status,
+        log: None,
+        closed: None,
+    }
 }
 
 /// What a form comes to apart from writing.
@@ -187,10 +210,11 @@ fn form_answer<R: Threads + Wait + Sync, S: Source, G: Gate>(
     form: Form,
     source: &mut S,
     gate: &G,
-) -> Result<Answer, Stop>
+) -> Result<Work, Stop>
     requires { IsWithinLimits form }
     ensures verdict { IfOk result
-        (λ a. Verdict (S.left source.old) (S.left source.new) (Some form) a.status a.log a.text) }
+        (λ w. Verdict (S.left source.old) (S.left source.new) (Some form) w.answer.status w.answer.log w.answer.text) }
+    ensures closing { IfOk result (λ w. ClosingBy (S.left source.old) (S.left source.new) (Some form) w.answer.log w.closed) }
     ensures failed { IsErrOf result Stop.SourceFault
         → Rose (S.faults source.old) (S.faults source.new) }
     ensures reading { IsErrOf result Stop.SourceFault → IsTrue (reads (Some form)) }
@@ -201,7 +225,7 @@ fn form_answer<R: Threads + Wait + Sync, S: Source, G: Gate>(
         Form::Run { schedulers } => run_answer(rt, alloc, schedulers, source, gate),
         Form::Check => check_answer(alloc, source),
         Form::Progress => progress_answer(alloc, source),
-        Form::Make { seed, size } => Ok(make_answer(alloc, seed, size)?),
+        Form::Make { seed, size } => Ok(unrun(make_answer(alloc, seed, size)?)),
         Form::Trial {
             seed,
             size,
@@ -210,17 +234,29 @@ fn form_answer<R: Threads + Wait + Sync, S: Source, G: Gate>(
     }
 }
 
-/// Writes the text whole and answers the status, or the sink's fault.
-fn deliver<K: Sink>(sink: &mut K, status: u8, text: &[u8], log: Option<RunLog>) -> Finish
+/// Writes what a form came to, and tells it.
+fn finished<K: Sink>(sink: &mut K, work: Work) -> Finish
     ensures delivered { Delivered (K.got sink.old) (K.got sink.new)
-        (K.faults sink.old) (K.faults sink.new) status text.now result.status }
-    ensures log { result.log ≡ log }
+        (K.faults sink.old) (K.faults sink.new) work.answer.status work.answer.text result.status }
+    ensures log { result.log ≡ work.answer.log }
+    ensures closed { result.closed ≡ work.closed }
+{
+    let Work { answer, closed } = work;
+    let Answer { status, log, text } = answer;
+    Finish {
+        status: deliver(sink, status, text.as_slice()),
+        log,
+        closed,
+    }
+}
+
+/// Writes the text whole and answers the status, or the sink's fault.
+fn deliver<K: Sink>(sink: &mut K, status: u8, text: &[u8]) -> u8
+    ensures { Delivered (K.got sink.old) (K.got sink.new)
+        (K.faults sink.old) (K.faults sink.new) status text.now result }
 {
     match write_whole(sink, text) {
-        Ok(()) => Finish { status, log },
-        Err(_) => Finish {
-            status: SINK_FAULT,
-            log,
-        },
+        Ok(()) => status,
+        Err(_) => SINK_FAULT,
     }
 }

@@ -1,5 +1,6 @@
 -- Each clause of the top call follows from how the call ended.
 use Rattle.beam_tool.proofs.TopCalls.{accepted_of, answered_of, checked_of, checked_unlawful_of, headline_of, known_of, made_of, no_log_of, no_log_unrun_of, sink_failed_of, source_failed_of, summarized_of}
+use Rattle.beam_tool.proofs.Closings.{closed_of, closed_of_made, closed_of_run}
 use Rattle.beam_tool.proofs.Complete.{complete_fault_of, complete_lawful_of, complete_make_of, complete_refusal_of, complete_replay_of, complete_report_fault_of, complete_run_of, complete_script_fault_of, complete_stop_of, complete_trial_of, complete_unlawful_of, complete_words_of, misread_of}
 use Rattle.std.specs.Prelude.{map, string_bytes}
 use Rattle.beam_tool.specs.declared.form.Form.TheVariants as forms
@@ -17,6 +18,15 @@ returns-clause-accepted g c n f e = accepted_of n c.ended.ensures.ends f e
 
 pub returns-clause-headline_of_made : goal.returns-clause-headline_of_made
 returns-clause-headline_of_made g c seed size n f e = summarized_of seed size n c.ended.ensures.ends f e
+
+pub returns-clause-closed : goal.returns-clause-closed
+returns-clause-closed g c = closed_of c.ended.ensures.closing
+
+pub returns-clause-closed_of_run : goal.returns-clause-closed_of_run
+returns-clause-closed_of_run g c n f logged = closed_of_run n c.ended.ensures.closing f logged
+
+pub returns-clause-closed_of_made : goal.returns-clause-closed_of_made
+returns-clause-closed_of_made g c seed size n f logged = closed_of_made seed size n c.ended.ensures.closing f logged
 
 pub returns-clause-made : goal.returns-clause-made
 returns-clause-made g c seed size f e = made_of seed size (form_sized (map string_bytes c.args.words.now) (forms.Make seed size) f).1 c.ended.ensures.ends f e
