@@ -3,7 +3,7 @@ use Rattle.std.proofs.Common.{◌≡◌, ◌==◌, ◌∙◌, ℕ, refl, ap, ari
 use Rattle.std.proofs.lemmas.Bool.Decides.{nat_tests}
 use Rattle.std.proofs.lemmas.Bool.{or_right}
 use Rattle.term_core.specs.declared.hold.Kind.TheVariants.{Frame}
-use Rattle.server_core.specs.ServerState.{Entry, ServerState}
+use Rattle.server_core.specs.ServerState.{Entry}
 use Rattle.machine_core.specs.declared.process.End.{End}
 use Rattle.machine_core.specs.declared.process.End.TheVariants.{Killed, SystemLimit}
 use Rattle.machine_core.specs.declared.process.TheConstants.{MOST_TURNS}
@@ -11,7 +11,7 @@ use Rattle.machine_core.specs.declared.process.TurnEnd.{TurnEnd}
 use Rattle.machine_core.specs.declared.process.TurnEnd.TheVariants.{Ended}
 use Rattle.machine_core.specs.Holds.{Holds, is_among, is_held}
 use Rattle.machine_core.specs.Process.{PlainFrame, PlainProcess, PlainValue, first_registers, frame_names, names_of, owned_values}
-use Rattle.machine_core.specs.Turn.{Ran, Step, begun, copied, doomed_serial, ended_with, executed, ran_of, step_of, turn_by, turn_of}
+use Rattle.machine_core.specs.Turn.{Ran, Step, begun, copied, doomed_serial, ended_with, executed, ran_of, step_of, turn_by}
 use Rattle.machine_core.specs.TurnEnds.{IsKilledFor}
 use Rattle.machine_core.proofs.NamedAreas.{instance_serials}
 use Rattle.machine_core.proofs.OwnEnds.{IsOwnEnd, IsOwnTurnEnd}
@@ -20,7 +20,6 @@ use Rattle.machine_core.proofs.SerialLists.{among-serials_of, same_first}
 use Rattle.machine_core.proofs.StepCases.{Came, it_calls, it_calls_out, it_ends, IsCalled, call_refused, call_stacks, IsCalledOut, out_reaches, out_refused, called_out_is, came}
 use Rattle.machine_core.proofs.Turns.{is_below}
 use Rattle.machine_core.specs.Reads.{Reads, instr_at}
-use Rattle.machine_core.specs.ServerReads.{reads_of}
 
 -- a serial that is one of these, and passes
 abbrev Passes : (ℕ → Bool) → List ℕ → ℕ → Type 0

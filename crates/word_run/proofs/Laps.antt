@@ -19,7 +19,7 @@ use Rattle.inbox.specs.Ends.{Taking}
 use Rattle.run_law.specs.Newcomers.{Spawn}
 use Rattle.run_law.specs.Reading.{TracedBy}
 use Rattle.word_lap.specs.declared.process_run.ProcessRun.{ProcessRun}
-use Rattle.word_lap.specs.LapTurns.{HadTurns, HoldsAsBefore, SomeKept}
+use Rattle.word_lap.specs.LapTurns.{HadTurns, HoldsAsBefore}
 use Rattle.word_lap.specs.Laps.{HasTried}
 use Rattle.word_lap.specs.Laws.{AttemptsKeepProcesses, ReportsKeepProcesses}
 use Rattle.word_lap.specs.Schedulers.{IsBetweenTurns, IsToken, KeepsProcesses}
@@ -27,7 +27,7 @@ use Rattle.word_lap.specs.Taking.{KeepsWhatCame}
 use Rattle.word_run.specs.declared.scheduler.Scheduler.{Scheduler}
 use Rattle.word_run.specs.declared.sight.Sight.{Sight}
 use Rattle.word_run.specs.Loaders.{AreInboxes}
-use Rattle.word_run.specs.Schedulers.{IsGiven, Keeps, KeepsBy, KeepsGiven}
+use Rattle.word_run.specs.Schedulers.{IsGiven, Keeps, KeepsBy}
 use Rattle.word_run.proofs.Waiting.{keeps_token, report_seen}
 
 -- ---- the member in a lap, with what it keeps

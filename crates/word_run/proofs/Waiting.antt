@@ -15,9 +15,9 @@ use Rattle.run_law.specs.Reading.{TracedBy}
 use Rattle.word_lap.specs.declared.process_run.ProcessRun.{ProcessRun}
 use Rattle.word_lap.specs.Laws.{ReportsKeepProcesses}
 use Rattle.word_lap.specs.Schedulers.{IsBetweenTurns, IsToken, KeepsProcesses}
-use Rattle.word_lap.specs.Waiting.{IsWaiting, WaitsAfter}
+use Rattle.word_lap.specs.Waiting.{WaitsAfter}
 use Rattle.word_run.specs.declared.scheduler.Scheduler.{Scheduler}
-use Rattle.word_run.specs.Schedulers.{IsSeatedBy, Keeps, KeepsBy}
+use Rattle.word_run.specs.Schedulers.{Keeps, KeepsBy}
 
 -- what is learnt of by a report
 pub report_seen : (functions : List Mfa) (old new : MemberView) (generation : ℕ) → Reported (IsServed functions) old new generation → (new.member.generation ≡ generation) × (length new.seen ≡ generation + 1)
