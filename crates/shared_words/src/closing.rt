@@ -63,6 +63,7 @@ fn take_in_all<N: Served>(table: &Words<N>, writer: &mut Seat<(), View>, mut mem
 pub fn close<N: Served>(alloc: Global, shared: Shared<N>, parts: Parts) -> Result<Closed, NoMemory>
     requires token { IsWriterSeat shared.table.shared.table_id shared.table.shared.key parts.writer.generation parts.writer.seat }
     requires members { AreAllMembers shared.table.shared.table_id shared.table.shared.key.members parts.members.items }
+    ensures table { IfOk result (λ closed. closed.writer.seat.table_id ≡ shared.table.shared.table_id) }
     ensures generation { IfOk result (λ closed. closed.writer.generation ≡ parts.writer.generation) }
     ensures members { IfOk result (λ closed. HasAllMembers parts.members.items (writer_of parts.writer.seat.me.0) (writer_of closed.writer.seat.me.0)) }
     ensures marks { IfOk result (λ closed. HaveMarks parts.members.items (writer_of closed.writer.seat.me.0)) }
@@ -112,6 +113,7 @@ fn copied<N: Served>(
     requires writer { writer.old.me.0 ≡ views.Writer (writer_of writer.old.me.0) }
     requires sized { table.now.table_id.words ≡ count }
     requires count { count ≡ TABLE_WORDS }
+    ensures table { OnOk result (writer.new.table_id ≡ writer.old.table_id) }
     ensures view { OnOk result (writer.new.me.0 ≡ writer.old.me.0) }
     ensures words { IfOk result (λ words. AreLastWords (writer_of writer.old.me.0) words.items) }
 {

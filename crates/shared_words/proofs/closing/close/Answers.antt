@@ -27,3 +27,7 @@ pub returns-clause-marks : goal.returns-clause-marks
 returns-clause-marks g c =
     subst (λ (w : WriterView). HaveMarks c.args.parts.members.items w) (sym (ap writer_of c.in_ok-words.ensures.view ∙ ap (λ m. writer_of m.0) c.load.ensures.2.same))
     (each_marked _ _ _ c.take_in_all.ensures.members (c.requires.members.all ∙ sym c.requires.token.made) (c.load.ensures.2.marked _ c.take_in_all.ensures.view))
+
+-- the writer's seat is of the same table
+pub returns-clause-table : goal.returns-clause-table
+returns-clause-table g c = c.in_ok-words.ensures.table ∙ c.load.ensures.0 ∙ c.take_in_all.ensures.token.same_table ∙ c.requires.token.of_table.same_table
