@@ -82,7 +82,7 @@ module _ {Served : Published → Type 0} {opening : Opening} (s : State (Unit {0
   -- what each seat knows stays with fewer generations that may be read
   same_knows : (c : ℕ) → r.writer.counter ≤ c → (place : ℕ) (v : View) → Knows r.writer place v → Knows (counter_kept c r.writer) place v
   same_knows c later place (Writer w) h = h
-  same_knows c later place (Member m) h = record { numbered = h.numbered; made = h.made; seen = h.seen; holds = h.holds; noted = h.noted; own_slots = h.own_slots; words = λ f among. kept_as r.writer (counter_kept c r.writer) refl refl (fewer c later) f (h.words f among) }
+  same_knows c later place (Member m) h = record { numbered = h.numbered; made = h.made; seen = h.seen; holds = h.holds; noted = h.noted; own_slots = h.own_slots; words = λ f among. kept_as r.writer (counter_kept c r.writer) refl refl refl (fewer c later) f (h.words f among) }
   same_knows c later place (Watcher w) h = record { numbered = h.numbered; made = h.made; seen = h.seen }
   same_knows c later place (Note n) h = record { behind = h.behind; seen = h.seen; noted = h.noted; learnt = h.learnt }
   same_knows c later place Spent h = h

@@ -1,6 +1,7 @@
 pub mod ShownMembers
 pub mod ShownViews
 pub mod SlotFrames
+pub mod BlockReads
 pub mod KeptWords
 pub mod Frames
 pub mod CounterLoads
@@ -23,6 +24,7 @@ pub mod SlotLoads
 pub mod LingeringLoads
 pub mod ShownWords
 pub mod WordStores
+pub mod EntryStores
 pub mod Mirrors
 pub mod RootStores
 pub mod Dropping

@@ -50,7 +50,7 @@ module _ {Served : Published → Type 0} {about : Opening} (s : State (Unit {0})
   long = length-set r.writer.members k m
 
   more : WriterGrows r.writer (taken k)
-  more = record { members = long; watchers = refl; learnt = λ xs is. is; noted = λ note is. is; words = kept_as r.writer (taken k) refl refl (λ g may. may) }
+  more = record { members = long; watchers = refl; learnt = λ xs is. is; noted = λ note is. is; words = kept_as r.writer (taken k) refl refl refl (λ g may. may) }
 
   same : members_shown (slice_set r.writer.members k m) (set r.seats k Spent) ≡ members_shown r.writer.members r.seats
   same = shown_taken r.writer.members r.seats k m knows.made at

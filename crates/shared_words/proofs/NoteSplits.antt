@@ -56,7 +56,7 @@ splits process s r may =
     let first = r.published.some in
     let behind : length w.members + length w.watchers ≤ length r.seats = omega (arith, r.published.made, r.published.watched, may.out, r.out) in
     let same = members_more w.members r.seats (Note n) (omega (arith, behind)) in
-    let more : WriterGrows w w' = record { members = refl; watchers = refl; learnt = λ xs is. is; noted = λ note among. (among.0, still_at w.notes (note_number process w ∷ []) among.0 note among.1); words = kept_as w w' refl refl (λ g may. may) } in
+    let more : WriterGrows w w' = record { members = refl; watchers = refl; learnt = λ xs is. is; noted = λ note among. (among.0, still_at w.notes (note_number process w ∷ []) among.0 note among.1); words = kept_as w w' refl refl refl (λ g may. may) } in
     let stay : LooksStay s.words s.words w w' = looks_same s.words w w' refl (ended_as w w' refl refl (omega arith)) in
     record {
       writer = w';

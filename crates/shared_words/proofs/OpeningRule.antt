@@ -250,7 +250,7 @@ at_push (z ∷ zs) y (suc k) x at = ⊎_elim (λ t. inl t) (λ (t : (k ≡ lengt
 -- what a seat knows says nothing of how many were handed out
 same_handed : (w : WriterView) (n place : ℕ) (v : View) → Knows w place v → Knows (record w { handed = n }) place v
 same_handed w n place (Writer other) h = h
-same_handed w n place (Member m) h = record { numbered = h.numbered; made = h.made; seen = h.seen; holds = h.holds; noted = h.noted; own_slots = h.own_slots; words = λ f among. kept_as w (record w { handed = n }) refl refl (λ g may. may) f (h.words f among) }
+same_handed w n place (Member m) h = record { numbered = h.numbered; made = h.made; seen = h.seen; holds = h.holds; noted = h.noted; own_slots = h.own_slots; words = λ f among. kept_as w (record w { handed = n }) refl refl refl (λ g may. may) f (h.words f among) }
 same_handed w n place (Watcher v) h = record { numbered = h.numbered; made = h.made; seen = h.seen }
 same_handed w n place (Note v) h = record { behind = h.behind; seen = h.seen; noted = h.noted; learnt = h.learnt }
 same_handed w n place Spent h = h

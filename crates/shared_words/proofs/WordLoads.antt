@@ -109,12 +109,12 @@ module _ {Served : Published → Type 0} {opening : Opening} (s : State (Unit {0
             let its = kept f among in
             let is : its.published ≡ p = one_only (slice_get r.writer.published f.generation) its.published p its.at (ap (slice_get r.writer.published) same ∙ at) in
             shown_word s.words f.word (omega (arith, behind)) ∙ r.words.mirrored f.word behind
-            ∙ its.stands (subst (λ (q : Published). IsTrue (reads_word (kind_at f.word) q)) (sym is) reads) (subst (MayBeRead r.writer) (sym same) counted) steady.block steady.at steady.is;
+            ∙ its.stands (subst (λ (q : Published). IsTrue (reads_word (kind_at f.word) q)) (sym is) reads) (subst (MayBeRead r.writer) (sym same) counted) steady.block steady.at steady.is steady.plain;
       }
 
   -- what a member finds stands
   finds : (k : ℕ) (m : MemberView) → get_elem? r.seats k ≡ some (Member m) → (f : BlockWord) → Among (with_block_word word (slice_index s.words word) m).blocks f → WordKept r.writer f
-  finds k m at f (zero, is) = subst (WordKept r.writer) (the_same f is) (record { published = held_by_view m; at = held_at s r k m at; stands = λ reads counted block place in_block. sym (r.words.mirrored word late) })
+  finds k m at f (zero, is) = subst (WordKept r.writer) (the_same f is) (record { published = held_by_view m; at = held_at s r k m at; stands = λ reads counted block place in_block plain. sym (r.words.mirrored word late) })
     where
       the_same : (f : BlockWord) → Some (record { generation = m.member.generation; word = word; value = slice_index s.words word }) ≡ Some f → record { generation = m.member.generation; word = word; value = slice_index s.words word } ≡ f
       the_same f is = cc

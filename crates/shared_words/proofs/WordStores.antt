@@ -1,11 +1,11 @@
 -- A store into a word of a block, or a retire or doom word, keeps the block invariant for the generations that count,
 -- and so the rule.
-use Rattle.std.proofs.Common.{◌≡◌, ℕ, ◌+◌, ◌-◌, ◌*◌, ◌/◌, ◌<◌, ◌≤◌, ◌⊎◌, true, false, not, ◌&&◌, List, length, length-set, set, get_or-set_other, get_or-set_same, refl, sym, ap, subst, ◌∙◌, arith}
+use Rattle.std.proofs.Common.{◌≡◌, ℕ, ◌+◌, ◌<◌, ◌≤◌, ◌⊎◌, true, false, not, ◌&&◌, List, length, length-set, set, get_or-set_other, get_or-set_same, refl, sym, ap, subst, ◌∙◌, arith}
 use mathlib.Core.Option.{none, some}
 use mathlib.Core.Logic.{dite}
 use native.Mathlib.Decide.{ℕ_discrete}
 use Rattle.std.specs.Prelude.{◌==◌, Some, slice_get, slice_set, slice_index, IsTrue}
-use Rattle.std.proofs.lemmas.Bool.{and_from, lt-ltb, le-ltb, eq-eqb, eqb-true, true≢false}
+use Rattle.std.proofs.lemmas.Bool.{eq-eqb, eqb-true, true≢false}
 use Rattle.std.proofs.lemmas.Bool.Decides.{nat_tests}
 use Rattle.atomic_table.specs.Table.{State, keeps, step, Allows}
 use Rattle.prgr_core.specs.Step.{IsSound}
@@ -18,22 +18,24 @@ use Rattle.area_core.specs.declared.table.KeptArea.{KeptArea}
 use Rattle.area_core.specs.Map.{word_at, kind_at, block_place, retire_place, doom_place, breakpoint_at, entry_at, slot_place}
 use Rattle.area_core.specs.Generations.{is_instance, is_retired, is_doomed, is_traced, has_function, is_entry_word, tells, names}
 use Rattle.area_core.specs.Blocks.{Blocks, BlockInvariant, Among, RootFits, IsForInstances, IsAnchor}
-use Rattle.area_core.specs.Readers.{reads_in_block, has_instance_in}
+use Rattle.area_core.specs.Readers.{reads_in_block}
 use Rattle.area_core.proofs.Places.{kind_place, kind_retire_place, kind_doom_place, word_here, word_there}
-use Rattle.area_core.proofs.Tests.{some_passes, filter_gives}
+use Rattle.area_core.proofs.Tests.{filter_gives}
 use Rattle.area_core.proofs.Frames.{code_after, breakpoints_after, terms_after, entries_after, retired_after, doomed_after, images_after, named_after, apart_after}
 use Rattle.area_core.proofs.BlockStores.{stored_off, block_within, same_block}
 use Rattle.shared_words.specs.declared.table.TheConstants.{ROOT, COUNTER, LEAD, DELAYS, CONFIRMED}
 use Rattle.shared_words.specs.declared.opening.Opening.{Opening}
+use Rattle.shared_words.specs.declared.view.BlockWord.{BlockWord}
 use Rattle.shared_words.specs.declared.view.WriterView.{WriterView}
 use Rattle.shared_words.specs.declared.view.View.{View}
 use Rattle.shared_words.specs.declared.view.View.TheVariants.{Writer}
 use Rattle.shared_words.specs.Shown.{members_shown, block_words, progress_of}
 use Rattle.shared_words.specs.Seats.{writer_of}
 use Rattle.shared_words.specs.Kinds.{Sat}
-use Rattle.shared_words.specs.Rule.{AreasStay, MayBeRead, MachineHolds, RunningRule}
+use Rattle.shared_words.specs.Rule.{AreasStay, MayBeRead, WordKept, MachineHolds, RunningRule}
 use Rattle.shared_words.specs.Publishing.{FitsInBlock, FitsRetire, FitsDoom, FitsWord, MayStoreWord, is_released, kept_left, with_word, word_stored}
 use Rattle.shared_words.proofs.ShownMembers.{within_get}
+use Rattle.shared_words.proofs.BlockReads.{reads_code, reads_breakpoint, reads_term, has_instance_at}
 use Rattle.shared_words.proofs.KeptWords.{kept_stored}
 use Rattle.marks.specs.declared.kept.LookKind.TheVariants.{Both}
 use Rattle.shared_words.specs.Slots.{IsClear}
@@ -44,39 +46,18 @@ use Rattle.shared_words.proofs.Frames.{after_step, progress_words}
 use Rattle.shared_words.proofs.AreaReleases.{unless, not_both, released}
 use Rattle.shared_words.proofs.WriterFrames.{writer_step, writer_at}
 
--- ---- which words a generation reads
-
-reads_code : (p : Published) (block at : ℕ) → block ≡ p.root.code → block < 3 → reads_in_block p block at ≡ true
-reads_code p block at same low = rw (lt-ltb block 3 low) (eq-eqb block p.root.code same)
-
-reads_breakpoint : (p : Published) (block at : ℕ) → block ≡ 3 + p.root.bp → block < 5 → has_instance_in p (9 + at / 16) ≡ true → reads_in_block p block at ≡ true
-reads_breakpoint p block at same low has =
-    let high : 3 ≤ block = omega (arith) in
-    rw (le-ltb block 3 high, lt-ltb block 5 low, eq-eqb block (3 + p.root.bp) same) has
-
-reads_term : (p : Published) (block at : ℕ) → block ≡ 5 + p.root.term → block < 9 → reads_in_block p block at ≡ true
-reads_term p block at same low =
-    let high : 3 ≤ block = omega (arith) in
-    let higher : 5 ≤ block = omega (arith) in
-    rw (le-ltb block 3 high, le-ltb block 5 higher, lt-ltb block 9 low) (eq-eqb block (5 + p.root.term) same)
-
-has_instance_at : (p : Published) (a : AreaRef) (function at : ℕ) → Among p.areas a → IsTrue (is_instance p a.serial) → 9 ≤ a.block → function < 16 → at ≡ (a.block - 9) * 16 + function → has_instance_in p (9 + at / 16) ≡ true
-has_instance_at p a function at among instance high few is =
-    let row : a.block ≡ 9 + at / 16 = omega (arith) in
-    some_passes (λ a. (a.block == 9 + at / 16) && is_instance p a.serial) p.areas among.0 a among.1 (and_from (a.block == 9 + at / 16) (is_instance p a.serial) (eq-eqb a.block (9 + at / 16) row) instance)
-
 -- ---- one word is stored
 
 -- what is owed of a word of this kind that becomes this value, for each generation that counts
-record Owes (published : List Published) (kept : List KeptArea) (Counts : ℕ → Type 0) (kind : WordKind) (value : ℕ) : Type 0 where
-  slot : kind ≡ Slot → ⊥
-  code : (g : ℕ) (p : Published) → Counts g → slice_get published g ≡ Some p → RootFits p.root → (entry : ℕ) → entry < EXPORT_ENTRIES → kind ≡ InBlock p.root.code entry → ⊥
-  breakpoints : (g : ℕ) (p : Published) → Counts g → slice_get published g ≡ Some p → RootFits p.root → (a : AreaRef) → Among p.areas a → IsTrue (is_instance p a.serial) → IsForInstances a.block → (function : ℕ) → function < FUNCTIONS → kind ≡ InBlock (BREAKPOINTS_START + p.root.bp) (breakpoint_at a.block function) → ⊥
-  terms : (g : ℕ) (p : Published) → Counts g → slice_get published g ≡ Some p → RootFits p.root → (place : ℕ) → place < BIG_WORDS → kind ≡ InBlock (TERMS_START + p.root.term) place → ⊥
-  entries : (g : ℕ) (p : Published) → Counts g → slice_get published g ≡ Some p → (k : KeptArea) → Among kept k → (function : ℕ) → IsTrue (has_function k function) → kind ≡ InBlock k.area.block (entry_at function) → value ≡ 0 → is_traced p k.area.serial function ≡ false
-  retired : (g : ℕ) (p : Published) → Counts g → slice_get published g ≡ Some p → (k : KeptArea) → Among kept k → kind ≡ Retire k.area.block → tells value g ≡ is_retired p k.area.serial
-  doomed : (g : ℕ) (p : Published) → Counts g → slice_get published g ≡ Some p → (k : KeptArea) → Among kept k → kind ≡ Doom k.area.block → is_retired p k.area.serial ≡ false → tells value g ≡ is_doomed p k.area.serial
-  images : (k : KeptArea) → Among kept k → (place old : ℕ) → slice_get k.words place ≡ Some old → is_entry_word k place ≡ false → kind ≡ InBlock k.area.block place → value ≡ old
+pub record Owes (published : List Published) (kept : List KeptArea) (Counts : ℕ → Type 0) (kind : WordKind) (value : ℕ) : Type 0 where
+  pub slot : kind ≡ Slot → ⊥
+  pub code : (g : ℕ) (p : Published) → Counts g → slice_get published g ≡ Some p → RootFits p.root → (entry : ℕ) → entry < EXPORT_ENTRIES → kind ≡ InBlock p.root.code entry → ⊥
+  pub breakpoints : (g : ℕ) (p : Published) → Counts g → slice_get published g ≡ Some p → RootFits p.root → (a : AreaRef) → Among p.areas a → IsTrue (is_instance p a.serial) → IsForInstances a.block → (function : ℕ) → function < FUNCTIONS → kind ≡ InBlock (BREAKPOINTS_START + p.root.bp) (breakpoint_at a.block function) → ⊥
+  pub terms : (g : ℕ) (p : Published) → Counts g → slice_get published g ≡ Some p → RootFits p.root → (place : ℕ) → place < BIG_WORDS → kind ≡ InBlock (TERMS_START + p.root.term) place → ⊥
+  pub entries : (g : ℕ) (p : Published) → Counts g → slice_get published g ≡ Some p → (k : KeptArea) → Among kept k → (function : ℕ) → IsTrue (has_function k function) → kind ≡ InBlock k.area.block (entry_at function) → value ≡ 0 → is_traced p k.area.serial function ≡ false
+  pub retired : (g : ℕ) (p : Published) → Counts g → slice_get published g ≡ Some p → (k : KeptArea) → Among kept k → kind ≡ Retire k.area.block → tells value g ≡ is_retired p k.area.serial
+  pub doomed : (g : ℕ) (p : Published) → Counts g → slice_get published g ≡ Some p → (k : KeptArea) → Among kept k → kind ≡ Doom k.area.block → is_retired p k.area.serial ≡ false → tells value g ≡ is_doomed p k.area.serial
+  pub images : (k : KeptArea) → Among kept k → (place old : ℕ) → slice_get k.words place ≡ Some old → is_entry_word k place ≡ false → kind ≡ InBlock k.area.block place → value ≡ old
 
 module _ (words : List ℕ) (published : List Published) (kept : List KeptArea) (Counts : ℕ → Type 0) (all : length words ≡ TABLE_WORDS) (word value : ℕ) (within : word < TABLE_WORDS) where
   abbrev b : Blocks
@@ -250,16 +231,18 @@ module _ {Served : Published → Type 0} {opening : Opening} (s : State (Unit {0
         leader_made = subst (λ (n : ℕ). n ≤ length w'.members) (sym (get_or-set_other s.words word LEAD value 0 (λ e. absurd (omega arith)))) (subst (λ xs. slice_index s.words LEAD ≤ length xs) (sym members) r.machine.leader_made);
       }
 
-  pub word_stores : (word value : ℕ) → MayStoreWord r.writer word value → RunningRule Served opening (after_step s (set s.words word value) 0 (Writer (with_word word value r.writer)))
-  word_stores word value may =
+  -- a store behind the slots, by what it leaves of the words that members found, and by what it keeps and owes
+  pub stores_behind : (word value : ℕ) → (RETIRE_START ≤ word) × (word < TABLE_WORDS) → ((f : BlockWord) → WordKept r.writer f → WordKept (with_word word value r.writer) f)
+      → BlockInvariant (record { word = word_at (block_words s.words); published = r.writer.published; kept = kept_left r.writer value (kind_at word) }) (MayBeRead r.writer) → Owes r.writer.published (kept_left r.writer value (kind_at word)) (MayBeRead r.writer) (kind_at word) value
+      → RunningRule Served opening (after_step s (set s.words word value) 0 (Writer (with_word word value r.writer)))
+  stores_behind word value placed found left owes =
       let w = r.writer in
-      let placed = word_placed w word value (kind_at word) refl may in
       let late = placed.0 in
       let within = placed.1 in
       let size = r.words.all in
       let shown = shown_stored s.words word value (omega (arith, late)) (omega (arith, size)) in
       let w' : WriterView = with_word word value w in
-      writer_step s r (set s.words word value) w' (record { members = refl; watchers = refl; learnt = λ xs is. is; noted = λ note is. is; words = kept_stored w word value may }) refl refl refl
+      writer_step s r (set s.words word value) w' (record { members = refl; watchers = refl; learnt = λ xs is. is; noted = λ note is. is; words = found }) refl refl refl
       (record {
         looks = refl;
         ended = ended_as w w' refl refl (omega arith);
@@ -273,9 +256,17 @@ module _ {Served : Published → Type 0} {opening : Opening} (s : State (Unit {0
         mirrored = λ place behind. mirrored_still w.words s.words word value place (let mirror = r.words.mirror in omega (arith, within, mirror)) (omega (arith, within, size)) (r.words.mirrored place behind);
         reached = (let same = get_or-set_other s.words word COUNTER value 0 (λ e. absurd (omega arith)) in let before = r.words.reached in omega arith);
         blocks = subst (λ (ws : List ℕ). BlockInvariant (record { word = word_at ws; published = w.published; kept = kept_left w value (kind_at word) }) (MayBeRead w)) (sym shown)
-            (stored (block_words s.words) w.published (kept_left w value (kind_at word)) (MayBeRead w) (shown_words s.words r.words.all) word value within (kind_at word) refl (left_sound w (block_words s.words) value (kind_at word) (λ serial process anchor clear is. unnamed_shown serial process anchor clear is) may r.words.blocks) (owes_by w value (kind_at word) may));
+            (stored (block_words s.words) w.published (kept_left w value (kind_at word)) (MayBeRead w) (shown_words s.words r.words.all) word value within (kind_at word) refl left owes);
       })
       (machine_kept w' word value (omega (arith, late)) refl refl)
+
+  pub word_stores : (word value : ℕ) → MayStoreWord r.writer word value → RunningRule Served opening (after_step s (set s.words word value) 0 (Writer (with_word word value r.writer)))
+  word_stores word value may =
+      let w = r.writer in
+      stores_behind word value (word_placed w word value (kind_at word) refl may)
+      (kept_stored w word value may (word_at (block_words s.words)) r.words.blocks r.published.areas_stay.apart)
+      (left_sound w (block_words s.words) value (kind_at word) (λ serial process anchor clear is. unnamed_shown serial process anchor clear is) may r.words.blocks)
+      (owes_by w value (kind_at word) may)
 
 -- the writer may store a word of a block
 pub store_word_is_allowed : (Served : Published → Type 0) (opening : Opening) (slots id word value : ℕ) (me : Sat) → me.0 ≡ Writer (writer_of me.0) → MayStoreWord (writer_of me.0) word value

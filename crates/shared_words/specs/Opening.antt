@@ -41,7 +41,6 @@ writer_begun members watchers = record {
   handed = 0;
   watchers = watchers_begun watchers;
   notes = [];
-  patched = [];
   looks = nothing_kept;
   named = [];
   taken = [];

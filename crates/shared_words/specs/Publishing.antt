@@ -6,6 +6,7 @@ use Rattle.std.specs.Prelude.{◌≡◌, ◌≢◌, ◌⊎◌, ℕ, ◌==◌, Bo
 use Rattle.std.specs.List.{filter}
 use Rattle.atomic_table.specs.Table.{Step}
 use Rattle.term_core.specs.declared.area.AreaRef.{AreaRef}
+use Rattle.term_core.specs.declared.area.CodeRef.{CodeRef}
 use Rattle.area_core.specs.declared.map.WordKind.{WordKind}
 use Rattle.area_core.specs.declared.map.WordKind.TheVariants.{Machine, Slot, Retire, Doom, InBlock, Nowhere}
 use Rattle.area_core.specs.declared.table.Root.{Root}
@@ -27,7 +28,7 @@ use Rattle.shared_words.specs.declared.view.View.TheVariants.{Writer, Member, Wa
 use Rattle.shared_words.specs.Views.{newest, seen, held, blocks_found}
 use Rattle.shared_words.specs.Seats.{writer_of}
 use Rattle.shared_words.specs.Processes.{held_by_view, NamesArea}
-use Rattle.shared_words.specs.Rule.{MayBeRead, OldStays, RetiredStays, HasArea, IsKeptIn, AreApart}
+use Rattle.shared_words.specs.Rule.{MayBeRead, OldStays, RetiredStays, HasArea, IsKeptIn, AreApart, IsPlain}
 use Rattle.shared_words.specs.Kinds.{Sat}
 use Rattle.shared_words.specs.Slots.{IsClear}
 
@@ -88,6 +89,21 @@ with_word word value w = record w { words = slice_set w.words word value; kept =
 -- what the store of a word leaves of the writer's view
 abbrev pub word_stored : Step (Unit {0}) → Sat → ℕ → Sat → Type 0
 word_stored st me stored me' = me' ≡ (Writer (with_word st.word stored (writer_of me.0)), me.1)
+
+-- ---- the store of an entry word
+
+-- the entry word of a function of a kept area may become this: 0 only where no generation that may be read traces the function
+pub record MayStoreEntry (w : WriterView) (at : CodeRef) (on : Bool) : Type 0 where
+  pub area : KeptArea
+  pub kept : Among w.kept area
+  pub of : area.area ≡ at.area
+  pub has : IsTrue (has_function area at.function)
+  pub untraced : on ≡ false → EachMayBeRead w (λ g p. is_traced p at.area.serial at.function ≡ false)
+
+-- what the store of an entry word leaves of the writer's view; and it tells that kept areas have room in their blocks
+pub record entry_stored (st : Step (Unit {0})) (me : Sat) (stored : ℕ) (me' : Sat) : Type 0 where
+  pub view : me' ≡ (Writer (with_word st.word stored (writer_of me.0)), me.1)
+  pub fit : (k : KeptArea) → Among (writer_of me.0).kept k → FitsBlock k
 
 -- ---- the store of the root
 
@@ -182,7 +198,7 @@ pub record IsSteady (b : Blocks) (word : ℕ) : Type 0 where
   pub block : ℕ
   pub at : ℕ
   pub is : kind_at word ≡ InBlock block at
-  pub plain : (k : KeptArea) → Among b.kept k → k.area.block ≡ block → is_entry_word k at ≡ false
+  pub plain : IsPlain b.kept block at
 
 -- the member has found this word under the generation that it holds
 abbrev pub with_block_word : ℕ → ℕ → MemberView → MemberView

@@ -15,7 +15,7 @@ use Rattle.area_core.specs.declared.map.TheConstants.{TABLE_WORDS, PROCESSES, RE
 use Rattle.area_core.specs.declared.map.WordKind.TheVariants.{InBlock}
 use Rattle.area_core.specs.declared.table.KeptArea.{KeptArea}
 use Rattle.area_core.specs.declared.table.Published.{Published}
-use Rattle.area_core.specs.Generations.{is_current, is_used, is_retired, has_serial}
+use Rattle.area_core.specs.Generations.{is_current, is_used, is_retired, has_serial, is_entry_word}
 use Rattle.area_core.specs.Map.{word_at, slot_place, kind_at}
 use Rattle.area_core.specs.Readers.{reads_word}
 use Rattle.area_core.specs.Blocks.{Blocks, BlockInvariant, Among}
@@ -165,12 +165,16 @@ pub record IsOwn (members number process : ℕ) : Type 0 where
   pub below : process < PROCESSES
   pub own : process % members ≡ number
 
+-- no area that is kept in the block has an entry word at this place of it
+abbrev pub IsPlain : List KeptArea → ℕ → ℕ → Type 0
+IsPlain kept block at = (k : KeptArea) → Among kept k → k.area.block ≡ block → is_entry_word k at ≡ false
+
 -- a word of blocks that a member found under a generation: where that reads it, and a thread may read that, a word of a block
--- stands as it was found
+-- stands as it was found, but for entry words
 pub record WordKept (w : WriterView) (f : BlockWord) : Type 0 where
   pub published : Published
   pub at : slice_get w.published f.generation ≡ Some published
-  pub stands : IsTrue (reads_word (kind_at f.word) published) → MayBeRead w f.generation → (block at : ℕ) → kind_at f.word ≡ InBlock block at → word_at w.words f.word ≡ f.value
+  pub stands : IsTrue (reads_word (kind_at f.word) published) → MayBeRead w f.generation → (block at : ℕ) → kind_at f.word ≡ InBlock block at → IsPlain w.kept block at → word_at w.words f.word ≡ f.value
 
 -- what a member in the seat at this place, counted behind the writer's, knows
 pub record MemberKnows (w : WriterView) (place : ℕ) (m : MemberView) : Type 0 where

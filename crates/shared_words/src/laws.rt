@@ -1,6 +1,6 @@
 //! What holds of every state that meets the rule, not only of those that a run reaches.
 
-ghost use Rattle.shared_words.specs.Laws.{ShowsSound, KeepsWhatIsRead, ClearHolds};
+ghost use Rattle.shared_words.specs.Laws.{ShowsSound, KeepsWhatIsRead, StoresEntriesAlone, ClearHolds};
 
 use crate::law::Served;
 
@@ -10,10 +10,16 @@ pub fn rule_shows_a_sound_state<N: Served>()
     ensures { ShowsSound N.served }
 {}
 
-/// No word of a block that some token may load is one that the writer may store, but for an entry word of
-/// an area that a slot of the token names.
+/// No word of a block that some token may load is one that the writer may store by `store_word`, but for an
+/// entry word of an area that a slot of the token names.
 pub fn what_is_loaded_is_not_stored<N: Served>()
     ensures { KeepsWhatIsRead N.served }
+{}
+
+/// What the writer may store by `store_entry`, also while a token may load it, is an entry word of an area
+/// that is kept in its block: no other word of a block changes while it may be loaded.
+pub fn entry_words_alone_change<N: Served>()
+    ensures { StoresEntriesAlone N.served }
 {}
 
 /// An area that a look found clear in a kind is out of use: no slot names it in that kind, and no turn

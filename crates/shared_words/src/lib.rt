@@ -5,6 +5,7 @@
 mod closing;
 mod counter;
 mod drops;
+mod entries;
 mod law;
 mod laws;
 mod leader;
@@ -26,7 +27,8 @@ mod writer;
 pub use closing::{Closed, close};
 pub use law::Served;
 pub use laws::{
-    clear_areas_are_out_of_use, rule_shows_a_sound_state, what_is_loaded_is_not_stored,
+    clear_areas_are_out_of_use, entry_words_alone_change, rule_shows_a_sound_state,
+    what_is_loaded_is_not_stored,
 };
 pub use opening::Opening;
 pub use pass::Pass;

@@ -113,8 +113,6 @@ pub struct WriterView {
     pub watchers: WatcherViewList,
     /// For each process that a note was split for, the newest generation then.
     pub notes: NoteNumberList,
-    /// The entry words that a patch has stored. There are none yet.
-    pub patched: WordList,
     /// What it keeps of waits that are over, of anchors and turn words that it has looked at, and of its
     /// answers.
     pub looks: WriterKept,
