@@ -1,13 +1,12 @@
 -- A store of the entry word of a function of a kept area keeps the rule, also while threads read the word.
-use Rattle.std.proofs.Common.{◌≡◌, ℕ, ◌+◌, ◌*◌, ◌<◌, ◌≤◌, Bool, true, false, List, set, refl, sym, ap, subst, ◌∙◌, arith}
+use Rattle.std.proofs.Common.{◌≡◌, ℕ, ◌+◌, ◌<◌, ◌≤◌, Bool, true, false, set, refl, sym, ap, subst, ◌∙◌, arith}
 use mathlib.Core.Option.{none, some}
-use Rattle.core.specs.Int.{from_bool}
 use Rattle.std.specs.Prelude.{nat_lt, IsTrue}
 use Rattle.std.proofs.lemmas.Bool.{and_parts, ltb-true, true≢false}
 use Rattle.atomic_table.specs.Table.{State, keeps, step, Allows}
 use Rattle.term_core.specs.declared.area.AreaRef.{AreaRef}
 use Rattle.term_core.specs.declared.area.CodeRef.{CodeRef}
-use Rattle.area_core.specs.declared.map.TheConstants.{TABLE_WORDS, RETIRE_START, BIG_BLOCKS, AREAS_START, FUNCTIONS, BREAKPOINTS_START, TERMS_START}
+use Rattle.area_core.specs.declared.map.TheConstants.{BIG_BLOCKS, AREAS_START, BREAKPOINTS_START, TERMS_START}
 use Rattle.area_core.specs.declared.map.WordKind.{WordKind}
 use Rattle.area_core.specs.declared.map.WordKind.TheVariants.{InBlock}
 use Rattle.area_core.specs.declared.table.Published.{Published}
@@ -28,7 +27,7 @@ use Rattle.shared_words.specs.Shown.{block_words}
 use Rattle.shared_words.specs.Seats.{writer_of}
 use Rattle.shared_words.specs.Kinds.{Sat}
 use Rattle.shared_words.specs.Rule.{MayBeRead, RunningRule}
-use Rattle.shared_words.specs.Publishing.{MayStoreEntry, kept_left, with_word, entry_stored}
+use Rattle.shared_words.specs.Publishing.{MayStoreEntry, kept_left, with_word, word_stored}
 use Rattle.shared_words.specs.Laws.{IsKeptEntry}
 use Rattle.shared_words.proofs.Frames.{after_step}
 use Rattle.shared_words.proofs.KeptWords.{kept_patched}
@@ -54,15 +53,6 @@ entry_kind at k of fits has =
     let big : at.area.block < 64 = subst (λ (a : AreaRef). a.block < 64) of own.0 in
     let few = own.1 in
     kind_block at.area.block (entry_at at.function) (omega (arith, big)) (big_room at.area.block (entry_at at.function) big (omega (arith, few)))
-
--- and of the table
-pub entry_within : (w : WriterView) (at : CodeRef) (on : Bool) → MayStoreEntry w at on → ((k : KeptArea) → Among w.kept k → FitsBlock k) → entry_place at < TABLE_WORDS
-entry_within w at on may fit = block_within (entry_place at) at.area.block (entry_at at.function) (entry_kind at may.area may.of (fit may.area may.kept) may.has)
-
--- a Boolean as a number is the entry word
-pub number_is : (on : Bool) → from_bool on ≡ entry_word on
-number_is true = refl
-number_is false = refl
 
 -- ---- the store
 
@@ -135,18 +125,17 @@ module _ {Served : Published → Type 0} {opening : Opening} (s : State (Unit {0
   entry_kept = record { block = block; at = place; is = is; area = may.area; among = may.kept; here = same; entry = entry_is may.area at.function may.has }
 
 -- the writer may store an entry word
-pub store_entry_is_allowed : (Served : Published → Type 0) (opening : Opening) (slots id word value : ℕ) (at : CodeRef) (on : Bool) (me : Sat) → (entry_place at < TABLE_WORDS → word ≡ entry_place at) → value ≡ entry_word on → me.0 ≡ Writer (writer_of me.0) → MayStoreEntry (writer_of me.0) at on
-    → Allows (RunningRule Served opening) slots id me word (λ _. value) (λ _. entry_stored (step slots word value 0 none) me value)
+pub store_entry_is_allowed : (Served : Published → Type 0) (opening : Opening) (slots id word value : ℕ) (at : CodeRef) (on : Bool) (me : Sat) → word ≡ entry_place at → value ≡ entry_word on → me.0 ≡ Writer (writer_of me.0) → MayStoreEntry (writer_of me.0) at on
+    → Allows (RunningRule Served opening) slots id me word (λ _. value) (λ _. word_stored (step slots word value 0 none) me value)
 store_entry_is_allowed Served opening slots id word value code on me there stored is may s r wide at fits =
     let w = writer_of me.0 in
     let seat = writer_at s r id w (at ∙ ap some is) in
-    let fit : (k : KeptArea) → Among w.kept k → FitsBlock k = subst (λ (x : WriterView). (k : KeptArea) → Among x.kept k → FitsBlock k) seat.1 r.words.blocks.kept_fit in
     let done = entry_stores s r code on (subst (λ (x : WriterView). MayStoreEntry x code on) (sym seat.1) may) in
-    let here : entry_place code ≡ word = sym (there (entry_within w code on may fit)) in
+    let here : entry_place code ≡ word = sym there in
     let put : entry_word on ≡ value = sym stored in (
       Writer (with_word word value w),
       keeps,
       tt,
       subst (λ (z : ℕ × ℕ × ℕ × WriterView). RunningRule Served opening (after_step s (set s.words z.0 z.1) z.2 (Writer (with_word z.0 z.1 z.3)))) (λ i. (here i, put i, sym seat.0 i, seat.1 i)) done,
-      record { view = refl; fit = fit },
+      refl,
     )

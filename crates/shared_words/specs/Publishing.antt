@@ -2,11 +2,12 @@
 -- whoever holds a generation. What a store asks is said of what the writer knows: of the words as it has stored them,
 -- and of the generations that it does not know to have passed.
 -- Source: Erlang/OTP erts internal documentation, CodeLoading and Tracing; the words are this project's own.
-use Rattle.std.specs.Prelude.{◌≡◌, ◌≢◌, ◌⊎◌, ℕ, ◌==◌, Bool, true, false, not, ◌&&◌, List, [], ◌∷◌, ◌++◌, length, slice_get, slice_set, Option, Some, None, IsTrue}
+use Rattle.std.specs.Prelude.{◌≡◌, ◌≢◌, ◌⊎◌, ℕ, ◌<◌, ◌==◌, Bool, true, false, not, ◌&&◌, List, [], ◌∷◌, ◌++◌, length, slice_get, slice_set, Option, Some, None, IsTrue}
 use Rattle.std.specs.List.{filter}
 use Rattle.atomic_table.specs.Table.{Step}
 use Rattle.term_core.specs.declared.area.AreaRef.{AreaRef}
 use Rattle.term_core.specs.declared.area.CodeRef.{CodeRef}
+use Rattle.area_core.specs.declared.map.TheConstants.{FUNCTIONS}
 use Rattle.area_core.specs.declared.map.WordKind.{WordKind}
 use Rattle.area_core.specs.declared.map.WordKind.TheVariants.{Machine, Slot, Retire, Doom, InBlock, Nowhere}
 use Rattle.area_core.specs.declared.table.Root.{Root}
@@ -98,12 +99,8 @@ pub record MayStoreEntry (w : WriterView) (at : CodeRef) (on : Bool) : Type 0 wh
   pub kept : Among w.kept area
   pub of : area.area ≡ at.area
   pub has : IsTrue (has_function area at.function)
+  pub few : at.function < FUNCTIONS
   pub untraced : on ≡ false → EachMayBeRead w (λ g p. is_traced p at.area.serial at.function ≡ false)
-
--- what the store of an entry word leaves of the writer's view; and it tells that kept areas have room in their blocks
-pub record entry_stored (st : Step (Unit {0})) (me : Sat) (stored : ℕ) (me' : Sat) : Type 0 where
-  pub view : me' ≡ (Writer (with_word st.word stored (writer_of me.0)), me.1)
-  pub fit : (k : KeptArea) → Among (writer_of me.0).kept k → FitsBlock k
 
 -- ---- the store of the root
 

@@ -1,7 +1,7 @@
 //! The store of entry words, by which calls of a function look for a breakpoint or not.
 
 ghost use Rattle.std.specs.Prelude.{◌≡◌, ◌<◌};
-ghost use Rattle.area_core.specs.declared.map.TheConstants.{BIG_BLOCKS, TABLE_WORDS};
+ghost use Rattle.area_core.specs.declared.map.TheConstants.{BIG_BLOCKS, FUNCTIONS, TABLE_WORDS};
 ghost use Rattle.area_core.specs.Map.{block_place, entry_at};
 ghost use Rattle.area_core.specs.Stores.{entry_word};
 ghost use Rattle.shared_words.specs.declared.view.View.TheVariants as views;
@@ -9,29 +9,38 @@ ghost use Rattle.shared_words.specs.Seats.{IsWriterSeat, IsSameSeat, writer_of};
 ghost use Rattle.shared_words.specs.Publishing.{MayStoreEntry, with_word};
 
 use crate::law::Served;
-use crate::plays::StoreEntry;
+use crate::plays::StoreWord;
 use crate::seats::Writer;
 use crate::table::Shared;
-use area_core::TABLE_WORDS;
 use term_core::CodeRef;
 
 /// The first word of the blocks.
-const BLOCKS_START: u64 = 1493;
+const BLOCKS_START: u32 = 1493;
 
 /// How many words a block of an instance has.
-const BIG_WORDS: u64 = 1024;
+const BIG_WORDS: u32 = 1024;
 
-/// The place of the entry word of a function of an instance; where that were beyond the table, its last word.
-fn entry_place(at: CodeRef) -> u64
+/// Where a block has the entry word of the first function of its instance.
+const FIRST_ENTRY: u32 = 6;
+
+/// How many words a block has for each function of its instance.
+const ROW_WORDS: u32 = 4;
+
+/// The place of the entry word of a function of an instance.
+fn entry_place(at: CodeRef) -> u32
     requires big { at.area.block < BIG_BLOCKS }
+    requires few { at.function < FUNCTIONS }
     ensures there { result < TABLE_WORDS }
-    ensures place { block_place at.area.block (entry_at at.function) < TABLE_WORDS → result ≡ block_place at.area.block (entry_at at.function) }
+    ensures place { result ≡ block_place at.area.block (entry_at at.function) }
 {
-    let place = BLOCKS_START
-        + u64::from(at.area.block) * BIG_WORDS
-        + (u64::from(at.function) * 4 + 6);
-    let last = u64::from(TABLE_WORDS) - 1;
-    if place < last { place } else { last }
+    BLOCKS_START + at.area.block * BIG_WORDS + (at.function * ROW_WORDS + FIRST_ENTRY)
+}
+
+/// What is stored there: 1 where it is on.
+fn entry_word(on: bool) -> u64
+    ensures { result ≡ entry_word on }
+{
+    if on { 1 } else { 0 }
 }
 
 impl<N: Served> Shared<N> {
@@ -53,6 +62,6 @@ impl<N: Served> Shared<N> {
         let place = entry_place(at);
         self.table
             .shared
-            .store::<StoreEntry>(&mut writer.seat, place as usize, u64::from(on));
+            .store::<StoreWord>(&mut writer.seat, place as usize, entry_word(on));
     }
 }

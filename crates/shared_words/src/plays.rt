@@ -1,7 +1,7 @@
 //! What each kind of step tells. These types are for the proofs alone.
 
 ghost use Rattle.shared_words.specs.Kinds.{counter_loaded, root_loaded, confirmed, scanned, raised, lead_taken, lead_dropped, waiting_stored, entering_stored};
-ghost use Rattle.shared_words.specs.Publishing.{word_stored, entry_stored, root_stored, word_loaded};
+ghost use Rattle.shared_words.specs.Publishing.{word_stored, root_stored, word_loaded};
 ghost use Rattle.shared_words.specs.Drops.{release_stored, root_dropped};
 ghost use Rattle.shared_words.specs.Notes.{note_left, note_right, note_join};
 ghost use Rattle.shared_words.specs.Making.{handed_on, handed_out};
@@ -98,13 +98,6 @@ pub struct StoreWord;
 
 impl Play<(), View> for StoreWord {
     ghost then = { word_stored };
-}
-
-/// A store of the writer into the entry word of a function.
-pub struct StoreEntry;
-
-impl Play<(), View> for StoreEntry {
-    ghost then = { entry_stored };
 }
 
 /// The store of the root by which the writer publishes what is next.
