@@ -19,15 +19,16 @@ use Rattle.literal_areas.specs.Laws as areas
 use Rattle.run_law.specs.Answers.{HasLingering}
 use Rattle.word_permit.specs.declared.book.WordBook.{WordBook}
 use Rattle.word_permit.specs.Books.{IsWordBook}
-use Rattle.word_permit.specs.Looks.{HasLookedFor, newest_wait}
+use Rattle.word_permit.specs.Looks.{HasLooked, newest_wait}
 use Rattle.word_permit.proofs.Answered.{KeepsAnswers}
 use Rattle.word_permit.proofs.Looked.{linger_same}
 use Rattle.word_permit.proofs.Quiet.{book_found, with_writer}
 use Rattle.word_permit.proofs.Told.{linger_told}
 
 -- a look that named the instance may be kept
-pub may_linger : (w : WriterView) (serial process turn place word : ℕ) → HasLookedFor serial w (scans.Named process turn place word) → IsLooked w process serial turn
-may_linger w serial process turn place word found =
+pub may_linger : (w : WriterView) (serial process turn place word : ℕ) → HasLooked serial w (scans.Named process turn place word) → IsLooked w process serial turn
+may_linger w serial process turn place word looked =
+    let found = looked.1 in
     let read : Among w.looks.turns (record { wait = newest_wait w serial; process = process; turns = turn }) = (0, ap (λ (xs : List ReadTurn). slice_get xs 0) found.cause.1.turn_read.1) in
     record {
       read = subst (λ wait. Among w.looks.turns (record { wait = wait; process = process; turns = turn })) (sym found.wait_is) read;
@@ -38,12 +39,12 @@ abbrev linger_of : ℕ → ℕ → Linger
 linger_of process turn = record { process = process; turn = turn }
 
 -- it is kept
-pub if_kept : (old new : WriterView) (found serial process turn place word : ℕ) → HasLookedFor serial old (scans.Named process turn place word) → new ≡ lingering_found found (lingering_of old process serial turn) old
+pub if_kept : (old new : WriterView) (found serial process turn place word : ℕ) → HasLooked serial old (scans.Named process turn place word) → new ≡ lingering_found found (lingering_of old process serial turn) old
     → (told : Option Linger) → told ≡ (if names_frame found serial then Some (linger_of process turn) else None) → IfSome told (HasLingering new.looks serial (newest old.published))
 if_kept old new found serial process turn place word looked is told same = subst (λ o. IfSome o (HasLingering new.looks serial (newest old.published))) (sym same) (by (names_frame found serial) is)
   where
     by : (b : Bool) → new ≡ (if b then with_lingering (lingering_of old process serial turn) old else old) → IfSome (if b then Some (linger_of process turn) else None) (HasLingering new.looks serial (newest old.published))
-    by true e = linger_told old new.looks serial (linger_of process turn) looked.cause.0 looked.wait_is (ap (λ (w : WriterView). w.looks) e)
+    by true e = linger_told old new.looks serial (linger_of process turn) looked.1.cause.0 looked.1.wait_is (ap (λ (w : WriterView). w.looks) e)
     by false e = tt
 
 -- or the writer knows what it knew

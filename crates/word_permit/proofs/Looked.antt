@@ -17,7 +17,7 @@ use Rattle.anchors.specs.declared.answers.Scan.{Scan}
 use Rattle.anchors.specs.Scans.{ScanCause}
 use Rattle.shared_words.specs.declared.opening.Opening.{Opening}
 use Rattle.shared_words.specs.declared.view.WriterView.{WriterView}
-use Rattle.shared_words.specs.Rule.{is_gone}
+use Rattle.shared_words.specs.Rule.{HasEnded, is_gone}
 use Rattle.shared_words.specs.Slots.{LookMayBegin, has_ended, is_gone_in, last_ended, wait_for}
 use Rattle.shared_words.specs.Views.{newest, published_at}
 use Rattle.shared_words.specs.Lingering.{lingering_found, with_lingering}
@@ -27,7 +27,7 @@ use Rattle.progress_words.specs.Tokens.{written_by}
 use Rattle.script_core.proofs.JoinedPlaces.{get_behind}
 use Rattle.staging.specs.declared.tables.Tables.{Tables}
 use Rattle.staging.specs.Whose.{AreTablesOf}
-use Rattle.word_permit.specs.Looks.{HasLookedFor, IsLastTaken, IsLookTaken, IsReached, newest_wait}
+use Rattle.word_permit.specs.Looks.{HasLookedFor, IsLastTaken, IsLookTaken, IsReached, KeepsLooks, before_look, newest_wait}
 
 -- ---- a look
 
@@ -86,12 +86,13 @@ module _ (w : WriterView) (some : 0 < length w.published) (reached : IsReached w
   among : Among w.pairs pair
   among = let taken = reached.taken in subst (λ ps. Among ps pair) (sym taken.pairs) (length taken.before + 0, get_behind taken.before (pair ∷ taken.after) 0)
 
+  -- which is over
+  pub wait_over : HasEnded w (newest_wait w serial)
+  wait_over = record { need = reached.need; kept = among; reached = reached.reached; published = newest_of w; at = newest_at w.published some; gone = gone }
+
   -- and may begin
   pub look_may : LookMayBegin w Frame serial
-  look_may = record {
-    generation = newest w.published;
-    ended = record { need = reached.need; kept = among; reached = reached.reached; published = newest_of w; at = newest_at w.published some; gone = gone };
-  }
+  look_may = record { generation = newest w.published; ended = wait_over }
 
 -- something is published
 pub some_published : {table : TableId} {opening : Opening} {t : Tables} → AreTablesOf table opening t → 0 < length (written_by t.writer).published
@@ -101,15 +102,41 @@ some_published of_table = let many = of_table.token.published in omega (arith, m
 wait_still : (old new : WriterView) (serial : ℕ) → IsSameButFound old new → wait_for new Frame serial ≡ wait_for old Frame serial
 wait_still old new serial same = ap (λ (w : WriterView). wait_for w Frame serial) same
 
+-- before it the writer knew what it knows now, but for what the look found
+was_before : (old new : WriterView) → IsSameButFound old new → before_look old new ≡ old
+was_before old new same = ap (before_look old) same
+
 -- what was found, said of the newest generation
-pub found_newest : (old new : WriterView) (serial : ℕ) (scan : Scan) → wait_for old Frame serial ≡ newest_wait old serial → IsSameButFound old new → ScanCause (wait_for old Frame serial) old new scan → HasLookedFor serial new scan
-found_newest old new serial scan is same cause =
+pub found_newest : (old new : WriterView) (serial : ℕ) (scan : Scan) → wait_for old Frame serial ≡ newest_wait old serial → HasEnded old (newest_wait old serial) → IsSameButFound old new → ScanCause (wait_for old Frame serial) old new scan → HasLookedFor serial old new scan
+found_newest old new serial scan is over same cause =
     let now : newest_wait old serial ≡ newest_wait new serial = ap (λ ps. record { generation = newest ps; serial = serial; kind = Frame }) (sym (ap (λ (w : WriterView). w.published) same)) in
+    let begun : old ≡ before_look old new = sym (was_before old new same) in
     record {
-      begun = old;
-      cause = subst (λ wait. ScanCause wait old new scan) (is ∙ now) cause;
+      over = subst (λ (w : WriterView). HasEnded w (newest_wait new serial)) begun (subst (HasEnded old) now over);
+      cause = subst (λ (w : WriterView). ScanCause (newest_wait new serial) w new scan) begun (subst (λ wait. ScanCause wait old new scan) (is ∙ now) cause);
       wait_is = wait_still old new serial same ∙ is ∙ now;
     }
+
+-- no word of a slot was loaded where the counter was
+pub looks_loaded : (old new : WriterView) → HasLoadedCounter old new → KeepsLooks old new
+looks_loaded old new loaded = record { looks = ap (λ (w : WriterView). w.looks) loaded.view; named = ap (λ (w : WriterView). w.named) loaded.view }
+
+pub looks_same : (w : WriterView) → KeepsLooks w w
+looks_same w = record { looks = refl; named = refl }
+
+-- a look that began when no word of a slot had been loaded yet was made since before then
+pub found_since : (old mid new : WriterView) (serial : ℕ) (scan : Scan) → KeepsLooks old mid → HasLookedFor serial mid new scan → HasLookedFor serial old new scan
+found_since old mid new serial scan kept found =
+    let begun : before_look mid new ≡ before_look old new =
+    ap (λ looks. record new { looks = looks; named = mid.named }) kept.looks ∙ ap (λ named. record new { looks = old.looks; named = named }) kept.named in
+    record {
+      over = subst (λ (w : WriterView). HasEnded w (newest_wait new serial)) begun found.over;
+      cause = subst (λ (w : WriterView). ScanCause (newest_wait new serial) w new scan) begun found.cause;
+      wait_is = found.wait_is;
+    }
+
+pub looks_kept : (old mid new : WriterView) → KeepsLooks old mid → KeepsLooks mid new → KeepsLooks old new
+looks_kept old mid new first second = record { looks = second.looks ∙ first.looks; named = second.named ∙ first.named }
 
 -- the value is the last that was taken still, where no other was
 pub still_last : (old new : WriterView) (need : ℕ) → new.pairs ≡ old.pairs → new.published ≡ old.published → IsLastTaken old (newest old.published) need → IsLastTaken new (newest new.published) need

@@ -21,6 +21,7 @@ use Rattle.progress_words.specs.Roots.{newest_of}
 use Rattle.progress_words.specs.Tokens.{written_by}
 use Rattle.anchors.specs.declared.answers.Scan.{Scan}
 use Rattle.anchors.specs.declared.answers.Scan.TheVariants as scans
+use Rattle.server_core.specs.declared.command.Applied.{Applied}
 use Rattle.server_core.specs.declared.command.Cmd.{Cmd}
 use Rattle.server_core.specs.declared.command.Cmd.TheVariants as cmds
 use Rattle.server_core.specs.declared.command.Linger.{Linger}
@@ -59,9 +60,9 @@ use Rattle.word_permit.specs.declared.book.WordBook.{WordBook}
 use Rattle.word_permit.specs.declared.purging.Purged.{Purged}
 use Rattle.word_permit.specs.declared.purging.Purged.TheVariants.{Softly, Wholly}
 use Rattle.word_permit.specs.Books.{HasGivenUp, HasTakenBack, IsWordBook}
-use Rattle.word_permit.specs.Looks.{HasLookedFor, IsLookTaken, IsReached}
+use Rattle.word_permit.specs.Looks.{HasLooked, HasLookedFor, IsLookTaken, IsReached, before_look}
 use Rattle.word_permit.specs.Notes.{AreOfSpawned}
-use Rattle.word_permit.specs.Purged.{EndsNext, HasDoomedCode, HasGrown, IsLookLate, IsOldCodeOf, IsToldBy, IsToldByDrop, JustLooks, LeavesServer, LookAnswers, PurgeAnswers, Purges, StillWaits, is_purge, purged_by, purging_command}
+use Rattle.word_permit.specs.Purged.{AwaitsFound, EndAnswers, EndsNext, EndsPurge, HasDoomedCode, HasGrown, IsLookLate, IsOldCodeOf, IsToldBy, IsToldByDrop, JustLooks, LeavesServer, LingersIn, LookAnswers, PurgeAnswers, Purges, StillWaits, is_purge, purged_by, purging_command}
 use Rattle.word_permit.specs.Waiting.{GoesOverWords, WordsStand}
 use Rattle.word_permit.proofs.Answered.{answered_joined}
 use Rattle.word_permit.proofs.Calls.{counts_none}
@@ -223,13 +224,13 @@ pub soft_told : (s : ServerState) (w : WriterView) (name : AtomId) (serial : ℕ
 soft_told s w name serial old kept is agree = subst (λ (o : Option ℕ). IfSome o (λ n. HasDrop kept Frame n (newest w.published))) (sym old) (drop_told w kept serial is)
 
 -- and by a purge, with whom the code has killed
-pub whole_told : (s : ServerState) (w : WriterView) (name : AtomId) (serial : ℕ) (killed : Bool) → old_of s name.0 ≡ Some serial → HasLookedFor serial w (scans.Clear killed) → IsToldByDrop s w serial (cmds.Purge name killed)
-whole_told s w name serial killed old found kept is agree =
-    subst (λ (o : Option ℕ). IfSome o (λ n. HasPurge kept n (newest w.published) killed)) (sym old) (purge_told found.begun w serial killed found.cause.0 agree kept is)
+pub whole_told : (s : ServerState) (w : WriterView) (name : AtomId) (serial : ℕ) (killed : Bool) → old_of s name.0 ≡ Some serial → HasLooked serial w (scans.Clear killed) → IsToldByDrop s w serial (cmds.Purge name killed)
+whole_told s w name serial killed old looked kept is agree =
+    subst (λ (o : Option ℕ). IfSome o (λ n. HasPurge kept n (newest w.published) killed)) (sym old) (purge_told (before_look looked.0 w) w serial killed looked.1.cause.0 agree kept is)
 
 -- the look was clear
-pub found_clear : (w : WriterView) (serial : ℕ) (killed : Bool) → HasLookedFor serial w (scans.Clear killed) → IsClear w Frame serial
-found_clear w serial killed found = found.cause.1
+pub found_clear : (w : WriterView) (serial : ℕ) (killed : Bool) → HasLooked serial w (scans.Clear killed) → IsClear w Frame serial
+found_clear w serial killed looked = looked.1.cause.1
 
 -- ---- a look
 
@@ -241,8 +242,8 @@ module _ (b m : WordBook) (looks : JustLooks b m) where
   shown_same = ap shown looks.plain
 
   -- what ended behind it
-  pub ends_behind : (who : ℕ) (c : WordBook) (step : CommandStep) → LookAnswers who m c step → PurgeAnswers who b c step
-  ends_behind who c (Done applied) h = record {
+  ends_done : (who : ℕ) (c : WordBook) (applied : Applied) → EndsPurge who m c applied → EndsPurge who b c applied
+  ends_done who c applied h = record {
     cmd = h.cmd;
     ends = subst (λ p. EndsNext p who h.cmd) shown_same h.ends;
     step = subst (λ p. ended_with p who h.cmd ≡ Some (record { state = shown c.plain; answer = steps.Done applied })) shown_same h.step;
@@ -250,18 +251,14 @@ module _ (b m : WordBook) (looks : JustLooks b m) where
         (subst (λ n. IsAnswerKept m.plain.server n (written_by c.tables.writer).looks h.cmd) (ap newest looks.published) h.told);
     none = h.none;
   }
+
+  ends_behind : (who : ℕ) (c : WordBook) (step : CommandStep) → EndAnswers who m c step → PurgeAnswers who b c step
+  ends_behind who c (Done applied) h = ends_done who c applied h
   ends_behind who c (NotYet answer) h = absurd h
   ends_behind who c AwaitRelease h = absurd h
-  ends_behind who c (Lingers process turn place word) h = record {
-    same = h.same ∙ shown_same;
-    published = h.published ∙ looks.published;
-    none = h.none;
-    serial = h.serial;
-    code = subst (λ (p : PermitState). IsSomeAnd (next_of p who) (λ command. IsOldCodeOf p.server command h.serial)) shown_same h.code;
-    found = h.found;
-  }
+  ends_behind who c (Lingers process turn place word) h = absurd h
 
-  pub ends_ok : (who : ℕ) (c : WordBook) (r : Result CommandStep NoMemory) → IfOk r (LookAnswers who m c) → IfOk r (PurgeAnswers who b c)
+  pub ends_ok : (who : ℕ) (c : WordBook) (r : Result CommandStep NoMemory) → IfOk r (EndAnswers who m c) → IfOk r (PurgeAnswers who b c)
   ends_ok who c (Ok step) h = ends_behind who c step h
   ends_ok who c (Err fault) h = tt
 
@@ -269,16 +266,16 @@ module _ (b m : WordBook) (looks : JustLooks b m) where
   taken_behind c (Ok step) h = tt
   taken_behind c (Err fault) h = record { same = h.same ∙ shown_same; published = h.published ∙ looks.published; none = h.none }
 
-  -- or who was found
-  looks_behind : (who : ℕ) (c : WordBook) (step : CommandStep) → LookAnswers who m c step → LookAnswers who b c step
-  looks_behind who c (Done applied) h = ends_behind who c (Done applied) h
-  looks_behind who c (NotYet answer) h = absurd h
-  looks_behind who c AwaitRelease h = absurd h
-  looks_behind who c (Lingers process turn place word) h = ends_behind who c (Lingers process turn place word) h
+  -- behind a look, whatever that found
+  looks_behind : (who : ℕ) (scan : Scan) (c : WordBook) (step : CommandStep) → EndAnswers who m c step → LookAnswers who scan b c step
+  looks_behind who scan c (Done applied) h = ends_done who c applied h
+  looks_behind who scan c (NotYet answer) h = absurd h
+  looks_behind who scan c AwaitRelease h = absurd h
+  looks_behind who scan c (Lingers process turn place word) h = absurd h
 
-  pub looks_ok : (who : ℕ) (c : WordBook) (r : Result CommandStep NoMemory) → IfOk r (LookAnswers who m c) → IfOk r (LookAnswers who b c)
-  looks_ok who c (Ok step) h = looks_behind who c step h
-  looks_ok who c (Err fault) h = tt
+  pub looks_ok : (who : ℕ) (scan : Scan) (c : WordBook) (r : Result CommandStep NoMemory) → IfOk r (EndAnswers who m c) → IfOk r (LookAnswers who scan b c)
+  looks_ok who scan c (Ok step) h = looks_behind who scan c step h
+  looks_ok who scan c (Err fault) h = tt
 
   -- the purge waits still
   pub late_behind : (who : ℕ) (answer : late.NotYet) → b.waiting ≡ None → IsLookLate m answer → IfSome b.look (λ value. value ≡ answer.need) → PurgeAnswers who b m (NotYet answer)
@@ -336,21 +333,33 @@ value_late (Err answer) c need look taken below = record {
 pub value_taken : (names : List Mfa) (table : TableId) (opening : Opening) (c : WordBook) (need : ℕ) → IsWordBook names table opening c → c.look ≡ Some need → IsLookTaken (written_by c.tables.writer) need
 value_taken names table opening c need known look = subst (λ (o : Option ℕ). IfSome o (IsLookTaken (written_by c.tables.writer))) look known.looked
 
--- the purge waits for whom the look found
-pub lingers_found : (who : ℕ) (b : WordBook) (command : ScriptCmd) (serial process turn place word : ℕ) → next_of (shown b.plain) who ≡ Some command → IsOldCodeOf b.plain.server command serial → (c : WordBook) → JustLooks b c → b.waiting ≡ None
-    → HasLookedFor serial (written_by c.tables.writer) (scans.Named process turn place word) → LookAnswers who b c (Lingers process turn place word)
-lingers_found who b command serial process turn place word next code c looks none found = record {
-  same = ap shown looks.plain;
-  published = looks.published;
-  none = looks.waiting ∙ none;
-  serial = serial;
-  code = some_at (next_of (shown b.plain) who) (λ x. IsOldCodeOf b.plain.server x serial) command next code;
-  found = found;
-}
+-- the purge waits for whom the look of this call found
+module _ (who : ℕ) (b m : WordBook) (command : ScriptCmd) (serial : ℕ) (scan : Scan) (next : next_of (shown b.plain) who ≡ Some command) (code : IsOldCodeOf b.plain.server command serial) (looks : JustLooks b m)
+    (found : HasLookedFor serial (written_by b.tables.writer) (written_by m.tables.writer) scan) where
+  lingers_behind : (c : WordBook) (process turn place word : ℕ) → AwaitsFound scan m c process turn place word → LingersIn who b c process turn place word
+  lingers_behind c process turn place word h = record {
+    same = h.same ∙ ap shown looks.plain;
+    published = ap (λ (w : WriterView). w.published) h.view ∙ looks.published;
+    none = h.none;
+    serial = serial;
+    code = some_at (next_of (shown b.plain) who) (λ x. IsOldCodeOf b.plain.server x serial) command next code;
+    found = subst (λ (w : WriterView). HasLookedFor serial (written_by b.tables.writer) w (scans.Named process turn place word)) (sym h.view)
+        (subst (HasLookedFor serial (written_by b.tables.writer) (written_by m.tables.writer)) h.found found);
+  }
+
+  answers_behind : (c : WordBook) (step : CommandStep) → LookAnswers who scan m c step → PurgeAnswers who b c step
+  answers_behind c (Done applied) h = ends_done b m looks who c applied h
+  answers_behind c (NotYet answer) h = absurd h
+  answers_behind c AwaitRelease h = absurd h
+  answers_behind c (Lingers process turn place word) h = lingers_behind c process turn place word h
+
+  pub found_ok : (c : WordBook) (r : Result CommandStep NoMemory) → IfOk r (LookAnswers who scan m c) → IfOk r (PurgeAnswers who b c)
+  found_ok c (Ok step) h = answers_behind c step h
+  found_ok c (Err fault) h = tt
 
 -- what was found, by the scan's case
-pub found_as : (w : WriterView) (serial : ℕ) (scan is : Scan) → scan ≡ is → HasLookedFor serial w scan → HasLookedFor serial w is
-found_as w serial scan is same found = subst (HasLookedFor serial w) same found
+pub found_as : (w : WriterView) (serial : ℕ) (scan is : Scan) → scan ≡ is → HasLooked serial w scan → HasLooked serial w is
+found_as w serial scan is same looked = subst (HasLooked serial w) same looked
 
 -- the answer that was kept is one of the newest generation still
 pub kept_still : (b m : WordBook) (serial : ℕ) (l : Linger) → JustLooks b m → HasLingering (written_by m.tables.writer).looks serial (newest (written_by b.tables.writer).published) l → HasLingering (written_by m.tables.writer).looks serial (newest (written_by m.tables.writer).published) l

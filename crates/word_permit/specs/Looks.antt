@@ -7,6 +7,7 @@ use Rattle.marks.specs.declared.kept.LookKind.TheVariants.{Frame}
 use Rattle.anchors.specs.declared.answers.Scan.{Scan}
 use Rattle.anchors.specs.Scans.{ScanCause}
 use Rattle.shared_words.specs.declared.view.WriterView.{WriterView}
+use Rattle.shared_words.specs.Rule.{HasEnded}
 use Rattle.shared_words.specs.Slots.{wait_for}
 use Rattle.shared_words.specs.Views.{newest}
 
@@ -31,9 +32,23 @@ pub record IsReached (w : WriterView) : Type 0 where
 abbrev pub newest_wait : WriterView → ℕ → EndedWait
 newest_wait w serial = record { generation = newest w.published; serial = serial; kind = Frame }
 
--- so it was found, by a look that began when the writer knew some of this
-pub record HasLookedFor (serial : ℕ) (new : WriterView) (scan : Scan) : Type 0 where
-  pub begun : WriterView
-  pub cause : ScanCause (newest_wait new serial) begun new scan
+-- no word of a slot was loaded since then
+pub record KeepsLooks (old new : WriterView) : Type 0 where
+  pub looks : new.looks ≡ old.looks
+  pub named : new.named ≡ old.named
+
+-- what the writer knows now, but of slots what it knew then
+abbrev pub before_look : WriterView → WriterView → WriterView
+before_look old new = record new { looks = old.looks; named = old.named }
+
+-- so it was found since then: all that the writer has learnt of slots since, it has learnt by this look
+pub record HasLookedFor (serial : ℕ) (old new : WriterView) (scan : Scan) : Type 0 where
+  -- the wait was over when the look began
+  pub over : HasEnded (before_look old new) (newest_wait new serial)
+  pub cause : ScanCause (newest_wait new serial) (before_look old new) new scan
   -- and the writer knows of no later wait that is over
   pub wait_is : wait_for new Frame serial ≡ newest_wait new serial
+
+-- so some look found it, at whatever time
+abbrev pub HasLooked : ℕ → WriterView → Scan → Type 0
+HasLooked serial new scan = (old : WriterView) × HasLookedFor serial old new scan

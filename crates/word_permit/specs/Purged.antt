@@ -11,6 +11,7 @@ use Rattle.shared_words.specs.Drops.{AgreesWithLooks, drop_of}
 use Rattle.shared_words.specs.Views.{newest}
 use Rattle.progress_words.specs.declared.answers.NotYet as late
 use Rattle.progress_words.specs.Tokens.{written_by}
+use Rattle.anchors.specs.declared.answers.Scan.{Scan}
 use Rattle.anchors.specs.declared.answers.Scan.TheVariants as scans
 use Rattle.server_core.specs.declared.change.Change.{Change}
 use Rattle.server_core.specs.declared.change.Change.TheVariants.{Condemn, DropOld}
@@ -126,14 +127,14 @@ pub record AwaitsLook (who : ℕ) (old new : WordBook) (answer : late.NotYet) : 
   pub none : new.waiting ≡ None
   pub since : StillWaits old new answer.need ⊎ HasDoomedCode who old new
 
--- the purge waits: a look found an anchor that names its old code for a frame, behind a wait at the newest generation
+-- the purge waits: a look that was made in this call, behind a wait at the newest generation, found an anchor that names its old code for a frame
 pub record LingersIn (who : ℕ) (old new : WordBook) (process turn place word : ℕ) : Type 0 where
   pub same : shown new.plain ≡ shown old.plain
   pub published : PublishesNone old new
   pub none : new.waiting ≡ None
   pub serial : ℕ
   pub code : IsSomeAnd (next_of (shown old.plain) who) (λ command. IsOldCodeOf old.plain.server command serial)
-  pub found : HasLookedFor serial (written_by new.tables.writer) (scans.Named process turn place word)
+  pub found : HasLookedFor serial (written_by old.tables.writer) (written_by new.tables.writer) (scans.Named process turn place word)
 
 -- the loader's command is done by this last command of the server, and the writer keeps what that tells of processes
 pub record EndsPurge (who : ℕ) (old new : WordBook) (applied : Applied) : Type 0 where
@@ -150,12 +151,26 @@ PurgeAnswers who old new (NotYet answer) = AwaitsLook who old new answer
 PurgeAnswers who old new AwaitRelease = ⊥
 PurgeAnswers who old new (Lingers process turn place word) = LingersIn who old new process turn place word
 
--- what is so where a call ends the command, or a look found who lingers
-abbrev pub LookAnswers : ℕ → WordBook → WordBook → CommandStep → Type 0
-LookAnswers who old new (Done applied) = EndsPurge who old new applied
-LookAnswers who old new (NotYet answer) = ⊥
-LookAnswers who old new AwaitRelease = ⊥
-LookAnswers who old new (Lingers process turn place word) = LingersIn who old new process turn place word
+-- what is so where a call ends the command
+abbrev pub EndAnswers : ℕ → WordBook → WordBook → CommandStep → Type 0
+EndAnswers who old new (Done applied) = EndsPurge who old new applied
+EndAnswers who old new (NotYet answer) = ⊥
+EndAnswers who old new AwaitRelease = ⊥
+EndAnswers who old new (Lingers process turn place word) = ⊥
+
+-- the look named this anchor, and nothing has changed since, nor was learnt
+pub record AwaitsFound (scan : Scan) (old new : WordBook) (process turn place word : ℕ) : Type 0 where
+  pub found : scan ≡ scans.Named process turn place word
+  pub same : shown new.plain ≡ shown old.plain
+  pub view : written_by new.tables.writer ≡ written_by old.tables.writer
+  pub none : new.waiting ≡ None
+
+-- what is so behind a look: the command ends, or waits for whom the look found
+abbrev pub LookAnswers : ℕ → Scan → WordBook → WordBook → CommandStep → Type 0
+LookAnswers who scan old new (Done applied) = EndsPurge who old new applied
+LookAnswers who scan old new (NotYet answer) = ⊥
+LookAnswers who scan old new AwaitRelease = ⊥
+LookAnswers who scan old new (Lingers process turn place word) = AwaitsFound scan old new process turn place word
 
 -- the same of each command that needs the permission
 pub record CommandAnswers (who : ℕ) (old new : WordBook) (step : CommandStep) : Type 0 where

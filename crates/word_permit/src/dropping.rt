@@ -8,7 +8,7 @@ ghost use Rattle.write_permit.specs.declared.answers.OpStep.TheVariants as steps
 ghost use Rattle.write_permit.specs.Book.{IsBook, shown};
 ghost use Rattle.write_permit.specs.Permit.{ended_with, holder_of};
 ghost use Rattle.word_permit.specs.Books.{HasTakenBack, IsWordBook};
-ghost use Rattle.word_permit.specs.Purged.{DropsCode, EndsNext, IsMadeBy, IsToldBy, IsToldByDrop, LeavesServer, LookAnswers};
+ghost use Rattle.word_permit.specs.Purged.{DropsCode, EndAnswers, EndsNext, IsMadeBy, IsToldBy, IsToldByDrop, LeavesServer};
 
 use crate::answers::CommandStep;
 use crate::book::{Decision, WordBook};
@@ -36,7 +36,7 @@ pub fn end_quietly<K: Naming>(
     requires ends { EndsNext (shown book.old.plain) who cmd }
     requires leaves { LeavesServer book.old.plain.script.modules book.old.plain.server cmd }
     requires told { IsToldBy book.old.plain.server (written_by book.old.tables.writer) (written_by book.old.tables.writer).looks cmd }
-    ensures ok { IfOk result (LookAnswers who book.old book.new) }
+    ensures ok { IfOk result (EndAnswers who book.old book.new) }
     ensures err { OnErr result (HasTakenBack book.old book.new) }
     ensures book { IsWordBook K.names _shared.now.table.shared.table_id _shared.now.table.shared.key book.new }
 {
@@ -78,7 +78,7 @@ pub fn drop_code<K: Naming>(
     requires ends { EndsNext (shown book.old.plain) who cmd }
     requires clear { IsClear (written_by book.old.tables.writer) Frame serial }
     requires told { IsToldByDrop book.old.plain.server (written_by book.old.tables.writer) serial cmd }
-    ensures ok { IfOk result (LookAnswers who book.old book.new) }
+    ensures ok { IfOk result (EndAnswers who book.old book.new) }
     ensures err { OnErr result (HasTakenBack book.old book.new) }
     ensures book { IsWordBook K.names shared.now.table.shared.table_id shared.now.table.shared.key book.new }
 {
@@ -133,7 +133,7 @@ fn end_dropped<K: Naming>(
     requires made { IsMadeBy (shown book.old.plain) decision }
     requires clear { IsClear (written_by book.old.tables.writer) Frame serial }
     requires told { IsToldByDrop book.old.plain.server (written_by book.old.tables.writer) serial decision.cmd }
-    ensures ok { IfOk result (LookAnswers who book.old book.new) }
+    ensures ok { IfOk result (EndAnswers who book.old book.new) }
     ensures err { OnErr result (HasTakenBack book.old book.new) }
     ensures book { IsWordBook K.names shared.now.table.shared.table_id shared.now.table.shared.key book.new }
 {
@@ -160,7 +160,7 @@ fn publish_drop<K: Naming>(
     requires drops { DropsCode decision.change _serial }
     requires clear { IsClear (written_by book.old.tables.writer) Frame _serial }
     requires told { IsToldByDrop book.old.plain.server (written_by book.old.tables.writer) _serial decision.cmd }
-    ensures ok { IfOk result (LookAnswers who book.old book.new) }
+    ensures ok { IfOk result (EndAnswers who book.old book.new) }
     ensures err { OnErr result (HasTakenBack book.old book.new) }
     ensures book { IsWordBook K.names shared.now.table.shared.table_id shared.now.table.shared.key book.new }
 {

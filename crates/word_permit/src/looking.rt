@@ -9,7 +9,7 @@ ghost use Rattle.progress_words.specs.Tokens.{written_by};
 ghost use Rattle.area_core.specs.Generations.{names_frame};
 ghost use Rattle.run_law.specs.Answers.{HasLingering};
 ghost use Rattle.word_permit.specs.Books.{IsWordBook};
-ghost use Rattle.word_permit.specs.Looks.{HasLookedFor, IsReached};
+ghost use Rattle.word_permit.specs.Looks.{HasLooked, HasLookedFor, IsReached, KeepsLooks};
 ghost use Rattle.word_permit.specs.Purged.{IsLookLate, JustLooks};
 
 use crate::book::WordBook;
@@ -35,7 +35,7 @@ pub fn look_for_code<K: Naming>(
     requires code { old_of book.old.plain.server «module».0 ≡ Some serial }
     ensures late { IfErr result (IsLookLate book.new) }
     ensures still { IfErr result (λ answer. IfSome book.old.look (λ value. value ≡ answer.need)) }
-    ensures found { IfOk result (HasLookedFor serial (written_by book.new.tables.writer)) }
+    ensures found { IfOk result (HasLookedFor serial (written_by book.old.tables.writer) (written_by book.new.tables.writer)) }
     ensures same { JustLooks book.old book.new }
     ensures book { IsWordBook K.names shared.now.table.shared.table_id shared.now.table.shared.key book.new }
 {
@@ -52,6 +52,7 @@ fn awaited_look<K: Naming>(book: &mut WordBook, shared: &Shared<CodeLaw<K>>) -> 
     ensures look { book.new.look ≡ Some result }
     ensures still { IfSome book.old.look (λ value. value ≡ result) }
     ensures same { JustLooks book.old book.new }
+    ensures looks { KeepsLooks (written_by book.old.tables.writer) (written_by book.new.tables.writer) }
     ensures book { IsWordBook K.names shared.now.table.shared.table_id shared.now.table.shared.key book.new }
 {
     match book.look {
@@ -66,6 +67,7 @@ pub fn take_look<K: Naming>(book: &mut WordBook, shared: &Shared<CodeLaw<K>>) ->
     ensures look { book.new.look ≡ Some result }
     ensures need { result ≡ (written_by book.new.tables.writer).counter + 2 }
     ensures same { JustLooks book.old book.new }
+    ensures looks { KeepsLooks (written_by book.old.tables.writer) (written_by book.new.tables.writer) }
     ensures book { IsWordBook K.names shared.now.table.shared.table_id shared.now.table.shared.key book.new }
 {
     counters_keep_index();
@@ -88,6 +90,7 @@ fn is_look_reached<K: Naming>(
     ensures late { IfErr result (IsLookLate book.new) }
     ensures asked { IfErr result (IsBelow value (written_by book.new.tables.writer)) }
     ensures same { JustLooks book.old book.new }
+    ensures looks { KeepsLooks (written_by book.old.tables.writer) (written_by book.new.tables.writer) }
     ensures book { IsWordBook K.names shared.now.table.shared.table_id shared.now.table.shared.key book.new }
 {
     counters_keep_index();
@@ -107,7 +110,7 @@ fn look_through_frames<K: Naming>(
     requires none { book.old.waiting ≡ None }
     requires reached { IsReached (written_by book.old.tables.writer) }
     requires code { old_of book.old.plain.server _module.0 ≡ Some serial }
-    ensures found { HasLookedFor serial (written_by book.new.tables.writer) result }
+    ensures found { HasLookedFor serial (written_by book.old.tables.writer) (written_by book.new.tables.writer) result }
     ensures same { JustLooks book.old book.new }
     ensures book { IsWordBook K.names shared.now.table.shared.table_id shared.now.table.shared.key book.new }
 {
@@ -146,7 +149,7 @@ pub fn keep_lingering<K: Naming>(
     _word: u64,
 ) -> Option<Linger>
     requires book { IsWordBook K.names shared.now.table.shared.table_id shared.now.table.shared.key book.old }
-    requires found { HasLookedFor serial (written_by book.old.tables.writer) (scans.Named process turn place _word) }
+    requires found { HasLooked serial (written_by book.old.tables.writer) (scans.Named process turn place _word) }
     ensures kept { IfSome result (HasLingering (written_by book.new.tables.writer).looks serial (newest (written_by book.old.tables.writer).published)) }
     ensures left { result ≡ None → written_by book.new.tables.writer ≡ written_by book.old.tables.writer }
     ensures same { JustLooks book.old book.new }

@@ -8,7 +8,7 @@ ghost use Rattle.write_permit.specs.declared.holder.Holder.TheVariants as holder
 ghost use Rattle.write_permit.specs.Book.{IsBook, shown};
 ghost use Rattle.write_permit.specs.Permit.{holder_of, next_of};
 ghost use Rattle.word_permit.specs.Books.{HasGivenUp, HasTakenBack, IsWordBook};
-ghost use Rattle.word_permit.specs.Looks.{HasLookedFor};
+ghost use Rattle.word_permit.specs.Looks.{HasLooked};
 ghost use Rattle.word_permit.specs.Purged.{HasGrown, LookAnswers, PurgeAnswers, purged_by, purging_command};
 ghost use Rattle.word_permit.specs.Waiting.{GoesOverWords};
 
@@ -165,8 +165,8 @@ fn end_wholly<K: Naming>(
     requires none { book.old.waiting ≡ None }
     requires holds { book.old.plain.holder ≡ holders.Purging who code.«module» }
     requires code { old_of book.old.plain.server code.«module».0 ≡ Some code.serial }
-    requires found { HasLookedFor code.serial (written_by book.old.tables.writer) scan }
-    ensures ok { IfOk result (LookAnswers who book.old book.new) }
+    requires found { HasLooked code.serial (written_by book.old.tables.writer) scan }
+    ensures ok { IfOk result (LookAnswers who scan book.old book.new) }
     ensures err { OnErr result (HasTakenBack book.old book.new) }
     ensures book { IsWordBook K.names shared.now.table.shared.table_id shared.now.table.shared.key book.new }
 {

@@ -10,8 +10,8 @@ ghost use Rattle.write_permit.specs.declared.holder.Holder.TheVariants as holder
 ghost use Rattle.write_permit.specs.Book.{shown};
 ghost use Rattle.write_permit.specs.Permit.{next_of};
 ghost use Rattle.word_permit.specs.Books.{HasTakenBack, IsWordBook};
-ghost use Rattle.word_permit.specs.Looks.{HasLookedFor};
-ghost use Rattle.word_permit.specs.Purged.{LookAnswers, PurgeAnswers};
+ghost use Rattle.word_permit.specs.Looks.{HasLooked};
+ghost use Rattle.word_permit.specs.Purged.{EndAnswers, LookAnswers, PurgeAnswers};
 
 use crate::answers::CommandStep;
 use crate::book::WordBook;
@@ -81,8 +81,8 @@ fn end_softly<K: Naming>(
     requires holds { book.old.plain.holder ≡ holders.Held who }
     requires next { next_of (shown book.old.plain) who ≡ Some (commands.SoftPurge code.«module») }
     requires code { old_of book.old.plain.server code.«module».0 ≡ Some code.serial }
-    requires found { HasLookedFor code.serial (written_by book.old.tables.writer) scan }
-    ensures ok { IfOk result (LookAnswers who book.old book.new) }
+    requires found { HasLooked code.serial (written_by book.old.tables.writer) scan }
+    ensures ok { IfOk result (LookAnswers who scan book.old book.new) }
     ensures err { OnErr result (HasTakenBack book.old book.new) }
     ensures book { IsWordBook K.names shared.now.table.shared.table_id shared.now.table.shared.key book.new }
 {
@@ -131,7 +131,7 @@ fn end_lingering<K: Naming>(
     requires next { next_of (shown book.old.plain) who ≡ Some (commands.SoftPurge code.«module») }
     requires code { old_of book.old.plain.server code.«module».0 ≡ Some code.serial }
     requires lingers { HasLingering (written_by book.old.tables.writer).looks code.serial (newest (written_by book.old.tables.writer).published) linger }
-    ensures ok { IfOk result (LookAnswers who book.old book.new) }
+    ensures ok { IfOk result (EndAnswers who book.old book.new) }
     ensures err { OnErr result (HasTakenBack book.old book.new) }
     ensures book { IsWordBook K.names shared.now.table.shared.table_id shared.now.table.shared.key book.new }
 {

@@ -2,7 +2,7 @@
 use Rattle.std.proofs.Common.{refl, ap}
 use Rattle.shared_words.specs.declared.view.WriterView.{WriterView}
 use Rattle.progress_words.specs.Tokens.{written_by}
-use Rattle.word_permit.proofs.Looked.{last_loaded}
+use Rattle.word_permit.proofs.Looked.{last_loaded, looks_loaded}
 use Rattle.word_permit.proofs.PurgeCalls.{value_late, value_reached, value_taken}
 use Rattle.word_permit.proofs.Quiet.{book_asked}
 use Rattle.word_permit.proofs.looking.is_look_reached.Goals as goal
@@ -21,6 +21,9 @@ returns-clause-late g c =
 
 pub returns-clause-same : goal.returns-clause-same
 returns-clause-same g c = record { plain = refl; published = ap (λ (w : WriterView). w.published) c.reached.ensures.loaded.view; waiting = refl }
+
+pub returns-clause-looks : goal.returns-clause-looks
+returns-clause-looks g c = looks_loaded (written_by c.args.book.now.tables.writer) (written_by c.reached.new.writer) c.reached.ensures.loaded
 
 pub returns-clause-book : goal.returns-clause-book
 returns-clause-book g c =

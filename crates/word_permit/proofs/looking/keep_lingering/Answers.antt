@@ -12,10 +12,10 @@ pub load_lingering-word-requires-clause-token : goal.load_lingering-word-require
 load_lingering-word-requires-clause-token g c = c.requires.book.has.tables.token
 
 pub load_lingering-word-requires-clause-process : goal.load_lingering-word-requires-clause-process
-load_lingering-word-requires-clause-process g c = c.requires.found.cause.0
+load_lingering-word-requires-clause-process g c = c.requires.found.1.cause.0
 
 pub load_lingering-word-requires-clause-place : goal.load_lingering-word-requires-clause-place
-load_lingering-word-requires-clause-place g c = (c.requires.found.cause.1.first, c.requires.found.cause.1.last)
+load_lingering-word-requires-clause-place g c = (c.requires.found.1.cause.1.first, c.requires.found.1.cause.1.last)
 
 pub load_lingering-word-requires-clause-looked : goal.load_lingering-word-requires-clause-looked
 load_lingering-word-requires-clause-looked g c = may_linger (written_by c.args.book.now.tables.writer) c.args.serial c.args.process c.args.turn c.args.place c.args._word c.requires.found

@@ -1,6 +1,7 @@
 -- The value is waited for, and then slots are looked through.
 use Rattle.std.proofs.Common.{◌∙◌}
-use Rattle.word_permit.proofs.Looked.{still_asked}
+use Rattle.progress_words.specs.Tokens.{written_by}
+use Rattle.word_permit.proofs.Looked.{found_since, looks_kept, still_asked}
 use Rattle.word_permit.proofs.PurgeCalls.{code_still, two_looks}
 use Rattle.word_permit.proofs.looking.look_for_code.Goals as goal
 
@@ -10,6 +11,12 @@ look_through_frames-requires-clause-none g c = c.is_look_reached.ensures.same.wa
 pub look_through_frames-requires-clause-code : goal.look_through_frames-requires-clause-code
 look_through_frames-requires-clause-code g c =
     code_still c.args.book.now c.is_look_reached.new.book c.args.«module».0 c.args.serial (two_looks c.args.book.now c.awaited_look-value.new.book c.is_look_reached.new.book c.awaited_look-value.ensures.same c.is_look_reached.ensures.same) c.requires.code
+
+pub returns-in-Ok-clause-found : goal.returns-in-Ok-clause-found
+returns-in-Ok-clause-found g c =
+    found_since (written_by c.args.book.now.tables.writer) (written_by c.is_look_reached.new.book.tables.writer) (written_by c.look_through_frames.new.book.tables.writer) c.args.serial c.look_through_frames.result
+    (looks_kept (written_by c.args.book.now.tables.writer) (written_by c.awaited_look-value.new.book.tables.writer) (written_by c.is_look_reached.new.book.tables.writer) c.awaited_look-value.ensures.looks c.is_look_reached.ensures.looks)
+    c.look_through_frames.ensures.found
 
 pub returns-in-Ok-clause-same : goal.returns-in-Ok-clause-same
 returns-in-Ok-clause-same g c =

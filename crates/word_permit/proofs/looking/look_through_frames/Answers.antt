@@ -2,7 +2,7 @@
 use Rattle.std.proofs.Common.{refl, ap}
 use Rattle.shared_words.specs.declared.view.WriterView.{WriterView}
 use Rattle.progress_words.specs.Tokens.{written_by}
-use Rattle.word_permit.proofs.Looked.{found_newest, look_may, some_published, wait_newest}
+use Rattle.word_permit.proofs.Looked.{found_newest, look_may, some_published, wait_newest, wait_over}
 use Rattle.word_permit.proofs.PurgeCalls.{gone_now}
 use Rattle.word_permit.proofs.Quiet.{book_looked}
 use Rattle.word_permit.proofs.looking.look_through_frames.Goals as goal
@@ -18,6 +18,7 @@ pub returns-clause-found : goal.returns-clause-found
 returns-clause-found g c =
     found_newest (written_by c.args.book.now.tables.writer) (written_by c.scan.new.writer) c.args.serial c.scan.result
     (wait_newest (written_by c.args.book.now.tables.writer) (some_published c.requires.book.has.tables) c.requires.reached c.args.serial (gone_now g.K.Naming.names _ _ c.args.book.now c.args._module.0 c.args.serial c.requires.book c.requires.none c.requires.code))
+    (wait_over (written_by c.args.book.now.tables.writer) (some_published c.requires.book.has.tables) c.requires.reached c.args.serial (gone_now g.K.Naming.names _ _ c.args.book.now c.args._module.0 c.args.serial c.requires.book c.requires.none c.requires.code))
     c.scan.ensures.more.same c.scan.ensures.cause
 
 pub returns-clause-same : goal.returns-clause-same

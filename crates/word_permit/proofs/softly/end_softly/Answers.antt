@@ -1,12 +1,10 @@
 -- The look was clear, or it named the old code.
-use Rattle.std.proofs.Common.{refl, sym, subst, ◌∙◌}
+use Rattle.std.proofs.Common.{ap, refl, ◌∙◌}
 use Rattle.script_core.specs.declared.script.ScriptCmd.TheVariants as commands
-use Rattle.anchors.specs.declared.answers.Scan.TheVariants as scans
 use Rattle.write_permit.specs.declared.holder.Holder.TheVariants as holders
+use Rattle.write_permit.specs.Book.{shown}
 use Rattle.progress_words.specs.Tokens.{written_by}
-use Rattle.shared_words.specs.declared.view.WriterView.{WriterView}
-use Rattle.word_permit.specs.Looks.{HasLookedFor}
-use Rattle.word_permit.proofs.PurgeCalls.{code_still, found_as, found_clear, held_holds, holder_still, kept_still, lingers_found, looks_ok, next_still, soft_ends, soft_told, taken_behind}
+use Rattle.word_permit.proofs.PurgeCalls.{code_still, found_as, found_clear, held_holds, holder_still, kept_still, looks_ok, next_still, none_looked, soft_ends, soft_told, taken_behind}
 use Rattle.word_permit.proofs.softly.end_softly.Goals as goal
 
 pub drop_code-requires-clause-holds : goal.drop_code-requires-clause-holds
@@ -20,6 +18,9 @@ drop_code-requires-clause-clear g c = found_clear (written_by c.args.book.now.ta
 
 pub drop_code-requires-clause-told : goal.drop_code-requires-clause-told
 drop_code-requires-clause-told g c = soft_told c.args.book.now.plain.server (written_by c.args.book.now.tables.writer) c.args.code.«module» c.args.code.serial c.requires.code
+
+pub returns-in-Clear-clause-ok : goal.returns-in-Clear-clause-ok
+returns-in-Clear-clause-ok g c = looks_ok c.args.book.now c.args.book.now (none_looked c.args.book.now) c.args.who c.args.scan c.drop_code.new.book c.drop_code.result c.drop_code.ensures.ok
 
 pub keep_lingering-requires-clause-found : goal.keep_lingering-requires-clause-found
 keep_lingering-requires-clause-found g c = found_as (written_by c.args.book.now.tables.writer) c.args.code.serial c.args.scan _ c.in-Named.is c.requires.found
@@ -40,13 +41,15 @@ pub end_lingering-requires-clause-lingers : goal.end_lingering-requires-clause-l
 end_lingering-requires-clause-lingers g c = kept_still c.args.book.now c.keep_lingering.new.book c.args.code.serial c.in-Some.linger c.keep_lingering.ensures.same c.in-Some.ensures.kept
 
 pub returns-in-Some-clause-ok : goal.returns-in-Some-clause-ok
-returns-in-Some-clause-ok g c = looks_ok c.args.book.now c.keep_lingering.new.book c.keep_lingering.ensures.same c.args.who c.end_lingering.new.book c.end_lingering.result c.end_lingering.ensures.ok
+returns-in-Some-clause-ok g c = looks_ok c.args.book.now c.keep_lingering.new.book c.keep_lingering.ensures.same c.args.who c.args.scan c.end_lingering.new.book c.end_lingering.result c.end_lingering.ensures.ok
 
 pub returns-in-Some-clause-err : goal.returns-in-Some-clause-err
 returns-in-Some-clause-err g c = taken_behind c.args.book.now c.keep_lingering.new.book c.keep_lingering.ensures.same c.end_lingering.new.book c.end_lingering.result c.end_lingering.ensures.err
 
 pub returns-in-None-clause-ok : goal.returns-in-None-clause-ok
-returns-in-None-clause-ok g c =
-    lingers_found c.args.who c.args.book.now (commands.SoftPurge c.args.code.«module») c.args.code.serial c.in-Named.process c.in-Named.turn c.in-Named.place c.in-Named.word c.requires.next c.requires.code c.keep_lingering.new.book c.keep_lingering.ensures.same c.requires.none
-    (subst (λ (w : WriterView). HasLookedFor c.args.code.serial w (scans.Named c.in-Named.process c.in-Named.turn c.in-Named.place c.in-Named.word)) (sym (c.in-None.ensures.left refl))
-    (found_as (written_by c.args.book.now.tables.writer) c.args.code.serial c.args.scan _ c.in-Named.is c.requires.found))
+returns-in-None-clause-ok g c = record {
+  found = c.in-Named.is;
+  same = ap shown c.keep_lingering.ensures.same.plain;
+  view = c.in-None.ensures.left refl;
+  none = c.keep_lingering.ensures.same.waiting ∙ c.requires.none;
+}

@@ -1,9 +1,10 @@
 -- The look is waited for, and then tells.
 use Rattle.std.proofs.Common.{refl, ◌∙◌}
+use Rattle.progress_words.specs.Tokens.{written_by}
 use Rattle.script_core.specs.declared.script.ScriptCmd.TheVariants as commands
 use Rattle.write_permit.specs.Book.{shown}
 use Rattle.write_permit.specs.declared.holder.Holder.TheVariants as holders
-use Rattle.word_permit.proofs.PurgeCalls.{code_still, ends_ok, held_holds, holder_still, late_behind, next_purges, next_still, none_waits, taken_behind}
+use Rattle.word_permit.proofs.PurgeCalls.{code_still, found_ok, held_holds, holder_still, late_behind, next_purges, next_still, none_waits, taken_behind}
 use Rattle.word_permit.proofs.softly.purge_softly.Goals as goal
 
 pub look_for_code-requires-clause-none : goal.look_for_code-requires-clause-none
@@ -23,8 +24,13 @@ end_softly-requires-clause-next g c = next_still c.args.book.now c.look_for_code
 pub end_softly-requires-clause-code : goal.end_softly-requires-clause-code
 end_softly-requires-clause-code g c = code_still c.args.book.now c.look_for_code.new.book c.args.code.«module».0 c.args.code.serial c.look_for_code.ensures.same c.requires.code
 
+pub end_softly-requires-clause-found : goal.end_softly-requires-clause-found
+end_softly-requires-clause-found g c = (written_by c.args.book.now.tables.writer, c.in-Ok.ensures.found)
+
 pub returns-in-Ok-clause-ok : goal.returns-in-Ok-clause-ok
-returns-in-Ok-clause-ok g c = ends_ok c.args.book.now c.look_for_code.new.book c.look_for_code.ensures.same c.args.who c.end_softly.new.book c.end_softly.result c.end_softly.ensures.ok
+returns-in-Ok-clause-ok g c =
+    found_ok c.args.who c.args.book.now c.look_for_code.new.book (commands.SoftPurge c.args.code.«module») c.args.code.serial c.in-Ok.scan c.requires.next c.requires.code c.look_for_code.ensures.same c.in-Ok.ensures.found
+    c.end_softly.new.book c.end_softly.result c.end_softly.ensures.ok
 
 pub returns-in-Ok-clause-err : goal.returns-in-Ok-clause-err
 returns-in-Ok-clause-err g c = taken_behind c.args.book.now c.look_for_code.new.book c.look_for_code.ensures.same c.end_softly.new.book c.end_softly.result c.end_softly.ensures.err
