@@ -69,6 +69,9 @@ waits_loaded old new loaded pair had = subst (λ (w : WriterView). Among w.pairs
 pub known_loaded : (old new : WriterView) → HasLoadedCounter old new → KeepsKnown old new
 known_loaded old new loaded = record { notes = ap (λ (w : WriterView). w.notes) loaded.view; looks = ap (λ (w : WriterView). w.looks) loaded.view; waits = waits_loaded old new loaded }
 
+pub counter_rises : (old new : WriterView) → HasLoadedCounter old new → old.counter ≤ new.counter
+counter_rises old new loaded = subst (λ (w : WriterView). old.counter ≤ w.counter) (sym loaded.view) loaded.rising
+
 pub waits_same : (old new : WriterView) → new.pairs ≡ old.pairs → KeepsWaits old new
 waits_same old new is pair had = subst (λ pairs. Among pairs pair) (sym is) had
 

@@ -1,6 +1,7 @@
 pub mod Growing
 pub mod SpawnedBefore
 pub mod Answered
+mod AreaLooks
 pub mod Awaiting
 pub mod Kept
 pub mod Ended

@@ -1,6 +1,7 @@
 -- What a call that pumps says of the book before it, where the counter or slots were looked at first.
 use Rattle.std.proofs.Common.{◌≡◌, ℕ, [], Some, IsTrue, IfOk, Result, Ok, Err, sym, subst, ◌∙◌}
 use Rattle.term_core.specs.declared.no_memory.NoMemory.{NoMemory}
+use Rattle.progress_words.specs.Tokens.{written_by}
 use Rattle.server_core.specs.ServerState.{is_retired}
 use Rattle.write_permit.specs.declared.answers.Pumped.TheVariants as plain
 use Rattle.write_permit.specs.declared.book.Book.{Book}
@@ -10,37 +11,48 @@ use Rattle.word_permit.specs.declared.answers.Pumped.{Pumped}
 use Rattle.word_permit.specs.declared.answers.Pumped.TheVariants.{Released, NotYet, Named, Nothing}
 use Rattle.word_permit.specs.declared.book.AreaNeed.{AreaNeed}
 use Rattle.word_permit.specs.declared.book.WordBook.{WordBook}
-use Rattle.word_permit.specs.Pumped.{PumpAnswers, ReleasesNone}
+use Rattle.word_permit.specs.Looks.{KeepsLooks}
+use Rattle.word_permit.specs.Pumped.{HasReleased, PumpAnswers, ReleasesNone}
+use Rattle.word_permit.proofs.AreaLooks.{named_since}
 
-module _ (b m c : WordBook) (first : ReleasesNone b m) (same : m.plain ≡ b.plain) (need : (before : AreaNeed) → b.need ≡ Some before → IsTrue (is_retired b.plain.server before.serial) → m.need ≡ Some before) where
+module _ (b m c : WordBook) (first : ReleasesNone b m) (same : m.plain ≡ b.plain) where
   releases_both : ReleasesNone m c → ReleasesNone b c
   releases_both h = record { same = h.same ∙ first.same; pools = h.pools ∙ first.pools; published = h.published ∙ first.published; waiting = h.waiting ∙ first.waiting }
 
   still_retired : (serial : ℕ) → IsTrue (is_retired m.plain.server serial) → IsTrue (is_retired b.plain.server serial)
   still_retired serial h = subst (λ (p : Book). IsTrue (is_retired p.server serial)) same h
 
-  pumped_through : (answer : Pumped) → PumpAnswers m c answer → PumpAnswers b c answer
-  pumped_through (Released serial) h = record {
+  -- an area is released
+  pub released_through : (serial : ℕ) → HasReleased serial m c → HasReleased serial b c
+  released_through serial h = record {
     waited = still_retired serial h.waited;
     step = subst (λ (p : Book). pumped (shown p) (Some serial) ≡ Some (record { state = shown c.plain; answer = plain.Released serial })) same h.step;
     published = h.published ∙ first.published;
     waiting = h.waiting ∙ first.waiting;
   }
-  pumped_through (NotYet answer) h = (
-    releases_both h.0,
-    record {
-      need = h.1.need;
-      kept = h.1.kept;
-      waits = still_retired h.1.need.serial h.1.waits;
-      taken = h.1.taken;
-      same = λ (before : AreaNeed) was waits. h.1.same before (need before was waits) (subst (λ (p : Book). IsTrue (is_retired p.server before.serial)) (sym same) waits);
-      value = h.1.value;
-      below = h.1.below;
-    },
-  )
-  pumped_through (Named serial process turn place word) h = (releases_both h.0, (still_retired serial h.1.0, h.1.1))
-  pumped_through Nothing h = (releases_both h.0, subst (λ (p : Book). p.server.retired ≡ []) same h.1)
 
-  pub pump_through : (r : Result Pumped NoMemory) → IfOk r (PumpAnswers m c) → IfOk r (PumpAnswers b c)
-  pump_through (Ok answer) h = pumped_through answer h
-  pump_through (Err fault) h = tt
+  module _ (need : (before : AreaNeed) → b.need ≡ Some before → IsTrue (is_retired b.plain.server before.serial) → m.need ≡ Some before)
+      (looks : KeepsLooks (written_by b.tables.writer) (written_by m.tables.writer)) where
+    pumped_through : (answer : Pumped) → PumpAnswers m c answer → PumpAnswers b c answer
+    pumped_through (Released serial) h = released_through serial h
+    pumped_through (NotYet answer) h = (
+      releases_both h.0,
+      record {
+        need = h.1.need;
+        kept = h.1.kept;
+        waits = still_retired h.1.need.serial h.1.waits;
+        taken = h.1.taken;
+        same = λ (before : AreaNeed) was waits. h.1.same before (need before was waits) (subst (λ (p : Book). IsTrue (is_retired p.server before.serial)) (sym same) waits);
+        value = h.1.value;
+        below = h.1.below;
+      },
+    )
+    pumped_through (Named serial process turn place word) h = (
+      releases_both h.0,
+      (still_retired serial h.1.0, named_since serial (written_by b.tables.writer) (written_by m.tables.writer) (written_by c.tables.writer) process turn place word looks h.1.1),
+    )
+    pumped_through Nothing h = (releases_both h.0, subst (λ (p : Book). p.server.retired ≡ []) same h.1)
+
+    pub pump_through : (r : Result Pumped NoMemory) → IfOk r (PumpAnswers m c) → IfOk r (PumpAnswers b c)
+    pump_through (Ok answer) h = pumped_through answer h
+    pump_through (Err fault) h = tt

@@ -1,5 +1,5 @@
 -- The counter is loaded, or slots are looked through: what stood for the server stands still.
-use Rattle.std.proofs.Common.{◌≡◌, ℕ, List, Option, Some, None, IfSome, slice_get, refl, sym, ap, subst}
+use Rattle.std.proofs.Common.{◌≡◌, ℕ, List, Option, Some, None, IfSome, refl, sym, ap, subst}
 use Rattle.atomic_table.specs.Seated.{TableId}
 use Rattle.prgr_core.specs.declared.member.Retirement.{Retirement}
 use Rattle.term_core.specs.declared.area.AreaRef.{AreaRef}
@@ -8,7 +8,6 @@ use Rattle.area_core.specs.declared.table.Published.{Published}
 use Rattle.area_core.specs.Blocks.{Among}
 use Rattle.marks.specs.declared.kept.DroppedArea.{DroppedArea}
 use Rattle.marks.specs.declared.kept.LingeringFrame.{LingeringFrame}
-use Rattle.marks.specs.declared.kept.ReadTurn.{ReadTurn}
 use Rattle.marks.specs.declared.kept.WriterKept.{WriterKept}
 use Rattle.shared_words.specs.declared.opening.Opening.{Opening}
 use Rattle.shared_words.specs.declared.seats.Writer as writers
@@ -16,9 +15,7 @@ use Rattle.shared_words.specs.declared.view.NamedAnchor.{NamedAnchor}
 use Rattle.shared_words.specs.declared.view.WriterView.{WriterView}
 use Rattle.progress_words.specs.Needs.{HasLoadedCounter}
 use Rattle.progress_words.specs.Tokens.{IsWriterOf, written_by}
-use Rattle.anchors.specs.declared.answers.Scan.{Scan}
-use Rattle.anchors.specs.declared.answers.Scan.TheVariants as scans
-use Rattle.anchors.specs.Scans.{LooksMore, ScanCause, scan_wait}
+use Rattle.anchors.specs.Scans.{LooksMore}
 use Rattle.server_core.specs.declared.change.Change.{Change}
 use Rattle.server_core.specs.ServerState.{ServerState}
 use Rattle.code_index.specs.declared.index.Staging.{Staging}
@@ -49,7 +46,6 @@ use Rattle.word_permit.specs.Looks.{IsLookTaken}
 use Rattle.word_permit.specs.Needs.{IsAwaited}
 use Rattle.word_permit.specs.Notes.{AreOfSpawned}
 use Rattle.word_permit.specs.Waiting.{WordsStand}
-use Rattle.word_permit.specs.Pumped.{LooksFound}
 use Rattle.word_permit.proofs.Answered.{KeepsAnswers, answered_more}
 use Rattle.word_permit.proofs.Awaiting.{need_still, waits_loaded, waits_same}
 use Rattle.word_permit.proofs.Looked.{if_loaded, if_still}
@@ -269,17 +265,3 @@ book_looked names table opening b writer known by_pools token more =
       dropped = λ d had. subst (λ (ds : List DroppedArea). Among ds d) (sym more.dropped) had;
       lingering = λ l had. subst (λ (ls : List LingeringFrame). Among ls l) (sym more.lingering) had;
     })
-
--- what the look found
-pub looks_found : (serial : ℕ) (old new : WriterView) (told : Scan) → ScanCause (scan_wait old None serial) old new told → LooksFound serial new told
-looks_found serial old new (scans.Named process turn place word) h = record {
-  below = h.0;
-  first = h.1.first;
-  last = h.1.last;
-  names = h.1.names;
-  wait = scan_wait old None serial;
-  serial_is = refl;
-  found = (0, ap (λ (xs : List NamedAnchor). slice_get xs 0) h.1.found);
-  turn_read = (0, ap (λ (xs : List ReadTurn). slice_get xs 0) h.1.turn_read.1);
-}
-looks_found serial old new (scans.Clear killed) h = h.1

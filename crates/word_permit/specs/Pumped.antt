@@ -1,17 +1,17 @@
 -- What a permit tells of areas that wait for their release, and what a release leaves.
 -- Source: Erlang/OTP, the manual page of persistent_term, and erts internal documentation, ThreadProgress; what is kept in the words is this project's own.
-use Rattle.std.specs.Prelude.{◌≡◌, ℕ, ◌-◌, ◌<◌, ◌≤◌, true, [], Some, IsTrue}
-use Rattle.area_core.specs.declared.map.TheConstants.{ANCHORS, PROCESSES}
-use Rattle.area_core.specs.Blocks.{Among}
+use Rattle.std.specs.Prelude.{◌≡◌, ℕ, ◌<◌, [], Some, IsTrue}
+use Rattle.area_core.specs.declared.map.TheConstants.{PROCESSES}
 use Rattle.marks.specs.declared.kept.EndedWait.{EndedWait}
 use Rattle.marks.specs.declared.kept.LookKind.TheVariants.{Both}
-use Rattle.marks.specs.Names.{names_in}
 use Rattle.shared_words.specs.declared.view.WriterView.{WriterView}
+use Rattle.shared_words.specs.Rule.{HasEnded}
 use Rattle.shared_words.specs.Slots.{IsClear}
 use Rattle.progress_words.specs.declared.answers.NotYet as late
 use Rattle.progress_words.specs.Tokens.{written_by}
 use Rattle.anchors.specs.declared.answers.Scan.{Scan}
 use Rattle.anchors.specs.declared.answers.Scan.TheVariants as scans
+use Rattle.anchors.specs.Scans.{IsSlotNamed}
 use Rattle.server_core.specs.ServerState.{is_retired}
 use Rattle.staging.specs.Stages.{IsLate}
 use Rattle.write_permit.specs.declared.answers.Pumped.TheVariants as plain
@@ -24,21 +24,20 @@ use Rattle.word_permit.specs.declared.book.WordBook.{WordBook}
 use Rattle.word_permit.specs.Books.{PublishesNone}
 use Rattle.word_permit.specs.Needs.{IsAwaited}
 
--- an anchor of a slot was found to name the area: after the last wait for it, and after the turn word of the slot was loaded
-pub record IsNamedBy (w : WriterView) (serial process turn place word : ℕ) : Type 0 where
+-- an anchor of a slot was found to name the area, after a wait for it that is over: it is the one that a look has named since then, and the turn word of its
+-- slot was loaded since then too
+pub record IsNamedBy (serial : ℕ) (old new : WriterView) (process turn place word : ℕ) : Type 0 where
   pub below : process < PROCESSES
-  pub first : 1 ≤ place
-  pub last : place ≤ ANCHORS
-  pub names : names_in Both word serial ≡ true
   pub wait : EndedWait
   pub serial_is : wait.serial ≡ serial
-  pub found : Among w.named (record { wait = wait; process = process; place = place - 1; word = word })
-  pub turn_read : Among w.looks.turns (record { wait = wait; process = process; turns = turn })
+  pub kind_is : wait.kind ≡ Both
+  pub over : HasEnded new wait
+  pub found : IsSlotNamed wait process turn place word old new
 
--- what a look through all slots found
-abbrev pub LooksFound : ℕ → WriterView → Scan → Type 0
-LooksFound serial w (scans.Named process turn place word) = IsNamedBy w serial process turn place word
-LooksFound serial w (scans.Clear killed) = IsClear w Both serial
+-- what a look through all slots has found since then
+abbrev pub LooksFound : ℕ → WriterView → WriterView → Scan → Type 0
+LooksFound serial old new (scans.Named process turn place word) = IsNamedBy serial old new process turn place word
+LooksFound serial old new (scans.Clear killed) = IsClear new Both serial
 
 -- an area that waited is released: its entry joined the journal by the runtime, and the server made it; what a loader waits for is as before
 pub record HasReleased (serial : ℕ) (old new : WordBook) : Type 0 where
@@ -70,5 +69,5 @@ abbrev pub PumpAnswers : WordBook → WordBook → Pumped → Type 0
 PumpAnswers old new (Released serial) = HasReleased serial old new
 PumpAnswers old new (NotYet answer) = ReleasesNone old new × IsAwaitedStill old new answer
 PumpAnswers old new (Named serial process turn place word) =
-    ReleasesNone old new × (IsTrue (is_retired old.plain.server serial) × IsNamedBy (written_by new.tables.writer) serial process turn place word)
+    ReleasesNone old new × (IsTrue (is_retired old.plain.server serial) × IsNamedBy serial (written_by old.tables.writer) (written_by new.tables.writer) process turn place word)
 PumpAnswers old new Nothing = ReleasesNone old new × (old.plain.server.retired ≡ [])

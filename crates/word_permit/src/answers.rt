@@ -32,7 +32,8 @@ pub enum Pumped {
     Released(u64),
     /// A thread may still read an area that waits: the counter that was loaded in this call is below what is awaited.
     NotYet(NotYet),
-    /// The area with this serial waits: this anchor of a process, its place counted from 1, names it. `turn` is the turn word of its slot.
+    /// The area with this serial waits: this anchor of a process, its place counted from 1, names it. `turn` is the turn word of its slot. Both were
+    /// loaded in this call.
     Named {
         serial: u64,
         process: u32,

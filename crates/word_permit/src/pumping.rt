@@ -1,6 +1,6 @@
 //! A retired area is released once no thread reads it and no slot names it.
 
-ghost use Rattle.std.specs.Prelude.{◌≡◌, [], IfErr, IfOk, IfSome, IsTrue, None, OnErr, OnOk, Some};
+ghost use Rattle.std.specs.Prelude.{◌≡◌, ◌≤◌, [], IfErr, IfOk, IfSome, IsTrue, None, OnErr, OnOk, Some};
 ghost use Rattle.marks.specs.declared.kept.LookKind.TheVariants.{Both};
 ghost use Rattle.shared_words.specs.Slots.{IsClear, LookMayBegin};
 ghost use Rattle.progress_words.specs.Needs.{IsBelow};
@@ -9,8 +9,9 @@ ghost use Rattle.server_core.specs.ServerState.{is_retired, is_serial_in};
 ghost use Rattle.staging.specs.Whose.{KeepsKnown};
 ghost use Rattle.word_permit.specs.declared.book.AreaNeed.{AreaNeed};
 ghost use Rattle.word_permit.specs.Books.{IsWordBook};
+ghost use Rattle.word_permit.specs.Looks.{KeepsLooks};
 ghost use Rattle.word_permit.specs.Needs.{IsAwaited};
-ghost use Rattle.word_permit.specs.Pumped.{LooksFound, PumpAnswers, ReleasesNone};
+ghost use Rattle.word_permit.specs.Pumped.{HasReleased, LooksFound, PumpAnswers, ReleasesNone};
 
 use crate::answers::Pumped;
 use crate::book::{AreaNeed, WordBook};
@@ -49,7 +50,7 @@ pub fn pump_book<K: Naming>(
 }
 
 /// What is waited for: the value that was taken for an area which waits still, or one that is taken now for the area that has waited longest.
-#[tactic(auto, using(crate::proofs::Awaiting::need_at))]
+#[tactic(auto, using(crate::proofs::Awaiting::need_at, crate::proofs::Looked::looks_same))]
 fn awaited<K: Naming>(book: &mut WordBook, shared: &Shared<CodeLaw<K>>) -> Option<AreaNeed>
     requires book { IsWordBook K.names shared.now.table.shared.table_id shared.now.table.shared.key book.old }
     // one of an area that waits, or none does
@@ -58,8 +59,9 @@ fn awaited<K: Naming>(book: &mut WordBook, shared: &Shared<CodeLaw<K>>) -> Optio
     // it is kept, and is the one before, if that is of an area that waits still
     ensures kept { IfSome result (λ n. book.new.need ≡ Some n) }
     ensures same { (before : AreaNeed) → book.old.need ≡ Some before → IsTrue (is_retired book.old.plain.server before.serial) → result ≡ Some before }
-    // nothing is released
+    // nothing is released, and no slot is looked at
     ensures none_released { ReleasesNone book.old book.new }
+    ensures looks { KeepsLooks (written_by book.old.tables.writer) (written_by book.new.tables.writer) }
     ensures plain { book.new.plain ≡ book.old.plain }
     ensures book { IsWordBook K.names shared.now.table.shared.table_id shared.now.table.shared.key book.new }
 {
@@ -96,9 +98,10 @@ fn take_need<K: Naming>(book: &mut WordBook, shared: &Shared<CodeLaw<K>>, serial
     ensures serial { result.serial ≡ serial }
     ensures awaited { IsAwaited (written_by book.new.tables.writer) result }
     ensures kept { book.new.need ≡ Some result }
-    // the writer keeps what it knew, and has released nothing
+    // the writer keeps what it knew, has looked at no slot, and has released nothing
     ensures known { KeepsKnown (written_by book.old.tables.writer) (written_by book.new.tables.writer) }
-    ensures named { (written_by book.new.tables.writer).named ≡ (written_by book.old.tables.writer).named }
+    ensures counter { (written_by book.old.tables.writer).counter ≤ (written_by book.new.tables.writer).counter }
+    ensures looks { KeepsLooks (written_by book.old.tables.writer) (written_by book.new.tables.writer) }
     ensures none_released { ReleasesNone book.old book.new }
     ensures plain { book.new.plain ≡ book.old.plain }
     ensures book { IsWordBook K.names shared.now.table.shared.table_id shared.now.table.shared.key book.new }
@@ -126,6 +129,7 @@ fn is_reached<K: Naming>(
     ensures awaited { IsAwaited (written_by book.new.tables.writer) need }
     ensures kept { book.new.need ≡ book.old.need }
     ensures none_released { ReleasesNone book.old book.new }
+    ensures looks { KeepsLooks (written_by book.old.tables.writer) (written_by book.new.tables.writer) }
     ensures plain { book.new.plain ≡ book.old.plain }
     ensures book { IsWordBook K.names shared.now.table.shared.table_id shared.now.table.shared.key book.new }
 {
@@ -150,7 +154,10 @@ fn look_for<K: Naming>(
     ensures book { IsWordBook K.names shared.now.table.shared.table_id shared.now.table.shared.key book.new }
 {
     match look_through(book, shared, serial) {
-        Scan::Clear { .. } => release_area(book, shared, serial),
+        Scan::Clear { .. } => {
+            release_area(book, shared, serial)?;
+            Ok(Pumped::Released(serial))
+        }
         Scan::Named {
             process,
             turn,
@@ -174,7 +181,7 @@ fn look_for<K: Naming>(
 fn look_through<K: Naming>(book: &mut WordBook, shared: &Shared<CodeLaw<K>>, serial: u64) -> Scan
     requires book { IsWordBook K.names shared.now.table.shared.table_id shared.now.table.shared.key book.old }
     requires may { LookMayBegin (written_by book.old.tables.writer) Both serial }
-    ensures found { LooksFound serial (written_by book.new.tables.writer) result }
+    ensures found { LooksFound serial (written_by book.old.tables.writer) (written_by book.new.tables.writer) result }
     ensures none_released { ReleasesNone book.old book.new }
     ensures need { book.new.need ≡ book.old.need }
     ensures plain { book.new.plain ≡ book.old.plain }
@@ -207,11 +214,11 @@ fn release_area<K: Naming>(
     book: &mut WordBook,
     shared: &Shared<CodeLaw<K>>,
     serial: u64,
-) -> Result<Pumped, NoMemory>
+) -> Result<(), NoMemory>
     requires book { IsWordBook K.names shared.now.table.shared.table_id shared.now.table.shared.key book.old }
     requires waits { IsTrue (is_retired book.old.plain.server serial) }
     requires clear { IsClear (written_by book.old.tables.writer) Both serial }
-    ensures ok { IfOk result (PumpAnswers book.old book.new) }
+    ensures ok { OnOk result (HasReleased serial book.old book.new) }
     ensures err { OnErr result (ReleasesNone book.old book.new) }
     ensures script { book.new.plain.script ≡ book.old.plain.script }
     ensures book { IsWordBook K.names shared.now.table.shared.table_id shared.now.table.shared.key book.new }
@@ -222,5 +229,5 @@ fn release_area<K: Naming>(
     make(&mut book.plain, Who::Runtime, Cmd::Release(serial))?;
     release(&mut book.tables, shared, serial);
     book.look = None;
-    Ok(Pumped::Released(serial))
+    Ok(())
 }

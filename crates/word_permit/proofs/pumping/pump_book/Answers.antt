@@ -1,7 +1,9 @@
 -- The value that is waited for is the one before, where its area waits still.
 use Rattle.std.proofs.Common.{◌∙◌}
+use Rattle.progress_words.specs.Tokens.{written_by}
 use Rattle.word_permit.specs.Pumped.{ReleasesNone}
 use Rattle.word_permit.proofs.Awaiting.{told_late}
+use Rattle.word_permit.proofs.Looked.{looks_kept}
 use Rattle.word_permit.proofs.PumpedThrough.{pump_through}
 use Rattle.word_permit.proofs.pumping.pump_book.Goals as goal
 
@@ -18,4 +20,5 @@ returns-in-Ok-clause-ok g c =
     let b = c.is_reached.ensures.none_released in
     let none : ReleasesNone c.args.book.now c.is_reached.new.book = record { same = b.same ∙ a.same; pools = b.pools ∙ a.pools; published = b.published ∙ a.published; waiting = b.waiting ∙ a.waiting } in
     pump_through c.args.book.now c.is_reached.new.book c.look_for.new.book none (c.is_reached.ensures.plain ∙ c.awaited.ensures.plain)
-    (λ before was waits. c.is_reached.ensures.kept ∙ c.in-Some.ensures.kept ∙ c.in-Some.ensures.same before was waits) c.look_for.result c.look_for.ensures.ok
+    (λ before was waits. c.is_reached.ensures.kept ∙ c.in-Some.ensures.kept ∙ c.in-Some.ensures.same before was waits)
+    (looks_kept (written_by c.args.book.now.tables.writer) (written_by c.awaited.new.book.tables.writer) (written_by c.is_reached.new.book.tables.writer) c.awaited.ensures.looks c.is_reached.ensures.looks) c.look_for.result c.look_for.ensures.ok
