@@ -17,7 +17,7 @@ use Rattle.word_permit.proofs.AreaLooks.{named_since}
 
 module _ (b m c : WordBook) (first : ReleasesNone b m) (same : m.plain ≡ b.plain) where
   releases_both : ReleasesNone m c → ReleasesNone b c
-  releases_both h = record { same = h.same ∙ first.same; pools = h.pools ∙ first.pools; published = h.published ∙ first.published; waiting = h.waiting ∙ first.waiting }
+  releases_both h = record { same = h.same ∙ first.same; pools = h.pools ∙ first.pools; published = h.published ∙ first.published; waiting = h.waiting ∙ first.waiting; look = h.look ∙ first.look }
 
   still_retired : (serial : ℕ) → IsTrue (is_retired m.plain.server serial) → IsTrue (is_retired b.plain.server serial)
   still_retired serial h = subst (λ (p : Book). IsTrue (is_retired p.server serial)) same h
@@ -29,6 +29,7 @@ module _ (b m c : WordBook) (first : ReleasesNone b m) (same : m.plain ≡ b.pla
     step = subst (λ (p : Book). pumped (shown p) (Some serial) ≡ Some (record { state = shown c.plain; answer = plain.Released serial })) same h.step;
     published = h.published ∙ first.published;
     waiting = h.waiting ∙ first.waiting;
+    forgets = h.forgets;
   }
 
   module _ (need : (before : AreaNeed) → b.need ≡ Some before → IsTrue (is_retired b.plain.server before.serial) → m.need ≡ Some before)

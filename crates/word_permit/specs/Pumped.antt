@@ -1,6 +1,6 @@
 -- What a permit tells of areas that wait for their release, and what a release leaves.
 -- Source: Erlang/OTP, the manual page of persistent_term, and erts internal documentation, ThreadProgress; what is kept in the words is this project's own.
-use Rattle.std.specs.Prelude.{◌≡◌, ℕ, ◌<◌, [], Some, IsTrue}
+use Rattle.std.specs.Prelude.{◌≡◌, ℕ, ◌<◌, [], Some, None, IsTrue}
 use Rattle.area_core.specs.declared.map.TheConstants.{PROCESSES}
 use Rattle.marks.specs.declared.kept.EndedWait.{EndedWait}
 use Rattle.marks.specs.declared.kept.LookKind.TheVariants.{Both}
@@ -39,12 +39,14 @@ abbrev pub LooksFound : ℕ → WriterView → WriterView → Scan → Type 0
 LooksFound serial old new (scans.Named process turn place word) = IsNamedBy serial old new process turn place word
 LooksFound serial old new (scans.Clear killed) = IsClear new Both serial
 
--- an area that waited is released: its entry joined the journal by the runtime, and the server made it; what a loader waits for is as before
+-- an area that waited is released: its entry joined the journal by the runtime, and the server made it; what a loader waits for is as before, but for the
+-- value of the counter that a purge waits for before it looks: that is forgotten
 pub record HasReleased (serial : ℕ) (old new : WordBook) : Type 0 where
   pub waited : IsTrue (is_retired old.plain.server serial)
   pub step : pumped (shown old.plain) (Some serial) ≡ Some (record { state = shown new.plain; answer = plain.Released serial })
   pub published : PublishesNone old new
   pub waiting : new.waiting ≡ old.waiting
+  pub forgets : new.look ≡ None
 
 -- nothing is released: what the permit shows, the blocks, and what a loader waits for, are as before
 pub record ReleasesNone (old new : WordBook) : Type 0 where
@@ -52,6 +54,7 @@ pub record ReleasesNone (old new : WordBook) : Type 0 where
   pub pools : new.tables.pools ≡ old.tables.pools
   pub published : PublishesNone old new
   pub waiting : new.waiting ≡ old.waiting
+  pub look : new.look ≡ old.look
 
 -- the value was taken for an area that waits for its release, while the newest generation had that retired; it is the one that was awaited before this call,
 -- if its area waits still; and the newest counter that the writer loaded is below it

@@ -15,7 +15,7 @@ returns-clause-awaited g c =
     awaited_still (written_by c.args.book.now.tables.writer) (written_by c.reached.new.writer) c.args.need (waits_loaded _ _ c.reached.ensures.loaded) (ap (λ (w : WriterView). w.published) c.reached.ensures.loaded.view) c.requires.awaited
 
 pub returns-clause-none_released : goal.returns-clause-none_released
-returns-clause-none_released g c = record { same = refl; pools = refl; published = ap (λ (w : WriterView). w.published) c.reached.ensures.loaded.view; waiting = refl }
+returns-clause-none_released g c = record { same = refl; pools = refl; published = ap (λ (w : WriterView). w.published) c.reached.ensures.loaded.view; waiting = refl; look = refl }
 
 pub returns-clause-looks : goal.returns-clause-looks
 returns-clause-looks g c = looks_loaded (written_by c.args.book.now.tables.writer) (written_by c.reached.new.writer) c.reached.ensures.loaded

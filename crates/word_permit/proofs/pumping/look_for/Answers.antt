@@ -13,7 +13,7 @@ pub returns-in-Named-clause-ok : goal.returns-in-Named-clause-ok
 returns-in-Named-clause-ok g c =
     let a = c.in-Named.ensures.none_released in
     let b = c.take_need.ensures.none_released in (
-      record { same = b.same ∙ a.same; pools = b.pools ∙ a.pools; published = b.published ∙ a.published; waiting = b.waiting ∙ a.waiting },
+      record { same = b.same ∙ a.same; pools = b.pools ∙ a.pools; published = b.published ∙ a.published; waiting = b.waiting ∙ a.waiting; look = b.look ∙ a.look },
       (
         c.requires.waits,
         named_loaded c.args.serial (written_by c.args.book.now.tables.writer) (written_by c.look_through.new.book.tables.writer) (written_by c.take_need.new.book.tables.writer) c.in-Named.process c.in-Named.turn c.in-Named.place c.in-Named.word

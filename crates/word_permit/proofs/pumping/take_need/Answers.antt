@@ -20,7 +20,7 @@ pub returns-clause-counter : goal.returns-clause-counter
 returns-clause-counter g c = counter_rises (written_by c.args.book.now.tables.writer) (written_by c.later-value.new.writer) c.later-value.ensures.loaded
 
 pub returns-clause-none_released : goal.returns-clause-none_released
-returns-clause-none_released g c = record { same = refl; pools = refl; published = ap (λ (w : WriterView). w.published) c.later-value.ensures.loaded.view; waiting = refl }
+returns-clause-none_released g c = record { same = refl; pools = refl; published = ap (λ (w : WriterView). w.published) c.later-value.ensures.loaded.view; waiting = refl; look = refl }
 
 pub returns-clause-book : goal.returns-clause-book
 returns-clause-book g c =
