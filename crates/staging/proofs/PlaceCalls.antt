@@ -12,16 +12,17 @@ use Rattle.server_core.specs.declared.change.Change.{Change}
 use Rattle.server_core.specs.declared.change.Change.TheVariants.{BringIn, HoldArea}
 use Rattle.server_core.specs.Decided.{Fits}
 use Rattle.server_core.specs.ServerState.{ServerState}
+use Rattle.literal_areas.specs.declared.areas.Areas.{Areas}
 use Rattle.literal_areas.specs.declared.blocks.Pool.{Pool}
 use Rattle.literal_areas.specs.declared.blocks.Pool.TheVariants.{Big, Small}
 use Rattle.literal_areas.specs.declared.taking.Take.{Take}
 use Rattle.literal_areas.specs.declared.taking.Take.TheVariants.{Area}
-use Rattle.literal_areas.specs.Blocks.{AreAllLive, HasSizes, blocks_of, first_of}
+use Rattle.literal_areas.specs.Blocks.{AreAllLive, AwaitsRelease, HasSizes, blocks_of, first_of}
 use Rattle.staging.specs.Exported.{FitsSome}
 use Rattle.staging.specs.declared.tables.Tables.{Tables}
 use Rattle.change_laws.specs.Changes.{Incoming, incoming, instance, stored}
 use Rattle.change_laws.specs.Images.{words_of}
-use Rattle.staging.specs.Placed.{HasPlaced, PlaceAnswers, pool_of}
+use Rattle.staging.specs.Placed.{HasPlaced, IsRefused, NextAwaitsRelease, PlaceAnswers, pool_of}
 use Rattle.staging.specs.Stages.{HavePlaced}
 use Rattle.staging.proofs.Counts.{block_left}
 use Rattle.staging.proofs.PlacedMore.{placed_more}
@@ -94,3 +95,16 @@ never_full names s change old taken at serial words pool fits had sizes next has
     by_option None is has = has
     by_option (Some comes) is has =
         block_left names s change old taken comes had sizes (ap (slice_get (incoming change)) (sym next) ∙ is) fits (subst (λ (p : Pool). AreAllLive (blocks_of p old.pools)) (pool_is at comes is) live)
+
+-- or the pool of it waits
+pub next_awaits : (change : Change) (old new : Tables) (taken items : List AreaRef) (at serial : ℕ) (words : List ℕ) (pool : Pool) → at ≡ length taken → items ≡ taken → HasWordsAt change at serial words
+    → ((at : ℕ) (comes : Incoming) → slice_get (incoming change) at ≡ Some comes → pool ≡ pool_of comes) → IsRefused (AwaitsRelease (blocks_of pool old.pools)) old new → NextAwaitsRelease change new.pools items
+next_awaits change old new taken items at serial words pool next same has pool_is refused = by_option (slice_get (incoming change) at) refl has
+  where
+    by_option : (o : Option Incoming) → slice_get (incoming change) at ≡ o → IsSomeAnd o (λ comes. words ≡ words_of serial comes) → NextAwaitsRelease change new.pools items
+    by_option None is has = absurd has
+    by_option (Some comes) is has = record {
+      comes = comes;
+      next = ap (λ (xs : List AreaRef). slice_get (incoming change) (length xs)) same ∙ ap (slice_get (incoming change)) (sym next) ∙ is;
+      awaits = subst (λ (s : Areas). AwaitsRelease (blocks_of (pool_of comes) s)) (sym refused.pools) (subst (λ (p : Pool). AwaitsRelease (blocks_of p old.pools)) (pool_is at comes is) refused.why);
+    }

@@ -5,7 +5,8 @@ use Rattle.term_core.specs.declared.area.AreaRef.{AreaRef}
 use Rattle.area_core.specs.Map.{block_place, room_of, word_at}
 use Rattle.shared_words.specs.declared.view.WriterView.{WriterView}
 use Rattle.progress_words.specs.Tokens.{written_by}
-use Rattle.change_laws.specs.Changes.{Incoming, instance, stored}
+use Rattle.server_core.specs.declared.change.Change.{Change}
+use Rattle.change_laws.specs.Changes.{Incoming, incoming, instance, stored}
 use Rattle.change_laws.specs.Images.{words_of}
 use Rattle.literal_areas.specs.declared.areas.Areas.{Areas}
 use Rattle.literal_areas.specs.declared.blocks.BlockUse.TheVariants.{Free}
@@ -53,6 +54,12 @@ PlaceAnswers pool words old new AwaitRelease = IsRefused (AwaitsRelease (blocks_
 abbrev pub pool_of : Incoming → Pool
 pool_of (instance m) = Big
 pool_of (stored term) = Small
+
+-- the first of what a change brings in has these areas, and in the pool of what comes in next no block is free and one waits for its release
+pub record NextAwaitsRelease (change : Change) (pools : Areas) (taken : List AreaRef) : Type 0 where
+  pub comes : Incoming
+  pub next : slice_get (incoming change) (length taken) ≡ Some comes
+  pub awaits : AwaitsRelease (blocks_of (pool_of comes) pools)
 
 -- the pools once these areas are taken, one after another
 abbrev pub with_areas : List AreaRef → Areas → Areas

@@ -15,8 +15,6 @@ use Rattle.server_core.specs.ServerState.{ServerState}
 use Rattle.code_index.specs.declared.index.Staging.{Staging}
 use Rattle.code_index.specs.declared.index.Staging.TheVariants.{Nothing, Staged, Committing}
 use Rattle.literal_areas.specs.declared.areas.Areas.{Areas}
-use Rattle.literal_areas.specs.declared.blocks.Pool.{Pool}
-use Rattle.literal_areas.specs.Blocks.{AwaitsRelease, blocks_of}
 use Rattle.term_table.specs.Tables.{staging_table}
 use Rattle.staging.specs.declared.tables.Tables.{Tables}
 use Rattle.staging.specs.declared.stage.Stage.{Stage}
@@ -27,7 +25,7 @@ use Rattle.staging.specs.declared.stage.Step.{Step}
 use Rattle.staging.specs.declared.stage.Step.TheVariants as steps
 use Rattle.staging.specs.Exported.{AreExported}
 use Rattle.change_laws.specs.Changes.{incoming}
-use Rattle.staging.specs.Placed.{ArePlaced}
+use Rattle.staging.specs.Placed.{ArePlaced, NextAwaitsRelease}
 use Rattle.staging.specs.Standing.{StandFor}
 use Rattle.staging.specs.Upcoming.{generation_shown}
 
@@ -69,15 +67,21 @@ StageStands names s change t Untouched = AreAtRest names s t
 StageStands names s change t (Placed areas) = HavePlaced names s change t areas.items × (t.index ≡ Nothing)
 StageStands names s change t (Exported areas) = HaveExported names s change t areas.items
 
+-- the areas that the first of what a change brings in has at a stage
+abbrev pub areas_at : Stage → List AreaRef
+areas_at Untouched = []
+areas_at (Placed areas) = areas.items
+areas_at (Exported areas) = areas.items
+
 -- whether all that a change brings in has its areas, as it is told
 abbrev pub PlacingAnswers : Change → Tables → List AreaRef → Placing → Type 0
 PlacingAnswers change t taken Whole = length taken ≡ length (incoming change)
-PlacingAnswers change t taken AwaitRelease = (pool : Pool) × AwaitsRelease (blocks_of pool t.pools)
+PlacingAnswers change t taken AwaitRelease = NextAwaitsRelease change t.pools taken
 
 -- whether what comes in at this place has its area
-abbrev pub NextAnswers : ℕ → Tables → List AreaRef → Placing → Type 0
-NextAnswers at t taken Whole = length taken ≡ at + 1
-NextAnswers at t taken AwaitRelease = (length taken ≡ at) × ((pool : Pool) × AwaitsRelease (blocks_of pool t.pools))
+abbrev pub NextAnswers : Change → ℕ → Tables → List AreaRef → Placing → Type 0
+NextAnswers change at t taken Whole = length taken ≡ at + 1
+NextAnswers change at t taken AwaitRelease = (length taken ≡ at) × NextAwaitsRelease change t.pools taken
 
 -- ---- what is waited for
 
@@ -145,7 +149,7 @@ pub record IsLateFor (change : Change) (old new : Tables) (answer : NotYet) : Ty
 abbrev pub StepAnswers : List Mfa → ServerState → Change → Tables → Tables → Stage → Step → Type 0
 StepAnswers names s change old new stage (steps.Published generation) = HasPublished names (made s change).state old new generation
 StepAnswers names s change old new stage (steps.NotYet answer) = Waits names s change old new stage (IsLateFor change old new answer)
-StepAnswers names s change old new stage steps.AwaitRelease = Waits names s change old new stage ((pool : Pool) × AwaitsRelease (blocks_of pool new.pools))
+StepAnswers names s change old new stage steps.AwaitRelease = Waits names s change old new stage (NextAwaitsRelease change new.pools (areas_at stage))
 
 -- how far a stage is
 abbrev pub stage_number : Stage → ℕ

@@ -162,7 +162,7 @@ fn place_next<K: Naming>(
     ensures terms { tables.new.terms ≡ tables.old.terms }
     // one more has its area, or none is free, or memory was refused
     ensures placed { HavePlaced K.names _server.now change.now tables.new taken.new.items }
-    ensures answers { IfOk result (NextAnswers at tables.new taken.new.items) }
+    ensures answers { IfOk result (NextAnswers change.now at tables.new taken.new.items) }
     ensures err { OnErr result (length taken.new.items ≡ at) }
     ensures published { (written_by tables.new.writer).published ≡ (written_by tables.old.writer).published }
     ensures known { KeepsKnown (written_by tables.old.writer) (written_by tables.new.writer) }
