@@ -68,7 +68,8 @@ answers_without : (who : ℕ) (b : WordBook) (o : Option Waiting) (c : WordBook)
 answers_without who b o c (Done applied) same h = h
 answers_without who b o c (NotYet answer) same h =
     record { same = h.same; published = h.published; waits = h.waits; why = record { waiting = h.why.waiting; waits = h.why.waits; same = same h.why.waiting h.why.waits; late = h.why.late } }
-answers_without who b o c AwaitRelease same h = record { same = h.same; published = h.published; waits = h.waits; why = h.why }
+answers_without who b o c AwaitRelease same h =
+    record { same = h.same; published = h.published; waits = h.waits; why = record { waiting = h.why.waiting; waits = h.why.waits; same = same h.why.waiting h.why.waits; lacks = h.why.lacks } }
 answers_without who b o c (Lingers process turn place word) same h = h
 
 -- where none waited
@@ -100,7 +101,8 @@ pub answers_unlooked : (who : ℕ) (b c : WordBook) (step : CommandStep) → OpA
 answers_unlooked who b c (Done applied) h = h
 answers_unlooked who b c (NotYet answer) h =
     record { same = h.same; published = h.published; waits = h.waits; why = record { waiting = h.why.waiting; waits = h.why.waits; same = h.why.same; late = h.why.late } }
-answers_unlooked who b c AwaitRelease h = record { same = h.same; published = h.published; waits = h.waits; why = h.why }
+answers_unlooked who b c AwaitRelease h =
+    record { same = h.same; published = h.published; waits = h.waits; why = record { waiting = h.why.waiting; waits = h.why.waits; same = h.why.same; lacks = h.why.lacks } }
 answers_unlooked who b c (Lingers process turn place word) h = h
 
 pub taken_unlooked : (b c : WordBook) → HasTakenBack (record b { look = None }) c → HasTakenBack b c

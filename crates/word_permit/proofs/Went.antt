@@ -5,8 +5,6 @@ use Rattle.term_core.specs.declared.atom.Mfa.{Mfa}
 use Rattle.term_core.specs.declared.no_memory.NoMemory.{NoMemory}
 use Rattle.shared_words.specs.declared.opening.Opening.{Opening}
 use Rattle.progress_words.specs.declared.answers.NotYet as late
-use Rattle.literal_areas.specs.Blocks.{AwaitsRelease, blocks_of}
-use Rattle.literal_areas.specs.declared.blocks.Pool.{Pool}
 use Rattle.progress_words.specs.Tokens.{written_by}
 use Rattle.change_laws.specs.Names.{IsNumbered}
 use Rattle.server_core.specs.declared.change.Change.{Change}
@@ -22,7 +20,8 @@ use Rattle.staging.specs.declared.stage.Stage.{Stage}
 use Rattle.staging.specs.declared.stage.Step.{Step}
 use Rattle.staging.specs.declared.stage.Step.TheVariants as steps
 use Rattle.staging.specs.declared.tables.Tables.{Tables}
-use Rattle.staging.specs.Stages.{AreAtRest, HasPublished, IsCodeChange, IsKeyChange, IsLateFor, IsStaged, StageStands, StepAnswers}
+use Rattle.staging.specs.Placed.{NextAwaitsRelease}
+use Rattle.staging.specs.Stages.{AreAtRest, HasPublished, IsCodeChange, IsKeyChange, IsLateFor, IsStaged, StageStands, StepAnswers, areas_at}
 use Rattle.staging.specs.Upcoming.{generation_shown}
 use Rattle.staging.specs.Whose.{AreTablesOf, KeepsKnown}
 use Rattle.write_permit.specs.declared.holder.Holder.TheVariants.{Held}
@@ -121,8 +120,8 @@ module _ (names : List Mfa) (table : TableId) (opening : Opening) (b : WordBook)
       pub is_late : (c : WordBook) (told : Result CommandStep NoMemory) (answer : late.NotYet) → IsLateFor d.change b.tables t answer → told ≡ Ok (NotYet answer) → c ≡ waiting → Went names table opening who d b c told
       is_late c told answer why = left_waiting c told (NotYet answer) (record { same = refl; published = published; waits = (_, refl); why = record { waiting = record { decision = d; stage = stage }; waits = refl; same = as_decided; late = why } })
 
-      pub awaits_release : (c : WordBook) (told : Result CommandStep NoMemory) → (pool : Pool) × AwaitsRelease (blocks_of pool t.pools) → told ≡ Ok AwaitRelease → c ≡ waiting → Went names table opening who d b c told
-      awaits_release c told why = left_waiting c told AwaitRelease (record { same = refl; published = published; waits = (_, refl); why = why })
+      pub awaits_release : (c : WordBook) (told : Result CommandStep NoMemory) → NextAwaitsRelease d.change t.pools (areas_at stage) → told ≡ Ok AwaitRelease → c ≡ waiting → Went names table opening who d b c told
+      awaits_release c told why = left_waiting c told AwaitRelease (record { same = refl; published = published; waits = (_, refl); why = record { waiting = record { decision = d; stage = stage }; waits = refl; same = as_decided; lacks = why } })
 
     -- the change is published: the server makes it
     module _ (room : new_modules d.cmd ≤ modules.room) (more : journal ≡ b.plain.journal ++ entry_for who d ∷ []) (after : LoaderRun)

@@ -13,9 +13,8 @@ use Rattle.server_core.specs.declared.command.Cmd.TheVariants.{Purge, Release, S
 use Rattle.server_core.specs.ServerState.{empty_state}
 use Rattle.script_core.specs.declared.script.Script.{Script}
 use Rattle.staging.specs.declared.tables.Tables.{Tables}
-use Rattle.literal_areas.specs.Blocks.{AwaitsRelease, blocks_of}
-use Rattle.literal_areas.specs.declared.blocks.Pool.{Pool}
-use Rattle.staging.specs.Stages.{IsLateFor}
+use Rattle.staging.specs.Placed.{NextAwaitsRelease}
+use Rattle.staging.specs.Stages.{IsLateFor, areas_at}
 use Rattle.staging.specs.Whose.{AreTablesOf}
 use Rattle.run_log.specs.declared.logs.Entry.{Entry}
 use Rattle.write_permit.specs.declared.answers.OpStep.TheVariants as steps
@@ -116,11 +115,18 @@ pub record IsLateStill (old new : WordBook) (answer : told.NotYet) : Type 0 wher
   pub same : IfSome old.waiting (λ before. waiting.decision ≡ before.decision)
   pub late : IsLateFor waiting.decision.change old.tables new.tables answer
 
+-- the command waits on as it was decided, for a block: in the pool of what comes in next none is free, and one waits for its release
+pub record LacksBlock (old new : WordBook) : Type 0 where
+  pub waiting : Waiting
+  pub waits : new.waiting ≡ Some waiting
+  pub same : IfSome old.waiting (λ before. waiting.decision ≡ before.decision)
+  pub lacks : NextAwaitsRelease waiting.decision.change new.tables.pools (areas_at waiting.stage)
+
 -- what each answer says; a purge alone lingers
 abbrev pub OpAnswers : ℕ → WordBook → WordBook → CommandStep → Type 0
 OpAnswers who old new (Done applied) = EndsPlain who old.plain new.plain applied
 OpAnswers who old new (NotYet answer) = HasWaited old new (IsLateStill old new answer)
-OpAnswers who old new AwaitRelease = HasWaited old new ((pool : Pool) × AwaitsRelease (blocks_of pool new.tables.pools))
+OpAnswers who old new AwaitRelease = HasWaited old new (LacksBlock old new)
 OpAnswers who old new (Lingers process turn place word) = ⊥
 
 -- want of memory: no entry joined and nothing is published, what was staged is taken back, and nothing waits
