@@ -1,0 +1,38 @@
+-- What a thread finds of a function: whether calls of it are traced in the generation that it holds.
+-- Source: Erlang/OTP erts internal documentation, Tracing; the words are this project's own.
+use Rattle.std.specs.Prelude.{◌≡◌, ℕ, ◌⊎◌, true, false, List, Some, IsTrue}
+use Rattle.prgr_core.specs.Members.{is_value}
+use Rattle.term_core.specs.declared.area.CodeRef.{CodeRef}
+use Rattle.area_core.specs.Blocks.{Among}
+use Rattle.area_core.specs.Generations.{has_function, is_current, is_instance, is_retired, is_traced}
+use Rattle.area_core.specs.Roots.{image_of}
+use Rattle.shared_words.specs.declared.seats.Member as tokens
+use Rattle.shared_words.specs.declared.view.BlockWord.{BlockWord}
+use Rattle.shared_words.specs.declared.view.MemberView.{MemberView}
+use Rattle.shared_words.specs.Processes.{NamesArea, held_by_view}
+use Rattle.shared_words.specs.Rule.{HasItsAreas}
+use Rattle.shared_words.specs.Seats.{IsRooted, IsSameSeat}
+use Rattle.progress_words.specs.Tokens.{view_of}
+
+-- a member may ask of a function: its instance is current in the generation that it holds, or one of its slots names it
+pub record MayDecide (root : ℕ) (m : MemberView) (at : CodeRef) : Type 0 where
+  pub awake : IsTrue (is_value m.member.word)
+  pub rooted : IsRooted root m
+  pub areas : HasItsAreas (held_by_view m)
+  pub listed : Among (held_by_view m).areas at.area
+  pub words : List ℕ
+  pub image : image_of (held_by_view m).state.areas at.area.serial ≡ Some words
+  pub has : IsTrue (has_function (record { area = at.area; words = words }) at.function)
+  pub come : IsTrue (is_current (held_by_view m) at.area.serial) ⊎ NamesArea m at.area.serial
+  -- what is not retired is an instance still, and what is retired has no breakpoints
+  pub live : is_retired (held_by_view m) at.area.serial ≡ false → IsTrue (is_instance (held_by_view m) at.area.serial)
+  pub gone : is_retired (held_by_view m) at.area.serial ≡ true → is_traced (held_by_view m) at.area.serial at.function ≡ false
+
+-- the member has read words of blocks, and nothing else of it is changed
+pub record HasLookedUp (old new : tokens.Member) : Type 0 where
+  pub seat : IsSameSeat old.seat new.seat
+  pub number : new.number ≡ old.number
+  pub root : new.root ≡ old.root
+  pub anchors : new.anchors.items ≡ old.anchors.items
+  pub blocks : List BlockWord
+  pub view : view_of new ≡ record (view_of old) { blocks = blocks }

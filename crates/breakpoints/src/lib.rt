@@ -1,0 +1,13 @@
+//! Breakpoints, as the writer of a shared table switches them in phases beneath running threads, and as a turn finds
+//! whether a function has one.
+#![tactic(auto)]
+
+mod advancing;
+mod deciding;
+mod laws;
+mod patch;
+mod places;
+
+pub use deciding::decision;
+pub use laws::{others_keep_patches, roots_keep_breakpoints};
+pub use patch::{Patch, PatchStep, Phase};

@@ -1,0 +1,1 @@
+//! Where the words of breakpoints stand in the shared table, and what they are.
