@@ -1,11 +1,11 @@
 -- The two breakpoint indices: each has one word for each function of an instance, which says whether calls of it are traced. One is active; in the other one a decision is staged.
 -- Source: Erlang/OTP erts internal documentation, Tracing; the words are this project's own.
-use Rattle.std.specs.Prelude.{◌≡◌, ◌≢◌, ℕ, ◌+◌, ◌%◌, ◌<◌, ◌≤◌, length, Option, Some, None}
+use Rattle.std.specs.Prelude.{◌≡◌, ◌≢◌, ℕ, ◌+◌, ◌%◌, ◌<◌, List, length, Option, Some, None}
 use Rattle.term_core.specs.declared.area.CodeRef.{CodeRef}
-use Rattle.area_core.specs.declared.map.TheConstants.{AREAS_START, BREAKPOINT_INDICES, FUNCTIONS, TABLE_WORDS}
+use Rattle.area_core.specs.declared.map.TheConstants.{BREAKPOINT_INDICES, FUNCTIONS, TABLE_WORDS}
 use Rattle.area_core.specs.declared.table.KeptArea.{KeptArea}
 use Rattle.area_core.specs.Map.{breakpoint_place, word_at}
-use Rattle.area_core.specs.Blocks.{Among, BreakpointsStand, EntriesStand, IsForInstances}
+use Rattle.area_core.specs.Blocks.{Among, BreakpointsStand, EntriesStand, FitsBlock, InstancesPlaced, IsForInstances}
 use Rattle.shared_words.specs.declared.view.WriterView.{WriterView}
 use Rattle.shared_words.specs.Publishing.{EachMayBeRead}
 use Rattle.progress_words.specs.Roots.{newest_of}
@@ -30,6 +30,10 @@ decision_place bp at = breakpoint_place bp at.area.block at.function
 abbrev pub IsUnkept : WriterView → ℕ → Type 0
 IsUnkept w block = (k : KeptArea) → Among w.kept k → k.area.block ≢ block
 
+-- no two of these areas have one block
+abbrev pub HaveBlocks : List KeptArea → Type 0
+HaveBlocks kept = (a b : KeptArea) → Among kept a → Among kept b → a.area.block ≡ b.area.block → a ≡ b
+
 -- the function of this number in this block is not the one that is patched
 abbrev pub IsOther : Option CodeRef → ℕ → ℕ → Type 0
 IsOther None block function = Unit {0}
@@ -39,8 +43,10 @@ IsOther (Some at) block function = block ≡ at.area.block → function ≢ at.f
 pub record AreIndices (patched : Option CodeRef) (w : WriterView) : Type 0 where
   -- the writer knows all words
   pub all : length w.words ≡ TABLE_WORDS
-  -- areas do not stand in the blocks of indices
-  pub areas : (k : KeptArea) → Among w.kept k → AREAS_START ≤ k.area.block
+  -- areas do not stand in the blocks of indices, each has a block of its own, and current and old instances stand in those for instances
+  pub areas : (k : KeptArea) → Among w.kept k → FitsBlock k
+  pub alone : HaveBlocks w.kept
+  pub placed : InstancesPlaced (newest_of w)
   -- the active index is one of the two, and says of each function of the newest generation whether it is traced
   pub fits : active_breakpoints w < BREAKPOINT_INDICES
   pub stands : BreakpointsStand (word_at w.words) (newest_of w)

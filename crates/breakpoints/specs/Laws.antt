@@ -1,15 +1,16 @@
 -- What keeps the breakpoint indices those of their writer besides the steps of a patch.
-use Rattle.std.specs.Prelude.{◌≡◌, ◌≢◌, ◌⊎◌, ℕ, ◌<◌, ◌≤◌, false, length, Option, IsTrue}
+use Rattle.std.specs.Prelude.{◌≡◌, ◌≢◌, ◌⊎◌, ℕ, ◌<◌, ◌≤◌, false, [], ◌∷◌, length, IsTrue}
 use Rattle.prgr_core.specs.declared.member.Retirement.{Retirement}
 use Rattle.term_core.specs.declared.area.AreaRef.{AreaRef}
 use Rattle.term_core.specs.declared.area.CodeRef.{CodeRef}
-use Rattle.area_core.specs.declared.map.TheConstants.{AREAS_START, BREAKPOINT_INDICES, FUNCTIONS}
+use Rattle.area_core.specs.declared.map.TheConstants.{AREAS_START, BREAKPOINT_INDICES, FUNCTIONS, TABLE_WORDS}
 use Rattle.area_core.specs.declared.table.KeptArea.{KeptArea}
 use Rattle.area_core.specs.declared.table.Published.{Published}
-use Rattle.area_core.specs.Blocks.{Among, BreakpointsStand, EntriesStand, IsForInstances}
+use Rattle.area_core.specs.Blocks.{Among, BreakpointsStand, EntriesStand, FitsBlock, InstancesPlaced, IsForInstances, KeptApart}
 use Rattle.area_core.specs.Generations.{has_function, is_instance, is_traced}
 use Rattle.area_core.specs.Map.{block_place, breakpoint_place, entry_at, word_at}
 use Rattle.area_core.specs.Roots.{fresh_areas}
+use Rattle.area_core.specs.Step.{opening_published}
 use Rattle.shared_words.specs.declared.view.WriterView.{WriterView}
 use Rattle.shared_words.specs.Publishing.{EachMayBeRead, kept_next, with_next}
 use Rattle.progress_words.specs.Roots.{newest_of}
@@ -53,13 +54,15 @@ OthersKeepPatches = (old new : WriterView) → LeavesDecisions old new → (Brea
 -- the instances of the next generation are traced as in the newest one, or are new and not traced
 pub record KeepsTraces (w : WriterView) (p : Published) : Type 0 where
   pub bp : p.root.bp ≡ active_breakpoints w
+  pub placed : InstancesPlaced p
   -- an instance that the newest generation has too
-  pub instances : (a : AreaRef) → Among p.areas a → IsTrue (is_instance p a.serial) → (Among (newest_of w).areas a × IsTrue (is_instance (newest_of w) a.serial)) ⊎ (IsForInstances a.block × IsUnkept w a.block)
+  pub instances : (a : AreaRef) → Among p.areas a → IsTrue (is_instance p a.serial) → (Among (newest_of w).areas a × IsTrue (is_instance (newest_of w) a.serial)) ⊎ IsUnkept w a.block
   -- what it traces the newest one traces
   pub fewer : (serial function : ℕ) → IsTrue (is_traced p serial function) → IsTrue (is_traced (newest_of w) serial function)
   pub same : (serial function : ℕ) → IsTrue (is_instance p serial) → is_traced p serial function ≡ is_traced (newest_of w) serial function
-  -- new areas have blocks of their own, and are not traced
-  pub fresh : (k : KeptArea) → Among (fresh_areas w.kept p) k → AREAS_START ≤ k.area.block
+  -- each area that is kept then has a block of its own with room for it, and the new ones are not traced
+  pub fresh : (k : KeptArea) → Among (fresh_areas w.kept p) k → FitsBlock k
+  pub apart : KeptApart (kept_next w p)
   pub untraced : (k : KeptArea) (function : ℕ) → Among (fresh_areas w.kept p) k → is_traced p k.area.serial function ≡ false
   pub unplaced : (a : AreaRef) (function : ℕ) → IsUnkept w a.block → Among p.areas a → IsTrue (is_instance p a.serial) → is_traced p a.serial function ≡ false
 
@@ -72,11 +75,35 @@ pub record TracesStand (w : WriterView) (p : Published) : Type 0 where
 abbrev pub RootsKeepBreakpoints : Type 0
 RootsKeepBreakpoints = (w : WriterView) (p : Published) → KeepsTraces w p → BreakpointsRest w → TracesStand w p
 
+-- ---- at first
+
+-- the writer has published nothing but the empty generation, keeps no area, and each word is 0
+pub record IsAtFirst (w : WriterView) : Type 0 where
+  pub all : length w.words ≡ TABLE_WORDS
+  pub published : w.published ≡ opening_published ∷ []
+  pub kept : w.kept ≡ []
+  pub words : (place : ℕ) → word_at w.words place ≡ 0
+
+-- then the indices are at rest
+abbrev pub RestAtFirst : Type 0
+RestAtFirst = (w : WriterView) → IsAtFirst w → BreakpointsRest w
+
 -- ---- the end of an area
 
 -- no generation that may be read has a current or old instance in the block
 abbrev pub IsCalledByNone : WriterView → ℕ → Type 0
 IsCalledByNone w block = EachMayBeRead w (λ g p. (a : AreaRef) → Among p.areas a → a.block ≡ block → is_instance p a.serial ≡ false)
+
+-- the areas that are kept stand behind the blocks of indices
+abbrev pub AreasAreBehind : WriterView → Type 0
+AreasAreBehind w = (k : KeptArea) → Among w.kept k → AREAS_START ≤ k.area.block
+
+-- in one index the decisions on the first so many functions of a block are gone, and no other word was stored
+pub record HasClearedFirst (bp block count : ℕ) (old new : WriterView) : Type 0 where
+  pub view : new ≡ record old { words = new.words }
+  pub long : length new.words ≡ length old.words
+  pub cleared : (function : ℕ) → function < count → word_at new.words (breakpoint_place bp block function) ≡ 0
+  pub others : (place : ℕ) → ((function : ℕ) → function < count → place ≢ breakpoint_place bp block function) → word_at new.words place ≡ word_at old.words place
 
 -- the decisions on the functions of a block are gone, and no other word was stored
 pub record HasCleared (block : ℕ) (old new : WriterView) : Type 0 where

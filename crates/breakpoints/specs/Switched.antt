@@ -1,5 +1,5 @@
 -- What is published by the switch of a breakpoint: the next generation over the staging index, which traces what the newest one traces, but for the one function.
--- Source: Erlang/OTP erts internal documentation, Tracing: the index of breakpoints is switched_over by one store; that the store is that of the root is this project's own.
+-- Source: Erlang/OTP erts internal documentation, Tracing: the index of breakpoints is switched by one store; that the store is that of the root is this project's own.
 use Rattle.std.specs.Prelude.{◌≡◌, ℕ, ◌==◌, ◌&&◌, ◌<◌, ◌≤◌, Bool, if◌then◌else◌, List, [], ◌∷◌, ◌++◌, length, Option, Some, None, IsTrue}
 use Rattle.term_core.specs.declared.area.AreaRef.{AreaRef}
 use Rattle.term_core.specs.declared.area.CodeRef.{CodeRef}
@@ -47,6 +47,8 @@ pub record MaySwitch (Served : Published → Type 0) (x : Patch) (w : WriterView
   pub apart : KeptApart w.kept
   pub told : (k : KeptArea) → Among w.kept k → RetireTells (word_at w.words) k (length w.published) p × DoomTells (word_at w.words) k (length w.published) p
   pub traces : TracesWith x.at x.on (newest_of w) p
+  -- the instance of the function is one of its instances
+  pub patched : IsTrue (is_instance p x.at.area.serial)
   pub instances : (a : AreaRef) → Among p.areas a → IsTrue (is_instance p a.serial) → Among (newest_of w).areas a × IsTrue (is_instance (newest_of w) a.serial)
 
 -- ---- what each answer says

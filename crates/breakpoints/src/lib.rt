@@ -2,12 +2,8 @@
 //! whether a function has one.
 #![tactic(auto)]
 
-mod advancing;
-mod deciding;
 mod laws;
 mod patch;
-mod places;
 
-pub use deciding::decision;
-pub use laws::{others_keep_patches, roots_keep_breakpoints};
+pub use laws::{breakpoints_rest_at_first, others_keep_patches, roots_keep_breakpoints};
 pub use patch::{Patch, PatchStep, Phase};

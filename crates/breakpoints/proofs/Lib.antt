@@ -1,0 +1,6 @@
+mod Spots
+mod Standing
+mod Others
+mod AtFirst
+mod Publishing
+mod Roots
