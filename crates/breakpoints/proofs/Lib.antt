@@ -4,3 +4,9 @@ mod Others
 mod AtFirst
 mod Publishing
 mod Roots
+mod Decided
+mod Entered
+mod Switching
+mod PhaseSteps
+mod SwitchCalls
+mod PatchCalls

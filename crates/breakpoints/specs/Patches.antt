@@ -3,6 +3,7 @@
 use Rattle.std.specs.Prelude.{◌≡◌, ◌≢◌, ℕ, ◌+◌, ◌<◌, ◌≤◌, Bool, true, false, length, Option, Some, None, IsTrue}
 use Rattle.prgr_core.specs.declared.member.Retirement.{Retirement}
 use Rattle.term_core.specs.declared.area.CodeRef.{CodeRef}
+use Rattle.area_core.specs.declared.map.TheConstants.{BREAKPOINT_INDICES}
 use Rattle.area_core.specs.declared.table.KeptArea.{KeptArea}
 use Rattle.area_core.specs.Generations.{has_function, is_instance, is_traced}
 use Rattle.area_core.specs.Map.{block_place, entry_at, word_at}
@@ -97,6 +98,6 @@ IsLastPhase on phase = ⊥
 pub record HasPatched (at : CodeRef) (old new : WriterView) : Type 0 where
   pub view : new ≡ record old { words = new.words; pairs = new.pairs; counter = new.counter }
   pub long : length new.words ≡ length old.words
-  pub others : (place : ℕ) → ((bp : ℕ) → place ≢ decision_place bp at) → place ≢ entry_place at → word_at new.words place ≡ word_at old.words place
+  pub others : (place : ℕ) → ((bp : ℕ) → bp < BREAKPOINT_INDICES → place ≢ decision_place bp at) → place ≢ entry_place at → word_at new.words place ≡ word_at old.words place
   pub more : (pair : Retirement) → Among old.pairs pair → Among new.pairs pair
   pub rising : old.counter ≤ new.counter

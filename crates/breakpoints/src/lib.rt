@@ -2,8 +2,11 @@
 //! whether a function has one.
 #![tactic(auto)]
 
+mod advancing;
 mod laws;
 mod patch;
+mod phases;
+mod places;
 
 pub use laws::{breakpoints_rest_at_first, others_keep_patches, roots_keep_breakpoints};
 pub use patch::{Patch, PatchStep, Phase};

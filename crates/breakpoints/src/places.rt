@@ -1,1 +1,43 @@
 //! Where the words of breakpoints stand in the shared table, and what they are.
+
+ghost use Rattle.std.specs.Prelude.{◌≡◌, ◌<◌};
+ghost use Rattle.area_core.specs.Blocks.{IsForInstances};
+ghost use Rattle.area_core.specs.Map.{breakpoint_place};
+ghost use Rattle.area_core.specs.Stores.{entry_word};
+
+/// How many breakpoint indices there are.
+pub const BREAKPOINT_INDICES: u32 = 2;
+
+/// How many functions an instance has at most.
+pub const FUNCTIONS: u32 = 16;
+
+/// The first word of the blocks.
+const BLOCKS_START: u32 = 1493;
+
+/// How many words a block has.
+const BLOCK_WORDS: u32 = 1024;
+
+/// The first block of a breakpoint index.
+const BREAKPOINTS_START: u32 = 3;
+
+/// The first block of an instance.
+const AREAS_START: u32 = 9;
+
+/// The word of the table by which a breakpoint index says whether calls of this function of the
+/// instance in the block are traced.
+pub fn decision_word(bp: u32, block: u32, function: u32) -> u32
+    requires bp { bp < BREAKPOINT_INDICES }
+    requires block { IsForInstances block }
+    requires function { function < FUNCTIONS }
+    ensures { result ≡ breakpoint_place bp block function }
+{
+    let at = (block - AREAS_START) * FUNCTIONS + function;
+    BLOCKS_START + (BREAKPOINTS_START + bp) * BLOCK_WORDS + at
+}
+
+/// What stands there: 1 where calls are traced.
+pub fn decision_value(on: bool) -> u64
+    ensures { result ≡ entry_word on }
+{
+    if on { 1 } else { 0 }
+}
