@@ -10,3 +10,4 @@ mod Switching
 mod PhaseSteps
 mod SwitchCalls
 mod PatchCalls
+mod Clears
