@@ -11,3 +11,5 @@ mod PhaseSteps
 mod SwitchCalls
 mod PatchCalls
 mod Clears
+mod Looking
+mod Told

@@ -1,28 +1,33 @@
 -- What a thread finds of a function: whether calls of it are traced in the generation that it holds.
 -- Source: Erlang/OTP erts internal documentation, Tracing; the words are this project's own.
-use Rattle.std.specs.Prelude.{◌≡◌, ℕ, ◌⊎◌, true, false, List, Some, IsTrue}
+use Rattle.std.specs.Prelude.{◌≡◌, ℕ, ◌⊎◌, ◌<◌, true, false, List, IsTrue}
 use Rattle.prgr_core.specs.Members.{is_value}
 use Rattle.term_core.specs.declared.area.CodeRef.{CodeRef}
-use Rattle.area_core.specs.Blocks.{Among}
-use Rattle.area_core.specs.Generations.{has_function, is_current, is_instance, is_retired, is_traced}
-use Rattle.area_core.specs.Roots.{image_of}
+use Rattle.area_core.specs.declared.map.TheConstants.{FUNCTIONS}
+use Rattle.area_core.specs.Blocks.{Among, IsForInstances}
+use Rattle.area_core.specs.Generations.{has_function, has_image, is_current, is_instance, is_retired, is_traced}
 use Rattle.shared_words.specs.declared.seats.Member as tokens
 use Rattle.shared_words.specs.declared.view.BlockWord.{BlockWord}
 use Rattle.shared_words.specs.declared.view.MemberView.{MemberView}
+use Rattle.shared_words.specs.declared.view.View.TheVariants.{Member}
 use Rattle.shared_words.specs.Processes.{NamesArea, held_by_view}
-use Rattle.shared_words.specs.Rule.{HasItsAreas}
+use Rattle.shared_words.specs.Publishing.{IsWordUnder}
+use Rattle.shared_words.specs.Rule.{AreApart}
 use Rattle.shared_words.specs.Seats.{IsRooted, IsSameSeat}
 use Rattle.progress_words.specs.Tokens.{view_of}
 
--- a member may ask of a function: its instance is current in the generation that it holds, or one of its slots names it
+-- a member may ask of a function: its instance is current in the generation that the member holds, or a slot of the member names it
 pub record MayDecide (root : ℕ) (m : MemberView) (at : CodeRef) : Type 0 where
   pub awake : IsTrue (is_value m.member.word)
   pub rooted : IsRooted root m
-  pub areas : HasItsAreas (held_by_view m)
+  -- the generation has the instance, and no other area of its serial
   pub listed : Among (held_by_view m).areas at.area
-  pub words : List ℕ
-  pub image : image_of (held_by_view m).state.areas at.area.serial ≡ Some words
-  pub has : IsTrue (has_function (record { area = at.area; words = words }) at.function)
+  pub apart : AreApart (held_by_view m)
+  -- in a block for instances
+  pub placed : IsForInstances at.area.block
+  -- with the function in each image of it
+  pub few : at.function < FUNCTIONS
+  pub has : (words : List ℕ) → IsTrue (has_image (held_by_view m).state.areas at.area.serial words) → IsTrue (has_function (record { area = at.area; words = words }) at.function)
   pub come : IsTrue (is_current (held_by_view m) at.area.serial) ⊎ NamesArea m at.area.serial
   -- what is not retired is an instance still, and what is retired has no breakpoints
   pub live : is_retired (held_by_view m) at.area.serial ≡ false → IsTrue (is_instance (held_by_view m) at.area.serial)
@@ -36,3 +41,7 @@ pub record HasLookedUp (old new : tokens.Member) : Type 0 where
   pub anchors : new.anchors.items ≡ old.anchors.items
   pub blocks : List BlockWord
   pub view : view_of new ≡ record (view_of old) { blocks = blocks }
+
+-- the word that was found is one of blocks that stand for the generation which the member holds
+abbrev pub IsFound : MemberView → ℕ → ℕ → Type 0
+IsFound m word found = IsWordUnder (Member m) m.member.generation (held_by_view m) word found

@@ -4,11 +4,13 @@
 
 mod advancing;
 mod clearing;
+mod deciding;
 mod laws;
 mod patch;
 mod phases;
 mod places;
 
 pub use clearing::clear_decisions;
+pub use deciding::decision;
 pub use laws::{breakpoints_rest_at_first, others_keep_patches, roots_keep_breakpoints};
 pub use patch::{Patch, PatchStep, Phase};
