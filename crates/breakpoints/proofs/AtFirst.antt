@@ -11,7 +11,7 @@ use Rattle.shared_words.specs.declared.view.WriterView.{WriterView}
 use Rattle.shared_words.specs.Views.{newest, published_at}
 use Rattle.progress_words.specs.Roots.{newest_of}
 use Rattle.breakpoints.specs.Indices.{BreakpointsRest}
-use Rattle.breakpoints.specs.Laws.{IsAtFirst}
+use Rattle.breakpoints.specs.Laws.{IsUnwritten}
 
 among_none : {X : Type 0} (x : X) → Among [] x → ⊥
 among_none x among = absurd (cc)
@@ -20,7 +20,7 @@ first_alone : (g : ℕ) (p : Published) → slice_get (opening_published ∷ [])
 first_alone zero p at = let same : p ≡ opening_published = cc in ap (λ (q : Published). q.root.bp) same
 first_alone (suc g) p at = absurd (cc)
 
-module _ (w : WriterView) (h : IsAtFirst w) where
+module _ (w : WriterView) (h : IsUnwritten w) where
   newest_is : newest_of w ≡ opening_published
   newest_is = ap (λ (ps : List Published). published_at ps (newest ps)) h.published
 

@@ -27,7 +27,7 @@ use Rattle.shared_words.specs.Publishing.{MayLoadWord, ReadsHeld, WordTells, is_
 use Rattle.shared_words.specs.Seats.{IsMemberSeat, IsSameSeat, Place, member_of}
 use Rattle.shared_words.proofs.ShownMembers.{there_is}
 use Rattle.progress_words.specs.Tokens.{view_of}
-use Rattle.breakpoints.specs.Decisions.{HasLookedUp, IsFound, MayDecide}
+use Rattle.breakpoints.specs.Decisions.{HasLookedUp, IsWordFound, MayDecide}
 
 -- ---- who may read
 
@@ -44,7 +44,7 @@ held_there : (m : MemberView) → m.member.generation < length m.seen → slice_
 held_there m learnt = there_is m.seen m.member.generation opening_published learnt
 
 -- what it finds is a word under the generation
-pub found_under : (m : MemberView) → IsTrue (is_value m.member.word) → m.member.generation < length m.seen → (word found : ℕ) → WordTells (Member m) word found → IsFound m word found
+pub found_under : (m : MemberView) → IsTrue (is_value m.member.word) → m.member.generation < length m.seen → (word found : ℕ) → WordTells (Member m) word found → IsWordFound m word found
 found_under m awake learnt word found tells = tells m.member.generation (held_by_view m) (held_awake m awake) (held_there m learnt)
 
 module _ (root : ℕ) (m : MemberView) (at : CodeRef) (h : MayDecide root m at) where

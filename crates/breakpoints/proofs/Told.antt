@@ -15,7 +15,7 @@ use Rattle.area_core.proofs.Tests.{passed_by}
 use Rattle.shared_words.specs.declared.view.MemberView.{MemberView}
 use Rattle.shared_words.specs.Processes.{NamesArea, held_by_view}
 use Rattle.shared_words.specs.Rule.{AreApart}
-use Rattle.breakpoints.specs.Decisions.{IsFound, MayDecide}
+use Rattle.breakpoints.specs.Decisions.{IsWordFound, MayDecide}
 
 -- ---- images
 
@@ -66,7 +66,7 @@ module _ (root : ℕ) (m : MemberView) (at : CodeRef) (h : MayDecide root m at) 
   with_function k is image = ap (λ (a : AreaRef). has_function (record { area = a; words = k.words }) at.function) is ∙ h.has k.words image
 
   -- where it is current
-  kept_current : (word found : ℕ) (f : IsFound m word found) → is_current (held_by_view m) at.area.serial ≡ true → IsKeptWith f.blocks.kept at
+  kept_current : (word found : ℕ) (f : IsWordFound m word found) → is_current (held_by_view m) at.area.serial ≡ true → IsKeptWith f.blocks.kept at
   kept_current word found f current =
       let p : Published = held_by_view m in
       let k = passed_by (is_kept_as p at.area.serial) f.blocks.kept (f.stands.used_kept m.member.generation p refl f.published at.area.serial (choose (is_current p at.area.serial) (has_serial p.state.old at.area.serial) (is_key_area p at.area.serial) current)) in
@@ -78,7 +78,7 @@ module _ (root : ℕ) (m : MemberView) (at : CodeRef) (h : MayDecide root m at) 
       choose false o k e = absurd (cc)
 
   -- where a slot names it
-  kept_named : (word found : ℕ) (f : IsFound m word found) → NamesArea m at.area.serial → IsKeptWith f.blocks.kept at
+  kept_named : (word found : ℕ) (f : IsWordFound m word found) → NamesArea m at.area.serial → IsKeptWith f.blocks.kept at
   kept_named word found f named =
       let k = f.named m refl at.area named h.listed in
       record {
@@ -88,14 +88,14 @@ module _ (root : ℕ) (m : MemberView) (at : CodeRef) (h : MayDecide root m at) 
         has = with_function k.area k.is (image_had (held_by_view m).state.areas at.area.serial k.area.words (ap (λ (a : AreaRef). image_of (held_by_view m).state.areas a.serial) (sym k.is) ∙ k.has.image));
       }
 
-  kept_with : (word found : ℕ) (f : IsFound m word found) → IsKeptWith f.blocks.kept at
+  kept_with : (word found : ℕ) (f : IsWordFound m word found) → IsKeptWith f.blocks.kept at
   kept_with word found f =
       elim h.come as (λ _. IsKeptWith f.blocks.kept at) [
         | inl current ↦ kept_current word found f current
         | inr named ↦ kept_named word found f named
       ]
 
-  stands_here : (word found : ℕ) (f : IsFound m word found) → AreaStands f.blocks.word (kept_with word found f).here m.member.generation (held_by_view m)
+  stands_here : (word found : ℕ) (f : IsWordFound m word found) → AreaStands f.blocks.word (kept_with word found f).here m.member.generation (held_by_view m)
   stands_here word found f =
       let k = kept_with word found f in
       f.stands.areas_stand m.member.generation (held_by_view m) refl f.published k.here k.among
@@ -103,21 +103,21 @@ module _ (root : ℕ) (m : MemberView) (at : CodeRef) (h : MayDecide root m at) 
   -- ---- what the words tell
 
   -- where the entry word is 0, the function is not traced
-  pub untraced : (word found : ℕ) → word ≡ block_place at.area.block (entry_at at.function) → IsFound m word found → found ≡ 0 → is_traced (held_by_view m) at.area.serial at.function ≡ false
+  pub untraced : (word found : ℕ) → word ≡ block_place at.area.block (entry_at at.function) → IsWordFound m word found → found ≡ 0 → is_traced (held_by_view m) at.area.serial at.function ≡ false
   untraced word found is f none =
       let k = kept_with word found f in
       let place : block_place k.here.area.block (entry_at at.function) ≡ word = ap (λ (a : AreaRef). block_place a.block (entry_at at.function)) k.is ∙ sym is in
       ap (λ (a : AreaRef). is_traced (held_by_view m) a.serial at.function) (sym k.is) ∙ (stands_here word found f).entries at.function k.has (ap f.blocks.word place ∙ f.here ∙ none)
 
   -- the retire word tells whether the instance is retired
-  pub retire_told : (word found g : ℕ) → word ≡ retire_place at.area.block → g ≡ m.member.generation → IsFound m word found → tells found g ≡ is_retired (held_by_view m) at.area.serial
+  pub retire_told : (word found g : ℕ) → word ≡ retire_place at.area.block → g ≡ m.member.generation → IsWordFound m word found → tells found g ≡ is_retired (held_by_view m) at.area.serial
   retire_told word found g is now f =
       let k = kept_with word found f in
       let place : word ≡ retire_place k.here.area.block = is ∙ ap (λ (a : AreaRef). retire_place a.block) (sym k.is) in
       (λ i. tells ((sym f.here ∙ ap f.blocks.word place) i) (now i)) ∙ (stands_here word found f).retired ∙ ap (λ (a : AreaRef). is_retired (held_by_view m) a.serial) k.is
 
   -- the decision of an instance tells whether the function is traced
-  pub decision_told : (word found : ℕ) → word ≡ breakpoint_place (held_by_view m).root.bp at.area.block at.function → IsFound m word found → IsTrue (is_instance (held_by_view m) at.area.serial) → (found == 1) ≡ is_traced (held_by_view m) at.area.serial at.function
+  pub decision_told : (word found : ℕ) → word ≡ breakpoint_place (held_by_view m).root.bp at.area.block at.function → IsWordFound m word found → IsTrue (is_instance (held_by_view m) at.area.serial) → (found == 1) ≡ is_traced (held_by_view m) at.area.serial at.function
   decision_told word found is f instance =
       let p : Published = held_by_view m in
       let told : found ≡ traced_word p at.area.serial at.function = sym f.here ∙ ap f.blocks.word is ∙ f.stands.breakpoints_stand m.member.generation p refl f.published at.area h.listed instance at.function h.few in

@@ -43,5 +43,5 @@ pub record HasLookedUp (old new : tokens.Member) : Type 0 where
   pub view : view_of new ≡ record (view_of old) { blocks = blocks }
 
 -- the word that was found is one of blocks that stand for the generation which the member holds
-abbrev pub IsFound : MemberView → ℕ → ℕ → Type 0
-IsFound m word found = IsWordUnder (Member m) m.member.generation (held_by_view m) word found
+abbrev pub IsWordFound : MemberView → ℕ → ℕ → Type 0
+IsWordFound m word found = IsWordUnder (Member m) m.member.generation (held_by_view m) word found

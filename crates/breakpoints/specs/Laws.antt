@@ -78,7 +78,7 @@ RootsKeepBreakpoints = (w : WriterView) (p : Published) → KeepsTraces w p → 
 -- ---- at first
 
 -- the writer has published nothing but the empty generation, keeps no area, and each word is 0
-pub record IsAtFirst (w : WriterView) : Type 0 where
+pub record IsUnwritten (w : WriterView) : Type 0 where
   pub all : length w.words ≡ TABLE_WORDS
   pub published : w.published ≡ opening_published ∷ []
   pub kept : w.kept ≡ []
@@ -86,7 +86,7 @@ pub record IsAtFirst (w : WriterView) : Type 0 where
 
 -- then the indices are at rest
 abbrev pub RestAtFirst : Type 0
-RestAtFirst = (w : WriterView) → IsAtFirst w → BreakpointsRest w
+RestAtFirst = (w : WriterView) → IsUnwritten w → BreakpointsRest w
 
 -- ---- the end of an area
 

@@ -8,7 +8,7 @@ ghost use Rattle.shared_words.specs.Processes.{held_by_view};
 ghost use Rattle.shared_words.specs.Publishing.{MayLoadWord};
 ghost use Rattle.shared_words.specs.Seats.{IsMemberSeat};
 ghost use Rattle.progress_words.specs.Tokens.{view_of};
-ghost use Rattle.breakpoints.specs.Decisions.{HasLookedUp, IsFound, MayDecide};
+ghost use Rattle.breakpoints.specs.Decisions.{HasLookedUp, IsWordFound, MayDecide};
 
 use crate::places::{
     BREAKPOINT_UNIT, CODE_UNIT, GENERATION_UNIT, decision_word, entry_word_at, retire_word,
@@ -24,7 +24,7 @@ fn load<N: Served>(shared: &Shared<N>, member: &mut Member, word: u32) -> u64
     requires may { MayLoadWord word (views.Member (view_of member.old)) }
     ensures token { IsMemberSeat shared.now.table.shared.table_id member.new.number member.new.seat }
     ensures read { HasLookedUp member.old member.new }
-    ensures found { IsFound (view_of member.old) word result }
+    ensures found { IsWordFound (view_of member.old) word result }
 {
     shared.load_word(member, word)
 }
