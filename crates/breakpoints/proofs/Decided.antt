@@ -1,6 +1,6 @@
 -- The store of a decision in the staging index.
-use Rattle.std.proofs.Common.{◌≡◌, ℕ, ◌+◌, ◌%◌, ◌<◌, ◌≤◌, inl, inr, Bool, true, false, List, length, refl, sym, ap, subst, ◌∙◌, arith}
-use Rattle.std.specs.Prelude.{◌==◌, ◌&&◌, None, Some, slice_get, slice_set}
+use Rattle.std.proofs.Common.{◌≡◌, ℕ, ◌+◌, ◌<◌, ◌≤◌, inl, inr, true, false, List, refl, sym, ap, subst, ◌∙◌, arith}
+use Rattle.std.specs.Prelude.{None, Some}
 use Rattle.std.proofs.lemmas.Bool.{cases_eq, le-ltb, lt-ltb, ne_eqb}
 use Rattle.term_core.specs.declared.area.AreaRef.{AreaRef}
 use Rattle.term_core.specs.declared.area.CodeRef.{CodeRef}
@@ -12,9 +12,8 @@ use Rattle.area_core.specs.Generations.{has_function}
 use Rattle.area_core.specs.Readers.{reads_in_block}
 use Rattle.shared_words.specs.declared.view.WriterView.{WriterView}
 use Rattle.shared_words.specs.Publishing.{FitsInBlock, FitsWord, MayStoreWord}
-use Rattle.progress_words.specs.Roots.{newest_of}
 use Rattle.breakpoints.specs.Indices.{AreIndices, IsStagingUnread, active_breakpoints, decision_place, staging_breakpoints}
-use Rattle.breakpoints.specs.Patches.{HasPatched, IsPatchable, entry_place}
+use Rattle.breakpoints.specs.Patches.{HasPatched, IsPatchable}
 use Rattle.breakpoints.proofs.Spots.{area_for, behind_differs, behind_fits, decision_kind, decisions_apart, entry_off}
 use Rattle.breakpoints.proofs.Standing.{IsSetAt, patch_for}
 

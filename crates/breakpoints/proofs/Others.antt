@@ -1,5 +1,5 @@
 -- What steps leave that store no decision on a function that is called: the indices, and a patch at its phase.
-use Rattle.std.proofs.Common.{◌≡◌, ℕ, ◌+◌, ◌%◌, ◌<◌, ◌≤◌, inl, inr, Bool, true, false, List, [], ◌∷◌, ◌++◌, length, refl, sym, ap, subst, ◌∙◌, arith}
+use Rattle.std.proofs.Common.{◌≡◌, ℕ, ◌+◌, ◌%◌, ◌<◌, ◌≤◌, inl, inr, Bool, true, List, refl, sym, ap, subst, ◌∙◌, arith}
 use Rattle.std.specs.Prelude.{◌==◌, Option, Some, None, slice_get}
 use Rattle.std.specs.List.{list_any}
 use Rattle.std.proofs.lemmas.Bool.{cases_Bool, eq-eqb, eqb-true, true≢false}
@@ -9,7 +9,7 @@ use Rattle.area_core.specs.declared.table.KeptArea.{KeptArea}
 use Rattle.area_core.specs.declared.table.Published.{Published}
 use Rattle.area_core.specs.Map.{block_place, breakpoint_place, entry_at, word_at}
 use Rattle.area_core.specs.Blocks.{Among, BreakpointsStand, EntriesStand, InstancesPlaced, IsForInstances}
-use Rattle.area_core.specs.Generations.{has_function, is_instance, is_traced, traced_word}
+use Rattle.area_core.specs.Generations.{is_instance, is_traced, traced_word}
 use Rattle.area_core.specs.Stores.{entry_word}
 use Rattle.area_core.proofs.Tests.{passed_by, some_passes}
 use Rattle.shared_words.specs.declared.view.WriterView.{WriterView}

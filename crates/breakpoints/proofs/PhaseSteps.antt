@@ -1,13 +1,11 @@
 -- Each step of a patch comes to its next phase, and stores no words but the decisions on the function and its entry word.
-use Rattle.std.proofs.Common.{◌≡◌, ℕ, ◌+◌, ◌<◌, ◌≤◌, Bool, true, false, List, length, refl, sym, ap, subst, ◌∙◌, arith}
-use Rattle.std.specs.Prelude.{None, Option, Some, slice_set}
+use Rattle.std.proofs.Common.{◌≡◌, ℕ, ◌<◌, ◌≤◌, Bool, true, false, List, length, refl, sym, ap, subst, ◌∙◌, arith}
+use Rattle.std.specs.Prelude.{Some, slice_set}
 use Rattle.std.proofs.lemmas.Bool.{true≢false}
-use Rattle.prgr_core.specs.declared.member.Retirement.{Retirement}
 use Rattle.prgr_core.proofs.Parts.{some_same}
 use Rattle.term_core.specs.declared.area.CodeRef.{CodeRef}
 use Rattle.area_core.specs.declared.table.Published.{Published}
-use Rattle.area_core.specs.Map.{entry_at, word_at}
-use Rattle.area_core.specs.Blocks.{Among, IsForInstances}
+use Rattle.area_core.specs.Map.{word_at}
 use Rattle.area_core.specs.Generations.{is_traced}
 use Rattle.area_core.specs.Stores.{entry_word}
 use Rattle.shared_words.specs.declared.view.WriterView.{WriterView}
@@ -15,11 +13,10 @@ use Rattle.shared_words.specs.Views.{newest}
 use Rattle.shared_words.specs.Publishing.{MayStoreEntry, with_word}
 use Rattle.progress_words.specs.Needs.{HasLoadedCounter, HasTaken}
 use Rattle.progress_words.specs.Roots.{newest_of}
-use Rattle.breakpoints.specs.declared.patch.Patch.{Patch}
 use Rattle.breakpoints.specs.declared.patch.Phase.{Phase}
 use Rattle.breakpoints.specs.declared.patch.Phase.TheVariants.{Begun, Staged, Entered, Published as IsSwitched, Restored, Finished}
 use Rattle.breakpoints.specs.Indices.{AreIndices, BreakpointsRest, IsStagingUnread, active_breakpoints, decision_place, staging_breakpoints}
-use Rattle.breakpoints.specs.Patches.{HasPatched, IsDecisionStaged, IsLastPhase, IsPatchable, IsPatching, PhaseStands, Switches, entry_place, phase_need}
+use Rattle.breakpoints.specs.Patches.{HasPatched, IsDecisionStaged, IsLastPhase, IsPatchable, IsPatching, PhaseStands, entry_place, phase_need}
 use Rattle.breakpoints.proofs.Spots.{behind_fits, decision_kind, decision_within, entry_kind, entry_within}
 use Rattle.breakpoints.proofs.Standing.{IsSetAt, patch_for, patchable_with, patched_then, set_at, stored_view, traced_is, weakened}
 use Rattle.breakpoints.proofs.Others.{counted_leaves, counted_patched, patchable_still, patching_still, indices_still, staged_still, traced_still, unread_still, entry_still}

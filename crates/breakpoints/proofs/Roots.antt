@@ -1,5 +1,5 @@
 -- The store of the root of a generation that is traced by the same index leaves the indices at rest.
-use Rattle.std.proofs.Common.{◌≡◌, ℕ, ◌+◌, ◌%◌, ◌<◌, inl, inr, Bool, true, false, List, length, refl, sym, ap, subst, ◌∙◌, arith}
+use Rattle.std.proofs.Common.{◌≡◌, ℕ, ◌+◌, ◌%◌, inl, inr, false, sym, ap, subst, ◌∙◌, arith}
 use Rattle.std.specs.Prelude.{None}
 use Rattle.std.proofs.lemmas.Bool.{true≢false}
 use Rattle.area_core.specs.declared.table.KeptArea.{KeptArea}
@@ -11,7 +11,7 @@ use Rattle.area_core.specs.Roots.{fresh_areas}
 use Rattle.area_core.proofs.FromFacts.{never}
 use Rattle.area_core.proofs.RootTests.{in_either}
 use Rattle.shared_words.specs.declared.view.WriterView.{WriterView}
-use Rattle.shared_words.specs.Publishing.{kept_next, with_next}
+use Rattle.shared_words.specs.Publishing.{kept_next}
 use Rattle.progress_words.specs.Roots.{newest_of}
 use Rattle.breakpoints.specs.Indices.{BreakpointsRest, active_breakpoints}
 use Rattle.breakpoints.specs.Laws.{KeepsTraces, TracesStand}

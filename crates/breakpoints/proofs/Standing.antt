@@ -1,18 +1,16 @@
 -- What the indices of a writer say of a function that is patched, and what stays of it while only words are stored.
-use Rattle.std.proofs.Common.{◌≡◌, ℕ, ◌+◌, ◌<◌, ◌≤◌, inl, inr, Bool, true, false, cond, List, ◌∷◌, [], ◌++◌, length, length-set, refl, sym, ap, subst, ◌∙◌, arith}
+use Rattle.std.proofs.Common.{◌≡◌, ℕ, ◌<◌, inl, inr, Bool, cond, List, length, length-set, sym, ap, subst, ◌∙◌, arith}
 use Rattle.std.specs.Prelude.{◌==◌, ◌&&◌, Option, Some, None, slice_get, slice_set}
 use Rattle.std.proofs.lemmas.Bool.{cases_eq, eq-eqb, ne_eqb}
-use Rattle.prgr_core.specs.declared.member.Retirement.{Retirement}
 use Rattle.prgr_core.proofs.Parts.{some_same}
 use Rattle.term_core.specs.declared.area.AreaRef.{AreaRef}
 use Rattle.term_core.specs.declared.area.CodeRef.{CodeRef}
-use Rattle.area_core.specs.declared.map.WordKind.{WordKind}
 use Rattle.area_core.specs.declared.map.WordKind.TheVariants.{InBlock}
 use Rattle.area_core.specs.declared.table.KeptArea.{KeptArea}
 use Rattle.area_core.specs.declared.table.Published.{Published}
 use Rattle.area_core.specs.Map.{kind_at, word_at}
 use Rattle.area_core.specs.Blocks.{Among, IsForInstances, KeptApart}
-use Rattle.area_core.specs.Generations.{has_function, is_traced, traced_word}
+use Rattle.area_core.specs.Generations.{is_traced, traced_word}
 use Rattle.area_core.specs.Stores.{entry_word}
 use Rattle.area_core.proofs.Places.{word_here, word_there}
 use Rattle.shared_words.specs.declared.view.WriterView.{WriterView}

@@ -1,22 +1,18 @@
 -- The store of the root with the staging index: that it may be published, and that the indices are the writer's then.
-use Rattle.std.proofs.Common.{◌≡◌, ℕ, ◌+◌, ◌%◌, ◌<◌, ◌≤◌, inl, inr, Bool, true, false, cond, List, [], ◌∷◌, ◌++◌, append-nil, length, refl, sym, ap, subst, ◌∙◌, arith}
+use Rattle.std.proofs.Common.{◌≡◌, ℕ, ◌<◌, inl, inr, true, false, List, [], ◌++◌, append-nil, length, refl, sym, ap, subst, ◌∙◌}
 use Rattle.std.specs.Prelude.{◌==◌, ◌&&◌, Some}
-use Rattle.std.specs.List.{list_any}
 use Rattle.std.proofs.lemmas.Bool.{and_parts, cases_Bool, cases_eq, eqb-true, or_left}
 use Rattle.prgr_core.specs.declared.member.Retirement.{Retirement}
 use Rattle.term_core.specs.declared.area.AreaRef.{AreaRef}
-use Rattle.term_core.specs.declared.area.CodeRef.{CodeRef}
 use Rattle.term_core.specs.declared.generation.Generation.{Generation}
 use Rattle.area_core.specs.declared.table.KeptArea.{KeptArea}
 use Rattle.area_core.specs.declared.table.Published.{Published}
 use Rattle.area_core.specs.Map.{breakpoint_place, word_at}
-use Rattle.area_core.specs.Blocks.{Among, AreaStands, BreakpointsStand, EntriesStand, FitsBlock, KeptApart, RootFits, UsedAreKept}
+use Rattle.area_core.specs.Blocks.{Among, AreaStands, BreakpointsStand, EntriesStand, KeptApart, RootFits, UsedAreKept}
 use Rattle.area_core.specs.Generations.{has_area, has_image, is_instance, is_kept_as, is_key_area, is_traced, traced_word}
 use Rattle.area_core.specs.Roots.{fresh_areas}
-use Rattle.area_core.specs.Stores.{entry_word}
 use Rattle.area_core.proofs.Tests.{passed_by, three_hold}
 use Rattle.shared_words.specs.declared.view.WriterView.{WriterView}
-use Rattle.shared_words.specs.Rule.{HasArea}
 use Rattle.shared_words.specs.Publishing.{MayPublish, kept_next, with_next}
 use Rattle.progress_words.specs.Roots.{newest_of}
 use Rattle.breakpoints.specs.declared.patch.Patch.{Patch}

@@ -1,6 +1,6 @@
 -- How far the switch of a breakpoint is, and what is so at each of its phases: a decision is staged in the index that no thread reads, the root is stored with that index, and then the other one is made equal.
 -- Source: Erlang/OTP erts internal documentation, Tracing (a breakpoint is inserted and removed in phases, with thread progress between them); the words are this project's own.
-use Rattle.std.specs.Prelude.{◌≡◌, ◌≢◌, ℕ, ◌+◌, ◌<◌, ◌≤◌, Bool, true, false, length, Option, Some, None, IsTrue}
+use Rattle.std.specs.Prelude.{◌≡◌, ◌≢◌, ℕ, ◌<◌, ◌≤◌, Bool, true, false, length, Option, Some, None, IsTrue}
 use Rattle.prgr_core.specs.declared.member.Retirement.{Retirement}
 use Rattle.term_core.specs.declared.area.CodeRef.{CodeRef}
 use Rattle.area_core.specs.declared.map.TheConstants.{BREAKPOINT_INDICES}

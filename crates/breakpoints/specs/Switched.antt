@@ -22,7 +22,7 @@ use Rattle.breakpoints.specs.declared.patch.Phase.TheVariants.{Finished, Publish
 use Rattle.breakpoints.specs.declared.patch.PatchStep.{PatchStep}
 use Rattle.breakpoints.specs.declared.patch.PatchStep.TheVariants as steps
 use Rattle.breakpoints.specs.Indices.{staging_breakpoints}
-use Rattle.breakpoints.specs.Patches.{IsLastPhase, HasPatched, IsPatchOf, MovesTo, Switches, phase_need}
+use Rattle.breakpoints.specs.Patches.{IsLastPhase, HasPatched, MovesTo, Switches, phase_need}
 
 -- the generation over the staging index, and over the other blocks of the newest one
 abbrev pub switched_over : WriterView → Generation → List AreaRef → Published

@@ -1,5 +1,5 @@
 -- Calls are led to the decisions, once the value is reached.
-use Rattle.std.proofs.Common.{ℕ, ◌≤◌, ap, arith}
+use Rattle.std.proofs.Common.{ap, arith}
 use Rattle.std.proofs.lemmas.Result.{err_from_is_err_and}
 use Rattle.shared_words.specs.Seats.{writer_of}
 use Rattle.progress_words.specs.Tokens.{written_by}

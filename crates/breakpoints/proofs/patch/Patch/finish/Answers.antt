@@ -1,5 +1,5 @@
 -- The index that was active before is made equal, once the value is reached.
-use Rattle.std.proofs.Common.{ℕ, ◌≤◌, arith}
+use Rattle.std.proofs.Common.{arith}
 use Rattle.std.proofs.lemmas.Result.{err_from_is_err_and}
 use Rattle.progress_words.specs.Tokens.{written_by}
 use Rattle.progress_words.proofs.Rooted.{some_published}
