@@ -78,7 +78,8 @@ pub fn finish<K: Naming, N: RunName, T: TableName, I: InboxNames, R: Wait>(
     requires idle { AreAllIdle run.seats.items }
     requires functions { AreExportedFunctions script.now.names script.now.modules functions.now }
     requires observed { HaveObserved script.now run.desk.book.plain.journal observers.items }
-    ensures { IfOk result (λ ran. IsHistory K.names script.now ran.log (writer_of ran.closed.writer.seat.me.0)) }
+    ensures history { IfOk result (λ ran. IsHistory K.names script.now ran.log (writer_of ran.closed.writer.seat.me.0)) }
+    ensures table { IfOk result (λ ran. ran.closed.writer.seat.table_id ≡ run.shared.table.shared.table_id) }
 {
     journals_are_sound();
     reads_are_those_of_states();

@@ -60,7 +60,8 @@ where
     requires run { IsRun K.names script.now run.shared.table.shared.table_id run.shared.table.shared.key run.desk run.inboxes.items run.seats.items run.sight }
     requires functions { AreExportedFunctions script.now.names script.now.modules functions.now }
     requires observed { HaveObserved script.now run.desk.book.plain.journal observers.items }
-    ensures { IfOk result (λ ran. IsHistory K.names script.now ran.log (writer_of ran.closed.writer.seat.me.0)) }
+    ensures history { IfOk result (λ ran. IsHistory K.names script.now ran.log (writer_of ran.closed.writer.seat.me.0)) }
+    ensures table { IfOk result (λ ran. ran.closed.writer.seat.table_id ≡ run.shared.table.shared.table_id) }
 {
     let mut run = run;
     let mut observers = observers;

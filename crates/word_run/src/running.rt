@@ -110,6 +110,8 @@ pub fn run_on<K: Naming + Send + Sync, R: Threads + Wait + Sync, G: Gate>(
     ensures whole { IfOk result (λ ran. All (λ process. AreWhole process.spans) ran.log.processes) }
     // The words have published the generations of the journal, and have a mark for each turn.
     ensures closes { IfOk result (λ ran. Closes K.names script.now ran.log (writer_of ran.closed.writer.seat.me.0)) }
+    // They are the words that were given.
+    ensures table { IfOk result (λ ran. ran.closed.writer.seat.table_id ≡ shared.table.shared.table_id) }
 {
     let functions = exported_functions(alloc, script)?;
     let exports = numbered(alloc, functions.as_slice())?;
@@ -146,7 +148,8 @@ where
     requires writer { BeginsRun writer script.now N.run }
     requires members { AreMembersBegun shared.table.shared.table_id shared.table.shared.key.members members.items }
     requires some { 0 < shared.table.shared.key.members }
-    ensures { IfOk result (λ ran. IsHistory K.names script.now ran.log (writer_of ran.closed.writer.seat.me.0)) }
+    ensures history { IfOk result (λ ran. IsHistory K.names script.now ran.log (writer_of ran.closed.writer.seat.me.0)) }
+    ensures table { IfOk result (λ ran. ran.closed.writer.seat.table_id ≡ shared.table.shared.table_id) }
 {
     let openings = open_inboxes::<T>(alloc, shared.members())?;
     run_posted::<K, N, T, Brand, R, G>(
@@ -185,7 +188,8 @@ where
     requires some { 0 < shared.table.shared.key.members }
     requires openings { length openings.items ≡ shared.table.shared.key.members }
     requires queues { (k : ℕ) (id : QueueId) → slice_get openings.items k ≡ Some id → I.queue k ≡ Some id }
-    ensures { IfOk result (λ ran. IsHistory K.names script.now ran.log (writer_of ran.closed.writer.seat.me.0)) }
+    ensures history { IfOk result (λ ran. IsHistory K.names script.now ran.log (writer_of ran.closed.writer.seat.me.0)) }
+    ensures table { IfOk result (λ ran. ran.closed.writer.seat.table_id ≡ shared.table.shared.table_id) }
 {
     let observers = waiting_observers(alloc, script.observers.as_slice())?;
     let run = begin_run::<K, N, T, I>(

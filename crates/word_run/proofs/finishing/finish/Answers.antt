@@ -44,8 +44,8 @@ close-requires-clause-members g c =
     all_members g.K.Naming.names c.args.script.now here.table_id here.key c.args.run.desk c.args.run.inboxes.items c.args.run.seats.items c.args.run.sight c.requires.run had.members.items is.takers had.processes.items is.parted
 
 -- the log is a history
-pub returns : goal.returns
-returns g c =
+pub returns-clause-history : goal.returns-clause-history
+returns-clause-history g c =
     let here = c.args.run.shared.table.shared in
     let d = c.args.run.desk in
     let had = c.in_ok-gathered.gathered in

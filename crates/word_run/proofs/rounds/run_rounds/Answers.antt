@@ -1,5 +1,6 @@
 use Rattle.std.proofs.Common.{◌∙◌, sym, subst}
 use Rattle.std.proofs.lemmas.List.{with_items_is}
+use Rattle.std.proofs.lemmas.Result.{IfOk-weaker}
 use Rattle.run_steps.specs.Observers.{HaveObserved}
 use Rattle.word_run.proofs.RoundLoop.{given_as, on_at, own_run, run_as, seen_as, words_as}
 use Rattle.word_run.proofs.RoundSeats.{if_at}
@@ -25,6 +26,7 @@ pub loop-preserved : goal.loop-preserved
 loop-preserved g c =
     let words = c.turn_round-turned.ensures.shared ∙ c.make_ready.ensures.shared in
     record {
+      table = (λ i. (words i).table.shared.table_id) ∙ c.loop.invariant.table;
       words = words_as g.N.RunName.run _ _ _ _ (λ i. (words i).table.shared.table_id) (λ i. (words i).table.shared.key) c.loop.invariant.words;
       run =
           run_as g.K.Naming.names c.make_ready.new.run.desk.book.plain.script c.args.script.now c.make_ready.new.run.shared.table.shared.table_id c.turn_round-turned.result.0.shared.table.shared.table_id c.make_ready.new.run.shared.table.shared.key c.turn_round-turned.result.0.shared.table.shared.key
@@ -57,3 +59,9 @@ pub finish-requires-clause-observed : goal.finish-requires-clause-observed
 finish-requires-clause-observed g c =
     subst (HaveObserved c.args.script.now c.turn_round-turned.result.0.desk.book.plain.journal) (sym (with_items_is c.loop.observers c.make_ready.new.observers (c.make_ready.auto.observers ∙ c.deref_mut.ensures.len)))
     (seen_as c.args.script.now c.make_ready.new.run.desk.book.plain.script c.make_ready.new.run.desk.book.plain.journal c.turn_round-turned.result.0.desk.book.plain.journal c.make_ready.new.observers c.in_ok-make_ready.ensures.run.script_is c.turn_round-turned.ensures.kept c.in_ok-make_ready.ensures.observed)
+
+-- the words at the end are those of the beginning
+pub returns-clause-table : goal.returns-clause-table
+returns-clause-table g c =
+    let words = c.turn_round-turned.ensures.shared ∙ c.make_ready.ensures.shared in
+    IfOk-weaker c.finish.result _ _ (λ ran is. is ∙ (λ i. (words i).table.shared.table_id) ∙ c.loop.invariant.table) c.finish.ensures.table

@@ -18,10 +18,10 @@ pub run_named-requires-clause-writer : goal.run_named-requires-clause-writer
 run_named-requires-clause-writer g c κs within = begins_run _ _ _ c.args.parts.writer c.requires.writer c.args.script.now c.requires.token
 
 pub returns-clause-legal : goal.returns-clause-legal
-returns-clause-legal g c = IfOk-weaker c.run_named.result _ _ (λ ran h. h.legal) c.run_named.ensures
+returns-clause-legal g c = IfOk-weaker c.run_named.result _ _ (λ ran h. h.legal) c.run_named.ensures.history
 
 pub returns-clause-whole : goal.returns-clause-whole
-returns-clause-whole g c = IfOk-weaker c.run_named.result _ _ (λ ran h. h.whole) c.run_named.ensures
+returns-clause-whole g c = IfOk-weaker c.run_named.result _ _ (λ ran h. h.whole) c.run_named.ensures.history
 
 pub returns-clause-closes : goal.returns-clause-closes
-returns-clause-closes g c = IfOk-weaker c.run_named.result _ _ (λ ran h. h.closes) c.run_named.ensures
+returns-clause-closes g c = IfOk-weaker c.run_named.result _ _ (λ ran h. h.closes) c.run_named.ensures.history

@@ -1,4 +1,5 @@
 use Rattle.std.proofs.Common.{map, ap, ◌∙◌}
+use Rattle.std.proofs.lemmas.Result.{IfOk-weaker}
 use Rattle.run_steps.specs.Observers.{not_begun}
 use Rattle.run_steps.proofs.Observing.{none_observed}
 use Rattle.word_run.proofs.RoundLoop.{words_as}
@@ -13,3 +14,7 @@ run_rounds-requires-clause-words g c κs within =
 -- no observer looked yet
 pub run_rounds-requires-clause-observed : goal.run_rounds-requires-clause-observed
 run_rounds-requires-clause-observed g c κs within = none_observed c.args.script.now c.in_ok-run.run'.desk.book.plain.journal c.in_ok-observers.observers.items (c.in_ok-observers.ensures ∙ ap (map not_begun) c.as_slice.ensures)
+
+-- the words at the end are these
+pub returns-clause-table : goal.returns-clause-table
+returns-clause-table g c = IfOk-weaker c.run_rounds.result _ _ (λ ran is. is ∙ (λ i. (c.in_ok-run.ensures.shared i).table.shared.table_id)) c.run_rounds.ensures.table
