@@ -40,10 +40,6 @@ pub purges_needs : (next : Option ScriptCmd) → IsSomeAnd next AsksToPurge → 
 purges_needs None h = h
 purges_needs (Some command) h = purges_command command h
 
--- it is still the next one once the permission was asked for
-pub purges_still : (p q : PermitState) (h : Holder) (who : ℕ) → q ≡ record p { holder = h } → IsSomeAnd (next_of p who) AsksToPurge → IsSomeAnd (next_of q who) AsksToPurge
-purges_still p q h who is next = subst (λ (x : PermitState). IsSomeAnd (next_of x who) AsksToPurge) (sym is) next
-
 -- it is a purge by the permit's words too
 purge_is : (command : ScriptCmd) → AsksToPurge command → is_purge command ≡ true
 purge_is (SoftPurge name) h = refl
@@ -69,5 +65,6 @@ pub traces_needs : (next : Option ScriptCmd) → IsSomeAnd next ChangesTraces �
 traces_needs None h = h
 traces_needs (Some command) h = traces_command command h
 
-pub traces_still : (p q : PermitState) (h : Holder) (who : ℕ) → q ≡ record p { holder = h } → IsSomeAnd (next_of p who) ChangesTraces → IsSomeAnd (next_of q who) ChangesTraces
-traces_still p q h who is next = subst (λ (x : PermitState). IsSomeAnd (next_of x who) ChangesTraces) (sym is) next
+-- the command is still the next one once the permission was asked for
+pub needs_still : (p q : PermitState) (h : Holder) (who : ℕ) → q ≡ record p { holder = h } → IsSomeAnd (next_of p who) (λ command. needs_permission command ≡ true) → IsSomeAnd (next_of q who) (λ command. needs_permission command ≡ true)
+needs_still p q h who is next = subst (λ (x : PermitState). IsSomeAnd (next_of x who) (λ command. needs_permission command ≡ true)) (sym is) next

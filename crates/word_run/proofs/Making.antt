@@ -1,5 +1,6 @@
 -- What a step of a loader under the lock leaves of the permit and of what was posted.
-use Rattle.std.proofs.Common.{◌≡◌, ℕ, ◌<◌, true, false, List, [], length, Option, None, Some, IsSomeAnd, IfOk, OnErr, OnOk, Result, Ok, Err, refl, sym, ap, subst, ◌∙◌}
+use Rattle.std.proofs.Common.{◌≡◌, ◌⊎◌, inl, inr, ℕ, ◌<◌, true, false, List, [], length, Option, None, Some, IsSomeAnd, IfOk, OnErr, OnOk, Result, Ok, Err, refl, sym, ap, subst, ◌∙◌}
+use Rattle.std.proofs.lemmas.Bool.{false≢true}
 use Rattle.term_core.specs.declared.atom.Mfa.{Mfa}
 use Rattle.term_core.specs.declared.no_memory.NoMemory.{NoMemory}
 use Rattle.term_core.specs.PlainTerm.{PlainTerm}
@@ -18,13 +19,13 @@ use Rattle.word_permit.specs.declared.answers.CommandStep.{CommandStep}
 use Rattle.word_permit.specs.declared.answers.CommandStep.TheVariants.{Done, NotYet, AwaitRelease, Lingers}
 use Rattle.word_permit.specs.declared.book.WordBook.{WordBook}
 use Rattle.word_permit.specs.Books.{HasGivenUp, OpAnswers}
-use Rattle.word_permit.specs.Purged.{CommandAnswers}
+use Rattle.word_permit.specs.Purged.{CommandAnswers, HasGrown, Purges}
 use Rattle.word_permit.specs.Waiting.{GoesOverWords}
-use Rattle.word_run.specs.Desks.{Adds, AddsInSlices, ArePosted, ChangesTraces, DeskState, GoesInSlices, GoesOn, IsDesk, MakesOn}
+use Rattle.word_run.specs.Desks.{Adds, AddsInSlices, ArePosted, AsksToPurge, DeskState, GoesInSlices, GoesOn, IsDesk, MakesOn}
 use Rattle.word_run.specs.Loaders.{posted_home}
 use Rattle.word_run.proofs.Adding.{adds_both, adds_none, at_once_made, done_adds, done_goes, slices_made}
 use Rattle.word_run.proofs.Asking.{at_once_is, words_is}
-use Rattle.word_run.proofs.Going.{goes_same, goes_seized, goes_through}
+use Rattle.word_run.proofs.Going.{goes_purge, goes_same, goes_seized, goes_through}
 use Rattle.word_run.proofs.Posted.{posted_on}
 use Rattle.word_run.proofs.Spawning.{homes_kept, posted_more, spawn_made}
 
@@ -98,14 +99,6 @@ pub slices_over : (next : Option ScriptCmd) → IsSomeAnd next GoesInSlices → 
 slices_over None h = h
 slices_over (Some command) h = slices_over_words command h
 
-traces_over_words : (command : ScriptCmd) → ChangesTraces command → GoesOverWords command
-traces_over_words (script.Trace target on) h = tt
-traces_over_words command h = absurd h
-
-pub traces_over : (next : Option ScriptCmd) → IsSomeAnd next ChangesTraces → IsSomeAnd next GoesOverWords
-traces_over None h = h
-traces_over (Some command) h = traces_over_words command h
-
 -- what a call answers for a command that is no purge
 pub op_of : (who : ℕ) (b c : WordBook) (r : Result CommandStep NoMemory) → IsSomeAnd (next_of (shown b.plain) who) GoesOverWords → IfOk r (CommandAnswers who b c) → IfOk r (OpAnswers who b c)
 op_of who b c (Ok step) over h = h.goes over
@@ -124,6 +117,32 @@ module _ (who : ℕ) (b c : WordBook) (permit : IsPermit (shown b.plain)) (own :
   pub goes_op : (r : Result CommandStep NoMemory) → IfOk r (OpAnswers who b c) → OnErr r (HasGivenUp b c) → GoesOn (shown b.plain) (shown c.plain)
   goes_op (Ok step) ok err = goes_answered step ok
   goes_op (Err fault) ok err = goes_seized (shown b.plain) (shown c.plain) (given_up b.plain.holder) err.same
+
+-- a command that needs the permission is a purge, or is told of by its answer
+needs_either : (command : ScriptCmd) → needs_permission command ≡ true → AsksToPurge command ⊎ GoesOverWords command
+needs_either (script.Load refs) h = inr tt
+needs_either (script.Delete name) h = inr tt
+needs_either (script.SoftPurge name) h = inl tt
+needs_either (script.Purge name) h = inl tt
+needs_either (script.CheckOld name) h = absurd (false≢true h)
+needs_either (script.Put key term) h = inr tt
+needs_either (script.Erase key) h = inr tt
+needs_either (script.Trace target on) h = inr tt
+needs_either (script.Spawn target args) h = absurd (false≢true h)
+
+next_either : (next : Option ScriptCmd) → IsSomeAnd next (λ command. needs_permission command ≡ true) → IsSomeAnd next AsksToPurge ⊎ IsSomeAnd next GoesOverWords
+next_either None h = absurd h
+next_either (Some command) h = needs_either command h
+
+module _ (who : ℕ) (b c : WordBook) (permit : IsPermit (shown b.plain)) (own : holder_of b.plain.holder ≡ Some who) (r : Result CommandStep NoMemory) (ok : IfOk r (CommandAnswers who b c)) (err : OnErr r (HasGivenUp b c)) (grown : Purges (shown b.plain) who → HasGrown b.plain c.plain) where
+  goes_either : IsSomeAnd (next_of (shown b.plain) who) AsksToPurge ⊎ IsSomeAnd (next_of (shown b.plain) who) GoesOverWords → GoesOn (shown b.plain) (shown c.plain)
+  goes_either (inl purges) = goes_purge who b.plain c.plain purges grown
+  goes_either (inr over) = goes_op who b c permit own over r (op_of who b c r over ok) err
+
+-- entries joined at most, whatever the command is
+pub goes_needed : (who : ℕ) (b c : WordBook) → IsPermit (shown b.plain) → holder_of b.plain.holder ≡ Some who → IsSomeAnd (next_of (shown b.plain) who) (λ command. needs_permission command ≡ true)
+    → (r : Result CommandStep NoMemory) → IfOk r (CommandAnswers who b c) → OnErr r (HasGivenUp b c) → (Purges (shown b.plain) who → HasGrown b.plain c.plain) → GoesOn (shown b.plain) (shown c.plain)
+goes_needed who b c permit own needs r ok err grown = goes_either who b c permit own r ok err grown (next_either (next_of (shown b.plain) who) needs)
 
 slices_is : (next : Option ScriptCmd) (command : ScriptCmd) → next ≡ Some command → IsSomeAnd next GoesInSlices → GoesInSlices command
 slices_is next command is h = subst (λ o. IsSomeAnd o GoesInSlices) is h

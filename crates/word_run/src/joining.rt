@@ -1,11 +1,11 @@
 //! What is done between two rounds, while no turn runs: commands that wait for that.
 
-ghost use Rattle.std.specs.Prelude.{◌≡◌, IsSomeAnd, Some};
+ghost use Rattle.std.specs.Prelude.{◌≡◌, true, IsSomeAnd, Some};
 ghost use Rattle.write_permit.specs.Book.{shown};
-ghost use Rattle.write_permit.specs.Permit.{holder_of, next_of};
+ghost use Rattle.write_permit.specs.Permit.{holder_of, needs_permission, next_of};
 ghost use Rattle.word_permit.specs.Books.{KeepsRun};
 ghost use Rattle.word_permit.specs.Runs.{IsOverWords};
-ghost use Rattle.word_run.specs.Desks.{AsksToPurge, ChangesTraces, GoesOn};
+ghost use Rattle.word_run.specs.Desks.{GoesOn};
 
 use crate::desk::Desk;
 use crate::loading::{SliceStep, has_permission, slice_step};
@@ -53,7 +53,7 @@ fn step_all<K: Naming, N: RunName, G: Gate>(
 }
 
 /// One step of a loader's next command, where it is a trace, a soft purge or a purge. Of the purges it is those of traced code that wait for it.
-#[tactic(auto, using(crate::proofs::Going::goes_same))]
+#[tactic(auto, using(crate::proofs::Going::goes_same, crate::proofs::Going::purges_needs, crate::proofs::Going::traces_needs))]
 fn step_joined<K: Naming, N: RunName, G: Gate>(
     permit: &mut Permit<K, N>,
     shared: &Shared<CodeLaw<K>>,
@@ -66,33 +66,33 @@ fn step_joined<K: Naming, N: RunName, G: Gate>(
 {
     permit.journal();
     match slice_step(permit.next_command(who)) {
-        SliceStep::Purges => purge_joined(permit, shared, gate, who),
-        SliceStep::Traces => trace_joined(permit, shared, gate, who),
+        SliceStep::Purges => go_on_joined(permit, shared, gate, who),
+        SliceStep::Traces => go_on_joined(permit, shared, gate, who),
         SliceStep::Over | SliceStep::AtOnce | SliceStep::Operates => Ok(()),
     }
 }
 
-/// The loader goes on with its purge, if it has the permission or gets it.
-#[tactic(auto, using(crate::proofs::Going::purges_needs, crate::proofs::Going::purges_still, crate::proofs::Going::goes_seized, crate::proofs::Going::goes_through))]
-fn purge_joined<K: Naming, N: RunName, G: Gate>(
+/// The loader goes on with its command, if it has the permission or gets it.
+#[tactic(auto, using(crate::proofs::Going::needs_still, crate::proofs::Going::goes_seized, crate::proofs::Going::goes_through))]
+fn go_on_joined<K: Naming, N: RunName, G: Gate>(
     permit: &mut Permit<K, N>,
     shared: &Shared<CodeLaw<K>>,
     gate: &G,
     who: u32,
 ) -> Result<(), NoMemory>
     requires words { IsOverWords shared.now.table.shared.table_id shared.now.table.shared.key N.run }
-    requires next { IsSomeAnd (next_of (shown permit.old.plain) who) AsksToPurge }
+    requires next { IsSomeAnd (next_of (shown permit.old.plain) who) (λ command. needs_permission command ≡ true) }
     ensures goes { GoesOn (shown permit.old.plain) (shown permit.new.plain) }
     ensures kept { KeepsRun K.names N.run permit.new }
 {
     if has_permission(permit, who) {
-        make_purge(permit, shared, gate, who)?;
+        make_joined(permit, shared, gate, who)?;
     }
     Ok(())
 }
 
-/// The loader that has the permission goes on with its purge.
-fn make_purge<K: Naming, N: RunName, G: Gate>(
+/// The loader that has the permission goes on with its command.
+fn make_joined<K: Naming, N: RunName, G: Gate>(
     permit: &mut Permit<K, N>,
     shared: &Shared<CodeLaw<K>>,
     gate: &G,
@@ -100,44 +100,7 @@ fn make_purge<K: Naming, N: RunName, G: Gate>(
 ) -> Result<(), NoMemory>
     requires words { IsOverWords shared.now.table.shared.table_id shared.now.table.shared.key N.run }
     requires holds { holder_of permit.old.plain.holder ≡ Some who }
-    requires next { IsSomeAnd (next_of (shown permit.old.plain) who) AsksToPurge }
-    ensures goes { GoesOn (shown permit.old.plain) (shown permit.new.plain) }
-    ensures kept { KeepsRun K.names N.run permit.new }
-{
-    permit.journal();
-    permit.advance_op(shared, who, gate)?;
-    Ok(())
-}
-
-/// The loader makes its trace, if it has the permission or gets it.
-#[tactic(auto, using(crate::proofs::Going::traces_needs, crate::proofs::Going::traces_still, crate::proofs::Going::goes_seized, crate::proofs::Going::goes_through))]
-fn trace_joined<K: Naming, N: RunName, G: Gate>(
-    permit: &mut Permit<K, N>,
-    shared: &Shared<CodeLaw<K>>,
-    gate: &G,
-    who: u32,
-) -> Result<(), NoMemory>
-    requires words { IsOverWords shared.now.table.shared.table_id shared.now.table.shared.key N.run }
-    requires next { IsSomeAnd (next_of (shown permit.old.plain) who) ChangesTraces }
-    ensures goes { GoesOn (shown permit.old.plain) (shown permit.new.plain) }
-    ensures kept { KeepsRun K.names N.run permit.new }
-{
-    if has_permission(permit, who) {
-        make_trace(permit, shared, gate, who)?;
-    }
-    Ok(())
-}
-
-/// The loader that has the permission makes its trace.
-fn make_trace<K: Naming, N: RunName, G: Gate>(
-    permit: &mut Permit<K, N>,
-    shared: &Shared<CodeLaw<K>>,
-    gate: &G,
-    who: u32,
-) -> Result<(), NoMemory>
-    requires words { IsOverWords shared.now.table.shared.table_id shared.now.table.shared.key N.run }
-    requires holds { holder_of permit.old.plain.holder ≡ Some who }
-    requires next { IsSomeAnd (next_of (shown permit.old.plain) who) ChangesTraces }
+    requires next { IsSomeAnd (next_of (shown permit.old.plain) who) (λ command. needs_permission command ≡ true) }
     ensures goes { GoesOn (shown permit.old.plain) (shown permit.new.plain) }
     ensures kept { KeepsRun K.names N.run permit.new }
 {
