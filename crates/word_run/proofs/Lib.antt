@@ -9,7 +9,6 @@ pub mod Noting
 pub mod Waiting
 pub mod Laps
 pub mod Slices
-pub mod Told
 pub mod RoundTraces
 pub mod RoundSeats
 pub mod Rounding

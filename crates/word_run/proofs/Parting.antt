@@ -14,7 +14,7 @@ use Rattle.word_lap.specs.declared.process_run.ProcessRun.{ProcessRun}
 use Rattle.word_run.specs.declared.seat.Seat.{Seat}
 use Rattle.word_run.specs.Finished.{AddsParts, AreParted, AreSettled, HasParts}
 use Rattle.word_run.specs.Loaders.{AreTakers}
-use Rattle.word_run.specs.Rounds.{CanTell}
+use Rattle.word_run.specs.Rounds.{HaveTakers}
 use Rattle.word_run.proofs.Joined.{dropped_next, joined_at, length_joined}
 
 module _ {T I : Type 0} where
@@ -63,10 +63,10 @@ module _ {T I : Type 0} where
         (subst (λ (ps : List (Vec (Option ProcessRun) Global)). AreParted (seats ++ seat ∷ []) (members ++ a.member ∷ []) (takers ++ seat.scheduler.taker ∷ []) ps) (sym a.place_joins) parted_more))
 
   -- the ends that take have their numbers
-  pub takers_told : (seats : List (Seat T I)) (members : List tokens.Member) (takers : List (Taking Spawn)) (places : List (Vec (Option ProcessRun) Global)) → AreParted seats members takers places → CanTell seats → AreTakers takers
-  takers_told seats members takers places parted told home taker at =
+  pub takers_numbered : (seats : List (Seat T I)) (members : List tokens.Member) (takers : List (Taking Spawn)) (places : List (Vec (Option ProcessRun) Global)) → AreParted seats members takers places → HaveTakers seats → AreTakers takers
+  takers_numbered seats members takers places parted own home taker at =
       let there = get_within seats home (omega (arith, slice_get_within takers home taker at, parted.takers_are)) in
-      ap (λ (t : Taking Spawn). t.number) (same_Some taker there.0.scheduler.taker (sym at ∙ (parted.each home there.0 there.1).taker_is)) ∙ told home there.0 there.1
+      ap (λ (t : Taking Spawn). t.number) (same_Some taker there.0.scheduler.taker (sym at ∙ (parted.each home there.0 there.1).taker_is)) ∙ own home there.0 there.1
 
 -- ---- what was posted
 

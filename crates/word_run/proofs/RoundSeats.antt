@@ -32,7 +32,7 @@ use Rattle.word_run.specs.declared.scheduler.Slice.TheVariants.{Idle}
 use Rattle.word_run.specs.declared.seat.Seat.{Seat}
 use Rattle.word_run.specs.declared.sight.Sight.{Sight}
 use Rattle.word_run.specs.Desks.{DeskState}
-use Rattle.word_run.specs.Rounds.{AreAllIdle, AreIdle, AreKept, CanGo, CanTell, HadSlice, NoneGoOn, TracesStay, WasTold}
+use Rattle.word_run.specs.Rounds.{AreAllIdle, AreIdle, AreKept, CanGo, HadSlice, HaveTakers, NoneGoOn, TracesStay}
 use Rattle.word_run.specs.Schedulers.{IsGiven, Keeps, KeepsOn}
 
 -- ---- turns under what is traced otherwise elsewhere
@@ -126,10 +126,6 @@ module _ {T I : Type 0} (functions : List Mfa) (table : TableId) (opening : Open
     };
   }
 
-  told_keeps : (traced : TracedBy) (before after : Seat T I) → WasTold before after → Keeps functions traced table opening before.scheduler → Keeps functions traced table opening after.scheduler
-  told_keeps traced before after told h =
-      subst (λ (s : Seat T I). Keeps functions traced table opening s.scheduler) (sym told.is) (record { inbox = h.inbox; token = h.token; there = h.there; by = h.by })
-
   -- a slice as its answer tells of it
   pub had_slice : (sight : Sight) (before after : Seat T I) → after.scheduler.number ≡ before.scheduler.number
       → OnOk after.answer (KeepsOn functions table opening sight before.scheduler after.scheduler)
@@ -144,16 +140,8 @@ module _ {T I : Type 0} (functions : List Mfa) (table : TableId) (opening : Open
 
   module _ (s : Script) where
     -- the end that takes is that of the scheduler's inbox
-    pub kept_tells : (journal : List Entry) (seats : List (Seat T I)) → AreKept functions s journal table opening seats → CanTell seats
-    kept_tells journal seats h = λ k seat at. let own = h k seat at in own.1.inbox ∙ own.0
-
-    -- they were told of what was posted
-    pub kept_told : (journal : List Entry) (seats after : List (Seat T I)) → EachBecame WasTold seats after → AreKept functions s journal table opening seats → AreKept functions s journal table opening after
-    kept_told journal seats after told h = λ k seat at.
-        let before = get_within seats k (omega (arith, slice_get_within after k seat at, told.many)) in
-        let was = told.each k before.0 seat before.1 at in
-        let own = h k before.0 before.1 in
-        (ap (λ (x : Seat T I). x.scheduler.number) was.is ∙ own.0, told_keeps (traced_by s.modules journal) before.0 seat was own.1)
+    pub kept_takers : (journal : List Entry) (seats : List (Seat T I)) → AreKept functions s journal table opening seats → HaveTakers seats
+    kept_takers journal seats h = λ k seat at. let own = h k seat at in own.1.inbox ∙ own.0
 
     -- they may have a slice
     pub kept_go : (journal : List Entry) (sight : Sight) (count : ℕ) (seats : List (Seat T I)) → count ≡ length seats → IsGiven (traced_by s.modules journal) sight

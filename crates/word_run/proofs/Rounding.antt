@@ -19,9 +19,9 @@ use Rattle.write_permit.specs.Book.{IsPermit, shown}
 use Rattle.word_run.specs.declared.seat.Seat.{Seat}
 use Rattle.word_run.specs.declared.sight.Sight.{Sight}
 use Rattle.word_run.specs.Desks.{AddsInSlices, DeskState, GoesOn, HasHomes, IsSliceOf}
-use Rattle.word_run.specs.Rounds.{AreAllIdle, AreIdle, ArePublishedTo, CanGo, HadSlice, IsRun, TracesStay, WasTold}
+use Rattle.word_run.specs.Rounds.{AreAllIdle, AreIdle, ArePublishedTo, CanGo, HadSlice, IsRun, TracesStay}
 use Rattle.word_run.specs.Schedulers.{IsGiven}
-use Rattle.word_run.proofs.RoundSeats.{idle_sliced, kept_go, kept_sliced, kept_stay, kept_told}
+use Rattle.word_run.proofs.RoundSeats.{idle_sliced, kept_go, kept_sliced, kept_stay}
 use Rattle.word_run.proofs.RoundTraces.{adds_traced, kept_by, traced_below}
 
 -- ---- a round
@@ -75,24 +75,18 @@ module _ {T I : Type 0} where
 
   module _ (functions : List Mfa) (table : TableId) (opening : Opening) (d e : DeskState) (inboxes : List ℕ) (seats : List (Seat T I)) (sight given : Sight)
       (run : IsRun functions d.book.plain.script table opening d inboxes seats sight) (goes : GoesOn (shown d.book.plain) (shown e.book.plain)) (posted : e.posted ≡ d.posted) (exports : given.exports ≡ sight.exports) where
-    told_run : (after : List (Seat T I)) → TracesStay d e seats → EachBecame WasTold seats after → IsRun functions d.book.plain.script table opening e inboxes after given
-    told_run after stays told = record {
-      some = omega (arith, run.some, told.many);
-      members = run.members ∙ sym told.many;
+    -- the run stands as it did
+    pub between_run : (lent : List (Seat T I)) → lent ≡ seats → TracesStay d e lent → IsRun functions d.book.plain.script table opening e inboxes seats given
+    between_run lent lent_is stays = record {
+      some = run.some;
+      members = run.members;
       inboxes_are = run.inboxes_are;
-      many = run.many ∙ sym told.many;
-      homes = ap length posted ∙ run.homes ∙ sym told.many;
+      many = run.many;
+      homes = ap length posted ∙ run.homes;
       exports = exports ∙ run.exports;
       script_is = goes.script;
-      kept = kept_told functions table opening d.book.plain.script e.book.plain.journal seats after told (kept_stay functions table opening d e seats stays run.kept);
+      kept = kept_stay functions table opening d e seats (subst (λ (xs : List (Seat T I)). TracesStay d e xs) lent_is stays) run.kept;
     }
-
-    -- the run stands as it did
-    pub between_run : (lent : List (Seat T I)) → lent ≡ seats → (left : List (Seat T I)) → (after : List (Seat T I)) → after ≡ left → TracesStay d e lent → EachBecame WasTold lent left
-        → IsRun functions d.book.plain.script table opening e inboxes after given
-    between_run lent lent_is left after after_is stays told =
-        subst (λ (xs : List (Seat T I)). IsRun functions d.book.plain.script table opening e inboxes xs given) (sym after_is)
-        (told_run left (subst (λ (xs : List (Seat T I)). TracesStay d e xs) lent_is stays) (subst (λ (xs : List (Seat T I)). EachBecame WasTold xs left) lent_is told))
 
   -- ---- over a round
 

@@ -6,8 +6,6 @@ use Rattle.term_core.specs.declared.atom.Mfa.{Mfa}
 use Rattle.shared_words.specs.declared.opening.Opening.{Opening}
 use Rattle.script_core.specs.declared.script.Script.{Script}
 use Rattle.run_log.specs.declared.logs.Entry.{Entry}
-use Rattle.inbox.specs.Ends.{Posting, heard}
-use Rattle.run_law.specs.Newcomers.{Spawn}
 use Rattle.run_law.specs.Reading.{traced_by}
 use Rattle.write_permit.specs.Permit.{next_of}
 use Rattle.write_permit.specs.Book.{shown}
@@ -45,18 +43,9 @@ module _ {T : Type 0} {I : Type 0} where
     pub kept : IfOk after.answer (λ _. KeepsOn functions table opening sight before.scheduler after.scheduler)
     pub idle : after.answer ≡ Ok Idle → NoneGoOn after.scheduler.processes.items
 
-  -- the ends that take are those of their schedulers' inboxes
-  abbrev pub CanTell : List (Seat T I) → Type 0
-  CanTell seats = (k : ℕ) (seat : Seat T I) → slice_get seats k ≡ Some seat → seat.scheduler.taker.number ≡ k
-
-  -- a scheduler was told of what was posted to it; nothing else changed
-  pub record WasTold (before after : Seat T I) : Type 0 where
-    pub put : List Spawn
-    pub is : after ≡ record before { scheduler = record (before.scheduler) { taker = heard before.scheduler.taker put } }
-
-  -- each scheduler was told of all that was posted to it
-  abbrev pub KnowPosted : List (Posting Spawn) → List (Seat T I) → Type 0
-  KnowPosted ends seats = (k : ℕ) (end : Posting Spawn) (seat : Seat T I) → slice_get ends k ≡ Some end → slice_get seats k ≡ Some seat → seat.scheduler.taker.told ≡ end.put
+  -- each scheduler has the end that takes of the inbox of its number
+  abbrev pub HaveTakers : List (Seat T I) → Type 0
+  HaveTakers seats = (k : ℕ) (seat : Seat T I) → slice_get seats k ≡ Some seat → seat.scheduler.taker.number ≡ k
 
   -- each scheduler has its number, and keeps what it knows of its processes, by what a journal traces
   abbrev pub AreKept : List Mfa → Script → List Entry → TableId → Opening → List (Seat T I) → Type 0

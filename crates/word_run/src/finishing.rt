@@ -13,7 +13,7 @@ ghost use Rattle.word_run.specs.Desks.{IsDesk};
 ghost use Rattle.word_run.specs.Finished.{AddsParts, AreLogged, AreParted, AreSettled, HasGathered};
 ghost use Rattle.word_run.specs.Loaders.{AreEnds, AreInboxes, AreTakers};
 ghost use Rattle.word_run.specs.Names.{HasTable};
-ghost use Rattle.word_run.specs.Rounds.{AreAllIdle, CanTell, IsDone, IsRun};
+ghost use Rattle.word_run.specs.Rounds.{AreAllIdle, HaveTakers, IsDone, IsRun};
 
 use crate::desk::Desk;
 use crate::process_logs::process_logs;
@@ -117,7 +117,7 @@ fn gather<K: Naming, N: RunName, T: TableName, I: InboxNames, R: Wait>(
 ) -> Result<Gathered, NoMemory>
     requires many { length desk.posted ≡ length inboxes.items }
     requires inboxes { AreInboxes inboxes.items }
-    requires takers { CanTell seats.items }
+    requires takers { HaveTakers seats.items }
     ensures { IfOk result (λ gathered. HasGathered K.names N.run desk seats.items gathered.journal gathered.writer gathered.members.items gathered.processes.items) }
 {
     let handed = hand_in(desk);
@@ -234,8 +234,8 @@ fn part<T: TableName, I: InboxNames>(
     Ok(())
 }
 
-/// The ends of all inboxes come together. Nothing is left in one: all that was posted before the last round was taken in it, and no clause of a lock tells
-/// that nothing was posted since, so it is counted.
+/// The ends of all inboxes come together. Nothing is left in one: a slice takes its inbox until that is empty. No clause of a lock tells that nothing was
+/// posted since, so it is counted.
 fn settle<T: TableName, I: InboxNames, R: Wait>(
     rt: &R,
     inboxes: Vec<Inbox<Newcomer<T>, I>>,

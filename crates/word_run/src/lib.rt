@@ -20,7 +20,6 @@ mod scheduler;
 mod seat;
 mod sight;
 mod slicing;
-mod telling;
 
 pub use beginning::MOST_SCHEDULERS;
 pub use ran::Ran;

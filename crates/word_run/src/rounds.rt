@@ -3,17 +3,16 @@
 ghost use Rattle.std.specs.Prelude.{◌≡◌, ℕ, true, length, slice_get, IfOk, IsOk, OnOk, Some};
 ghost use Rattle.run_law.specs.Ends.{IsHistory};
 ghost use Rattle.run_law.specs.Reading.{traced_by};
-ghost use Rattle.run_steps.specs.Observers.{EachBecame, HaveObserved, KeepsGenerations};
+ghost use Rattle.run_steps.specs.Observers.{HaveObserved, KeepsGenerations};
 ghost use Rattle.run_log.specs.ExportedFunctions.{AreExportedFunctions};
 ghost use Rattle.shared_words.specs.Seats.{writer_of};
 ghost use Rattle.word_permit.specs.Books.{KeepsRun};
 ghost use Rattle.word_permit.specs.Runs.{IsOverWords};
 ghost use Rattle.write_permit.specs.Book.{shown};
 ghost use Rattle.word_run.specs.Desks.{GoesOn};
-ghost use Rattle.word_run.specs.Loaders.{AreInboxes};
 ghost use Rattle.word_run.specs.Names.{HasTable};
 ghost use Rattle.word_run.specs.declared.seat.Seat.{Seat};
-ghost use Rattle.word_run.specs.Rounds.{AreAllIdle, AreIdle, CanTell, IsDone, IsRun, TracesStay, WasTold};
+ghost use Rattle.word_run.specs.Rounds.{AreAllIdle, AreIdle, IsDone, IsRun, TracesStay};
 ghost use Rattle.word_run.specs.Schedulers.{IsGiven};
 
 use crate::desk::Desk;
@@ -25,7 +24,7 @@ use crate::run::Run;
 use crate::seat::{Seat, are_idle};
 use crate::sight::{permit_stands, renew};
 use code_law::{CodeLaw, Naming};
-use inbox::{Inbox, InboxNames};
+use inbox::InboxNames;
 use run_log::MfaList;
 use run_steps::{ObserverRun, observe};
 use script_core::Script;
@@ -34,7 +33,7 @@ use std::alloc::Global;
 use std::sync::Wait;
 use std::thread::Threads;
 use term_core::NoMemory;
-use word_lap::{Newcomer, TableName};
+use word_lap::TableName;
 use word_permit::RunName;
 use write_permit::Gate;
 
@@ -66,7 +65,7 @@ where
     let mut run = run;
     let mut observers = observers;
     for _ in rt.forever() {
-        make_ready(rt, alloc, script, gate, functions, &mut run, &mut observers)?;
+        make_ready(alloc, script, gate, functions, &mut run, &mut observers)?;
         let turned = turn_round(rt, gate, run);
         run = turned.0;
         let over = turned.1?;
@@ -78,8 +77,7 @@ where
 }
 
 /// What is done before a round: what waits for the end of the one before, and a look of each observer.
-fn make_ready<K: Naming, N: RunName, T: TableName, I: InboxNames, R: Wait, G: Gate>(
-    rt: &R,
+fn make_ready<K: Naming, N: RunName, T: TableName, I: InboxNames, G: Gate>(
     alloc: Global,
     script: &Script,
     gate: &G,
@@ -96,7 +94,7 @@ fn make_ready<K: Naming, N: RunName, T: TableName, I: InboxNames, R: Wait, G: Ga
     ensures given { OnOk result (IsGiven (traced_by script.now.modules run.new.desk.book.plain.journal) run.new.sight) }
     ensures observed { OnOk result (HaveObserved script.now run.new.desk.book.plain.journal observers.new) }
 {
-    between_rounds(rt, alloc, gate, run)?;
+    between_rounds(alloc, gate, run)?;
     look_once(alloc, script, functions, &run.desk, observers)
 }
 
@@ -172,8 +170,7 @@ fn is_last<K: Naming, N: RunName, T: TableName, I: InboxNames>(
 }
 
 /// What is done while no turn runs: the commands that wait for that, and what the next round is given.
-fn between_rounds<K: Naming, N: RunName, T: TableName, I: InboxNames, R: Wait, G: Gate>(
-    rt: &R,
+fn between_rounds<K: Naming, N: RunName, T: TableName, I: InboxNames, G: Gate>(
     alloc: Global,
     gate: &G,
     run: &mut Run<K, N, T, I>,
@@ -186,41 +183,8 @@ fn between_rounds<K: Naming, N: RunName, T: TableName, I: InboxNames, R: Wait, G
     ensures kept { OnOk result (KeepsGenerations run.old.desk.book.plain.script.modules run.old.desk.book.plain.journal run.new.desk.book.plain.journal) }
 {
     let loaders = run.sight.loaders;
-    tell_joined(
-        rt,
-        gate,
-        &run.shared,
-        &mut run.desk,
-        &run.inboxes,
-        &mut run.seats,
-        loaders,
-    )?;
+    change_joined(&mut run.desk, &run.shared, gate, loaders, &run.seats)?;
     renew(alloc, &run.desk, &mut run.sight)
-}
-
-/// The commands that wait for the end of a round, after which each scheduler is told of what was posted to it.
-fn tell_joined<K: Naming, N: RunName, T: TableName, I: InboxNames, R: Wait, G: Gate>(
-    rt: &R,
-    gate: &G,
-    shared: &Shared<CodeLaw<K>>,
-    desk: &mut Desk<K, N, T, I>,
-    inboxes: &[Inbox<Newcomer<T>, I>],
-    seats: &mut [Seat<T, I>],
-    loaders: u32,
-) -> Result<(), NoMemory>
-    requires words { IsOverWords shared.now.table.shared.table_id shared.now.table.shared.key N.run }
-    requires inboxes { AreInboxes inboxes.now }
-    requires many { length inboxes.now ≡ length seats.old }
-    requires homes { length desk.old.posted ≡ length seats.old }
-    requires seats { CanTell seats.old }
-    ensures goes { GoesOn (shown desk.old.book.plain) (shown desk.new.book.plain) }
-    ensures posted { desk.new.posted ≡ desk.old.posted }
-    ensures traces { OnOk result (TracesStay desk.old desk.new seats.old) }
-    ensures told { OnOk result (EachBecame WasTold seats.old seats.new) }
-{
-    change_joined(desk, shared, gate, loaders, seats)?;
-    desk.tell(rt, inboxes, seats);
-    Ok(())
 }
 
 /// The commands that wait for the end of a round, where each scheduler holds a generation that is published.

@@ -1,7 +1,7 @@
 use Rattle.std.proofs.Common.{length, sym, ap, subst, arith}
 use Rattle.word_run.specs.Finished.{AreSettled}
 use Rattle.word_run.specs.Loaders.{AreEnds}
-use Rattle.word_run.proofs.Parting.{takers_told}
+use Rattle.word_run.proofs.Parting.{takers_numbered}
 use Rattle.word_run.proofs.finishing.gather.Goals as goal
 
 -- each inbox has its two ends
@@ -15,7 +15,7 @@ pub settle-requires-clause-ends : goal.settle-requires-clause-ends
 settle-requires-clause-ends g c = subst AreEnds (sym c.hand_in-handed.ensures.posters) c.hand_in-handed.ensures.desk.posted.number
 
 pub settle-requires-clause-takers : goal.settle-requires-clause-takers
-settle-requires-clause-takers g c = takers_told c.args.seats.items c.in_ok-parted.parted.members.items c.in_ok-parted.parted.takers.items c.in_ok-parted.parted.processes.items c.in_ok-parted.ensures c.requires.takers
+settle-requires-clause-takers g c = takers_numbered c.args.seats.items c.in_ok-parted.parted.members.items c.in_ok-parted.parted.takers.items c.in_ok-parted.parted.processes.items c.in_ok-parted.ensures c.requires.takers
 
 -- all came together
 pub returns : goal.returns
