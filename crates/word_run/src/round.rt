@@ -1,13 +1,15 @@
 //! A round: a slice of each scheduler, in threads, over the desk as it lies when the round begins.
 
 ghost use Rattle.std.specs.Prelude.{◌≡◌, ◌<◌, ℕ, All, length, slice_index_or, Some};
+ghost use Rattle.run_law.specs.Reading.{traced_by};
 ghost use Rattle.run_steps.specs.Observers.{EachBecame};
 ghost use Rattle.word_permit.specs.Runs.{IsOverWords};
 ghost use Rattle.word_run.specs.declared.seat.Seat.{Seat};
 ghost use Rattle.word_run.specs.Desks.{AddsInSlices, HasHomes, IsSliceOf};
 ghost use Rattle.word_run.specs.Loaders.{AreInboxes};
 ghost use Rattle.word_run.specs.Names.{HasTable};
-ghost use Rattle.word_run.specs.Rounds.{CanGo, HadSlice};
+ghost use Rattle.word_run.specs.Rounds.{CanGo, HadSlice, IsRun};
+ghost use Rattle.word_run.specs.Schedulers.{IsGiven};
 
 use crate::desk::Desk;
 use crate::run::Run;
@@ -37,11 +39,8 @@ where
     G: Gate,
     requires words { IsOverWords run.shared.table.shared.table_id run.shared.table.shared.key N.run }
     requires table { HasTable N.run T.table }
-    requires homes { length run.inboxes.items ≡ length run.desk.posted }
-    requires inboxes { AreInboxes run.inboxes.items }
-    requires exports { run.sight.exports ≡ K.names }
-    requires members { run.shared.table.shared.key.members ≡ length run.inboxes.items }
-    requires go { All (CanGo K.names run.shared.table.shared.table_id run.shared.table.shared.key run.sight (length run.inboxes.items)) run.seats.items }
+    requires run { IsRun K.names run.desk.book.plain.script run.shared.table.shared.table_id run.shared.table.shared.key run.desk run.inboxes.items run.seats.items run.sight }
+    requires given { IsGiven (traced_by run.desk.book.plain.script.modules run.desk.book.plain.journal) run.sight }
     ensures adds { AddsInSlices run.desk result.desk }
     ensures seats { EachBecame (HadSlice K.names run.shared.table.shared.table_id run.shared.table.shared.key run.sight) run.seats.items result.seats.items }
     ensures shared { result.shared ≡ run.shared }

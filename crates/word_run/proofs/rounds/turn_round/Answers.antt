@@ -1,20 +1,11 @@
-use Rattle.std.proofs.Common.{◌∙◌, ℕ, sym, ap}
+use Rattle.std.proofs.Common.{ℕ, ap}
 use Rattle.std.proofs.lemmas.Result.{IfOk-weaker, on_ok_weaker}
 use Rattle.std.specs.Prelude.{Vec}
 use Rattle.std.specs.declared.alloc.Global.{Global}
 use Rattle.word_permit.proofs.Runs.{book_of_run}
 use Rattle.word_run.proofs.RoundTraces.{kept_by}
-use Rattle.word_run.proofs.Rounding.{idle_round, round_go, round_run}
+use Rattle.word_run.proofs.Rounding.{idle_round, round_run}
 use Rattle.word_run.proofs.rounds.turn_round.Goals as goal
-
-pub whole_round-after-requires-clause-homes : goal.whole_round-after-requires-clause-homes
-whole_round-after-requires-clause-homes g c = λ κs within. c.requires.run.many ∙ sym c.requires.run.homes
-
-pub whole_round-after-requires-clause-members : goal.whole_round-after-requires-clause-members
-whole_round-after-requires-clause-members g c = λ κs within. c.requires.run.members ∙ sym c.requires.run.many
-
-pub whole_round-after-requires-clause-go : goal.whole_round-after-requires-clause-go
-whole_round-after-requires-clause-go g c = λ κs within. round_go g.K.Naming.names _ _ c.args.run.desk c.args.run.inboxes.items c.args.run.seats.items c.args.run.sight c.requires.run c.requires.given
 
 pub returns-clause-run : goal.returns-clause-run
 returns-clause-run g c =
