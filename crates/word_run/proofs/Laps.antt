@@ -91,8 +91,8 @@ module _ {T : Type 0} {I : Type 0} (functions : List Mfa) (table : TableId) (ope
       → lent ≡ s.processes.items → length processes ≡ length s.processes.items
       → IsToken table mid → mid.number ≡ member.number → KeepsWhatCame functions opening (view_of member) (view_of mid) s.taker.taken taker.taken lent processes
       → IsToken table new → new.number ≡ mid.number → IsBetweenTurns (view_of new) → Reported (IsServed functions) (view_of mid) (view_of new) generation
-      → (traced : TracedBy) → Keeps functions traced table opening s → Keeps functions traced table opening (record s { member = Some new; generation = generation; taker = taker; processes = with_items s.processes processes })
-  arrives mid new generation taker lent processes law inbox lent_is long token same came token' same' between r traced h = record {
+      → (emptied : Bool) (traced : TracedBy) → Keeps functions traced table opening s → Keeps functions traced table opening (record s { member = Some new; generation = generation; taker = taker; emptied = emptied; processes = with_items s.processes processes })
+  arrives mid new generation taker lent processes law inbox lent_is long token same came token' same' between r emptied traced h = record {
     inbox = inbox;
     token = new;
     there = refl;

@@ -9,6 +9,7 @@ pub mod Noting
 pub mod Waiting
 pub mod Laps
 pub mod Slices
+pub mod Answering
 pub mod RoundTraces
 pub mod RoundSeats
 pub mod Rounding

@@ -1,5 +1,5 @@
 -- What schedulers keep of their processes over a round, and between two rounds.
-use Rattle.std.proofs.Common.{◌≡◌, ℕ, ◌<◌, ◌≤◌, All, List, [], ◌∷◌, get_or, length, reverse, slice_get, Option, None, Some, Result, Ok, Err, IfOk, IsOk, OnOk, refl, sym, ap, subst, ◌∙◌, arith}
+use Rattle.std.proofs.Common.{◌≡◌, ◌↔◌, ℕ, ◌<◌, ◌≤◌, All, List, [], ◌∷◌, get_or, length, reverse, slice_get, Option, None, Some, Result, Ok, Err, IfOk, IsOk, OnOk, refl, sym, ap, subst, ◌∙◌, arith}
 use Rattle.std.proofs.lemmas.Bool.{false≢true}
 use Rattle.std.proofs.lemmas.Option.{slice_get-get_or, slice_get_within}
 use Rattle.std.specs.List.{AllByRecursion}
@@ -32,7 +32,7 @@ use Rattle.word_run.specs.declared.scheduler.Slice.TheVariants.{Idle}
 use Rattle.word_run.specs.declared.seat.Seat.{Seat}
 use Rattle.word_run.specs.declared.sight.Sight.{Sight}
 use Rattle.word_run.specs.Desks.{DeskState}
-use Rattle.word_run.specs.Rounds.{AreAllIdle, AreIdle, AreKept, CanGo, HadSlice, HaveTakers, NoneGoOn, TracesStay}
+use Rattle.word_run.specs.Rounds.{AreAllIdle, AreIdle, AreKept, CanGo, HadSlice, HaveTakers, IsIdle, TracesStay}
 use Rattle.word_run.specs.Schedulers.{IsGiven, Keeps, KeepsOn}
 
 -- ---- turns under what is traced otherwise elsewhere
@@ -129,11 +129,11 @@ module _ {T I : Type 0} (functions : List Mfa) (table : TableId) (opening : Open
   -- a slice as its answer tells of it
   pub had_slice : (sight : Sight) (before after : Seat T I) → after.scheduler.number ≡ before.scheduler.number
       → OnOk after.answer (KeepsOn functions table opening sight before.scheduler after.scheduler)
-      → IfOk after.answer (λ slice. slice ≡ Idle → NoneGoOn after.scheduler.processes.items) → HadSlice functions table opening sight before after
+      → IfOk after.answer (λ slice. (slice ≡ Idle) ↔ IsIdle after.scheduler) → HadSlice functions table opening sight before after
   had_slice sight before after number kept idle = record {
     number = number;
     kept = on_if (KeepsOn functions table opening sight before.scheduler after.scheduler) after.answer kept;
-    idle = λ is. if_at (λ (slice : Slice). slice ≡ Idle → NoneGoOn after.scheduler.processes.items) after.answer Idle is idle refl;
+    idle = idle;
   }
 
   -- ---- all schedulers
@@ -172,4 +172,4 @@ module _ {T I : Type 0} (functions : List Mfa) (table : TableId) (opening : Open
   pub idle_sliced : (sight : Sight) (seats after : List (Seat T I)) → EachBecame (HadSlice functions table opening sight) seats after → AreIdle after → AreAllIdle after
   idle_sliced sight seats after sliced idle = λ k seat at.
       let before = get_within seats k (omega (arith, slice_get_within after k seat at, sliced.many)) in
-      (sliced.each k before.0 seat before.1 at).idle (idle k seat at)
+      ((if_at (λ (slice : Slice). (slice ≡ Idle) ↔ IsIdle seat.scheduler) seat.answer Idle (idle k seat at) (sliced.each k before.0 seat before.1 at).idle).0 refl).rest

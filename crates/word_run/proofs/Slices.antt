@@ -1,5 +1,5 @@
 -- What a slice of a scheduler has of the desk since the round began, and of its processes.
-use Rattle.std.proofs.Common.{◌≡◌, ℕ, List, length, Option, None, Some, refl, sym, subst, ◌∙◌}
+use Rattle.std.proofs.Common.{◌≡◌, ℕ, Bool, List, length, Option, None, Some, refl, sym, subst, ◌∙◌}
 use Rattle.atomic_table.specs.Seated.{TableId}
 use Rattle.term_core.specs.declared.atom.Mfa.{Mfa}
 use Rattle.shared_words.specs.declared.opening.Opening.{Opening}
@@ -48,3 +48,7 @@ module _ {T : Type 0} {I : Type 0} (functions : List Mfa) (table : TableId) (ope
 
   pub keeps_both : (a b c : Scheduler T I) → KeepsOn functions table opening sight a b → KeepsOn functions table opening sight b c → KeepsOn functions table opening sight a c
   keeps_both a b c first second = λ traced given h. second traced given (first traced given h)
+
+  -- what its loaders answered is nothing of it
+  pub keeps_asked : (a b : Scheduler T I) (over : Bool) → KeepsOn functions table opening sight a b → KeepsOn functions table opening sight a (record b { over = over })
+  keeps_asked a b over first = λ traced given h. let kept = first traced given h in record { inbox = kept.inbox; token = kept.token; there = kept.there; by = kept.by }

@@ -1,13 +1,14 @@
 -- What a loader's step asks for and leaves.
 -- Source: this project's profile.
-use Rattle.std.specs.Prelude.{◌≡◌, ℕ, ◌%◌, false, List, length, slice_get, slice_set, Option, Some, None, IsSomeAnd, option_map, unwrap_or}
+use Rattle.std.specs.Prelude.{◌≡◌, ◌↔◌, ℕ, ◌%◌, ◌<◌, Bool, true, false, List, length, slice_get, slice_set, Option, Some, None, IsSomeAnd, option_map, unwrap_or}
 use Rattle.inbox.specs.Ends.{Posting, Taking, posted}
 use Rattle.script_core.specs.declared.script.ScriptCmd.{ScriptCmd}
 use Rattle.run_law.specs.Newcomers.{Spawn}
-use Rattle.write_permit.specs.Permit.{needs_permission}
-use Rattle.word_run.specs.declared.loading.SliceStep.{SliceStep}
-use Rattle.word_run.specs.declared.loading.SliceStep.TheVariants.{Over, Purges, Traces, AtOnce, Operates}
-use Rattle.word_run.specs.Desks.{AsksToPurge, ChangesTraces, GoesInSlices}
+use Rattle.write_permit.specs.Book.{shown}
+use Rattle.write_permit.specs.Permit.{needs_permission, next_of}
+use Rattle.word_run.specs.declared.slice_step.SliceStep.{SliceStep}
+use Rattle.word_run.specs.declared.slice_step.SliceStep.TheVariants.{Over, Purges, Traces, AtOnce, Operates}
+use Rattle.word_run.specs.Desks.{AsksToPurge, ChangesTraces, DeskState, GoesInSlices, IsSliceOf}
 
 -- each inbox has the number of its place
 abbrev pub AreInboxes : List ℕ → Type 0
@@ -28,6 +29,28 @@ IsStepFor next Purges = IsSomeAnd next AsksToPurge
 IsStepFor next Traces = IsSomeAnd next ChangesTraces
 IsStepFor next AtOnce = IsSomeAnd next (λ command. needs_permission command ≡ false)
 IsStepFor next Operates = IsSomeAnd next GoesInSlices
+
+-- a loader was asked in a slice: on the desk as it lay then, this is whether it had no next command
+pub record TellsOfLoader (began : Option DeskState) (who : ℕ) (over : Bool) : Type 0 where
+  pub desk : DeskState
+  pub since : IsSliceOf began desk
+  pub tells : (over ≡ true) ↔ (next_of (shown desk.book.plain) who ≡ None)
+
+-- a loader is one of the script's, and of the scheduler of this number among so many
+pub record IsLoaderOf (number count loaders who : ℕ) : Type 0 where
+  pub below : who < loaders
+  pub own : who % count ≡ number
+
+-- a loader of this scheduler had a next command
+pub record HasCommands (began : Option DeskState) (number count loaders : ℕ) : Type 0 where
+  pub who : ℕ
+  pub own : IsLoaderOf number count loaders who
+  pub answers : TellsOfLoader began who false
+
+-- the loaders of this scheduler were asked, and this is whether none of them had a next command
+pub record TellsOfLoaders (began : Option DeskState) (number count loaders : ℕ) (over : Bool) : Type 0 where
+  pub none : over ≡ true → (who : ℕ) → IsLoaderOf number count loaders who → TellsOfLoader began who true
+  pub some : over ≡ false → HasCommands began number count loaders
 
 -- the process is posted to the home of its number, and nothing else is
 abbrev pub posted_home : List (Posting Spawn) → Spawn → List (Posting Spawn)

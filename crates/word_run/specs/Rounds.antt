@@ -1,6 +1,7 @@
 -- What a run has between two of its rounds.
 -- Source: this project's profile.
-use Rattle.std.specs.Prelude.{◌≡◌, ℕ, ◌<◌, ◌≤◌, List, [], length, slice_get, Option, Some, None, Ok, IfOk}
+use Rattle.std.specs.Prelude.{◌≡◌, ◌↔◌, ℕ, ◌<◌, ◌≤◌, true, List, [], length, slice_get, Option, Some, None, Ok, IfOk}
+use mathlib.Core.List.{IsPrefix}
 use Rattle.atomic_table.specs.Seated.{TableId}
 use Rattle.term_core.specs.declared.atom.Mfa.{Mfa}
 use Rattle.shared_words.specs.declared.opening.Opening.{Opening}
@@ -10,11 +11,12 @@ use Rattle.run_law.specs.Reading.{traced_by}
 use Rattle.write_permit.specs.Permit.{next_of}
 use Rattle.write_permit.specs.Book.{shown}
 use Rattle.word_lap.specs.declared.process_run.ProcessRun.{ProcessRun}
+use Rattle.word_run.specs.declared.scheduler.Scheduler.{Scheduler}
 use Rattle.word_run.specs.declared.scheduler.Slice.TheVariants.{Idle}
 use Rattle.word_run.specs.declared.seat.Seat.{Seat}
 use Rattle.word_run.specs.declared.sight.Sight.{Sight}
 use Rattle.word_run.specs.Desks.{DeskState}
-use Rattle.word_run.specs.Loaders.{AreInboxes}
+use Rattle.word_run.specs.Loaders.{AreInboxes, TellsOfLoaders}
 use Rattle.word_run.specs.Schedulers.{Keeps, KeepsGiven, KeepsOn}
 
 -- a place without a process that goes on
@@ -32,16 +34,34 @@ pub record IsDone (d : DeskState) : Type 0 where
   pub retired : d.book.plain.server.retired ≡ []
 
 module _ {T : Type 0} {I : Type 0} where
+  -- a scheduler keeps what it was answered in its last lap: of its loaders, and of its inbox, of which it has then taken all that it was told of
+  pub record HasAnswers (began : Option DeskState) (count loaders : ℕ) (s : Scheduler T I) : Type 0 where
+    pub over : TellsOfLoaders began s.number count loaders s.over
+    pub emptied : s.emptied ≡ true → IsPrefix s.taker.told s.taker.taken
+
+  -- a call leaves these answers, and the inbox
+  pub record StaysAnswered (old new : Scheduler T I) : Type 0 where
+    pub number : new.number ≡ old.number
+    pub over : new.over ≡ old.over
+    pub emptied : new.emptied ≡ old.emptied
+    pub taker : new.taker ≡ old.taker
+
+  -- in its last lap no loader had a next command and the inbox answered that it is empty, and no process goes on
+  pub record IsIdle (s : Scheduler T I) : Type 0 where
+    pub over : s.over ≡ true
+    pub emptied : s.emptied ≡ true
+    pub rest : NoneGoOn s.processes.items
+
   -- a scheduler may have a slice: it is one of so many, and keeps what it knows of its processes with what the slice is given
   pub record CanGo (functions : List Mfa) (table : TableId) (opening : Opening) (sight : Sight) (count : ℕ) (seat : Seat T I) : Type 0 where
     pub below : seat.scheduler.number < count
     pub kept : KeepsGiven functions table opening sight seat.scheduler
 
-  -- a scheduler had a slice: it keeps what it knows of its processes, and where it was idle none goes on
+  -- a scheduler had a slice: it keeps what it knows of its processes, and the answer tells whether it is idle
   pub record HadSlice (functions : List Mfa) (table : TableId) (opening : Opening) (sight : Sight) (before after : Seat T I) : Type 0 where
     pub number : after.scheduler.number ≡ before.scheduler.number
     pub kept : IfOk after.answer (λ _. KeepsOn functions table opening sight before.scheduler after.scheduler)
-    pub idle : after.answer ≡ Ok Idle → NoneGoOn after.scheduler.processes.items
+    pub idle : IfOk after.answer (λ slice. (slice ≡ Idle) ↔ IsIdle after.scheduler)
 
   -- each scheduler has the end that takes of the inbox of its number
   abbrev pub HaveTakers : List (Seat T I) → Type 0

@@ -86,14 +86,18 @@ pub fn begin_run<K: Naming, N: RunName, T: TableName, I: InboxNames>(
     openings: Vec<Opening<Newcomer<T>>>,
 ) -> Result<Run<K, N, T, I>, NoMemory>
     requires script { IsScript script.now }
+    // The names of functions have their numbers by the order of the script's exported functions.
     requires functions { AreExportedFunctions script.now.names script.now.modules functions.now }
     requires names { K.names ≡ names_after [] functions.now }
+    requires exports { exports ≡ K.names }
+    // The words are new, and these are the tokens of their writer and of all their members.
     requires writer { BeginsRun writer script.now N.run }
     requires members { AreMembersBegun shared.table.shared.table_id shared.table.shared.key.members members.items }
     requires some { 0 < shared.table.shared.key.members }
+    // There is an inbox for each member, whose queue has its name by its number.
     requires openings { length openings.items ≡ shared.table.shared.key.members }
     requires picked { (k : ℕ) (id : QueueId) → slice_get openings.items k ≡ Some id → I.queue k ≡ Some id }
-    requires exports { exports ≡ K.names }
+    // The run is as it is between two rounds, and nothing was made yet.
     ensures run { IfOk result (λ run. IsRun K.names script.now run.shared.table.shared.table_id run.shared.table.shared.key run.desk run.inboxes.items run.seats.items run.sight) }
     ensures journal { IfOk result (λ run. run.desk.book.plain.journal ≡ []) }
     ensures shared { IfOk result (λ run. run.shared ≡ shared) }

@@ -8,7 +8,8 @@ ghost use Rattle.word_permit.specs.Runs.{IsOverWords};
 ghost use Rattle.word_run.specs.Desks.{GoesOn};
 
 use crate::desk::Desk;
-use crate::loading::{SliceStep, has_permission, slice_step};
+use crate::loading::has_permission;
+use crate::slice_step::{SliceStep, slice_step};
 use code_law::{CodeLaw, Naming};
 use inbox::InboxNames;
 use shared_words::Shared;

@@ -5,6 +5,8 @@ mod beginning;
 mod desk;
 mod finishing;
 mod joining;
+mod lap;
+mod loaders;
 mod loading;
 mod looking;
 mod posting;
@@ -19,6 +21,7 @@ mod running;
 mod scheduler;
 mod seat;
 mod sight;
+mod slice_step;
 mod slicing;
 
 pub use beginning::MOST_SCHEDULERS;

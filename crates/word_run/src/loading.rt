@@ -1,7 +1,6 @@
-//! The steps of a scheduler's loaders: each locks the desk, makes one call of the permit, and unlocks.
+//! A step of a loader in a slice, under the lock: one call of the permit.
 
-ghost use Rattle.std.specs.Prelude.{◌≡◌, ◌<◌, false, true, List, length, IsSomeAnd, Some};
-ghost use Rattle.std.specs.Option.{option_copied};
+ghost use Rattle.std.specs.Prelude.{◌≡◌, ◌↔◌, ◌<◌, false, true, List, length, IfOk, IsSomeAnd, None, Some};
 ghost use Rattle.inbox.specs.Ends.{Posting};
 ghost use Rattle.run_law.specs.Newcomers.{Spawn as SpawnedSo};
 ghost use Rattle.script_core.specs.declared.script.ScriptCmd.TheVariants.{Spawn};
@@ -10,68 +9,27 @@ ghost use Rattle.write_permit.specs.Permit.{holder_of, needs_permission, next_of
 ghost use Rattle.word_permit.specs.Books.{KeepsRun};
 ghost use Rattle.word_permit.specs.Runs.{IsOverWords};
 ghost use Rattle.word_run.specs.Desks.{AddsInSlices, GoesInSlices, HasHomes, MakesOn};
-ghost use Rattle.word_run.specs.Loaders.{AreEnds, AreInboxes, IsStepFor};
+ghost use Rattle.word_run.specs.Loaders.{AreEnds, AreInboxes};
 ghost use Rattle.word_run.specs.Names.{HasTable};
 
 use crate::desk::Desk;
 use crate::posting::post_home;
 use crate::purging::purge;
+use crate::slice_step::{SliceStep, slice_step};
 use crate::slicing::{RoundName, Slicing};
 use code_law::{CodeLaw, Naming};
 use inbox::{Inbox, InboxNames, Poster};
 use script_core::ScriptCmd;
 use shared_words::Shared;
 use std::alloc::Global;
-use std::sync::{Mutex, Wait};
+use std::sync::Wait;
 use term_core::{Mfa, NoMemory, TermList};
 use word_lap::{Newcomer, TableName};
 use word_permit::{AtOnce, Permit, RunName};
 use write_permit::{Gate, Seize};
 
-/// What a loader does in a slice, by its next command.
-#[derive(Clone, Copy, Debug, PartialEq, Eq)]
-pub enum SliceStep {
-    /// All its commands are done.
-    Over,
-    /// It asks for old code to go. Where a function of that code is traced this waits for the end of the round.
-    Purges,
-    /// It sets or clears a trace, which waits for the end of the round.
-    Traces,
-    /// It makes a spawn, or looks for old code.
-    AtOnce,
-    /// It goes on with a load, a delete, a put or an erase.
-    Operates,
-}
-
-/// What a loader does in a slice whose next command is this.
-pub fn slice_step(command: Option<&ScriptCmd>) -> SliceStep
-    ensures { IsStepFor (option_copied command.entry) result }
-{
-    match command {
-        None => SliceStep::Over,
-        Some(command) => step_for(command),
-    }
-}
-
-/// What a loader does in a slice with this command.
-fn step_for(command: &ScriptCmd) -> SliceStep
-    ensures { IsStepFor (Some command.now) result }
-{
-    match command {
-        ScriptCmd::Spawn { .. } => SliceStep::AtOnce,
-        ScriptCmd::CheckOld(_) => SliceStep::AtOnce,
-        ScriptCmd::Load(_) => SliceStep::Operates,
-        ScriptCmd::Delete(_) => SliceStep::Operates,
-        ScriptCmd::Put { .. } => SliceStep::Operates,
-        ScriptCmd::Erase(_) => SliceStep::Operates,
-        ScriptCmd::SoftPurge(_) => SliceStep::Purges,
-        ScriptCmd::Purge(_) => SliceStep::Purges,
-        ScriptCmd::Trace { .. } => SliceStep::Traces,
-    }
-}
-
 impl<K: Naming, N: RunName, T: TableName, I: InboxNames, E: RoundName> Slicing<K, N, T, I, E> {
-    /// One step of a loader's next command, where it goes in slices. Answers whether all its commands are done.
+    /// One step of a loader's next command, where it goes in slices. Answers whether there was none: all its commands are done.
     #[tactic(auto, using(crate::proofs::Slices::slices_same, crate::proofs::Slices::slice_on))]
     pub fn step<R: Wait, G: Gate>(
         &mut self,
@@ -86,7 +44,8 @@ impl<K: Naming, N: RunName, T: TableName, I: InboxNames, E: RoundName> Slicing<K
         requires table { HasTable N.run T.table }
         requires homes { HasHomes E.began (length inboxes.now) }
         requires inboxes { AreInboxes inboxes.now }
-        ensures { AddsInSlices self.old self.new }
+        ensures adds { AddsInSlices self.old self.new }
+        ensures over { IfOk result (λ over. (over ≡ true) ↔ (next_of (shown self.old.book.plain) who ≡ None)) }
     {
         let desk = &mut self.desk;
         match slice_step(desk.permit.next_command(who)) {
@@ -260,56 +219,4 @@ pub fn has_permission<K: Naming, N: RunName>(permit: &mut Permit<K, N>, who: u32
         Seize::Seized => true,
         Seize::Held { by } => by == who,
     }
-}
-
-/// One step of one loader, under the lock.
-fn step_loader<K: Naming, N: RunName, T: TableName, I: InboxNames, E: RoundName, R: Wait, G: Gate>(
-    alloc: Global,
-    rt: &R,
-    shared: &Shared<CodeLaw<K>>,
-    desk: &Mutex<Slicing<K, N, T, I, E>>,
-    inboxes: &[Inbox<Newcomer<T>, I>],
-    gate: &G,
-    who: u32,
-) -> Result<bool, NoMemory>
-    requires words { IsOverWords shared.now.table.shared.table_id shared.now.table.shared.key N.run }
-    requires table { HasTable N.run T.table }
-    requires homes { HasHomes E.began (length inboxes.now) }
-    requires inboxes { AreInboxes inboxes.now }
-{
-    desk.lock(rt).step(alloc, rt, shared, inboxes, gate, who)
-}
-
-/// One step of each loader of the scheduler of this number: loader j is on scheduler j modulo their count. Answers whether all their commands are done.
-pub fn step_loaders<
-    K: Naming,
-    N: RunName,
-    T: TableName,
-    I: InboxNames,
-    E: RoundName,
-    R: Wait,
-    G: Gate,
->(
-    alloc: Global,
-    rt: &R,
-    shared: &Shared<CodeLaw<K>>,
-    desk: &Mutex<Slicing<K, N, T, I, E>>,
-    inboxes: &[Inbox<Newcomer<T>, I>],
-    gate: &G,
-    number: u32,
-    loaders: u32,
-) -> Result<bool, NoMemory>
-    requires words { IsOverWords shared.now.table.shared.table_id shared.now.table.shared.key N.run }
-    requires table { HasTable N.run T.table }
-    requires homes { HasHomes E.began (length inboxes.now) }
-    requires inboxes { AreInboxes inboxes.now }
-    requires some { 0 < length inboxes.now }
-{
-    let mut over = true;
-    for who in 0..loaders {
-        if who as usize % inboxes.len() == number as usize {
-            over &= step_loader(alloc, rt, shared, desk, inboxes, gate, who)?;
-        }
-    }
-    Ok(over)
 }

@@ -41,8 +41,10 @@ where
     requires table { HasTable N.run T.table }
     requires run { IsRun K.names run.desk.book.plain.script run.shared.table.shared.table_id run.shared.table.shared.key run.desk run.inboxes.items run.seats.items run.sight }
     requires given { IsGiven (traced_by run.desk.book.plain.script.modules run.desk.book.plain.journal) run.sight }
+    // Commands that leave what is traced were made, and each scheduler had its slice.
     ensures adds { AddsInSlices run.desk result.desk }
     ensures seats { EachBecame (HadSlice K.names run.shared.table.shared.table_id run.shared.table.shared.key run.sight) run.seats.items result.seats.items }
+    // All else is as before.
     ensures shared { result.shared ≡ run.shared }
     ensures inboxes { result.inboxes ≡ run.inboxes }
     ensures sight { result.sight ≡ run.sight }

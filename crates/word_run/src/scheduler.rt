@@ -1,16 +1,14 @@
 //! A scheduler, and a slice of its work over the shared words.
 
-ghost use Rattle.std.specs.Prelude.{◌≡◌, ◌<◌, ◌≤◌, false, length, IfOk, OnOk, Some};
+ghost use Rattle.std.specs.Prelude.{◌≡◌, ◌↔◌, ◌<◌, true, false, length, IfOk, OnOk, Some};
 ghost use Rattle.run_law.specs.Reading.{TracedBy};
 ghost use Rattle.word_permit.specs.Runs.{IsOverWords};
 ghost use Rattle.word_run.specs.Desks.{HasHomes};
 ghost use Rattle.word_run.specs.Loaders.{AreInboxes};
 ghost use Rattle.word_run.specs.Names.{HasTable};
-ghost use Rattle.word_run.specs.Rounds.{NoneGoOn, RestsAt};
+ghost use Rattle.word_run.specs.Rounds.{HasAnswers, IsIdle, NoneGoOn, RestsAt, StaysAnswered};
 ghost use Rattle.word_run.specs.Schedulers.{IsSeated, Keeps, KeepsGiven, KeepsOn};
 
-use crate::loading::step_loaders;
-use crate::releasing::pump;
 use crate::sight::Sight;
 use crate::slicing::{RoundName, Slicing};
 use code_law::{CodeLaw, Naming};
@@ -19,12 +17,9 @@ use shared_words::{Member, Shared};
 use std::alloc::Global;
 use std::sync::{Mutex, Wait};
 use term_core::NoMemory;
-use word_lap::{
-    Newcomer, ProcessRun, TableName, begin_wait, catch_up, end_wait, other_calls_keep_processes,
-    take_in, take_turns, try_lead,
-};
+use word_lap::{Newcomer, ProcessRun, TableName, begin_wait, end_wait, other_calls_keep_processes};
 use word_permit::RunName;
-use write_permit::{Gate, Place};
+use write_permit::Gate;
 
 /// The laps of a slice.
 pub const SLICE_LAPS: u32 = 16;
@@ -32,9 +27,9 @@ pub const SLICE_LAPS: u32 = 16;
 /// What a slice left to do.
 #[derive(Clone, Copy, Debug, PartialEq, Eq)]
 pub enum Slice {
-    /// A process goes on, or a loader has a command left.
+    /// A process goes on, or a loader had a command left.
     Again,
-    /// In the last lap each of its loaders had made its commands, its inbox was empty, and no process was left.
+    /// In the last lap none of its loaders had a next command and its inbox answered that it is empty, and no process was left.
     Idle,
 }
 
@@ -51,13 +46,18 @@ pub struct Scheduler<T: TableName, I: InboxNames> {
     /// The generation that the member holds.
     pub(crate) generation: u64,
     pub(crate) taker: Taker<Newcomer<T>, I>,
+    /// Whether in its last lap none of its loaders had a next command.
+    pub(crate) over: bool,
+    /// Whether in its last lap its inbox answered that it is empty. Each lap takes up to that answer.
+    pub(crate) emptied: bool,
     /// The processes, each at the place of its number.
     pub(crate) processes: Vec<Option<ProcessRun>>,
 }
 
 /// Whether the process at a place goes on.
 fn goes_on(place: &Option<ProcessRun>) -> bool
-    ensures { result ≡ false → RestsAt place.now }
+    ensures rests { result ≡ false → RestsAt place.now }
+    ensures goes { result ≡ true → RestsAt place.now → ⊥ }
 {
     match place {
         Some(run) => run.fin.is_none(),
@@ -67,7 +67,8 @@ fn goes_on(place: &Option<ProcessRun>) -> bool
 
 /// Whether some process goes on.
 fn some_go_on(processes: &[Option<ProcessRun>]) -> bool
-    ensures { result ≡ false → NoneGoOn processes.now }
+    ensures rest { result ≡ false → NoneGoOn processes.now }
+    ensures some { result ≡ true → NoneGoOn processes.now → ⊥ }
 {
     for place in processes {
         if goes_on(place) {
@@ -78,7 +79,7 @@ fn some_go_on(processes: &[Option<ProcessRun>]) -> bool
 }
 
 impl<T: TableName, I: InboxNames> Scheduler<T, I> {
-    /// A scheduler whose member is awake and holds generation 0.
+    /// A scheduler before its first lap, whose member is awake and holds generation 0.
     pub fn new(
         alloc: Global,
         number: u32,
@@ -100,6 +101,8 @@ impl<T: TableName, I: InboxNames> Scheduler<T, I> {
             waits: false,
             generation: 0,
             taker,
+            over: false,
+            emptied: false,
             processes,
         }
     }
@@ -128,25 +131,27 @@ impl<T: TableName, I: InboxNames> Scheduler<T, I> {
         requires kept { KeepsGiven K.names shared.now.table.shared.table_id shared.now.table.shared.key sight.now self.old }
         ensures number { self.new.number ≡ self.old.number }
         ensures kept { OnOk result (KeepsOn K.names shared.now.table.shared.table_id shared.now.table.shared.key sight.now self.old self.new) }
-        ensures idle { IfOk result (λ slice. slice ≡ Slice.Idle → NoneGoOn self.new.processes.items) }
+        // What it was answered in its last lap, and that it is idle exactly where all three answers say so.
+        ensures answers { OnOk result (HasAnswers E.began (length inboxes.now) sight.now.loaders self.new) }
+        ensures idle { IfOk result (λ slice. (slice ≡ Slice.Idle) ↔ IsIdle self.new) }
     {
-        let over = self.laps(rt, shared, desk, sight, inboxes, gate)?;
+        self.laps(rt, shared, desk, sight, inboxes, gate)?;
         self.go_to_wait(shared);
-        Ok(self.left_to_do(over))
+        Ok(self.left_to_do())
     }
 
-    /// What is left to do behind a slice, where it is known whether the commands of all its loaders are done.
-    fn left_to_do(&self, over: bool) -> Slice
-        ensures { result ≡ Slice.Idle → NoneGoOn self.now.processes.items }
+    /// What is left to do behind a slice.
+    fn left_to_do(&self) -> Slice
+        ensures { (result ≡ Slice.Idle) ↔ IsIdle self.now }
     {
-        if over && !some_go_on(self.processes.as_slice()) {
+        if self.over && self.emptied && !some_go_on(self.processes.as_slice()) {
             Slice::Idle
         } else {
             Slice::Again
         }
     }
 
-    /// The laps of a slice, where the member wakes first. Answers whether the commands of all its loaders are done.
+    /// The laps of a slice, where the member wakes first.
     fn laps<K: Naming, N: RunName, E: RoundName, R: Wait, G: Gate>(
         &mut self,
         rt: &R,
@@ -155,7 +160,7 @@ impl<T: TableName, I: InboxNames> Scheduler<T, I> {
         sight: &Sight,
         inboxes: &[Inbox<Newcomer<T>, I>],
         gate: &G,
-    ) -> Result<bool, NoMemory>
+    ) -> Result<(), NoMemory>
         requires words { IsOverWords shared.now.table.shared.table_id shared.now.table.shared.key N.run }
         requires table { HasTable N.run T.table }
         requires homes { HasHomes E.began (length inboxes.now) }
@@ -166,126 +171,13 @@ impl<T: TableName, I: InboxNames> Scheduler<T, I> {
         requires kept { KeepsGiven K.names shared.now.table.shared.table_id shared.now.table.shared.key sight.now self.old }
         ensures number { self.new.number ≡ self.old.number }
         ensures kept { OnOk result (KeepsOn K.names shared.now.table.shared.table_id shared.now.table.shared.key sight.now self.old self.new) }
+        ensures answers { OnOk result (HasAnswers E.began (length inboxes.now) sight.now.loaders self.new) }
         ensures awake { OnOk result (self.new.waits ≡ false) }
     {
         self.wake_up(shared);
-        let mut over = false;
         for _ in 0..SLICE_LAPS {
-            over = self.lap(rt, shared, desk, sight, inboxes, gate)?;
+            self.lap(rt, shared, desk, sight, inboxes, gate)?;
         }
-        Ok(over)
-    }
-
-    /// One lap. Answers whether the commands of all its loaders are done.
-    fn lap<K: Naming, N: RunName, E: RoundName, R: Wait, G: Gate>(
-        &mut self,
-        rt: &R,
-        shared: &Shared<CodeLaw<K>>,
-        desk: &Mutex<Slicing<K, N, T, I, E>>,
-        sight: &Sight,
-        inboxes: &[Inbox<Newcomer<T>, I>],
-        gate: &G,
-    ) -> Result<bool, NoMemory>
-        requires words { IsOverWords shared.now.table.shared.table_id shared.now.table.shared.key N.run }
-        requires table { HasTable N.run T.table }
-        requires homes { HasHomes E.began (length inboxes.now) }
-        requires inboxes { AreInboxes inboxes.now }
-        requires number { self.old.number < length inboxes.now }
-        requires members { shared.now.table.shared.key.members ≡ length inboxes.now }
-        requires exports { sight.now.exports ≡ K.names }
-        requires kept { KeepsGiven K.names shared.now.table.shared.table_id shared.now.table.shared.key sight.now self.old }
-        requires awake { self.old.waits ≡ false }
-        ensures number { self.new.number ≡ self.old.number }
-        ensures kept { OnOk result (KeepsOn K.names shared.now.table.shared.table_id shared.now.table.shared.key sight.now self.old self.new) }
-        ensures awake { OnOk result (self.new.waits ≡ false) }
-    {
-        self.arrive(rt, shared, sight, inboxes);
-        gate.at(Place::Reported, self.number);
-        let over = step_loaders(
-            self.alloc,
-            rt,
-            shared,
-            desk,
-            inboxes,
-            gate,
-            self.number,
-            sight.loaders,
-        )?;
-        pump(rt, shared, desk, gate, self.number)?;
-        self.turns_of_lap(shared, sight, gate)?;
-        Ok(over)
-    }
-
-    /// Takes its inbox, and reports.
-    fn arrive<K: Naming, R: Wait>(
-        &mut self,
-        rt: &R,
-        shared: &Shared<CodeLaw<K>>,
-        sight: &Sight,
-        inboxes: &[Inbox<Newcomer<T>, I>],
-    )
-        requires table { T.table ≡ Some shared.now.table.shared.table_id }
-        requires inboxes { AreInboxes inboxes.now }
-        requires number { self.old.number < length inboxes.now }
-        requires members { shared.now.table.shared.key.members ≡ length inboxes.now }
-        requires kept { KeepsGiven K.names shared.now.table.shared.table_id shared.now.table.shared.key sight.now self.old }
-        requires awake { self.old.waits ≡ false }
-        ensures number { self.new.number ≡ self.old.number }
-        ensures kept { KeepsOn K.names shared.now.table.shared.table_id shared.now.table.shared.key sight.now self.old self.new }
-        ensures awake { self.new.waits ≡ false }
-        ensures caught { sight.now.floor ≤ self.new.generation }
-    {
-        let Some(mut member) = self.member.take() else {
-            unreachable!()
-        };
-        other_calls_keep_processes();
-        let inbox = &inboxes[self.number as usize];
-        take_in(
-            self.alloc,
-            rt,
-            shared,
-            inbox,
-            &mut member,
-            &mut self.taker,
-            self.processes.as_mut_slice(),
-        );
-        self.generation = catch_up(rt, shared, &mut member, sight.floor);
-        self.member = Some(member);
-    }
-
-    /// The turns of a lap, and the attempt to lead behind them.
-    fn turns_of_lap<K: Naming, G: Gate>(
-        &mut self,
-        shared: &Shared<CodeLaw<K>>,
-        sight: &Sight,
-        gate: &G,
-    ) -> Result<(), NoMemory>
-        requires exports { sight.now.exports ≡ K.names }
-        requires kept { KeepsGiven K.names shared.now.table.shared.table_id shared.now.table.shared.key sight.now self.old }
-        requires awake { self.old.waits ≡ false }
-        requires caught { sight.now.floor ≤ self.old.generation }
-        ensures number { self.new.number ≡ self.old.number }
-        ensures kept { OnOk result (KeepsOn K.names shared.now.table.shared.table_id shared.now.table.shared.key sight.now self.old self.new) }
-        ensures awake { OnOk result (self.new.waits ≡ false) }
-    {
-        let Some(member) = self.member.take() else {
-            unreachable!()
-        };
-        let (mut member, turned) = take_turns(
-            self.alloc,
-            shared,
-            gate,
-            self.number,
-            member,
-            &sight.exports,
-            sight.traced.as_slice(),
-            self.generation,
-            &mut self.processes,
-        );
-        turned?;
-        other_calls_keep_processes();
-        try_lead(shared, &mut member);
-        self.member = Some(member);
         Ok(())
     }
 
@@ -313,7 +205,7 @@ impl<T: TableName, I: InboxNames> Scheduler<T, I> {
         requires awake { self.old.waits ≡ false }
         ensures number { self.new.number ≡ self.old.number }
         ensures kept { (traced : TracedBy) → Keeps K.names traced shared.now.table.shared.table_id shared.now.table.shared.key self.old → Keeps K.names traced shared.now.table.shared.table_id shared.now.table.shared.key self.new }
-        ensures processes { self.new.processes ≡ self.old.processes }
+        ensures answers { StaysAnswered self.old self.new }
     {
         let Some(mut member) = self.member.take() else {
             unreachable!()

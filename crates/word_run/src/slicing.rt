@@ -44,3 +44,14 @@ impl<K: Naming, N: RunName, T: TableName, I: InboxNames, E: RoundName> Model
 
     ghost invariant = { λ s. IsSliceOf E.began s.desk };
 }
+
+impl<K: Naming, N: RunName, T: TableName, I: InboxNames, E: RoundName> Slicing<K, N, T, I, E> {
+    ghost use Rattle.word_run.specs.Desks.{IsSliceOf};
+
+    /// What the type keeps is known of it.
+    pub fn stands(&self)
+        ensures { IsSliceOf E.began self.now }
+    {
+        let _homes = self.desk.posters.len();
+    }
+}

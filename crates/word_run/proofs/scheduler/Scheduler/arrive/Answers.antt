@@ -10,4 +10,4 @@ returns-clause-kept g c traced given h =
     arrives g.K.Naming.names _ _ c.args.self.now c.in-Some.member (sym c.take.ensures.value ∙ c.in-Some.is) c.requires.awake c.take_in.new.member c.catch_up-self.new.member c.catch_up-self.result c.take_in.new.taker c.as_mut_slice.result.now c.take_in.new.processes
     c.other_calls_keep_processes.ensures.reports (came.inbox ∙ inbox_there c.args.inboxes.now c.args.self.now.number c.index-inboxes-self.result c.requires.inboxes c.requires.number c.index-inboxes-self.is)
     c.as_mut_slice.ensures.value (came.all ∙ sym h.by.kept.all)
-    came.token came.number came.kept caught.token caught.number caught.between caught.reported traced h
+    came.token came.number came.kept caught.token caught.number caught.between caught.reported _ traced h

@@ -1,5 +1,7 @@
+use Rattle.std.proofs.lemmas.Result.{on_ok_weaker}
+use Rattle.word_run.proofs.Answering.{answers_on}
 use Rattle.word_run.proofs.Noting.{named_table}
-use Rattle.word_run.proofs.Slices.{given_on, keeps_both}
+use Rattle.word_run.proofs.Slices.{given_on, keeps_asked, keeps_both}
 use Rattle.word_run.proofs.scheduler.Scheduler.lap.Goals as goal
 
 pub arrive-requires-clause-table : goal.arrive-requires-clause-table
@@ -7,8 +9,19 @@ arrive-requires-clause-table g c = named_table g.N.RunName.run g.T.TableName.tab
 
 -- what arrived is kept
 pub turns_of_lap-requires-clause-kept : goal.turns_of_lap-requires-clause-kept
-turns_of_lap-requires-clause-kept g c κs within = given_on g.K.Naming.names _ _ c.args.sight.now c.args.self.now c.arrive.new.self c.requires.kept c.arrive.ensures.kept
+turns_of_lap-requires-clause-kept g c κs within =
+    given_on g.K.Naming.names _ _ c.args.sight.now c.args.self.now _ c.requires.kept (keeps_asked g.K.Naming.names _ _ c.args.sight.now c.args.self.now c.arrive.new.self c.in_ok-self.field-0 c.arrive.ensures.kept)
 
 -- and so it is behind the turns
 pub returns-clause-kept : goal.returns-clause-kept
-returns-clause-kept g c = keeps_both g.K.Naming.names _ _ c.args.sight.now c.args.self.now c.arrive.new.self c.turns_of_lap.new.self c.arrive.ensures.kept c.in_ok-turns_of_lap.ensures.kept
+returns-clause-kept g c =
+    on_ok_weaker c.turns_of_lap.result
+    (keeps_both g.K.Naming.names _ _ c.args.sight.now c.args.self.now _ c.turns_of_lap.new.self (keeps_asked g.K.Naming.names _ _ c.args.sight.now c.args.self.now c.arrive.new.self c.in_ok-self.field-0 c.arrive.ensures.kept))
+    c.turns_of_lap.ensures.kept
+
+-- the answers of this lap
+pub returns-clause-answers : goal.returns-clause-answers
+returns-clause-answers g c =
+    on_ok_weaker c.turns_of_lap.result
+    (answers_on g.E.RoundName.began _ _ _ c.turns_of_lap.new.self (record { over = c.in_ok-self.ensures; emptied = c.arrive.ensures.emptied }))
+    c.turns_of_lap.ensures.answers
