@@ -70,6 +70,20 @@ class Times(unittest.TestCase):
         self.assertEqual(spawns, ["spawn n:none()", "spawn m:main()", "spawn m:main()"])
         self.assertEqual([line for line in text.split("\n") if line.startswith("put")], ["put tick 0", "put tick 1", "put tick 2", "put stop 1"])
 
+    def test_commands_beneath_busy_processes(self):
+        for text, commands in [
+            (bench.puts_and_erases(2)(2), ["put limits {10,[20,30]}", "erase limits"] * 2),
+            (bench.soft_purges(2)(2), ["load n.1", "soft_purge n"] * 2),
+            (bench.lingering(2)(2), ["load m.2", "soft_purge m", "soft_purge m"]),
+        ]:
+            lines = text.split("\n")
+            self.assertEqual(lines[lines.index("spawn n:none()") :], ["spawn n:none()", "spawn m:main()", "spawn m:main()", *commands, "put stop 1", "go", ""])
+
+    def test_one_purge_kills_all_processes(self):
+        with_it, without = bench.kills(1).split("\n"), bench.kills(0).split("\n")
+        self.assertEqual(with_it.count("spawn m:main()"), 64)
+        self.assertEqual([line for line in with_it if line not in without], ["purge m"])
+
 
 if __name__ == "__main__":
     unittest.main()
