@@ -1,12 +1,11 @@
 -- Soft purges and purges: what each call leaves of a permit's book.
-use Rattle.std.proofs.Common.{◌≡◌, ℕ, ◌&&◌, ◌||◌, ◌≤◌, Bool, true, false, List, [], ◌∷◌, ◌++◌, Option, Some, None, IfSome, IsSomeAnd, All, option_map, IfOk, IfErr, OnErr, OnOk, Result, Ok, Err, if◌then◌else◌, ◌⊎◌, inl, inr, refl, sym, ap, subst, ◌∙◌, arith}
+use Rattle.std.proofs.Common.{◌≡◌, ℕ, ◌≤◌, Bool, true, false, List, [], ◌∷◌, ◌++◌, Option, Some, None, IfSome, IsSomeAnd, All, option_map, IfOk, IfErr, OnErr, OnOk, Result, Ok, Err, ◌⊎◌, inl, inr, refl, sym, ap, subst, ◌∙◌, arith}
 use Rattle.std.specs.Prelude.{IsTrue}
-use Rattle.std.proofs.lemmas.Bool.{eq-eqb, false≢true}
+use Rattle.std.proofs.lemmas.Bool.{false≢true}
 use Rattle.std.proofs.lemmas.Option.{none-some, same_Some}
 use Rattle.atomic_table.specs.Seated.{TableId}
 use Rattle.term_core.specs.declared.atom.AtomId.{AtomId}
 use Rattle.term_core.specs.declared.atom.Mfa.{Mfa}
-use Rattle.term_core.specs.declared.hold.Kind.TheVariants as kinds
 use Rattle.term_core.specs.declared.no_memory.NoMemory.{NoMemory}
 use Rattle.marks.specs.declared.kept.LookKind.TheVariants.{Frame}
 use Rattle.marks.specs.declared.kept.WriterKept.{WriterKept}
@@ -47,10 +46,8 @@ use Rattle.write_permit.specs.declared.book.Book.{Book}
 use Rattle.write_permit.specs.declared.commands.OldCode.{OldCode}
 use Rattle.write_permit.specs.declared.holder.Holder.{Holder}
 use Rattle.write_permit.specs.declared.holder.Holder.TheVariants.{Free, Held, Purging}
-use Rattle.write_permit.specs.declared.mark.Mark.{Mark}
 use Rattle.write_permit.specs.Book.{HoldsJust, IsBook, PurgeWaits, shown}
-use Rattle.write_permit.specs.Looks.{lingering, lingering_in}
-use Rattle.write_permit.specs.Permit.{PermitState, Step, done_of, doomed_by, ended_with, holder_of, joined, needs_permission, next_of, purged_code}
+use Rattle.write_permit.specs.Permit.{PermitState, Step, done_of, doomed_by, ended_with, holder_of, joined, lingering, needs_permission, next_of, purged_code}
 use Rattle.write_permit.proofs.EndBooks.{open_ends}
 use Rattle.write_permit.proofs.Ends.{code_of_module}
 use Rattle.word_permit.specs.declared.answers.CommandStep.{CommandStep}
@@ -161,13 +158,6 @@ second_next b known who code held = let k : PurgeWaits (shown b) who code.«modu
 
 -- ---- the last command of the server
 
--- a mark by which a process lingers in the instance
-abbrev mark_of : Linger → ℕ → Mark
-mark_of l serial = record { process = l.process; turn = l.turn; names = (serial, kinds.Frame) ∷ []; killed = None }
-
-stands_there : (l : Linger) (serial : ℕ) → lingering_in (mark_of l serial ∷ []) serial ≡ Some l
-stands_there l serial = ap (λ b. if (b && true) || false then Some l else None) (eq-eqb serial serial refl)
-
 module _ (b : Book) (who : ℕ) (name : AtomId) (held : b.holder ≡ Held who) where
   -- a soft purge ends as no process lingers
   pub soft_ends : next_of (shown b) who ≡ Some (SoftPurge name) → EndsNext (shown b) who (cmds.SoftPurge name None)
@@ -180,8 +170,7 @@ module _ (b : Book) (who : ℕ) (name : AtomId) (held : b.holder ≡ Held who) w
   -- or as one does
   pub linger_ends : (serial : ℕ) (l : Linger) → next_of (shown b) who ≡ Some (SoftPurge name) → old_of b.server name.0 ≡ Some serial → EndsNext (shown b) who (cmds.SoftPurge name (Some l))
   linger_ends serial l next old =
-      open_ends b who (SoftPurge name) (mark_of l serial ∷ []) (cmds.SoftPurge name (Some l)) held next refl
-      (ap (cmds.SoftPurge name) (sym (ap (lingering (mark_of l serial ∷ [])) old ∙ stands_there l serial)))
+      open_ends b who (SoftPurge name) (l ∷ []) (cmds.SoftPurge name (Some l)) held next refl (ap (cmds.SoftPurge name) (sym (ap (lingering (l ∷ [])) old)))
 
   -- a purge of no code ends at once
   pub whole_ends : next_of (shown b) who ≡ Some (Purge name) → old_of b.server name.0 ≡ None → EndsNext (shown b) who (cmds.Purge name false)

@@ -21,7 +21,6 @@ use code_law::{CodeLaw, Naming};
 use shared_words::Shared;
 use staging::Stage;
 use term_core::NoMemory;
-use write_permit::MarkList;
 use write_permit::commands::opening;
 use write_permit::holder::given_up;
 use write_permit::steps::next_command;
@@ -130,7 +129,7 @@ fn decide_next(book: &WordBook, who: u32) -> Result<Decision, NoMemory>
         unreachable!()
     };
     let alloc = book.plain.alloc;
-    let cmd = opening(alloc, command, &book.plain.server, &MarkList::new(alloc))?;
+    let cmd = opening(alloc, command)?;
     decide(&book.plain, cmd)
 }
 

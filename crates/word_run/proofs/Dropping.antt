@@ -9,6 +9,7 @@ use Rattle.std.specs.List.{list_any}
 use Rattle.std.specs.Prelude.{◌==◌}
 use Rattle.server_core.specs.declared.command.Cmd.{Cmd}
 use Rattle.server_core.specs.declared.command.Cmd.TheVariants as cmds
+use Rattle.server_core.specs.declared.command.Linger.{Linger}
 use Rattle.server_core.specs.CommandTable.{Outcome, apply_of}
 use Rattle.server_core.specs.Generations.{function_ref}
 use Rattle.server_core.specs.ServerState.{ServerState, old_of}
@@ -24,7 +25,6 @@ use Rattle.write_permit.specs.declared.answers.Pumped.{Pumped as OfAreas}
 use Rattle.write_permit.specs.declared.answers.Pumped.TheVariants as plain
 use Rattle.write_permit.specs.declared.holder.Holder.{Holder}
 use Rattle.write_permit.specs.declared.holder.Holder.TheVariants.{Free, Held, Purging}
-use Rattle.write_permit.specs.declared.mark.Mark.{Mark}
 use Rattle.write_permit.specs.Book.{EndsBy, HoldsJust, IsPermit, shown}
 use Rattle.write_permit.specs.Permit.{PermitState, PumpStep, Step, done_of, doomed_by, ended_with, holder_of, joined, needs_permission, next_of, opening}
 use Rattle.word_permit.specs.declared.answers.CommandStep.{CommandStep}
@@ -85,10 +85,10 @@ no_test : (b : Bool) → not b ≡ true → b ≡ false
 no_test true h = sym h
 no_test false h = refl
 
-held_leaves : (s : ServerState) (command : ScriptCmd) (marks : List Mark) (cmd : Cmd) → purges_untraced s command ≡ true → cmd ≡ opening s marks command → LeavesTraced s cmd
-held_leaves s (script.SoftPurge name) marks cmd h is = subst (LeavesTraced s) (sym is) (no_test (is_code_traced s (old_of s name.0)) h)
-held_leaves s (script.Purge name) marks cmd h is = subst (LeavesTraced s) (sym is) (no_test (is_code_traced s (old_of s name.0)) h)
-held_leaves s command marks cmd h is = absurd (differ (sym h))
+held_leaves : (s : ServerState) (command : ScriptCmd) (among : List Linger) (cmd : Cmd) → purges_untraced s command ≡ true → cmd ≡ opening s among command → LeavesTraced s cmd
+held_leaves s (script.SoftPurge name) among cmd h is = subst (LeavesTraced s) (sym is) (no_test (is_code_traced s (old_of s name.0)) h)
+held_leaves s (script.Purge name) among cmd h is = subst (LeavesTraced s) (sym is) (no_test (is_code_traced s (old_of s name.0)) h)
+held_leaves s command among cmd h is = absurd (differ (sym h))
 
 -- the last command of the server for such a purge leaves what is traced
 ends_leave : (p : PermitState) (who : ℕ) (h : Holder) → HoldsJust p h → holder_of h ≡ Some who → (command : ScriptCmd) → next_of p who ≡ Some command → purges_untraced p.server command ≡ true

@@ -5,6 +5,7 @@ use Rattle.term_core.specs.declared.atom.AtomId.{AtomId}
 use Rattle.server_core.specs.declared.command.Applied.{Applied}
 use Rattle.server_core.specs.declared.command.Cmd.{Cmd}
 use Rattle.server_core.specs.declared.command.Cmd.TheVariants as cmds
+use Rattle.server_core.specs.declared.command.Linger.{Linger}
 use Rattle.server_core.specs.ServerState.{ServerState, IsSound, old_of}
 use Rattle.script_core.specs.declared.script.ScriptCmd.{ScriptCmd}
 use Rattle.script_core.specs.declared.script.ScriptCmd.TheVariants.{Purge}
@@ -17,7 +18,6 @@ use Rattle.write_permit.specs.declared.commands.OldCode.{OldCode}
 use Rattle.write_permit.specs.declared.holder.Holder.{Holder}
 use Rattle.write_permit.specs.declared.holder.Holder.TheVariants.{Free, Held, Purging}
 use Rattle.write_permit.specs.declared.loader_run.LoaderRun.{LoaderRun}
-use Rattle.write_permit.specs.declared.mark.Mark.{Mark}
 use Rattle.write_permit.specs.Agreement.{Agrees}
 use Rattle.write_permit.specs.Book.{EndsBy, HoldsJust, IsBook, IsHeld, PurgeWaits, shown}
 use Rattle.write_permit.specs.Permit.{Advanced, PermitState, Step, begun, counted_in, done_by, doomed_by, ended_with, freed, given_up, holder_of, is_spawn, joined, loader_after, made_of, next_of, opening, purged_code}
@@ -113,17 +113,17 @@ next_counted b who command l after spawns next found told is =
 -- ---- what a loader is told
 
 -- a command is made at once
-pub open_ok : (p : PermitState) (marks : List Mark) (who : ℕ) (command : ScriptCmd) (cmd : Cmd) (r : Option Advanced) → next_of p who ≡ Some command → purged_code p.server command ≡ None → cmd ≡ opening p.server marks command → ended_with p who cmd ≡ r
-    → option_and_then (λ x. begun p marks who x (purged_code p.server x)) (next_of p who) ≡ r
-open_ok p marks who command cmd r next code is h =
-    ap (option_and_then {U = Advanced} (λ x. begun p marks who x (purged_code p.server x))) next ∙ ap (begun p marks who command) code ∙ ap (ended_with p who) (sym is) ∙ h
+pub open_ok : (p : PermitState) (among : List Linger) (who : ℕ) (command : ScriptCmd) (cmd : Cmd) (r : Option Advanced) → next_of p who ≡ Some command → purged_code p.server command ≡ None → cmd ≡ opening p.server among command → ended_with p who cmd ≡ r
+    → option_and_then (λ x. begun p among who x (purged_code p.server x)) (next_of p who) ≡ r
+open_ok p among who command cmd r next code is h =
+    ap (option_and_then {U = Advanced} (λ x. begun p among who x (purged_code p.server x))) next ∙ ap (begun p among who command) code ∙ ap (ended_with p who) (sym is) ∙ h
 
 -- ---- with what a command ends
 
-pub open_ends : (b : Book) (who : ℕ) (command : ScriptCmd) (marks : List Mark) (cmd : Cmd) → b.holder ≡ Held who → next_of (shown b) who ≡ Some command → purged_code b.server command ≡ None → cmd ≡ opening b.server marks command
+pub open_ends : (b : Book) (who : ℕ) (command : ScriptCmd) (among : List Linger) (cmd : Cmd) → b.holder ≡ Held who → next_of (shown b) who ≡ Some command → purged_code b.server command ≡ None → cmd ≡ opening b.server among command
     → IsSomeAnd (next_of (shown b) who) (λ x. EndsBy (shown b) b.holder x cmd)
-open_ends b who command marks cmd held next code is =
-    some_at (next_of (shown b) who) (λ x. EndsBy (shown b) b.holder x cmd) command next (subst (λ h. EndsBy (shown b) h command cmd) (sym held) (code, (marks, is)))
+open_ends b who command among cmd held next code is =
+    some_at (next_of (shown b) who) (λ x. EndsBy (shown b) b.holder x cmd) command next (subst (λ h. EndsBy (shown b) h command cmd) (sym held) (code, (among, is)))
 
 pub close_ends : (b : Book) (known : IsBook b) (who : ℕ) (code : OldCode) (killed : Bool) → b.holder ≡ Purging who code.«module» → IsSomeAnd (next_of (shown b) who) (λ x. EndsBy (shown b) b.holder x (cmds.Purge code.«module» killed))
 close_ends b known who code killed held =

@@ -24,10 +24,8 @@ use Rattle.write_permit.specs.declared.commands.OldCode.{OldCode}
 use Rattle.write_permit.specs.declared.holder.Holder.{Holder}
 use Rattle.write_permit.specs.declared.holder.Holder.TheVariants.{Free, Held, Purging}
 use Rattle.write_permit.specs.declared.loader_run.LoaderRun.{LoaderRun}
-use Rattle.write_permit.specs.declared.mark.Mark.{Mark}
 use Rattle.write_permit.specs.Book.{EndsBy, HoldsJust, IsHeld, IsLog, IsPermit, PurgeWaits}
-use Rattle.write_permit.specs.Looks.{lingering}
-use Rattle.write_permit.specs.Permit.{PermitState, counted_in, given_up, half_of, holder_of, joined, loader_after, next_of, opening, purged_code}
+use Rattle.write_permit.specs.Permit.{PermitState, counted_in, given_up, half_of, holder_of, joined, lingering, loader_after, next_of, opening, purged_code}
 use Rattle.write_permit.proofs.Dooms.{at_rest, doom_dooms, idle_purge_enabled, load_enabled, purge_enabled, purge_lifts, rest_kept}
 use Rattle.write_permit.proofs.Kept.{there}
 use Rattle.write_permit.proofs.Logs.{counted_is, entry_of, log_counted, log_joined, purges_joined}
@@ -47,11 +45,11 @@ pub no_code : (name : AtomId) (old : Option ℕ) → option_map {U = OldCode} (�
 no_code name None h = refl
 no_code name (Some serial) h = absurd (none-some _ (sym h))
 
-module _ (p : PermitState) (by who : ℕ) (marks : List Mark) (o : Outcome) (none : p.server.doomed ≡ []) where
+module _ (p : PermitState) (by who : ℕ) (among : List Linger) (o : Outcome) (none : p.server.doomed ≡ []) where
   -- a command that is made at once ends itself
-  opened : (command : ScriptCmd) → purged_code p.server command ≡ None → apply_of p.script.modules p.server (opening p.server marks command) ≡ Some o → EndsOwn p (Held by) who command (opening p.server marks command) o
+  opened : (command : ScriptCmd) → purged_code p.server command ≡ None → apply_of p.script.modules p.server (opening p.server among command) ≡ Some o → EndsOwn p (Held by) who command (opening p.server among command) o
   opened (Purge name) code applied = record { ended = refl; loads = refl; stands = no_code name (old_of p.server name.0) code; half = refl; rest = rest_kept p.script.modules p.server (cmds.Purge name false) o none tt applied }
-  opened command code applied = record { ended = refl; loads = refl; stands = tt; half = refl; rest = rest_kept p.script.modules p.server (opening p.server marks command) o none tt applied }
+  opened command code applied = record { ended = refl; loads = refl; stands = tt; half = refl; rest = rest_kept p.script.modules p.server (opening p.server among command) o none tt applied }
 
 -- the second half of a purge ends the purge
 closed_ends : (p : PermitState) (by who : ℕ) (name : AtomId) (killed : Bool) (o : Outcome) → PurgeWaits p by name → by ≡ who → apply_of p.script.modules p.server (cmds.Purge name killed) ≡ Some o
@@ -137,23 +135,24 @@ given_permit p (Purging by name) known is =
 
 -- ---- commands that have a case
 
-soft_purge_some : (s : ServerState) (name : ℕ) (marks : List Mark) (old : Option ℕ) (lingers : Option Linger) → lingers ≡ lingering marks old → IsSome (soft_purge_of s name lingers old)
-soft_purge_some s name marks None None h = refl
-soft_purge_some s name marks None (Some linger) h = absurd (none-some linger (sym h))
-soft_purge_some s name marks (Some serial) None h = refl
-soft_purge_some s name marks (Some serial) (Some linger) h = refl
+soft_purge_some : (s : ServerState) (name : ℕ) (among : List Linger) (old : Option ℕ) (lingers : Option Linger) → lingers ≡ lingering among old → IsSome (soft_purge_of s name lingers old)
+soft_purge_some s name among None None h = refl
+soft_purge_some s name [] None (Some linger) h = absurd (none-some linger (sym h))
+soft_purge_some s name (l ∷ ls) None (Some linger) h = absurd (none-some linger (sym h))
+soft_purge_some s name among (Some serial) None h = refl
+soft_purge_some s name among (Some serial) (Some linger) h = refl
 
-opening_some : (names : List (List ℕ)) (texts : List Module) (s : ServerState) (marks : List Mark) (command : ScriptCmd) → s.doomed ≡ [] → purged_code s command ≡ None → IsCmdOf names texts command → IsSome (apply_of texts s (opening s marks command))
-opening_some names texts s marks (Load refs) none code fits = load_enabled texts s refs none fits.given
-opening_some names texts s marks (Delete name) none code fits = at_rest s (Some (delete_of s name.0)) none refl
-opening_some names texts s marks (SoftPurge name) none code fits =
-    at_rest s (soft_purge_of s name.0 (lingering marks (old_of s name.0)) (old_of s name.0)) none (soft_purge_some s name.0 marks (old_of s name.0) (lingering marks (old_of s name.0)) refl)
-opening_some names texts s marks (Purge name) none code fits = idle_purge_enabled texts s name none (no_code name (old_of s name.0) code)
-opening_some names texts s marks (CheckOld name) none code fits = refl
-opening_some names texts s marks (Put key term) none code fits = at_rest s (Some (put_of s key.0 (plain term))) none refl
-opening_some names texts s marks (Erase key) none code fits = at_rest s (Some (erase_of s key.0 (persistent_of s key.0))) none refl
-opening_some names texts s marks (Trace target on) none code fits = at_rest s (Some (trace_of s on (traceable_of s target))) none refl
-opening_some names texts s marks (Spawn target args) none code fits = refl
+opening_some : (names : List (List ℕ)) (texts : List Module) (s : ServerState) (among : List Linger) (command : ScriptCmd) → s.doomed ≡ [] → purged_code s command ≡ None → IsCmdOf names texts command → IsSome (apply_of texts s (opening s among command))
+opening_some names texts s among (Load refs) none code fits = load_enabled texts s refs none fits.given
+opening_some names texts s among (Delete name) none code fits = at_rest s (Some (delete_of s name.0)) none refl
+opening_some names texts s among (SoftPurge name) none code fits =
+    at_rest s (soft_purge_of s name.0 (lingering among (old_of s name.0)) (old_of s name.0)) none (soft_purge_some s name.0 among (old_of s name.0) (lingering among (old_of s name.0)) refl)
+opening_some names texts s among (Purge name) none code fits = idle_purge_enabled texts s name none (no_code name (old_of s name.0) code)
+opening_some names texts s among (CheckOld name) none code fits = refl
+opening_some names texts s among (Put key term) none code fits = at_rest s (Some (put_of s key.0 (plain term))) none refl
+opening_some names texts s among (Erase key) none code fits = at_rest s (Some (erase_of s key.0 (persistent_of s key.0))) none refl
+opening_some names texts s among (Trace target on) none code fits = at_rest s (Some (trace_of s on (traceable_of s target))) none refl
+opening_some names texts s among (Spawn target args) none code fits = refl
 
 -- what is known of each command of each loader is known of the next one
 next_fits : (P : ScriptCmd → Type 0) (loaders : List (List ScriptCmd)) (k place : ℕ) (command : ScriptCmd) → AllByRecursion (λ commands. AllByRecursion P commands) loaders → slice_get (commands_at loaders k) place ≡ Some command → P command
@@ -161,9 +160,9 @@ next_fits P [] k place command all h = absurd (none-some command h)
 next_fits P (commands ∷ loaders) zero place command all h = all_at P commands place command all.0 h
 next_fits P (commands ∷ loaders) (suc k) place command all h = next_fits P loaders k place command all.1 h
 
-opening_of_text : (names : List (List ℕ)) (texts : List Module) (s : ServerState) (marks : List Mark) (command : ScriptCmd) → length names ≤ MOST_NAMES → IsCmdOf names texts command → IsOfText (opening s marks command)
-opening_of_text names texts s marks (Put key term) room fits = short_term names (plain term) room fits.is_term
-opening_of_text names texts s marks command room fits = tt
+opening_of_text : (names : List (List ℕ)) (texts : List Module) (s : ServerState) (among : List Linger) (command : ScriptCmd) → length names ≤ MOST_NAMES → IsCmdOf names texts command → IsOfText (opening s among command)
+opening_of_text names texts s among (Put key term) room fits = short_term names (plain term) room fits.is_term
+opening_of_text names texts s among command room fits = tt
 
 -- what makes a command's last entry: the table has a case for it, and a term that it puts is one that a text can say
 pub record CanEnd (p : PermitState) (cmd : Cmd) : Type 0 where

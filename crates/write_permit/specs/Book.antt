@@ -20,7 +20,7 @@ use Rattle.write_permit.specs.declared.book.Book.{Book}
 use Rattle.write_permit.specs.declared.holder.Holder.{Holder}
 use Rattle.write_permit.specs.declared.holder.Holder.TheVariants.{Free, Held, Purging}
 use Rattle.write_permit.specs.declared.loader_run.LoaderRun.{LoaderRun}
-use Rattle.write_permit.specs.declared.mark.Mark.{Mark}
+use Rattle.server_core.specs.declared.command.Linger.{Linger}
 use Rattle.write_permit.specs.Agreement.{Agrees}
 use Rattle.write_permit.specs.Permit.{PermitState, done_of, half_of, needs_permission, next_of, opening, purged_code}
 
@@ -62,7 +62,7 @@ HoldsJust p (Purging by name) = PurgeWaits p by name
 -- purge comes to its end
 abbrev pub EndsBy : PermitState → Holder → ScriptCmd → Cmd → Type 0
 EndsBy p Free command cmd = ⊥
-EndsBy p (Held by) command cmd = (purged_code p.server command ≡ None) × ((marks : List Mark) × (cmd ≡ opening p.server marks command))
+EndsBy p (Held by) command cmd = (purged_code p.server command ≡ None) × ((among : List Linger) × (cmd ≡ opening p.server among command))
 EndsBy p (Purging by name) command cmd = (killed : Bool) × (cmd ≡ cmds.Purge name killed)
 
 -- the server's state once old code is doomed

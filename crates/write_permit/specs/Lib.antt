@@ -1,4 +1,3 @@
-pub mod Looks
 pub mod Agreement
 pub mod Permit
 pub mod Book

@@ -27,9 +27,7 @@ use Rattle.write_permit.specs.declared.commands.OldCode.{OldCode}
 use Rattle.write_permit.specs.declared.holder.Holder.{Holder}
 use Rattle.write_permit.specs.declared.holder.Holder.TheVariants.{Free, Held, Purging}
 use Rattle.write_permit.specs.declared.loader_run.LoaderRun.{LoaderRun}
-use Rattle.write_permit.specs.declared.mark.Mark.{Mark}
 use Rattle.write_permit.specs.declared.spawned.Spawned.{Spawned}
-use Rattle.write_permit.specs.Looks.{lingering, lingering_in, some_killed}
 
 -- what a permit shows
 pub record PermitState : Type 0 where
@@ -113,17 +111,23 @@ counted_in loaders who command = unwrap_or (option_map (λ l. slice_set loaders 
 abbrev pub done_by : PermitState → ℕ → ScriptCmd → Cmd → Option Step
 done_by p who command cmd = option_map (λ s. record { state = record (s.state) { loaders = counted_in p.loaders who command }; answer = s.answer }) (made_of p (Loader who) cmd)
 
--- the command of the server with which a command of the script is made that is made at once; a purge is, where there is no old code
-abbrev pub opening : ServerState → List Mark → ScriptCmd → Cmd
-opening s marks (Load refs) = cmds.Load refs
-opening s marks (Delete name) = cmds.Delete name
-opening s marks (SoftPurge name) = cmds.SoftPurge name (lingering marks (old_of s name.0))
-opening s marks (Purge name) = cmds.Purge name false
-opening s marks (CheckOld name) = cmds.CheckOld name
-opening s marks (Put key term) = cmds.Put key term
-opening s marks (Erase key) = cmds.Erase key
-opening s marks (Trace target on) = cmds.Trace target on
-opening s marks (Spawn target args) = cmds.Spawn target args
+-- the process of which a soft purge tells: the first of those that linger in the old code, if there is such code
+abbrev pub lingering : List Linger → Option ℕ → Option Linger
+lingering [] old = None
+lingering (l ∷ ls) None = None
+lingering (l ∷ ls) (Some serial) = Some l
+
+-- the command of the server with which a command of the script is made that is made at once, as these processes linger; a purge is, where there is no old code
+abbrev pub opening : ServerState → List Linger → ScriptCmd → Cmd
+opening s among (Load refs) = cmds.Load refs
+opening s among (Delete name) = cmds.Delete name
+opening s among (SoftPurge name) = cmds.SoftPurge name (lingering among (old_of s name.0))
+opening s among (Purge name) = cmds.Purge name false
+opening s among (CheckOld name) = cmds.CheckOld name
+opening s among (Put key term) = cmds.Put key term
+opening s among (Erase key) = cmds.Erase key
+opening s among (Trace target on) = cmds.Trace target on
+opening s among (Spawn target args) = cmds.Spawn target args
 
 -- ---- commands that need no permission
 
@@ -160,29 +164,16 @@ purged_code s command = None
 abbrev pub doomed_by : PermitState → ℕ → AtomId → Option PermitState
 doomed_by p who name = option_map (λ s. record (s.state) { holder = Purging who name }) (made_of p (Loader who) (cmds.Doom name))
 
--- what a loader is told whose purge waits for a process; marks have no place and no word
-abbrev pub lingers_by : Linger → OpStep
-lingers_by l = Lingers l.process l.turn 0 0
+-- a command is done that purges no old code
+abbrev pub begun : PermitState → List Linger → ℕ → ScriptCmd → Option OldCode → Option Advanced
+begun p among who command None = ended_with p who (opening p.server among command)
+begun p among who command (Some code) = None
 
--- the second half: it waits for a process that stands in the doomed instance; else the instance goes, and the reply tells whether it killed one
-abbrev pub closed_unless : PermitState → List Mark → ℕ → OldCode → Option Linger → Option Advanced
-closed_unless p marks who code (Some linger) = Some (record { state = p; answer = lingers_by linger })
-closed_unless p marks who code None = ended_with p who (cmds.Purge code.«module» (some_killed code.serial marks))
-
--- the same, by what the processes stand in
-abbrev pub closed : PermitState → List Mark → ℕ → OldCode → Option Advanced
-closed p marks who code = closed_unless p marks who code (lingering_in marks code.serial)
-
--- a command begins, by the old code that it purges; where no process stands there, the purge goes on to its end
-abbrev pub begun : PermitState → List Mark → ℕ → ScriptCmd → Option OldCode → Option Advanced
-begun p marks who command None = ended_with p who (opening p.server marks command)
-begun p marks who command (Some code) = option_and_then (λ q. closed q marks who code) (doomed_by p who code.«module»)
-
--- the loader that has the permission goes on: its next command begins, or its purge is in its second half
-abbrev pub advanced : PermitState → List Mark → ℕ → Holder → Option Advanced
-advanced p marks who Free = None
-advanced p marks who (Held by) = option_and_then (λ command. begun p marks who command (purged_code p.server command)) (next_of p who)
-advanced p marks who (Purging by name) = option_and_then (λ code. closed p marks who code) (purged_code p.server (Purge name))
+-- the loader that has the permission goes on with its next command, where that purges no old code
+abbrev pub advanced : PermitState → List Linger → ℕ → Holder → Option Advanced
+advanced p among who Free = None
+advanced p among who (Held by) = option_and_then (λ command. begun p among who command (purged_code p.server command)) (next_of p who)
+advanced p among who (Purging by name) = None
 
 -- ---- areas
 

@@ -17,7 +17,7 @@ pub enum OpStep {
     Done(Applied),
     /// The purge waits: after this turn of this process a frame of it is of the doomed instance.
     ///
-    /// Where it was found is told by place and word. Marks have neither, so both are 0.
+    /// Where it was found is told by place and word.
     Lingers {
         process: u32,
         turn: u32,

@@ -1,13 +1,10 @@
-ghost use Rattle.std.specs.Prelude.{◌≡◌, IfOk};
-ghost use Rattle.server_core.specs.ServerState.{old_of};
+ghost use Rattle.std.specs.Prelude.{◌≡◌, [], IfOk};
+ghost use Rattle.server_core.specs.ServerState.{ServerState};
 ghost use Rattle.script_core.specs.declared.script.ScriptCmd.TheVariants.{Purge};
-ghost use Rattle.write_permit.specs.Looks.{lingering};
 ghost use Rattle.write_permit.specs.Permit.{is_spawn, opening, purged_code};
 
-use crate::looks::lingering_in;
-use crate::mark::MarkList;
 use script_core::ScriptCmd;
-use server_core::{Cmd, Linger, RefList, Server};
+use server_core::{Cmd, RefList, Server};
 use std::alloc::Global;
 use term_core::{AtomId, NoMemory};
 
@@ -34,21 +31,16 @@ pub fn is_spawn(command: &ScriptCmd) -> bool
     matches!(command, ScriptCmd::Spawn { .. })
 }
 
-/// The command of the server with which a command of the script is made, unless it is a purge of old code.
-pub fn opening(
-    alloc: Global,
-    command: &ScriptCmd,
-    server: &Server,
-    marks: &MarkList,
-) -> Result<Cmd, NoMemory>
-    ensures { IfOk result (λ cmd. cmd ≡ opening server.now marks.now command.now) }
+/// The command of the server with which a command of the script is made, unless it is a purge of old code. A soft purge is made as no process lingers.
+pub fn opening(alloc: Global, command: &ScriptCmd) -> Result<Cmd, NoMemory>
+    ensures { IfOk result (λ cmd. (s : ServerState) → cmd ≡ opening s [] command.now) }
 {
     Ok(match command {
         ScriptCmd::Load(refs) => Cmd::Load(RefList::from_slice(alloc, refs.as_slice())?),
         ScriptCmd::Delete(module) => Cmd::Delete(*module),
         ScriptCmd::SoftPurge(module) => Cmd::SoftPurge {
             module: *module,
-            lingers: lingering(*module, server, marks),
+            lingers: None,
         },
         ScriptCmd::Purge(module) => Cmd::Purge {
             module: *module,
@@ -69,11 +61,4 @@ pub fn opening(
             args: args.copy(alloc)?,
         },
     })
-}
-
-/// The process that keeps a soft purge of the module from going: the first one that stands in its old code.
-fn lingering(module: AtomId, server: &Server, marks: &MarkList) -> Option<Linger>
-    ensures { result ≡ lingering marks.now (old_of server.now «module».0) }
-{
-    lingering_in(marks, server.old(module)?)
 }

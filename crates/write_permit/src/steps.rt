@@ -7,7 +7,6 @@ use crate::answers::AtOnce;
 use crate::book::{Book, make};
 use crate::commands::{is_spawn, opening};
 use crate::loader_run::LoaderRun;
-use crate::mark::MarkList;
 use crate::spawned::Spawned;
 use run_log::Who;
 use script_core::ScriptCmd;
@@ -63,12 +62,7 @@ pub fn make_at_once(book: &mut Book, who: u32) -> Result<AtOnce, NoMemory>
         unreachable!()
     };
     let spawns = is_spawn(command);
-    let cmd = opening(
-        book.alloc,
-        command,
-        &book.server,
-        &MarkList::new(book.alloc),
-    )?;
+    let cmd = opening(book.alloc, command)?;
     let applied = make(book, Who::Loader(who), cmd)?;
     let loader = &mut book.loaders[who as usize];
     let spawned = spawned(loader.next_process as u32, spawns);

@@ -1,7 +1,7 @@
 -- The loader that is counted is the one whose command was made; its process has the number of the spawn line.
 use Rattle.std.proofs.Common.{◌≡◌, false, IsSomeAnd, sym, ap, subst, ◌∙◌, refl, arith}
 use Rattle.write_permit.specs.Book.{shown}
-use Rattle.write_permit.specs.Permit.{made_of, needs_permission, opening}
+use Rattle.write_permit.specs.Permit.{made_of, needs_permission}
 use Rattle.run_log.specs.declared.logs.Who.TheVariants.{Loader}
 use Rattle.write_permit.proofs.BookKeeps.{at_once_is, book_at_once, counted_by, loader_found, next_process, spawned_is}
 use Rattle.write_permit.proofs.steps.make_at_once.Goals as goal
@@ -29,7 +29,7 @@ pub returns-clause-ok : goal.returns-clause-ok
 returns-clause-ok c =
     let found = loader_found c.args.book.now c.make.new.book c.args.who c.in-Some.command.now c.in_ok-cmd.cmd c.in_ok-applied.applied c.index_mut-loader.result.now c.requires.book (sym c.in-Some.ensures.next) c.in_ok-applied.ensures.ok c.index_mut-loader.ensures.value in
     let counted = counted_by c.args.book.now c.make.new.book c.args.who c.in-Some.command.now c.in_ok-cmd.cmd c.in_ok-applied.applied c.index_mut-loader.result.now c.count.new.loader c.is_spawn-spawns.result c.in_ok-applied.ensures.ok found c.count.ensures c.is_spawn-spawns.ensures in
-    let cmd = c.in_ok-cmd.ensures ∙ ap (λ marks. opening c.args.book.now.server marks c.in-Some.command.now) c.new.ensures in
+    let cmd = c.in_ok-cmd.ensures c.args.book.now.server in
     at_once_is (shown c.args.book.now) (shown c.make.new.book) _ c.args.who c.in-Some.command.now c.in_ok-applied.applied (sym c.in-Some.ensures.next)
     (ap (made_of (shown c.args.book.now) (Loader c.args.who)) (sym cmd) ∙ c.in_ok-applied.ensures.ok)
     (ap (λ ls. record (shown c.make.new.book) { loaders = ls }) counted)
@@ -44,7 +44,7 @@ pub returns-clause-book : goal.returns-clause-book
 returns-clause-book c =
     let found = loader_found c.args.book.now c.make.new.book c.args.who c.in-Some.command.now c.in_ok-cmd.cmd c.in_ok-applied.applied c.index_mut-loader.result.now c.requires.book (sym c.in-Some.ensures.next) c.in_ok-applied.ensures.ok c.index_mut-loader.ensures.value in
     let counted = counted_by c.args.book.now c.make.new.book c.args.who c.in-Some.command.now c.in_ok-cmd.cmd c.in_ok-applied.applied c.index_mut-loader.result.now c.count.new.loader c.is_spawn-spawns.result c.in_ok-applied.ensures.ok found c.count.ensures c.is_spawn-spawns.ensures in
-    let cmd = c.in_ok-cmd.ensures ∙ ap (λ marks. opening c.args.book.now.server marks c.in-Some.command.now) c.new.ensures in
+    let cmd = c.in_ok-cmd.ensures c.args.book.now.server in
     let free = subst (λ o. IsSomeAnd o (λ command. needs_permission command ≡ false)) (sym c.in-Some.ensures.next) c.requires.next in
     book_at_once c.args.book.now _ (shown c.make.new.book) c.args.who c.in-Some.command.now c.in_ok-applied.applied c.requires.book (sym c.in-Some.ensures.next) free
     (ap (made_of (shown c.args.book.now) (Loader c.args.who)) (sym cmd) ∙ c.in_ok-applied.ensures.ok)
