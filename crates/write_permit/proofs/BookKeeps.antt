@@ -1,14 +1,15 @@
 -- What each step of a permit leaves of its book.
-use Rattle.std.proofs.Common.{◌≡◌, ℕ, zero, suc, length, get_or, slice_set, take, sum_by, slice_get, unwrap_or, Bool, false, if◌then◌else◌, ◌+◌, ◌≤◌, Option, Some, None, List, [], ◌∷◌, option_map, option_and_then, refl, sym, ap, subst, ◌∙◌, arith}
+use Rattle.std.proofs.Common.{◌≡◌, ℕ, zero, suc, length, get_or, slice_set, take, sum_by, slice_get, unwrap_or, Bool, false, if◌then◌else◌, ◌+◌, ◌<◌, ◌≤◌, IsSome, Option, Some, None, List, [], ◌∷◌, option_map, option_and_then, refl, sym, ap, subst, ◌∙◌, arith}
 use Rattle.std.proofs.lemmas.List.Sums.{sum_by-cons}
 use Rattle.std.proofs.lemmas.Option.{none-some, same_Some, slice_get_read, slice_get_within}
 use Rattle.server_core.specs.declared.command.Applied.{Applied}
 use Rattle.server_core.specs.declared.command.Cmd.{Cmd}
 use Rattle.server_core.specs.declared.command.Cmd.TheVariants as cmds
-use Rattle.server_core.specs.ServerState.{IsSound}
-use Rattle.server_core.specs.CommandTable.{Outcome, apply_of}
+use Rattle.mod_core.specs.declared.code.Module.{Module}
+use Rattle.server_core.specs.ServerState.{IsSound, ServerState}
+use Rattle.server_core.specs.CommandTable.{IsOfText, Outcome, apply_of}
 use Rattle.script_core.specs.declared.script.ScriptCmd.{ScriptCmd}
-use Rattle.script_core.specs.declared.script.ScriptCmd.TheVariants.{Load, Spawn}
+use Rattle.script_core.specs.declared.script.ScriptCmd.TheVariants.{CheckOld, Load, Spawn}
 use Rattle.script_core.specs.Processes.{spawn_count, spawn_number, spawns_in}
 use Rattle.script_core.proofs.SpawnLines.{number_further}
 use Rattle.run_log.specs.declared.logs.Who.{Who}
@@ -49,6 +50,26 @@ book_released b c serial answer known made sound agrees =
     (release_keeps (shown b) serial w.outcome known.permit w.applied (subst IsSound (ap (λ (x : PermitState). x.server) w.state) sound)) agrees
 
 -- ---- a command that is made at once
+
+-- a text can say it
+pub at_once_text : (s : ServerState) (command : ScriptCmd) → needs_permission command ≡ false → IsOfText (opening s [] command)
+at_once_text s (CheckOld name) free = tt
+at_once_text s (Spawn target args) free = tt
+at_once_text s command free = absurd (cc)
+
+-- and the command table has a case for it
+pub at_once_enabled : (texts : List Module) (s : ServerState) (command : ScriptCmd) → needs_permission command ≡ false → IsSome (apply_of texts s (opening s [] command))
+at_once_enabled texts s (CheckOld name) free = refl
+at_once_enabled texts s (Spawn target args) free = refl
+at_once_enabled texts s command free = absurd (cc)
+
+-- the book has the loader still
+pub loader_stays : (b m : Book) (who : ℕ) (command : ScriptCmd) (cmd : Cmd) (answer : Applied) → IsBook b → next_of (shown b) who ≡ Some command → made_of (shown b) (Loader who) cmd ≡ Some (record { state = shown m; answer = answer }) → who < length m.loaders.items
+loader_stays b m who command cmd answer known next made =
+    let w = was_made (shown b) (Loader who) cmd (shown m) answer made in
+    let same : length m.loaders.items ≡ length b.loaders.items = ap (λ (x : PermitState). length x.loaders) w.state in
+    let its = there (shown b) known.permit who command next in
+    omega (arith, same, slice_get_within b.loaders.items who its.0 its.1)
 
 pub count_same : (command : ScriptCmd) → (if is_spawn command then 1 else 0) ≡ spawns_in command
 count_same (Load refs) = refl

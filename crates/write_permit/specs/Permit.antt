@@ -18,7 +18,7 @@ use Rattle.run_log.specs.declared.logs.Who.TheVariants.{Loader, Runtime}
 use Rattle.run_log.specs.declared.underway.HalfPurge.{HalfPurge}
 use Rattle.run_log.specs.Legal.{commands_of}
 use Rattle.write_permit.specs.declared.answers.OpStep.{OpStep}
-use Rattle.write_permit.specs.declared.answers.OpStep.TheVariants.{Done, Lingers}
+use Rattle.write_permit.specs.declared.answers.OpStep.TheVariants.{Done}
 use Rattle.write_permit.specs.declared.answers.Pumped.{Pumped}
 use Rattle.write_permit.specs.declared.answers.Pumped.TheVariants.{Released, Waiting, Nothing}
 use Rattle.write_permit.specs.declared.answers.Seize.{Seize}

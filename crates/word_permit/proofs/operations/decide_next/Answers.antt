@@ -1,5 +1,5 @@
 -- The next command is made over the words, so it is made by one command of the server, for which the table has a case.
-use Rattle.std.proofs.Common.{[], IsSomeAnd, sym, ap, subst, ◌∙◌}
+use Rattle.std.proofs.Common.{[], IsSomeAnd, sym, subst}
 use Rattle.write_permit.specs.Book.{shown}
 use Rattle.write_permit.proofs.EndBooks.{end_can, open_ends}
 use Rattle.word_permit.specs.Waiting.{GoesOverWords}

@@ -1,10 +1,28 @@
 -- The loader that is counted is the one whose command was made; its process has the number of the spawn line.
-use Rattle.std.proofs.Common.{◌≡◌, false, IsSomeAnd, sym, ap, subst, ◌∙◌, refl, arith}
+use Rattle.std.proofs.Common.{rules, ◌≡◌, false, IsSome, IsSomeAnd, sym, ap, subst, ◌∙◌, refl, arith}
+use Rattle.server_core.specs.CommandTable.{IsOfText, apply_of}
 use Rattle.write_permit.specs.Book.{shown}
 use Rattle.write_permit.specs.Permit.{made_of, needs_permission}
 use Rattle.run_log.specs.declared.logs.Who.TheVariants.{Loader}
-use Rattle.write_permit.proofs.BookKeeps.{at_once_is, book_at_once, counted_by, loader_found, next_process, spawned_is}
+use Rattle.write_permit.proofs.BookKeeps.{at_once_enabled, at_once_is, at_once_text, book_at_once, counted_by, loader_found, loader_stays, next_process, spawned_is}
 use Rattle.write_permit.proofs.steps.make_at_once.Goals as goal
+
+-- it needs no permission
+pub make-requires-clause-put : goal.make-requires-clause-put
+make-requires-clause-put c =
+    let free = subst (λ o. IsSomeAnd o (λ command. needs_permission command ≡ false)) (sym c.in-Some.ensures.next) c.requires.next in
+    subst IsOfText (sym (c.in_ok-cmd.ensures c.args.book.now.server)) (at_once_text c.args.book.now.server c.in-Some.command.now free)
+
+pub make-requires-clause-enabled : goal.make-requires-clause-enabled
+make-requires-clause-enabled c =
+    let free = subst (λ o. IsSomeAnd o (λ command. needs_permission command ≡ false)) (sym c.in-Some.ensures.next) c.requires.next in
+    subst (λ cmd. IsSome (apply_of c.args.book.now.script.modules c.args.book.now.server cmd)) (sym (c.in_ok-cmd.ensures c.args.book.now.server))
+    (at_once_enabled c.args.book.now.script.modules c.args.book.now.server c.in-Some.command.now free)
+
+pub index_mut-loader-requires : goal.index_mut-loader-requires
+index_mut-loader-requires c =
+    let within = loader_stays c.args.book.now c.make.new.book c.args.who c.in-Some.command.now c.in_ok-cmd.cmd c.in_ok-applied.applied c.requires.book (sym c.in-Some.ensures.next) c.in_ok-applied.ensures.ok in
+    search rules
 
 pub overflow_cast-loader : goal.overflow_cast-loader
 overflow_cast-loader c =
