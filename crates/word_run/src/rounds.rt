@@ -1,6 +1,6 @@
 //! The rounds of a run.
 
-ghost use Rattle.std.specs.Prelude.{◌≡◌, ℕ, true, length, slice_get, IfOk, IsOk, OnOk, Some};
+ghost use Rattle.std.specs.Prelude.{◌≡◌, ℕ, true, slice_get, IfOk, IsOk, OnOk, Some};
 ghost use Rattle.run_law.specs.Ends.{IsHistory};
 ghost use Rattle.run_law.specs.Reading.{traced_by};
 ghost use Rattle.run_steps.specs.Observers.{HaveObserved, KeepsGenerations};
