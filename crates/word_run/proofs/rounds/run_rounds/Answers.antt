@@ -61,7 +61,7 @@ finish-requires-clause-observed g c =
     (seen_as c.args.script.now c.make_ready.new.run.desk.book.plain.script c.make_ready.new.run.desk.book.plain.journal c.turn_round-turned.result.0.desk.book.plain.journal c.make_ready.new.observers c.in_ok-make_ready.ensures.run.script_is c.turn_round-turned.ensures.kept c.in_ok-make_ready.ensures.observed)
 
 -- the words at the end are those of the beginning
-pub returns-clause-table : goal.returns-clause-table
-returns-clause-table g c =
+pub returns-then-over-clause-table : goal.returns-then-over-clause-table
+returns-then-over-clause-table g c =
     let words = c.turn_round-turned.ensures.shared ∙ c.make_ready.ensures.shared in
     IfOk-weaker c.finish.result _ _ (λ ran is. is ∙ (λ i. (words i).table.shared.table_id) ∙ c.loop.invariant.table) c.finish.ensures.table
