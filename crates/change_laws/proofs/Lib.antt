@@ -12,3 +12,5 @@ pub mod NumberedNames
 pub mod Counted
 pub mod Dropped
 pub mod KeptTraced
+pub mod KnownCode
+pub mod DecidedTraces

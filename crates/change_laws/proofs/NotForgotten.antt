@@ -15,6 +15,7 @@ use Rattle.server_core.specs.ServerState.{Persistent, ServerState, Versions, cur
 use Rattle.server_core.proofs.KeyChanges.{persistent_erased, persistent_put}
 use Rattle.server_core.proofs.Loads.{with_all_parts}
 use Rattle.server_core.proofs.Soundness.{current_set, held_push, held_without, old_set, some_same}
+use Rattle.change_laws.specs.Breakpoints.{IsLiveCode}
 use Rattle.change_laws.specs.Changes.{Incoming, incoming, state_after}
 use Rattle.change_laws.specs.Uses.{IsUsed}
 use Rattle.change_laws.proofs.KeptImages.{module_at}
@@ -73,11 +74,9 @@ in_option_pushed xs o k is = ap (λ (p : Option ℕ). is_serial_in (xs ++ option
 abbrev pub UsedOrRetired : ServerState → ℕ → Type 0
 UsedOrRetired t serial = IsUsed t serial ⊎ IsTrue (is_retired t serial)
 
-is_current : (t : ServerState) (name serial : ℕ) → current_of t name ≡ Some serial → UsedOrRetired t serial
-is_current t name serial e = inl (inl (name, e))
-
-is_old : (t : ServerState) (name serial : ℕ) → old_of t name ≡ Some serial → UsedOrRetired t serial
-is_old t name serial e = inl (inr (inl (name, e)))
+from_live : (t : ServerState) (serial : ℕ) → IsLiveCode t serial → UsedOrRetired t serial
+from_live t serial (inl p) = inl (inl p)
+from_live t serial (inr p) = inl (inr (inl p))
 
 is_held : (t : ServerState) (key serial : ℕ) → key_area t key ≡ Some serial → UsedOrRetired t serial
 is_held t key serial e = inl (inr (inr (key, e)))
@@ -90,55 +89,59 @@ by_use s t serial current old held (inr (inl p)) = old p.0 p.1
 by_use s t serial current old held (inr (inr p)) = held p.0 p.1
 
 -- a load: what was current becomes old, and there was no old code
-loaded_current : (s : ServerState) (ms : List Module) (name serial : ℕ) → FitsIn s ms → current_of s name ≡ Some serial → UsedOrRetired (with_all s ms) serial
+pub loaded_current : (s : ServerState) (ms : List Module) (name serial : ℕ) → FitsIn s ms → current_of s name ≡ Some serial → IsLiveCode (with_all s ms) serial
 loaded_current s ms name serial fits e = by (among_or_other name ms)
   where
-    by : IsAmong name ms ⊎ HaveOther name ms → UsedOrRetired (with_all s ms) serial
-    by (inl p) = is_old (with_all s ms) p.1.name.0 serial (old_new s ms p.0 p.1 fits.once p.2 ∙ ap (current_of s) p.3 ∙ e)
-    by (inr others) = is_current (with_all s ms) name serial (current_other s ms name others ∙ e)
+    by : IsAmong name ms ⊎ HaveOther name ms → IsLiveCode (with_all s ms) serial
+    by (inl p) = inr (p.1.name.0, old_new s ms p.0 p.1 fits.once p.2 ∙ ap (current_of s) p.3 ∙ e)
+    by (inr others) = inl (name, current_other s ms name others ∙ e)
 
-loaded_old : (s : ServerState) (ms : List Module) (name serial : ℕ) → FitsIn s ms → old_of s name ≡ Some serial → UsedOrRetired (with_all s ms) serial
+pub loaded_old : (s : ServerState) (ms : List Module) (name serial : ℕ) → FitsIn s ms → old_of s name ≡ Some serial → IsLiveCode (with_all s ms) serial
 loaded_old s ms name serial fits e = by (among_or_other name ms)
   where
-    by : IsAmong name ms ⊎ HaveOther name ms → UsedOrRetired (with_all s ms) serial
+    by : IsAmong name ms ⊎ HaveOther name ms → IsLiveCode (with_all s ms) serial
     by (inl p) = no_serial serial (sym (at_place (λ m. old_of s m.name.0 ≡ None) ms p.0 p.1 fits.purged p.2) ∙ ap (old_of s) p.3 ∙ e)
-    by (inr others) = is_old (with_all s ms) name serial (old_other s ms name others ∙ e)
+    by (inr others) = inr (name, old_other s ms name others ∙ e)
 
 loaded_held : (s : ServerState) (ms : List Module) (key serial : ℕ) → key_area s key ≡ Some serial → UsedOrRetired (with_all s ms) serial
 loaded_held s ms key serial e = is_held (with_all s ms) key serial (ap (λ (t : ServerState). key_area t key) (with_all_parts s ms) ∙ e)
 
 -- a delete: what was current becomes old, and there was no old code
-deleted_current : (s : ServerState) (at name serial : ℕ) → current_of s name ≡ Some serial → UsedOrRetired (with_deleted s at) serial
+pub deleted_current : (s : ServerState) (at name serial : ℕ) → current_of s name ≡ Some serial → IsLiveCode (with_deleted s at) serial
 deleted_current s at name serial e = by (nat_eq name at) refl
   where
     new : Versions
     new = record { name = at; current = None; old = current_of s at }
 
-    by : (b : Bool) → nat_eq name at ≡ b → UsedOrRetired (with_deleted s at) serial
+    by : (b : Bool) → nat_eq name at ≡ b → IsLiveCode (with_deleted s at) serial
     by true is =
         let same : at ≡ name = grind (arith, nat_tests) in
-        is_old (with_deleted s at) name serial (old_set s.versions new name ∙ ap (λ b. cond b (current_of s at) (old_of s name)) is ∙ ap (current_of s) same ∙ e)
-    by false is = is_current (with_deleted s at) name serial (current_set s.versions new name ∙ ap (λ b. cond b None (current_of s name)) is ∙ e)
+        inr (name, old_set s.versions new name ∙ ap (λ b. cond b (current_of s at) (old_of s name)) is ∙ ap (current_of s) same ∙ e)
+    by false is = inl (name, current_set s.versions new name ∙ ap (λ b. cond b None (current_of s name)) is ∙ e)
 
-deleted_old : (s : ServerState) (at name serial : ℕ) → CanBeOld s at → old_of s name ≡ Some serial → UsedOrRetired (with_deleted s at) serial
+pub deleted_old : (s : ServerState) (at name serial : ℕ) → CanBeOld s at → old_of s name ≡ Some serial → IsLiveCode (with_deleted s at) serial
 deleted_old s at name serial can e = by (nat_eq name at) refl
   where
-    by : (b : Bool) → nat_eq name at ≡ b → UsedOrRetired (with_deleted s at) serial
+    by : (b : Bool) → nat_eq name at ≡ b → IsLiveCode (with_deleted s at) serial
     by true is =
         let same : at ≡ name = grind (arith, nat_tests) in
         no_serial serial (sym can.old ∙ ap (old_of s) same ∙ e)
-    by false is = is_old (with_deleted s at) name serial (old_set s.versions (record { name = at; current = None; old = current_of s at }) name ∙ ap (λ b. cond b (current_of s at) (old_of s name)) is ∙ e)
+    by false is = inr (name, old_set s.versions (record { name = at; current = None; old = current_of s at }) name ∙ ap (λ b. cond b (current_of s at) (old_of s name)) is ∙ e)
 
--- a drop of old code, which is retired
-purged_old : (s : ServerState) (at old name serial : ℕ) → CanGo s at old → old_of s name ≡ Some serial → UsedOrRetired (with_purged s at old) serial
+-- a drop of old code: other old code stays
+pub purged_old : (s : ServerState) (at old name serial : ℕ) → CanGo s at old → old_of s name ≡ Some serial → IsLiveCode (with_purged s at old) serial ⊎ (old ≡ serial)
 purged_old s at old name serial can e = by (nat_eq name at) refl
   where
-    by : (b : Bool) → nat_eq name at ≡ b → UsedOrRetired (with_purged s at old) serial
+    by : (b : Bool) → nat_eq name at ≡ b → IsLiveCode (with_purged s at old) serial ⊎ (old ≡ serial)
     by true is =
         let same : at ≡ name = grind (arith, nat_tests) in
-        let one : old ≡ serial = some_same old serial (sym can.old ∙ ap (old_of s) same ∙ e) in
-        inr (ap (λ n. is_serial_in (s.retired ++ old ∷ []) n) (sym one) ∙ in_pushed s.retired old)
-    by false is = is_old (with_purged s at old) name serial (old_set s.versions (record { name = at; current = current_of s at; old = None }) name ∙ ap (λ b. cond b None (old_of s name)) is ∙ e)
+        inr (some_same old serial (sym can.old ∙ ap (old_of s) same ∙ e))
+    by false is = inl (inr (name, old_set s.versions (record { name = at; current = current_of s at; old = None }) name ∙ ap (λ b. cond b None (old_of s name)) is ∙ e))
+
+-- what is dropped is retired
+purged_retired : (s : ServerState) (at old serial : ℕ) → IsLiveCode (with_purged s at old) serial ⊎ (old ≡ serial) → UsedOrRetired (with_purged s at old) serial
+purged_retired s at old serial (inl live) = from_live (with_purged s at old) serial live
+purged_retired s at old serial (inr one) = inr (ap (λ n. is_serial_in (s.retired ++ old ∷ []) n) (sym one) ∙ in_pushed s.retired old)
 
 -- ---- keys
 
@@ -156,7 +159,7 @@ rekeyed_held s t at key serial o retired held e = by (nat_eq key at) refl held
 -- a change of what a key holds leaves code
 rekeyed : (s t : ServerState) (serial : ℕ) → ((name : ℕ) → current_of t name ≡ current_of s name) → ((name : ℕ) → old_of t name ≡ old_of s name) → ((key : ℕ) → key_area s key ≡ Some serial → UsedOrRetired t serial) → IsUsed s serial → UsedOrRetired t serial
 rekeyed s t serial current old held used =
-    by_use s t serial (λ name e. is_current t name serial (current name ∙ e)) (λ name e. is_old t name serial (old name ∙ e)) held used
+    by_use s t serial (λ name e. inl (inl (name, current name ∙ e))) (λ name e. inl (inr (inl (name, old name ∙ e)))) held used
 
 put_held : (s t : ServerState) (new : Persistent) (key serial : ℕ) → t.keys ≡ with_key s.keys new → t.retired ≡ s.retired ++ option_to_list (key_area s new.key) → key_area s key ≡ Some serial → UsedOrRetired t serial
 put_held s t new key serial keys retired e =
@@ -170,11 +173,14 @@ erased_held s t at key serial keys retired e =
 
 pub used_kept : (s : ServerState) (change : Change) (serial : ℕ) → Fits s change → IsUsed s serial → UsedOrRetired (state_after s change) serial
 used_kept s (BringIn generation modules areas versions) serial fits used =
-    by_use s (with_all s modules.items) serial (λ name e. loaded_current s modules.items name serial fits.1 e) (λ name e. loaded_old s modules.items name serial fits.1 e) (λ key e. loaded_held s modules.items key serial e) used
+    let t = with_all s modules.items in
+    by_use s t serial (λ name e. from_live t serial (loaded_current s modules.items name serial fits.1 e)) (λ name e. from_live t serial (loaded_old s modules.items name serial fits.1 e)) (λ key e. loaded_held s modules.items key serial e) used
 used_kept s (MakeOld generation at) serial fits used =
-    by_use s (with_deleted s at.0) serial (λ name e. deleted_current s at.0 name serial e) (λ name e. deleted_old s at.0 name serial fits.1 e) (λ key e. is_held (with_deleted s at.0) key serial e) used
+    let t = with_deleted s at.0 in
+    by_use s t serial (λ name e. from_live t serial (deleted_current s at.0 name serial e)) (λ name e. from_live t serial (deleted_old s at.0 name serial fits.1 e)) (λ key e. is_held t key serial e) used
 used_kept s (DropOld generation at old says retired) serial fits used =
-    by_use s (with_purged s at.0 old) serial (λ name e. is_current (with_purged s at.0 old) name serial (current_purged s at.0 old name ∙ e)) (λ name e. purged_old s at.0 old name serial fits.1 e) (λ key e. is_held (with_purged s at.0 old) key serial e) used
+    let t = with_purged s at.0 old in
+    by_use s t serial (λ name e. inl (inl (name, current_purged s at.0 old name ∙ e))) (λ name e. purged_retired s at.0 old serial (purged_old s at.0 old name serial fits.1 e)) (λ key e. is_held t key serial e) used
 used_kept s (HoldWord generation key term keys retired) serial fits used =
     let t = state_after s (HoldWord generation key term keys retired) in
     rekeyed s t serial (λ name. refl) (λ name. refl) (λ k e. put_held s t (record { key = key.0; term = plain term; area = None }) k serial refl refl e) used
@@ -192,7 +198,7 @@ used_kept s change serial fits used = inl used
 abbrev pub RetiredOrReleased : ServerState → ℕ → Type 0
 RetiredOrReleased t serial = IsTrue (is_retired t serial) ⊎ IsTrue (is_serial_in t.released serial)
 
-released_or_kept : (s : ServerState) (old serial : ℕ) (b : Bool) → nat_eq old serial ≡ b → is_serial_in s.retired serial ≡ true → IsTrue (is_serial_in (without_number old s.retired) serial) ⊎ IsTrue (is_serial_in (s.released ++ old ∷ []) serial)
+pub released_or_kept : (s : ServerState) (old serial : ℕ) (b : Bool) → nat_eq old serial ≡ b → is_serial_in s.retired serial ≡ true → IsTrue (is_serial_in (without_number old s.retired) serial) ⊎ IsTrue (is_serial_in (s.released ++ old ∷ []) serial)
 released_or_kept s old serial true is h =
     let same : old ≡ serial = grind (arith, nat_tests) in
     inr (ap (λ n. is_serial_in (s.released ++ old ∷ []) n) (sym same) ∙ in_pushed s.released old)

@@ -1,6 +1,6 @@
 //! What holds of every change that is made.
 
-ghost use Rattle.change_laws.specs.Breakpoints.{BreakpointsStay};
+ghost use Rattle.change_laws.specs.Breakpoints.{BreakpointsFollow, BreakpointsStay, CodeBeginsKnown, CodeStaysKnown, DecidedSetsInCode};
 ghost use Rattle.change_laws.specs.Calls.{DeletedIsNotReached, DeletesLeaveOthers, LoadsAreReached, LoadsLeaveOthers, OthersLeaveCalls};
 ghost use Rattle.change_laws.specs.Changes.{ChangesKeepSound, LoadsLeaveTheRest, SerialsAreGiven};
 ghost use Rattle.change_laws.specs.Counts.{InstancesAreCounted, KeysBeginOnce, KeysStayOnce, TermsAreCounted};
@@ -46,6 +46,22 @@ pub fn calls_stay_but_for_loads_and_deletes()
 /// Rule: Erlang/OTP erts internal documentation, Tracing.
 pub fn breakpoints_stay()
     ensures { BreakpointsStay }
+{}
+
+/// A function has a breakpoint as was asked where one is set or cleared, none once its code was dropped, and else
+/// as before.
+///
+/// Rule: Erlang/OTP erts internal documentation, Tracing.
+pub fn breakpoints_follow()
+    ensures { BreakpointsFollow }
+{}
+
+/// Each breakpoint is in current or old code, and each instance that is neither was dropped: so it is in the
+/// beginning, and after each change, where breakpoints are set in current code, as those are of commands.
+pub fn no_code_is_forgotten()
+    ensures begin { CodeBeginsKnown }
+    ensures stays { CodeStaysKnown }
+    ensures decided { DecidedSetsInCode }
 {}
 
 /// What is current, old, used or retired after a change was in use before, or came in with it.
