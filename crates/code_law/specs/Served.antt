@@ -1,10 +1,8 @@
 -- Which generations in the shared words are those of the code server.
--- Source: Erlang/OTP erts internal documentation, CodeLoading: what a thread sees is one state of the code. That generations leave
--- out what is traced is this project's own.
-use Rattle.std.specs.Prelude.{◌≡◌, ◌≤◌, ◌^◌, ◌⊎◌, true, List, []}
+-- Source: Erlang/OTP erts internal documentation, CodeLoading and Tracing: what a thread sees is one state of the code.
+use Rattle.std.specs.Prelude.{◌≡◌, ◌≤◌, ◌^◌, ◌⊎◌, true, List}
 use Rattle.term_core.specs.declared.area.AreaRef.{AreaRef}
 use Rattle.term_core.specs.declared.atom.Mfa.{Mfa}
-use Rattle.term_core.specs.declared.generation.FunctionRef.{FunctionRef}
 use Rattle.term_core.specs.declared.generation.Generation.{Generation}
 use Rattle.area_core.specs.declared.map.TheConstants.{BIG_BLOCKS}
 use Rattle.area_core.specs.declared.table.Published.{Published}
@@ -12,13 +10,10 @@ use Rattle.area_core.specs.Blocks.{Among}
 use Rattle.area_core.specs.Step.{empty_generation}
 use Rattle.server_core.specs.Generations.{AreNumbered, generation_of}
 use Rattle.server_core.specs.ServerState.{IsSound, ServerState}
+use Rattle.change_laws.specs.Breakpoints.{KnowsItsCode}
 use Rattle.machine_core.specs.GenerationReads.{is_term_image, words_in}
 
--- the generation that traces these functions, and else is the same
-abbrev pub with_traced : List FunctionRef → Generation → Generation
-with_traced traced g = record g { traced = traced }
-
--- it is the generation of a sound state of the server, with what is traced left out
+-- it is the generation of a sound state of the server
 pub record IsOfState (names : List Mfa) (g : Generation) : Type 0 where
   pub state : ServerState
   pub sound : IsSound state
@@ -26,7 +21,9 @@ pub record IsOfState (names : List Mfa) (g : Generation) : Type 0 where
   pub numbered : AreNumbered names state
   -- each serial has room in an anchor, beside the two kinds
   pub narrow : state.next_serial ≤ 2 ^ 62
-  pub is : g ≡ with_traced [] (generation_of names state)
+  -- each breakpoint is in current or old code, and other code was dropped
+  pub knows : KnowsItsCode state
+  pub is : g ≡ generation_of names state
 
 -- it is the empty one with which the words begin, or that of a state of the server
 abbrev pub IsOfServer : List Mfa → Generation → Type 0

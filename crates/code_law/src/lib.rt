@@ -4,5 +4,7 @@
 mod laws;
 mod naming;
 
-pub use laws::{served_generations_are_lawful, turns_by_served_generations_agree};
+pub use laws::{
+    served_code_is_known, served_generations_are_lawful, turns_by_served_generations_agree,
+};
 pub use naming::{CodeLaw, Naming};
