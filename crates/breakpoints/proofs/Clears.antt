@@ -83,14 +83,6 @@ pub record ClearsOn (table : TableId) (opening : Opening) (bp block count : ℕ)
   pub areas : AreasAreBehind (written_by now)
   pub called : IsCalledByNone (written_by now) block
 
-pub clears_none : (bp block : ℕ) (w : WriterView) → HasClearedFirst bp block 0 w w
-clears_none bp block w = record {
-  view = refl;
-  long = refl;
-  cleared = λ function less. absurd (omega (arith, less));
-  others = λ place off. refl;
-}
-
 pub clears_more : (table : TableId) (opening : Opening) (bp block count : ℕ) (old now next : writers.Writer) → ClearsOn table opening bp block count old now → bp < 2 → IsForInstances block → count < 16 → IsWriterOf table opening next → IsSameWriter now next → written_by next ≡ with_word (breakpoint_place bp block count) 0 (written_by now) → ClearsOn table opening bp block (count + 1) old next
 clears_more table opening bp block count old now next h low placed few token same stored = record {
   token = token;

@@ -1,9 +1,9 @@
-mod Spots
-mod Standing
-mod Others
-mod AtFirst
+pub mod Spots
+pub mod Standing
+pub mod Others
+pub mod AtFirst
 mod Publishing
-mod Roots
+pub mod Roots
 mod Decided
 mod Entered
 mod Switching
@@ -13,3 +13,5 @@ mod PatchCalls
 mod Clears
 mod Looking
 mod Told
+mod TakenBack
+mod ClearedBlocks

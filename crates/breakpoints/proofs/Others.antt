@@ -168,7 +168,7 @@ others_keep old new leaves = (rest_still old new leaves, λ x. phase_still old n
 
 -- ---- a load of the counter
 
-counted_here : (old : WriterView) (counter : ℕ) → old.counter ≤ counter → LeavesDecisions old (counter_kept counter old)
+pub counted_here : (old : WriterView) (counter : ℕ) → old.counter ≤ counter → LeavesDecisions old (counter_kept counter old)
 counted_here old counter rises = record {
   long = refl;
   published = refl;

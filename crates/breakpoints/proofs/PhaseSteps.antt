@@ -14,7 +14,7 @@ use Rattle.shared_words.specs.Publishing.{MayStoreEntry, with_word}
 use Rattle.progress_words.specs.Needs.{HasLoadedCounter, HasTaken}
 use Rattle.progress_words.specs.Roots.{newest_of}
 use Rattle.breakpoints.specs.declared.patch.Phase.{Phase}
-use Rattle.breakpoints.specs.declared.patch.Phase.TheVariants.{Begun, Staged, Entered, Published as IsSwitched, Restored, Finished}
+use Rattle.breakpoints.specs.declared.patch.Phase.TheVariants.{Begun, Staged, Entered, Published as IsSwitched, Restored}
 use Rattle.breakpoints.specs.Indices.{AreIndices, BreakpointsRest, IsStagingUnread, active_breakpoints, decision_place, staging_breakpoints}
 use Rattle.breakpoints.specs.Patches.{HasPatched, IsDecisionStaged, IsLastPhase, IsPatchable, IsPatching, PhaseStands, entry_place, phase_need}
 use Rattle.breakpoints.proofs.Spots.{behind_fits, decision_kind, decision_within, entry_kind, entry_within}
@@ -241,16 +241,7 @@ AtLast at on phase w = (need : ℕ) × (phase_need phase ≡ Some need) × IsPat
 last_is : (at : CodeRef) (on : Bool) (phase : Phase) (w : WriterView) → PhaseStands at on phase w → IsLastPhase on phase → AtLast at on phase w
 last_is at true (IsSwitched need) w h last = (need, refl, h.0, h.1)
 last_is at false (Restored need) w h last = (need, refl, h.0, h.1)
-last_is at true Begun w h last = absurd last
-last_is at true (Staged need) w h last = absurd last
-last_is at true (Entered need) w h last = absurd last
-last_is at true (Restored need) w h last = absurd last
-last_is at true Finished w h last = absurd last
-last_is at false Begun w h last = absurd last
-last_is at false (Staged need) w h last = absurd last
-last_is at false (Entered need) w h last = absurd last
-last_is at false (IsSwitched need) w h last = absurd last
-last_is at false Finished w h last = absurd last
+last_is at on phase w h last = absurd last
 
 module _ (at : CodeRef) (on : Bool) (phase : Phase) (old w : WriterView) (need : ℕ) (h : PhaseStands at on phase old) (last : IsLastPhase on phase) (due : phase_need phase ≡ Some need) (first : HasLoadedCounter old w) (enough : need ≤ w.counter) (some : 0 < length w.published) where
   at_last : AtLast at on phase old

@@ -20,10 +20,6 @@ behind_differs bp same = omega (arith, same)
 pub behind_back : (bp : ℕ) → bp < 2 → ((bp + 1) % 2 + 1) % 2 ≡ bp
 behind_back bp fits = omega (arith, fits)
 
--- one of the two is this one or the one behind it
-pub other_behind : (bp other : ℕ) → bp < 2 → other < 2 → (other ≡ bp → ⊥) → other ≡ (bp + 1) % 2
-other_behind bp other fits also differ = omega (arith, fits, also, differ)
-
 -- ---- decisions
 
 -- a decision is a word of its index

@@ -1,5 +1,5 @@
 -- The step of a patch that stores the root.
-use Rattle.std.proofs.Common.{◌≡◌, ℕ, ◌+◌, ◌%◌, ◌≤◌, Bool, true, false, List, length, refl, sym, ap, subst, ◌∙◌}
+use Rattle.std.proofs.Common.{◌≡◌, ℕ, ◌+◌, ◌%◌, ◌≤◌, Bool, true, false, List, length, refl, sym, ap, subst, ◌∙◌, arith}
 use Rattle.std.specs.Prelude.{Some}
 use Rattle.std.proofs.lemmas.Bool.{true≢false}
 use Rattle.term_core.specs.declared.area.AreaRef.{AreaRef}
@@ -7,6 +7,7 @@ use Rattle.term_core.specs.declared.area.CodeRef.{CodeRef}
 use Rattle.term_core.specs.declared.generation.Generation.{Generation}
 use Rattle.area_core.specs.declared.table.Published.{Published}
 use Rattle.area_core.specs.Map.{word_at}
+use Rattle.area_core.specs.Blocks.{Among}
 use Rattle.area_core.specs.Generations.{is_traced}
 use Rattle.area_core.specs.Step.{to_publish}
 use Rattle.shared_words.specs.declared.view.WriterView.{WriterView}
@@ -18,7 +19,7 @@ use Rattle.progress_words.specs.Needs.{HasLoadedCounter, HasTaken}
 use Rattle.progress_words.specs.Roots.{IsNewestRoot, newest_of}
 use Rattle.breakpoints.specs.declared.patch.Patch.{Patch}
 use Rattle.breakpoints.specs.declared.patch.Phase.{Phase}
-use Rattle.breakpoints.specs.declared.patch.Phase.TheVariants.{Begun, Staged, Entered, Published as IsSwitched, Restored, Finished}
+use Rattle.breakpoints.specs.declared.patch.Phase.TheVariants.{Staged, Entered, Published as IsSwitched}
 use Rattle.breakpoints.specs.Indices.{AreIndices}
 use Rattle.breakpoints.specs.Patches.{IsDecisionStaged, IsPatchOf, IsPatchable, IsPatching, PhaseStands, Switches, entry_place, phase_need}
 use Rattle.breakpoints.specs.Switched.{MaySwitch, NeedIsReached, PatchSwitches, switched_over}
@@ -32,16 +33,7 @@ AtSwitch at on phase w = (need : ℕ) × (phase_need phase ≡ Some need) × IsP
 due_is : (at : CodeRef) (on : Bool) (phase : Phase) (w : WriterView) → PhaseStands at on phase w → Switches on phase → AtSwitch at on phase w
 due_is at true (Entered need) w h due = (need, refl, h.0, h.1, λ _. h.3)
 due_is at false (Staged need) w h due = (need, refl, h.0, h.1, λ on. absurd (true≢false (sym on)))
-due_is at true Begun w h due = absurd due
-due_is at true (Staged need) w h due = absurd due
-due_is at true (IsSwitched need) w h due = absurd due
-due_is at true (Restored need) w h due = absurd due
-due_is at true Finished w h due = absurd due
-due_is at false Begun w h due = absurd due
-due_is at false (Entered need) w h due = absurd due
-due_is at false (IsSwitched need) w h due = absurd due
-due_is at false (Restored need) w h due = absurd due
-due_is at false Finished w h due = absurd due
+due_is at on phase w h due = absurd due
 
 -- what may be published may be so once the counter was loaded
 counted_may : (Served : Published → Type 0) (x : Patch) (old : WriterView) (counter : ℕ) (p : Published) → MaySwitch Served x old p → MaySwitch Served x (counter_kept counter old) p
@@ -133,5 +125,7 @@ module _ (Served : Published → Type 0) (x : Patch) (old w : WriterView) (need 
       need = next;
       phase = phase;
       view = view_is;
+      more = λ pair among. (counted_leaves mid new last).more pair (subst (λ (v : WriterView). Among v.pairs pair) (sym mid_is) among);
+      rising = (let rises = (counted_leaves mid new last).rising in let same = ap (λ (v : WriterView). v.counter) mid_is in omega (arith, rises, same));
       number = number ∙ sym root.number ∙ ap (λ (v : WriterView). length v.published) first.view;
     }

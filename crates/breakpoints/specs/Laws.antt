@@ -110,3 +110,7 @@ pub record HasCleared (block : ℕ) (old new : WriterView) : Type 0 where
   pub long : length new.words ≡ length old.words
   pub cleared : HasNoDecisions new block
   pub others : (place : ℕ) → ((bp function : ℕ) → bp < BREAKPOINT_INDICES → function < FUNCTIONS → place ≢ breakpoint_place bp block function) → word_at new.words place ≡ word_at old.words place
+
+-- that leaves the decisions on functions that are called
+abbrev pub ClearedLeaves : Type 0
+ClearedLeaves = (block : ℕ) (old new : WriterView) → IsForInstances block → ((k : KeptArea) → Among old.kept k → FitsBlock k) → IsUncalled old block → HasCleared block old new → LeavesDecisions old new

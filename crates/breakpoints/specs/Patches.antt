@@ -73,6 +73,19 @@ phase_need Finished = None
 
 -- ---- the order of the phases
 
+-- no generation is published yet
+abbrev pub IsUnpublished : Phase → Type 0
+IsUnpublished Begun = Unit {0}
+IsUnpublished (Staged need) = Unit {0}
+IsUnpublished (Entered need) = Unit {0}
+IsUnpublished phase = ⊥
+
+-- the generation is published, and what was switched is not settled yet
+abbrev pub IsSettling : Phase → Type 0
+IsSettling (Published need) = Unit {0}
+IsSettling (Restored need) = Unit {0}
+IsSettling phase = ⊥
+
 -- the root is stored behind this phase: of a breakpoint that is set once the entry word leads to the indices, of one that is cleared once the decision is staged
 abbrev pub Switches : Bool → Phase → Type 0
 Switches true (Entered need) = Unit {0}

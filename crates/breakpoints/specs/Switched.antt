@@ -1,6 +1,7 @@
 -- What is published by the switch of a breakpoint: the next generation over the staging index, which traces what the newest one traces, but for the one function.
 -- Source: Erlang/OTP erts internal documentation, Tracing: the index of breakpoints is switched by one store; that the store is that of the root is this project's own.
 use Rattle.std.specs.Prelude.{◌≡◌, ℕ, ◌==◌, ◌&&◌, ◌<◌, ◌≤◌, Bool, if◌then◌else◌, List, [], ◌∷◌, ◌++◌, length, Option, Some, None, IsTrue}
+use Rattle.prgr_core.specs.declared.member.Retirement.{Retirement}
 use Rattle.term_core.specs.declared.area.AreaRef.{AreaRef}
 use Rattle.term_core.specs.declared.area.CodeRef.{CodeRef}
 use Rattle.term_core.specs.declared.generation.Generation.{Generation}
@@ -85,6 +86,8 @@ pub record PatchSwitches (x y : Patch) (p : Published) (old new : WriterView) (g
   pub need : ℕ
   pub phase : y.phase ≡ IsSwitched need
   pub view : new ≡ record (with_next p waited) { pairs = new.pairs; counter = new.counter }
+  pub more : (pair : Retirement) → Among waited.pairs pair → Among new.pairs pair
+  pub rising : waited.counter ≤ new.counter
   pub number : generation ≡ length old.published
 
 -- the last phase is over

@@ -2,6 +2,7 @@
 //! whether a function has one.
 #![tactic(auto)]
 
+mod abandoning;
 mod advancing;
 mod clearing;
 mod deciding;
@@ -12,5 +13,8 @@ mod places;
 
 pub use clearing::clear_decisions;
 pub use deciding::decision;
-pub use laws::{breakpoints_rest_at_first, others_keep_patches, roots_keep_breakpoints};
+pub use laws::{
+    breakpoints_rest_at_first, cleared_blocks_leave_patches, others_keep_patches,
+    roots_keep_breakpoints,
+};
 pub use patch::{Patch, PatchStep, Phase};

@@ -21,7 +21,7 @@ use std::marker::Brand;
 use term_core::{CodeRef, Next};
 
 /// Stores the decision on a function in the staging index.
-fn decide<N: Served>(shared: &Shared<N>, writer: &mut Writer, at: CodeRef, on: bool)
+pub(crate) fn decide<N: Served>(shared: &Shared<N>, writer: &mut Writer, at: CodeRef, on: bool)
     requires token { IsWriterOf shared.now.table.shared.table_id shared.now.table.shared.key writer.old }
     requires patchable { IsPatchable (written_by writer.old) at }
     requires indices { AreIndices (Some at) (written_by writer.old) }
