@@ -1,6 +1,6 @@
 -- Once the word of a change is stored, if it has one, the state that it leaves may be published over the blocks of the newest generation.
-use Rattle.std.proofs.Common.{◌≡◌, ℕ, ◌<◌, Bool, List, length, Option, Some, None, Global, refl, sym, ap, subst, ◌∙◌, arith}
-use Rattle.std.specs.Prelude.{IsSomeAnd, IfSome, Vec}
+use Rattle.std.proofs.Common.{◌≡◌, ℕ, ◌<◌, Bool, List, length, length-set, Option, Some, None, Global, refl, sym, ap, subst, ◌∙◌, arith}
+use Rattle.std.specs.Prelude.{IsSomeAnd, IfSome, Vec, slice_set}
 use Rattle.std.proofs.lemmas.Option.{none-some}
 use Rattle.atomic_table.specs.Seated.{TableId}
 use Rattle.term_core.specs.declared.area.AreaRef.{AreaRef}
@@ -8,17 +8,18 @@ use Rattle.term_core.specs.declared.atom.AtomId.{AtomId}
 use Rattle.term_core.specs.declared.atom.Mfa.{Mfa}
 use Rattle.area_core.specs.declared.table.Published.{Published}
 use Rattle.area_core.specs.Map.{doom_place}
+use Rattle.area_core.proofs.Places.{kind_doom, word_there}
 use Rattle.marks.specs.declared.kept.LookKind.TheVariants.{Frame}
 use Rattle.marks.specs.Steps.{with_dropped}
 use Rattle.shared_words.specs.declared.opening.Opening.{Opening}
 use Rattle.shared_words.specs.declared.view.WriterView.{WriterView}
 use Rattle.shared_words.specs.Drops.{AgreesWithLooks, drop_of}
-use Rattle.shared_words.specs.Publishing.{with_next, with_word}
+use Rattle.shared_words.specs.Publishing.{kept_left, with_next, with_word}
 use Rattle.shared_words.specs.Slots.{IsClear}
 use Rattle.progress_words.specs.Tokens.{IsWriterOf, written_by}
 use Rattle.progress_words.proofs.Rooted.{some_published}
 use Rattle.server_core.specs.declared.change.Change.{Change}
-use Rattle.server_core.specs.declared.change.Change.TheVariants.{Condemn, DropOld, SetTrace, ClearTrace}
+use Rattle.server_core.specs.declared.change.Change.TheVariants.{Condemn, DropOld}
 use Rattle.server_core.specs.Decided.{CanBeDoomed, Fits}
 use Rattle.server_core.specs.ServerState.{IsSound, ServerState, code_of}
 use Rattle.change_laws.specs.Changes.{state_after}
@@ -45,10 +46,10 @@ use Rattle.staging.proofs.Dooms.{doom_renewed, doomed_words}
 use Rattle.staging.proofs.IndexStores.{front_elsewhere}
 use Rattle.staging.proofs.KeyWords.{words_area}
 use Rattle.staging.proofs.NextReads.{old_module}
+use Rattle.staging.proofs.Patched.{StoresBeside, front_beside, patch_beside}
 use Rattle.staging.proofs.Purges.{purge_renewed}
 use Rattle.staging.proofs.Renewals.{IsRenewed}
 use Rattle.staging.proofs.SetNames.{table_place}
-use Rattle.staging.proofs.Traced.{clear_renewed, set_renewed}
 
 -- ---- the area of a serial
 
@@ -90,37 +91,41 @@ old_big names s pools w serial area sound can stands live is =
 pub no_term : (block : ℕ) → block < 64 → terms.IsElsewhere (doom_place block)
 no_term block few table at fits low same = let there = table_place table at fits in omega (arith, few, same, there)
 
+doom_beside : (w : WriterView) (block since : ℕ) → block < 64 → length w.words ≡ 83413 → StoresBeside w (with_word (doom_place block) since w)
+doom_beside w block since few all =
+    front_beside w (with_word (doom_place block) since w) (length-set w.words (doom_place block) since) (λ place behind. word_there w.words (doom_place block) since place (λ same. omega (arith, behind, few, same)))
+    (λ i. record w { words = slice_set w.words (doom_place block) since; kept = kept_left w since (kind_doom block few i) })
+
 pub tables_doomed : (table : TableId) (opening : Opening) (old new : Tables) (area : AreaRef) (since : ℕ) → indices.KeptByStores → terms.KeptByStores → AreTablesOf table opening old → area.block < 64 → IsWriterOf table opening new.writer → AreOf new.pools (written_by new.writer)
-    → written_by new.writer ≡ with_word (doom_place area.block) since (written_by old.writer) → new.index ≡ old.index → new.terms ≡ old.terms → AreTablesOf table opening new
-tables_doomed table opening old new area since by_index by_terms was few token owned stored index_is terms_are = record {
+    → written_by new.writer ≡ with_word (doom_place area.block) since (written_by old.writer) → new.index ≡ old.index → new.terms ≡ old.terms → new.patch ≡ old.patch → AreTablesOf table opening new
+tables_doomed table opening old new area since by_index by_terms was few token owned stored index_is terms_are patch_is = record {
   token = token;
   index = subst (λ x. IsIndexOf x (written_by new.writer)) (sym index_is) (subst (IsIndexOf old.index) (sym stored) ((by_index old.index (written_by old.writer) (doom_place area.block) since (front_elsewhere (doom_place area.block) (omega (arith, few))) was.index).owned was.index));
   terms = subst (λ x. IsTableOf x (written_by new.writer)) (sym terms_are) (subst (IsTableOf old.terms) (sym stored) ((by_terms old.terms (written_by old.writer) (doom_place area.block) since (no_term area.block few) was.terms).owned was.terms));
   pools = owned;
+  patch = patch_beside old.patch new.patch (written_by old.writer) (written_by new.writer) patch_is (subst (StoresBeside (written_by old.writer)) (sym stored) (doom_beside (written_by old.writer) area.block since few was.pools.all)) was.patch;
 }
 
 -- the word of the change is stored, or it has none
-pub announced : (names : List Mfa) (s : ServerState) (change : Change) (old new : Tables) → AreAtRest names s old → AreOf old.pools (written_by old.writer) → new.index ≡ old.index → new.terms ≡ old.terms → HasAnnounced change old.pools (written_by old.writer) new.pools (written_by new.writer)
+pub announced : (names : List Mfa) (s : ServerState) (change : Change) (old new : Tables) → AreAtRest names s old → AreOf old.pools (written_by old.writer) → new.index ≡ old.index → new.terms ≡ old.terms → new.patch ≡ old.patch → HasAnnounced change old.pools (written_by old.writer) new.pools (written_by new.writer)
     → AreAnnounced names s change new
-announced names s change old new rest owned index terms said = record {
+announced names s change old new rest owned index terms patch said = record {
   pools = old.pools;
   view = written_by old.writer;
   stands = rest.stands;
   owned = owned;
   announced = said;
-  staged = record { index = index ∙ rest.staged.index; terms = ap (λ (x : Terms). x.staged) terms ∙ rest.staged.terms };
+  staged = record { index = index ∙ rest.staged.index; terms = ap (λ (x : Terms). x.staged) terms ∙ rest.staged.terms; patch = patch ∙ rest.staged.patch };
 }
 
--- it drops no instance
+-- a change is one of the two; it drops no instance
 abbrev NoDrop : Change → Type 0
 NoDrop change = (generation : ℕ) (name : AtomId) (serial : ℕ) (says : Bool) (retired : Vec ℕ Global) → change ≡ DropOld generation name serial says retired → ⊥
 
-pub none_announced : (change : Change) (pools : Areas) (w : WriterView) → IsRenewal change → ((generation serial : ℕ) → change ≡ Condemn generation serial → ⊥) → NoDrop change → HasAnnounced change pools w pools w × IsDropOf change None
-none_announced (SetTrace generation at traced) pools w is other keeps = ((refl, refl), refl)
-none_announced (ClearTrace generation at) pools w is other keeps = ((refl, refl), refl)
-none_announced (Condemn generation serial) pools w is other keeps = absurd (other generation serial refl)
-none_announced (DropOld generation name serial says retired) pools w is other keeps = absurd (keeps generation name serial says retired refl)
-none_announced change pools w is other keeps = absurd is
+pub none_else : (change : Change) → IsRenewal change → ((generation serial : ℕ) → change ≡ Condemn generation serial → ⊥) → NoDrop change → ⊥
+none_else (Condemn generation serial) is other keeps = other generation serial refl
+none_else (DropOld generation name serial says retired) is other keeps = keeps generation name serial says retired refl
+none_else change is other keeps = is
 
 -- the writer knows else what it knew
 pub doomed_same : (serial : ℕ) (pools : Areas) (before after : WriterView) → AreOf pools before → HasDoomed serial pools before after → IsSameButWords before after
@@ -137,15 +142,7 @@ module _ (names : List Mfa) (s : ServerState) (table : TableId) (opening : Openi
   abbrev now : WriterView
   now = written_by t.writer
 
-  unannounced : (after : ServerState) (pools : Areas) (view : WriterView) → (t.pools ≡ pools) × (now ≡ view) → (AreOf pools view → IsRenewed names s after pools view) → IsRenewed names s after t.pools now
-  unannounced after pools view same make =
-      subst (λ (z : Areas × WriterView). IsRenewed names s after z.0 z.1) (λ i. (sym same.0 i, sym same.1 i)) (make (subst (λ (z : Areas × WriterView). AreOf z.0 z.1) (λ i. (same.0 i, same.1 i)) own.pools))
-
   pub announced_renewed : (change : Change) → Fits s change → IsRenewal change → AreAnnounced names s change t → IsRenewed names s (state_after s change) t.pools now
-  announced_renewed (SetTrace generation at traced) fits is a =
-      unannounced (state_after s (SetTrace generation at traced)) a.pools a.view a.announced (set_renewed names s generation at traced a.pools a.view sound fits a.stands)
-  announced_renewed (ClearTrace generation at) fits is a =
-      unannounced (state_after s (ClearTrace generation at)) a.pools a.view a.announced (clear_renewed names s generation at a.pools a.view sound fits a.stands)
   announced_renewed (Condemn generation serial) fits is a =
       let d : HasDoomed serial a.pools a.view now = a.announced.1 in
       let some : 0 < length a.view.published = subst (λ (ps : List Published). 0 < length ps) (ap (λ (w : WriterView). w.published) d.stored) (some_published table opening t.writer own.token) in

@@ -8,7 +8,7 @@ use Rattle.term_core.specs.declared.area.AreaRef.{AreaRef}
 use Rattle.term_core.specs.declared.atom.Mfa.{Mfa}
 use Rattle.area_core.specs.declared.table.Published.{Published}
 use Rattle.area_core.specs.Generations.{has_serial}
-use Rattle.area_core.specs.Map.{breakpoint_place, doom_place, retire_place}
+use Rattle.area_core.specs.Map.{doom_place, retire_place}
 use Rattle.area_core.specs.Step.{opening_published}
 use Rattle.shared_words.specs.declared.view.WriterView.{WriterView}
 use Rattle.shared_words.specs.Views.{newest, published_at}
@@ -16,6 +16,9 @@ use Rattle.progress_words.specs.Roots.{newest_of}
 use Rattle.progress_words.specs.Tokens.{written_by}
 use Rattle.server_core.specs.ServerState.{empty_state}
 use Rattle.server_core.proofs.EmptyState.{empty_sound}
+use Rattle.breakpoints.specs.Indices.{BreakpointsRest}
+use Rattle.breakpoints.proofs.AtFirst.{rest_at_first}
+use Rattle.change_laws.proofs.KnownCode.{empty_knows}
 use Rattle.code_index.specs.Staging.{IsAtFirst}
 use Rattle.code_index.specs.declared.index.Staging.TheVariants.{Nothing}
 use Rattle.literal_areas.specs.declared.areas.Areas.{Areas}
@@ -101,7 +104,6 @@ module _ (names : List Mfa) (w : WriterView) (is : IsAtFirst w) where
     since = λ block serial since at. absurd (retired_some serial since (free_use block (Retired serial since) at));
     free = λ block few at. is.words (doom_place block);
     doom = λ block serial few at. absurd (live_some serial (free_use block (Live serial) at));
-    untraced = λ bp block function low for few. is.words (breakpoint_place bp block function);
   }
 
   -- the words stand for the empty state
@@ -110,9 +112,11 @@ module _ (names : List Mfa) (w : WriterView) (is : IsAtFirst w) where
     newest_is = shown_first;
     numbered = λ to some. absurd (false≢true some);
     keys_once = λ i j p q at also same. absurd (none-some p at);
+    knows = empty_knows;
     narrow = omega (arith);
     bp = subst (λ (p : Published). p.root.bp < 2) (sym newest_first) (omega (arith));
     listed = λ a among used. absurd (unused a.serial used);
+    stay = λ k among. absurd (nothing_at w.kept among.0 k is.kept among.1);
     blocks = record {
       next = refl;
       used = λ serial used. absurd (unused serial used);
@@ -142,9 +146,13 @@ module _ (names : List Mfa) (w : WriterView) (is : IsAtFirst w) where
     };
   }
 
+-- no breakpoint is switched, and the breakpoint indices are at rest
+pub breakpoints_first : (w : WriterView) → IsAtFirst w → BreakpointsRest w
+breakpoints_first w is = rest_at_first w (record { all = is.all; published = is.published; kept = is.kept; words = is.words })
+
 -- the tables are at rest
-pub rest_first : (names : List Mfa) (t : Tables) → IsAtFirst (written_by t.writer) → t.index ≡ Nothing → t.terms.staged ≡ None → t.pools ≡ opening_areas → AreAtRest names empty_state t
-rest_first names t is index staged pools_are = record {
+pub rest_first : (names : List Mfa) (t : Tables) → IsAtFirst (written_by t.writer) → t.index ≡ Nothing → t.terms.staged ≡ None → t.pools ≡ opening_areas → t.patch ≡ None → AreAtRest names empty_state t
+rest_first names t is index staged pools_are patch = record {
   stands = subst (λ (s : Areas). StandFor names empty_state s (written_by t.writer)) (sym pools_are) (stand_first names (written_by t.writer) is);
-  staged = record { index = index; terms = staged };
+  staged = record { index = index; terms = staged; patch = patch };
 }

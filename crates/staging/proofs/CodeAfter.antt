@@ -9,16 +9,17 @@ use Rattle.mod_core.specs.declared.code.Module.{Module}
 use Rattle.area_core.specs.declared.table.Published.{Published}
 use Rattle.area_core.specs.Generations as generations
 use Rattle.area_core.specs.Generations.{functions_of, has_serial}
+use Rattle.server_core.specs.Generations.{generation_of}
 use Rattle.server_core.specs.declared.change.Change.{Change}
 use Rattle.server_core.specs.declared.change.Change.TheVariants.{BringIn, MakeOld}
 use Rattle.server_core.specs.Decided.{Fits}
 use Rattle.server_core.specs.ServerState.{IsSound, ServerState, instance_image, is_doomed, is_retired, live_count}
+use Rattle.change_laws.specs.Breakpoints.{KeepsBreakpoints, SetsInCode}
 use Rattle.change_laws.specs.Changes.{Incoming, incoming, instance, state_after}
 use Rattle.change_laws.proofs.Counted.{instances_counted}
 use Rattle.change_laws.proofs.Dropped.{load_leaves_rest}
 use Rattle.staging.specs.Standing.{IsShownBy}
 use Rattle.staging.specs.Stages.{IsCodeChange}
-use Rattle.staging.specs.Upcoming.{generation_shown}
 use Rattle.staging.proofs.NextReads.{code_known, old_module}
 use Rattle.staging.proofs.Sizes.{IsInstance, instance_at}
 
@@ -37,6 +38,17 @@ code_after s (BringIn generation modules areas versions) fits code =
     record { keys = same.keys; retired = same.retired; released = same.released; undoomed = fits.1.rest; doomed = same.doomed ∙ fits.1.rest }
 code_after s (MakeOld generation name) fits code = record { keys = refl; retired = refl; released = refl; undoomed = fits.1.rest; doomed = fits.1.rest }
 code_after s change fits code = absurd code
+
+-- it sets no breakpoint, nor does it clear one
+pub code_sets : (s : ServerState) (change : Change) → IsCodeChange change → SetsInCode s change
+code_sets s (BringIn generation modules areas versions) code = tt
+code_sets s (MakeOld generation name) code = tt
+code_sets s change code = absurd code
+
+pub code_keeps : (change : Change) → IsCodeChange change → KeepsBreakpoints change
+code_keeps (BringIn generation modules areas versions) code = tt
+code_keeps (MakeOld generation name) code = tt
+code_keeps change code = absurd code
 
 -- what comes in are instances
 pub comes_instance : (s : ServerState) (change : Change) → Fits s change → IsCodeChange change → (place : ℕ) (i : Incoming) → slice_get (incoming change) place ≡ Some i → IsInstance i
@@ -57,15 +69,13 @@ image_functions serial m = refl
 
 -- ---- the newest generation
 
--- it traces nothing, and has neither doomed nor retired what comes in
+-- it has neither doomed nor retired what comes in
 pub record IsBelow (p : Published) (first : ℕ) : Type 0 where
-  pub untraced : p.state.traced ≡ []
   pub unheard : (serial : ℕ) → first ≤ serial → generations.is_doomed p serial ≡ false
   pub unretired : (serial : ℕ) → first ≤ serial → generations.is_retired p serial ≡ false
 
-stood_below : (names : List Mfa) (stood : ServerState) (p : Published) → IsSound stood → p.state ≡ generation_shown names stood → IsBelow p stood.next_serial
+stood_below : (names : List Mfa) (stood : ServerState) (p : Published) → IsSound stood → p.state ≡ generation_of names stood → IsBelow p stood.next_serial
 stood_below names stood p sound shows = record {
-  untraced = ap (λ (g : Generation). g.traced) shows;
   unheard = λ serial past. ap (λ (g : Generation). has_serial g.doomed serial) shows ∙ false_from_ne_true (is_doomed stood serial) (λ e.
       let old = sound.doomed serial e in
       let of = old_module stood sound old.0 serial old.1 in
@@ -78,5 +88,5 @@ pub newest_below : (names : List Mfa) (s : ServerState) (p : Published) → IsSh
 newest_below names s p shown =
     elim shown.shows as (λ _. IsBelow p s.next_serial) [
       | inl is ↦ subst (IsBelow p) (sym (ap (λ (t : ServerState). t.next_serial) shown.since.same)) (stood_below names shown.stood p shown.sound is)
-      | inr first ↦ subst (λ (x : Published). IsBelow x s.next_serial) (sym first.0) (record { untraced = refl; unheard = λ serial past. refl; unretired = λ serial past. refl })
+      | inr first ↦ subst (λ (x : Published). IsBelow x s.next_serial) (sym first.0) (record { unheard = λ serial past. refl; unretired = λ serial past. refl })
     ]

@@ -18,14 +18,16 @@ use Rattle.change_laws.specs.Images.{module_of, words_of}
 use Rattle.change_laws.specs.Uses.{IsUsed}
 use Rattle.change_laws.proofs.AreaUses.{used_stood}
 use Rattle.change_laws.proofs.KeptImages.{code_comes, code_stays, images_before, images_new}
+use Rattle.change_laws.proofs.KnownCode.{knows_after}
 use Rattle.change_laws.proofs.VersionUses.{current_stood}
 use Rattle.literal_areas.specs.declared.areas.Areas.{Areas}
 use Rattle.literal_areas.specs.declared.blocks.BlockUse.TheVariants.{Live}
 use Rattle.literal_areas.specs.Blocks.{Stands, use_of}
 use Rattle.staging.specs.Standing.{AreKeysOnce, AreasPlaced, StaysDropped, WordsTell, retire_word_of}
 use Rattle.staging.proofs.CodeBlocks.{IsNew, IsPlacedWhole, big_block, blocks_after, new_at, new_live, next_is, pools_use, sound_after, stood_known, stood_or_new, used_now, was_retired}
-use Rattle.staging.proofs.CodeAfter.{code_after, image_functions, newest_below}
-use Rattle.staging.proofs.Coming.{ComesNext, HasImage, IsFresh}
+use Rattle.staging.proofs.CodeAfter.{code_after, code_keeps, code_sets, image_functions, newest_below}
+use Rattle.staging.proofs.Coming.{ComesNext, HasImage, IsFresh, TracesAlike}
+use Rattle.staging.proofs.Follows.{alike_same, kept_lives, new_untraced}
 use Rattle.staging.proofs.GivenBack.{get_at}
 use Rattle.staging.proofs.Taken.{was_free}
 use Rattle.staging.proofs.TakenUses.{retire_alike, serial_taken, taken_free}
@@ -69,6 +71,7 @@ module _ (names : List Mfa) (s : ServerState) (change : Change) (w : WriterView)
     undoomed = ap (λ (xs : List ℕ). is_serial_in xs a.serial) (code_after s change h.fits h.code).doomed;
     unheard = (newest_below names s (newest_of w) h.stands.newest_is).unheard a.serial (past new.serial);
     unretired = (newest_below names s (newest_of w) h.stands.newest_is).unretired a.serial (past new.serial);
+    untraced = λ function. new_untraced names s change w h.sound h.fits h.stands.knows h.stands.newest_is a.serial function (past new.serial);
   }
     where
       past : a.serial ≡ s.next_serial + new.place → s.next_serial ≤ a.serial
@@ -116,7 +119,6 @@ module _ (names : List Mfa) (s : ServerState) (change : Change) (w : WriterView)
       clear = λ _. doom_clear block serial big is;
       set = λ doomed. absurd (true≢false (sym doomed ∙ ap (λ (xs : List ℕ). is_serial_in xs serial) (code_after s change h.fits h.code).doomed));
     };
-    untraced = h.stands.words.untraced;
   }
 
   -- ---- what was dropped
@@ -160,6 +162,18 @@ module _ (names : List Mfa) (s : ServerState) (change : Change) (w : WriterView)
           let next = next_is names s change w rest pools taken h in
           omega (arith, long, is, first, small, next)
 
+  -- what is kept came in before
+  kept_known : (k : KeptArea) → Among w.kept k → k.area.serial < s.next_serial
+  kept_known k at =
+      elim (stood_or_new names s change w rest pools taken h k.area (h.owned.kept k at)) as (λ _. k.area.serial < s.next_serial) [
+        | inl stood ↦ stood_known names s change w rest pools taken h k.area stood
+        | inr new ↦ absurd (new.of.unpublished.kept k at refl)
+      ]
+
+  -- no breakpoint is another
+  pub code_alike : TracesAlike after w
+  code_alike = alike_same names s change w h.sound h.fits h.stands.knows h.stands.newest_is (code_keeps change h.code)
+
   -- so the state may be published
   pub code_comes_next : ComesNext names after pools w
   code_comes_next = record {
@@ -176,5 +190,7 @@ module _ (names : List Mfa) (s : ServerState) (change : Change) (w : WriterView)
     words = words_after;
     dropped = dropped_after;
     bp = h.stands.bp;
-    untraced = (newest_below names s (newest_of w) h.stands.newest_is).untraced;
+    knows = knows_after s change h.sound h.fits (code_sets s change h.code) h.stands.knows;
+    stay = h.stands.stay;
+    lives = λ k at. kept_lives names s change w h.sound h.fits h.stands.knows h.stands.newest_is k.area.serial (kept_known k at);
   }

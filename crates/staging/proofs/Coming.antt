@@ -1,5 +1,5 @@
 -- What holds before the store of the root that publishes a state over these pools, whatever was staged for it.
-use Rattle.std.proofs.Common.{◌≡◌, ℕ, ◌^◌, ◌<◌, ◌≤◌, ◌⊎◌, false, List, [], length, Some}
+use Rattle.std.proofs.Common.{◌≡◌, ℕ, ◌^◌, ◌<◌, ◌≤◌, ◌⊎◌, true, false, List, length, Some}
 use Rattle.term_core.specs.declared.area.AreaRef.{AreaRef}
 use Rattle.term_core.specs.declared.atom.Mfa.{Mfa}
 use Rattle.area_core.specs.declared.table.KeptArea.{KeptArea}
@@ -10,7 +10,8 @@ use Rattle.area_core.specs.Blocks.{Among, KeptApart}
 use Rattle.shared_words.specs.declared.view.WriterView.{WriterView}
 use Rattle.progress_words.specs.Roots.{newest_of}
 use Rattle.server_core.specs.Generations.{AreNumbered}
-use Rattle.server_core.specs.ServerState.{IsSound, ServerState, is_doomed, words_of_area}
+use Rattle.server_core.specs.ServerState.{Entry, IsSound, ServerState, is_doomed, is_traced, words_of_area}
+use Rattle.change_laws.specs.Breakpoints.{IsLiveCode, KnowsItsCode}
 use Rattle.literal_areas.specs.declared.areas.Areas.{Areas}
 use Rattle.literal_areas.specs.declared.blocks.BlockUse.TheVariants.{Live}
 use Rattle.literal_areas.specs.Blocks.{Stands, use_of}
@@ -26,9 +27,10 @@ pub record IsFresh (s : ServerState) (pools : Areas) (w : WriterView) (a : AreaR
   pub functions : a.block < 64 → functions_of words ≤ 16
   pub written : HasWords w a words
   pub undoomed : is_doomed s a.serial ≡ false
-  -- the newest generation has neither doomed nor retired it
+  -- the newest generation has neither doomed nor retired it, nor does it trace one of its functions
   pub unheard : generations.is_doomed (newest_of w) a.serial ≡ false
   pub unretired : generations.is_retired (newest_of w) a.serial ≡ false
+  pub untraced : (function : ℕ) → generations.is_traced (newest_of w) a.serial function ≡ false
 
 -- an area that stands has its words, and is kept or fresh
 pub record HasImage (s : ServerState) (pools : Areas) (w : WriterView) (a : AreaRef) : Type 0 where
@@ -50,4 +52,16 @@ pub record ComesNext (names : List Mfa) (s : ServerState) (pools : Areas) (w : W
   pub words : WordsTell s pools w
   pub dropped : StaysDropped s w.published
   pub bp : (newest_of w).root.bp < 2
-  pub untraced : (newest_of w).state.traced ≡ []
+  pub knows : KnowsItsCode s
+  -- what is kept is an area of the newest generation, and its instances are, where they are current or old code
+  pub stay : (k : KeptArea) → Among w.kept k → Among (newest_of w).areas k.area
+  pub lives : (k : KeptArea) → Among w.kept k → IsLiveCode s k.area.serial → generations.is_instance (newest_of w) k.area.serial ≡ true
+
+-- a function of an instance
+abbrev pub entry_in : ℕ → ℕ → Entry
+entry_in serial function = record { serial = serial; function = function }
+
+-- the newest generation traces what the state traces, and nothing else of current and old code
+pub record TracesAlike (s : ServerState) (w : WriterView) : Type 0 where
+  pub fewer : (serial function : ℕ) → is_traced s (entry_in serial function) ≡ true → generations.is_traced (newest_of w) serial function ≡ true
+  pub same : (serial function : ℕ) → IsLiveCode s serial → is_traced s (entry_in serial function) ≡ generations.is_traced (newest_of w) serial function

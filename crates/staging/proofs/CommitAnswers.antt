@@ -1,5 +1,5 @@
 -- What an answer of a commit leaves, whichever it is.
-use Rattle.std.proofs.Common.{◌≡◌, ℕ, List, Result, Ok, Err, IfOk, IfErr, refl, sym, subst}
+use Rattle.std.proofs.Common.{◌≡◌, ℕ, List, Result, Ok, Err, IfOk, IfErr, refl, sym, subst, ◌∙◌}
 use Rattle.atomic_table.specs.Seated.{TableId}
 use Rattle.term_core.specs.declared.area.AreaRef.{AreaRef}
 use Rattle.term_core.specs.declared.atom.Mfa.{Mfa}
@@ -12,7 +12,7 @@ use Rattle.progress_words.specs.Needs.{HasLoadedCounter}
 use Rattle.progress_words.specs.Tokens.{IsWriterOf, written_by}
 use Rattle.server_core.specs.declared.change.Change.{Change}
 use Rattle.server_core.specs.Decided.{Fits}
-use Rattle.server_core.specs.Generations.{AreNumbered}
+use Rattle.server_core.specs.Generations.{AreNumbered, generation_of}
 use Rattle.server_core.specs.ServerState.{IsSound, ServerState}
 use Rattle.change_laws.specs.Changes.{state_after}
 use Rattle.code_index.specs.Committed.{HasCommitted, IsWaiting, TakesNeed, committed}
@@ -23,8 +23,9 @@ use Rattle.term_table.specs.Laws.{KeptByRoots}
 use Rattle.term_table.specs.Tables.{IsTableOf}
 use Rattle.staging.specs.declared.tables.Tables.{Tables}
 use Rattle.staging.specs.Stages.{HasPublished, HaveExported}
-use Rattle.staging.specs.Upcoming.{areas_in, generation_shown}
+use Rattle.staging.specs.Upcoming.{areas_in}
 use Rattle.staging.specs.Whose.{AreTablesOf, KeepsKnown}
+use Rattle.staging.proofs.Patched.{rests}
 use Rattle.staging.proofs.Known.{known_counted, known_next, known_on, known_same}
 use Rattle.staging.proofs.Committed.{AreCommitted, AreWaiting, are_committed, are_waiting, by_waits}
 
@@ -39,17 +40,18 @@ module _ (names : List Mfa) (s : ServerState) (change : Change) (table : TableId
     pub by_roots : KeptByRoots
     pub terms : new.terms ≡ t.terms
     pub pools : new.pools ≡ t.pools
+    pub patch : new.patch ≡ t.patch
     pub owned : IsIndexOf new.index (written_by new.writer)
-    pub committed : IfOk r (λ generation. HasCommitted t.index new.index (committed (written_by t.writer) (generation_shown exports (state_after s change)) (areas_in t.pools)) (written_by t.writer) (written_by new.writer) generation)
+    pub committed : IfOk r (λ generation. HasCommitted t.index new.index (committed (written_by t.writer) (generation_of exports (state_after s change)) (areas_in t.pools)) (written_by t.writer) (written_by new.writer) generation)
     pub waits : IfErr r (λ answer. IsWaiting t.index new.index (written_by t.writer) (written_by new.writer) answer)
 
   by_commit : (exports : List Mfa) (new : Tables) (generation : ℕ) → Answers exports new (Ok generation) → AreCommitted names s change table opening t taken own sound fits had numbered new generation
   by_commit exports new generation said =
-      are_committed names s change table opening t taken own sound fits had numbered new generation said.by_roots said.terms said.pools
-      (subst (λ (ns : List Mfa). HasCommitted t.index new.index (committed (written_by t.writer) (generation_shown ns (state_after s change)) (areas_in t.pools)) (written_by t.writer) (written_by new.writer) generation) said.named said.committed)
+      are_committed names s change table opening t taken own sound fits had numbered new generation said.by_roots said.terms said.pools said.patch
+      (subst (λ (ns : List Mfa). HasCommitted t.index new.index (committed (written_by t.writer) (generation_of ns (state_after s change)) (areas_in t.pools)) (written_by t.writer) (written_by new.writer) generation) said.named said.committed)
 
   by_wait : (exports : List Mfa) (new : Tables) (answer : NotYet) → Answers exports new (Err answer) → AreWaiting names s change table opening t taken own sound fits had numbered new answer
-  by_wait exports new answer said = are_waiting names s change table opening t taken own sound fits had numbered new answer said.terms said.pools said.waits said.owned.staged
+  by_wait exports new answer said = are_waiting names s change table opening t taken own sound fits had numbered new answer said.terms said.pools said.patch said.waits said.owned.staged
 
   pub published_after : (exports : List Mfa) (new : Tables) (r : Result ℕ NotYet) → Answers exports new r → IfOk r (λ generation. HasPublished names (state_after s change) t new generation)
   published_after exports new (Ok generation) said = (by_commit exports new generation said).published
@@ -69,7 +71,7 @@ module _ (names : List Mfa) (s : ServerState) (change : Change) (table : TableId
   known_after exports new (Ok generation) said =
       let done = said.committed in
       subst (KeepsKnown (written_by t.writer)) (sym done.view)
-      (known_on (written_by t.writer) done.waited (with_next (committed (written_by t.writer) (generation_shown exports (state_after s change)) (areas_in t.pools)) done.waited)
+      (known_on (written_by t.writer) done.waited (with_next (committed (written_by t.writer) (generation_of exports (state_after s change)) (areas_in t.pools)) done.waited)
       (known_waited t.index done.asked.begun done.waited done.need done.asked.waits.taken done.asked.loaded) (known_next done.waited _))
   known_after exports new (Err answer) said =
       let waiting = said.waits in
@@ -83,6 +85,7 @@ module _ (names : List Mfa) (s : ServerState) (change : Change) (table : TableId
         index = index;
         terms = subst (λ t. IsTableOf t (written_by new.writer)) (sym said.terms) after.terms;
         pools = subst (λ s. AreOf s (written_by new.writer)) (sym said.pools) after.pools;
+        patch = rests new.patch (written_by new.writer) (said.patch ∙ had.placed.patch) after.patch;
       }
   tables_after exports new (Err answer) said token index =
       let after = by_wait exports new answer said in
@@ -91,4 +94,5 @@ module _ (names : List Mfa) (s : ServerState) (change : Change) (table : TableId
         index = index;
         terms = subst (λ t. IsTableOf t (written_by new.writer)) (sym said.terms) after.terms;
         pools = subst (λ s. AreOf s (written_by new.writer)) (sym said.pools) after.pools;
+        patch = rests new.patch (written_by new.writer) (said.patch ∙ had.placed.patch) after.patch;
       }

@@ -1,5 +1,5 @@
 -- The exports of a load or a delete are committed: the store of the root is allowed, and what it and the wait leave.
-use Rattle.std.proofs.Common.{◌≡◌, ℕ, ◌≤◌, List, [], ◌∷◌, ◌++◌, length, None, refl, sym, ap, subst, ◌∙◌}
+use Rattle.std.proofs.Common.{◌≡◌, ℕ, ◌≤◌, List, [], ◌∷◌, ◌++◌, length, None, refl, sym, ap, subst, ◌∙◌, arith}
 use Rattle.atomic_table.specs.Seated.{TableId}
 use Rattle.term_core.specs.declared.area.AreaRef.{AreaRef}
 use Rattle.term_core.specs.declared.atom.Mfa.{Mfa}
@@ -15,8 +15,10 @@ use Rattle.progress_words.specs.Roots.{newest_of}
 use Rattle.progress_words.specs.Tokens.{written_by}
 use Rattle.server_core.specs.declared.change.Change.{Change}
 use Rattle.server_core.specs.Decided.{Fits}
-use Rattle.server_core.specs.Generations.{AreNumbered}
+use Rattle.server_core.specs.Generations.{AreNumbered, generation_of}
 use Rattle.server_core.specs.ServerState.{IsSound, ServerState}
+use Rattle.breakpoints.specs.Indices.{BreakpointsRest}
+use Rattle.breakpoints.specs.Laws.{TracesStand}
 use Rattle.code_law.specs.Served.{IsServed}
 use Rattle.change_laws.specs.Changes.{incoming, state_after}
 use Rattle.change_laws.specs.Uses.{IsUsed}
@@ -35,18 +37,20 @@ use Rattle.staging.specs.declared.tables.Tables.{Tables}
 use Rattle.staging.specs.Placed.{ArePlaced}
 use Rattle.staging.specs.Standing.{StandFor}
 use Rattle.staging.specs.Stages.{HasPublished, HaveExported, IsCodeChange, IsLateFor}
-use Rattle.staging.specs.Upcoming.{IsUpcoming, areas_in, generation_shown}
+use Rattle.staging.specs.Upcoming.{IsUpcoming, areas_in}
 use Rattle.staging.specs.Whose.{AreTablesOf}
 use Rattle.staging.proofs.CodeAfter.{code_after}
 use Rattle.staging.proofs.CodeBlocks.{IsPlacedWhole, still_stands}
-use Rattle.staging.proofs.CodeComes.{code_comes_next}
-use Rattle.staging.proofs.Coming.{ComesNext}
+use Rattle.staging.proofs.CodeComes.{code_alike, code_comes_next}
+use Rattle.staging.proofs.Coming.{ComesNext, TracesAlike}
 use Rattle.staging.proofs.Counted.{comes_counted, placed_counted, stands_counted, tables_counted}
 use Rattle.staging.proofs.Lateness.{late_code}
 use Rattle.staging.proofs.NextAreas.{apart_next, go_on, next_listed, used_kept}
 use Rattle.staging.proofs.NextStands.{is_listed, stands_next}
 use Rattle.staging.proofs.NextStays.{old_stays_next, retired_stays_next, served_next}
-use Rattle.staging.proofs.NextWords.{areas_next, breakpoints_next, fresh_fits, fresh_images, fresh_told, instances_next}
+use Rattle.staging.proofs.NextTraces.{traces_next}
+use Rattle.staging.proofs.NextWords.{areas_next, fresh_fits, fresh_images, fresh_told, instances_next}
+use Rattle.staging.proofs.Patched.{rest_counted, rest_of}
 use Rattle.staging.proofs.SameKeys.{keys_stay, terms_stay}
 
 -- ---- the wait
@@ -66,6 +70,8 @@ by_waits P step x old begun waited need took loaded was =
 -- the state may be published over these tables, by this generation
 pub record IsNextOver (names : List Mfa) (after : ServerState) (pools : Areas) (terms : Terms) (p : Published) (first : List Published) (v : WriterView) : Type 0 where
   pub comes : ComesNext names after pools v
+  pub alike : TracesAlike after v
+  pub rest : BreakpointsRest v
   pub tables : IsTableOf terms v
   pub unstaged : terms.staged ≡ None
   pub bp : p.root.bp ≡ (newest_of v).root.bp
@@ -75,6 +81,8 @@ pub record IsNextOver (names : List Mfa) (after : ServerState) (pools : Areas) (
 pub over_counted : (names : List Mfa) (after : ServerState) (pools : Areas) (terms : Terms) (p : Published) (first : List Published) (v : WriterView) (counter : ℕ) → v.counter ≤ counter → IsNextOver names after pools terms p first v → IsNextOver names after pools terms p first (counter_kept counter v)
 over_counted names after pools terms p first v counter rises was = record {
   comes = comes_counted _ counter v names after pools (kept_counted pools v counter rises was.comes.owned) was.comes;
+  alike = record { fewer = was.alike.fewer; same = was.alike.same };
+  rest = rest_counted v counter rises was.rest;
   tables = tables_counted terms v counter was.unstaged was.tables;
   unstaged = was.unstaged;
   bp = was.bp;
@@ -93,7 +101,7 @@ module _ (names : List Mfa) (s : ServerState) (change : Change) (table : TableId
   after = state_after s change
 
   abbrev p : Published
-  p = committed w (generation_shown names after) (areas_in t.pools)
+  p = committed w (generation_of names after) (areas_in t.pools)
 
   up : IsUpcoming names after t.pools p
   up = record { state = refl; areas = refl }
@@ -124,9 +132,20 @@ module _ (names : List Mfa) (s : ServerState) (change : Change) (table : TableId
   terms_next : TermsStand (words_in w.words p.root.term) p
   terms_next = terms_stay names s after w p had.placed.stands.newest_is had.placed.stands.keys_once refl (code_after s change fits code).keys listed (words_in w.words p.root.term) own.terms.active
 
+  alike : TracesAlike after w
+  alike = code_alike names s change w had.placed.rest t.pools taken whole
+
+  rest : BreakpointsRest w
+  rest = rest_of t.patch w had.placed.patch own.patch
+
+  traces : TracesStand w p
+  traces = traces_next names after t.pools w p next up alike rest refl
+
   over : IsNextOver names after t.pools t.terms p w.published w
   over = record {
     comes = next;
+    alike = alike;
+    rest = rest;
     tables = own.terms;
     unstaged = had.placed.terms;
     bp = refl;
@@ -142,10 +161,10 @@ module _ (names : List Mfa) (s : ServerState) (change : Change) (table : TableId
     retired_stays = retired_stays_next names after t.pools w p next up;
     areas_go_on = go_on names after t.pools w p next up;
     placed = instances_next names after t.pools w p next up;
-    breakpoints = breakpoints_next names after t.pools w p next up refl;
+    breakpoints = traces.stands;
     terms = terms_next;
     used = used_kept names after t.pools w p next up;
-    areas = areas_next names after t.pools w p next up;
+    areas = areas_next names after t.pools w p next up traces.entries;
     fit = fresh_fits names after t.pools w p next up;
     images = fresh_images names after t.pools w p next up;
     fresh = fresh_told names after t.pools w p next up;
@@ -153,8 +172,8 @@ module _ (names : List Mfa) (s : ServerState) (change : Change) (table : TableId
   }
 
   -- the store of the root is allowed
-  pub may_commit : (exports : List Mfa) → exports ≡ names → MayCommit (IsServed names) t.index w (committed w (generation_shown exports after) (areas_in t.pools))
-  may_commit exports same = subst (λ (ns : List Mfa). MayCommit (IsServed names) t.index w (committed w (generation_shown ns after) (areas_in t.pools))) (sym same) may
+  pub may_commit : (exports : List Mfa) → exports ≡ names → MayCommit (IsServed names) t.index w (committed w (generation_of exports after) (areas_in t.pools))
+  may_commit exports same = subst (λ (ns : List Mfa). MayCommit (IsServed names) t.index w (committed w (generation_of ns after) (areas_in t.pools))) (sym same) may
 
   -- ---- it is stored
 
@@ -165,23 +184,25 @@ module _ (names : List Mfa) (s : ServerState) (change : Change) (table : TableId
   pub record AreCommitted (new : Tables) (generation : ℕ) : Type 0 where
     pub terms : IsTableOf t.terms (written_by new.writer)
     pub pools : AreOf t.pools (written_by new.writer)
+    pub patch : BreakpointsRest (written_by new.writer)
     pub published : HasPublished names after t new generation
 
-  pub are_committed : (new : Tables) (generation : ℕ) → KeptByRoots → new.terms ≡ t.terms → new.pools ≡ t.pools → HasCommitted t.index new.index p w (written_by new.writer) generation → AreCommitted new generation
-  are_committed new generation by_roots terms pools done =
+  pub are_committed : (new : Tables) (generation : ℕ) → KeptByRoots → new.terms ≡ t.terms → new.pools ≡ t.pools → new.patch ≡ t.patch → HasCommitted t.index new.index p w (written_by new.writer) generation → AreCommitted new generation
+  are_committed new generation by_roots terms pools patch done =
       let over = over_waited t.index done.asked.begun done.waited done.need done.asked.waits.taken done.asked.loaded in
       let comes = over.comes in
       record {
         terms = subst (IsTableOf t.terms) (sym done.view) ((by_roots t.terms done.waited p over.keys (λ k at. (fresh_fits names after t.pools done.waited p comes up k at).first)).owned over.tables);
         pools = subst (AreOf t.pools) (sym done.view) (owned_next t.pools done.waited comes.owned p (is_listed names after t.pools done.waited p comes up));
+        patch = subst BreakpointsRest (sym done.view) (traces_next names after t.pools done.waited p comes up over.alike over.rest over.bp).settled;
         published = record {
           next = p;
           shows = refl;
           published = ap (λ (v : WriterView). v.published) done.view ∙ ap (λ (ps : List Published). ps ++ p ∷ []) over.published;
           number = done.number;
           rest = record {
-            stands = subst (λ (s : Areas). StandFor names after s (written_by new.writer)) (sym pools) (subst (StandFor names after t.pools) (sym done.view) (stands_next names after t.pools done.waited p comes up over.bp));
-            staged = record { index = done.index; terms = ap (λ (x : Terms). x.staged) terms ∙ had.placed.terms };
+            stands = subst (λ (s : Areas). StandFor names after s (written_by new.writer)) (sym pools) (subst (StandFor names after t.pools) (sym done.view) (stands_next names after t.pools done.waited p comes up (let low = comes.bp in let same = over.bp in omega (arith, low, same))));
+            staged = record { index = done.index; terms = ap (λ (x : Terms). x.staged) terms ∙ had.placed.terms; patch = patch ∙ had.placed.patch };
           };
         };
       }
@@ -194,6 +215,7 @@ module _ (names : List Mfa) (s : ServerState) (change : Change) (table : TableId
     pub placed : ArePlaced (incoming change) had.placed.rest t.pools v taken
     pub tables : IsTableOf t.terms v
     pub pools : AreOf t.pools v
+    pub rest : BreakpointsRest v
     pub words : v.words ≡ w.words
     pub published : v.published ≡ w.published
 
@@ -203,13 +225,14 @@ module _ (names : List Mfa) (s : ServerState) (change : Change) (table : TableId
     placed = placed_counted _ counter v (incoming change) had.placed.rest t.pools taken was.placed;
     tables = tables_counted t.terms v counter had.placed.terms was.tables;
     pools = kept_counted t.pools v counter rises was.pools;
+    rest = rest_counted v counter rises was.rest;
     words = was.words;
     published = was.published;
   }
 
   pub held_waiting : (x : Staging) (begun waited : WriterView) (need : ℕ) → TakesNeed x w begun need → HasLoadedCounter begun waited → IsHeld waited
   held_waiting x begun waited need took loaded =
-      by_waits IsHeld held_counted x w begun waited need took loaded (record { stands = had.placed.stands; placed = had.placed.placed; tables = own.terms; pools = own.pools; words = refl; published = refl })
+      by_waits IsHeld held_counted x w begun waited need took loaded (record { stands = had.placed.stands; placed = had.placed.placed; tables = own.terms; pools = own.pools; rest = rest; words = refl; published = refl })
 
   -- what was staged is staged while the commit waits
   staged_still : (x y : Staging) (q : Published) (v : WriterView) (need : ℕ) → y ≡ indices.Committing (block_of x) need → v.words ≡ w.words → staged.Stages x q w → staged.Stages y q v
@@ -223,16 +246,18 @@ module _ (names : List Mfa) (s : ServerState) (change : Change) (table : TableId
   pub record AreWaiting (new : Tables) (answer : NotYet) : Type 0 where
     pub terms : IsTableOf t.terms (written_by new.writer)
     pub pools : AreOf t.pools (written_by new.writer)
+    pub patch : BreakpointsRest (written_by new.writer)
     pub published : (written_by new.writer).published ≡ w.published
     pub stands : HaveExported names s change new taken
     pub why : IsLateFor change t new answer
 
-  pub are_waiting : (new : Tables) (answer : NotYet) → new.terms ≡ t.terms → new.pools ≡ t.pools → IsWaiting t.index new.index w (written_by new.writer) answer → staged.GoesWith new.index (written_by new.writer) → AreWaiting new answer
-  are_waiting new answer terms pools waiting goes =
+  pub are_waiting : (new : Tables) (answer : NotYet) → new.terms ≡ t.terms → new.pools ≡ t.pools → new.patch ≡ t.patch → IsWaiting t.index new.index w (written_by new.writer) answer → staged.GoesWith new.index (written_by new.writer) → AreWaiting new answer
+  are_waiting new answer terms pools patch waiting goes =
       let held = held_waiting t.index waiting.asked.begun (written_by new.writer) answer.need waiting.asked.waits.taken waiting.asked.loaded in
       record {
         terms = held.tables;
         pools = held.pools;
+        patch = held.rest;
         published = held.published;
         stands = record {
           placed = record {
@@ -240,6 +265,7 @@ module _ (names : List Mfa) (s : ServerState) (change : Change) (table : TableId
             stands = held.stands;
             placed = subst (λ (s : Areas). ArePlaced (incoming change) had.placed.rest s (written_by new.writer) taken) (sym pools) held.placed;
             terms = ap (λ (x : Terms). x.staged) terms ∙ had.placed.terms;
+            patch = patch ∙ had.placed.patch;
           };
           whole = had.whole;
           code = code;

@@ -46,13 +46,15 @@ module _ (pairs : List Retirement) (counter : ℕ) (w : WriterView) where
     newest_is = stands.newest_is;
     numbered = stands.numbered;
     keys_once = stands.keys_once;
+    knows = stands.knows;
     narrow = stands.narrow;
     bp = stands.bp;
     listed = stands.listed;
+    stay = stands.stay;
     blocks = stands.blocks;
     placed = stands.placed;
     images = stands.images;
-    words = record { retire = stands.words.retire; since = stands.words.since; free = stands.words.free; doom = stands.words.doom; untraced = stands.words.untraced };
+    words = record { retire = stands.words.retire; since = stands.words.since; free = stands.words.free; doom = stands.words.doom };
     dropped = stands.dropped;
   }
 
@@ -79,6 +81,7 @@ module _ (pairs : List Retirement) (counter : ℕ) (w : WriterView) where
         undoomed = comes.undoomed;
         unheard = comes.unheard;
         unretired = comes.unretired;
+        untraced = comes.untraced;
       })
     ];
   }
@@ -95,8 +98,10 @@ module _ (pairs : List Retirement) (counter : ℕ) (w : WriterView) where
     images = λ a stands. image_counted s pools a (next.images a stands);
     kept = next.kept;
     apart = next.apart;
-    words = record { retire = next.words.retire; since = next.words.since; free = next.words.free; doom = next.words.doom; untraced = next.words.untraced };
+    words = record { retire = next.words.retire; since = next.words.since; free = next.words.free; doom = next.words.doom };
     dropped = next.dropped;
     bp = next.bp;
-    untraced = next.untraced;
+    knows = next.knows;
+    stay = next.stay;
+    lives = next.lives;
   }

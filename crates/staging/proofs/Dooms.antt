@@ -1,5 +1,5 @@
 -- An instance is doomed: its doom word is stored before the root, and tells of the generation that is published next.
-use Rattle.std.proofs.Common.{◌≡◌, ℕ, ◌+◌, ◌<◌, ◌⊎◌, inl, inr, Bool, true, false, List, [], ◌∷◌, ◌++◌, length, Some, refl, sym, ap, subst, ◌∙◌, arith}
+use Rattle.std.proofs.Common.{◌≡◌, ℕ, ◌<◌, ◌⊎◌, inl, inr, Bool, true, false, List, [], ◌∷◌, ◌++◌, length, Some, refl, sym, ap, subst, ◌∙◌, arith}
 use Rattle.std.specs.Prelude.{◌||◌, slice_set}
 use Rattle.std.proofs.lemmas.Bool.{eq-eqb, false_from_ne_true, true≢false}
 use Rattle.std.proofs.lemmas.Bool.{cases_eq}
@@ -7,7 +7,7 @@ use Rattle.term_core.specs.declared.area.AreaRef.{AreaRef}
 use Rattle.term_core.specs.declared.atom.Mfa.{Mfa}
 use Rattle.area_core.specs.declared.map.WordKind.{WordKind}
 use Rattle.area_core.specs.Generations.{has_serial}
-use Rattle.area_core.specs.Map.{breakpoint_at, breakpoint_place, doom_place, retire_place, word_at}
+use Rattle.area_core.specs.Map.{doom_place, retire_place, word_at}
 use Rattle.area_core.proofs.Places.{kind_doom, word_here, word_there}
 use Rattle.prgr_core.proofs.Parts.{some_same}
 use Rattle.shared_words.specs.declared.view.WriterView.{WriterView}
@@ -28,9 +28,8 @@ use Rattle.literal_areas.proofs.Serials.{serial_here}
 use Rattle.staging.specs.Renewed.{HasDoomed}
 use Rattle.staging.specs.Standing.{DoomStands, StandFor, StaysDropped, WordsTell}
 use Rattle.staging.proofs.BlockUses.{live_serial, live_some}
-use Rattle.staging.proofs.CodeAfter.{newest_below}
 use Rattle.staging.proofs.Coming.{ComesNext, HasImage}
-use Rattle.staging.proofs.Frames.{block_behind}
+use Rattle.staging.proofs.Follows.{newest_lives, newest_traced}
 use Rattle.staging.proofs.NextReads.{one_is}
 use Rattle.staging.proofs.Renewals.{IsRenewed}
 
@@ -122,9 +121,6 @@ module _ (names : List Mfa) (s : ServerState) (serial : ℕ) (can : CanBeDoomed 
       since = stands.words.since;
       free = free_after;
       doom = doom_after;
-      untraced = λ bp block function low for few.
-          others (breakpoint_place bp block function) (λ same. let behind = block_behind (3 + bp) (breakpoint_at block function) in omega (arith, same, behind, big))
-          ∙ stands.words.untraced bp block function low for few;
     }
 
     dropped_after : StaysDropped after v.published
@@ -169,12 +165,18 @@ module _ (names : List Mfa) (s : ServerState) (serial : ℕ) (can : CanBeDoomed 
       words = words_after;
       dropped = dropped_after;
       bp = stands.bp;
-      untraced = (newest_below names s (newest_of v) stands.newest_is).untraced;
+      knows = record { traced = stands.knows.traced; kept = stands.knows.kept };
+      stay = stands.stay;
+      lives = λ k at. newest_lives names s (newest_of v) stands.newest_is k.area.serial;
     }
 
     renewed_after : IsSound after → IsRenewed names s after pools now
     renewed_after sound = record {
       comes = comes_after sound;
+      alike = record {
+        fewer = λ n function e. newest_traced names s (newest_of v) stands.newest_is n function ∙ e;
+        same = λ n function lives. sym (newest_traced names s (newest_of v) stands.newest_is n function);
+      };
       shown = stands.newest_is;
       once = stands.keys_once;
       calls = λ to. refl;

@@ -27,6 +27,8 @@ use Rattle.staging.specs.declared.tables.Tables.{Tables}
 use Rattle.staging.specs.Replaced.{FormerRetired, IsFormerArea, IsLiveThere}
 use Rattle.staging.specs.Whose.{AreTablesOf}
 use Rattle.staging.proofs.IndexStores.{front_elsewhere}
+use Rattle.staging.proofs.KeyWords.{RetiresWords, words_area}
+use Rattle.staging.proofs.Patched.{StoresBeside, front_beside, patch_beside}
 use Rattle.staging.proofs.SetNames.{table_place}
 
 -- ---- what the server says
@@ -82,15 +84,22 @@ pub no_table : (block : ℕ) → block < 320 → terms.IsElsewhere (retire_place
 no_table block few table at fits low same = let there = table_place table at fits in omega (arith, few, same, there)
 
 pub tables_retired : (table : TableId) (opening : Opening) (old new : Tables) (area : AreaRef) (since : ℕ) → indices.KeptByStores → terms.KeptByStores → AreTablesOf table opening old → IsLive old.pools area → IsWriterOf table opening new.writer → AreOf new.pools (written_by new.writer)
-    → written_by new.writer ≡ with_word (retire_place area.block) since (written_by old.writer) → new.index ≡ old.index → new.terms ≡ old.terms → AreTablesOf table opening new
-tables_retired table opening old new area since by_index by_terms was live token owned stored index_is terms_are =
+    → written_by new.writer ≡ with_word (retire_place area.block) since (written_by old.writer) → new.index ≡ old.index → new.terms ≡ old.terms → new.patch ≡ old.patch → 0 < since → AreTablesOf table opening new
+tables_retired table opening old new area since by_index by_terms was live token owned stored index_is terms_are patch_is some =
     let few : area.block < 320 = use_within old.pools area.block (Live area.serial) was.pools.sound.sizes live in
     record {
       token = token;
       index = subst (λ x. IsIndexOf x (written_by new.writer)) (sym index_is) (subst (IsIndexOf old.index) (sym stored) ((by_index old.index (written_by old.writer) (retire_place area.block) since (front_elsewhere (retire_place area.block) (omega (arith, few))) was.index).owned was.index));
       terms = subst (λ x. IsTableOf x (written_by new.writer)) (sym terms_are) (subst (IsTableOf old.terms) (sym stored) ((by_terms old.terms (written_by old.writer) (retire_place area.block) since (no_table area.block few) was.terms).owned was.terms));
       pools = owned;
+      patch = patch_beside old.patch new.patch (written_by old.writer) (written_by new.writer) patch_is (subst (StoresBeside (written_by old.writer)) (sym stored) beside) was.patch;
     }
+  where
+    told : RetiresWords old.pools (with_retired area since old.pools) (written_by old.writer) (with_word (retire_place area.block) since (written_by old.writer))
+    told = words_area old.pools (written_by old.writer) area since live was.pools.sound.sizes was.pools.all some
+
+    beside : StoresBeside (written_by old.writer) (with_word (retire_place area.block) since (written_by old.writer))
+    beside = front_beside (written_by old.writer) (with_word (retire_place area.block) since (written_by old.writer)) told.long (λ place behind. told.others place (λ block few same. omega (arith, behind, few, same))) told.same
 
 pub was_retired : (held : Option ℕ) (old new : Areas) (before after : WriterView) (area : AreaRef) → held ≡ Some area.serial → IsLive old area → new ≡ with_retired area (length before.published) old → after ≡ with_word (retire_place area.block) (length before.published) before → FormerRetired held old before new after
 was_retired held old new before after area is live pools stored =

@@ -1,25 +1,23 @@
 -- The words stand for a state still, over stores in blocks that tell nothing of areas.
-use Rattle.std.proofs.Common.{◌≡◌, ℕ, ◌+◌, ◌<◌, ◌≤◌, inl, inr, List, length, refl, sym, subst, ◌∙◌, arith}
+use Rattle.std.proofs.Common.{◌≡◌, ℕ, ◌<◌, ◌≤◌, inl, inr, List, length, refl, sym, subst, ◌∙◌, arith}
 use Rattle.std.proofs.lemmas.Bool.{cases_lt, lt-ltb, le-ltb}
 use Rattle.term_core.specs.declared.area.AreaRef.{AreaRef}
 use Rattle.term_core.specs.declared.atom.Mfa.{Mfa}
-use Rattle.area_core.specs.Map.{block_place, breakpoint_place, breakpoint_at, doom_place, retire_place, word_at}
+use Rattle.area_core.specs.Map.{block_place, breakpoint_at, doom_place, retire_place, word_at}
 use Rattle.area_core.specs.Blocks.{IsForInstances}
 use Rattle.shared_words.specs.declared.view.WriterView.{WriterView}
 use Rattle.server_core.specs.ServerState.{ServerState}
 use Rattle.literal_areas.specs.declared.areas.Areas.{Areas}
 use Rattle.literal_areas.specs.Owned.{IsUnpublished}
-use Rattle.literal_areas.specs.Written.{HasWritten, KeepsOtherBlocks}
+use Rattle.literal_areas.specs.Written.{HasWritten}
 use Rattle.staging.specs.Standing.{DoomStands, StandFor}
-use Rattle.staging.proofs.Elsewhere.{big_room}
 
 -- ---- what tells of areas
 
--- retire words, doom words and breakpoint words are as before, and nothing but words has changed
+-- retire words and doom words are as before, and nothing but words has changed
 pub record TellsAlike (old new : WriterView) : Type 0 where
   pub retire : (block : ℕ) → block < 320 → word_at new.words (retire_place block) ≡ word_at old.words (retire_place block)
   pub doom : (block : ℕ) → block < 64 → word_at new.words (doom_place block) ≡ word_at old.words (doom_place block)
-  pub untraced : (bp block function : ℕ) → bp < 2 → IsForInstances block → function < 16 → word_at new.words (breakpoint_place bp block function) ≡ word_at old.words (breakpoint_place bp block function)
   pub same : new ≡ record old { words = new.words }
 
 module _ (names : List Mfa) (s : ServerState) (pools : Areas) (v : WriterView) (words : List ℕ) (alike : TellsAlike v (record v { words = words })) (stands : StandFor names s pools v) where
@@ -28,9 +26,11 @@ module _ (names : List Mfa) (s : ServerState) (pools : Areas) (v : WriterView) (
     newest_is = stands.newest_is;
     numbered = stands.numbered;
     keys_once = stands.keys_once;
+    knows = stands.knows;
     narrow = stands.narrow;
     bp = stands.bp;
     listed = stands.listed;
+    stay = stands.stay;
     blocks = stands.blocks;
     placed = stands.placed;
     images = stands.images;
@@ -39,7 +39,6 @@ module _ (names : List Mfa) (s : ServerState) (pools : Areas) (v : WriterView) (
       since = stands.words.since;
       free = λ block few is. alike.doom block few ∙ stands.words.free block few is;
       doom = λ block serial few is. subst (DoomStands s serial (length v.published)) (sym (alike.doom block few)) (stands.words.doom block serial few is);
-      untraced = λ bp block function low for few. alike.untraced bp block function low for few ∙ stands.words.untraced bp block function low for few;
     };
     dropped = stands.dropped;
   }
@@ -47,7 +46,7 @@ module _ (names : List Mfa) (s : ServerState) (pools : Areas) (v : WriterView) (
 -- so the words stand for the state still
 pub stands_alike : (names : List Mfa) (s : ServerState) (pools : Areas) (old new : WriterView) → TellsAlike old new → StandFor names s pools old → StandFor names s pools new
 stands_alike names s pools old new alike stands =
-    subst (StandFor names s pools) (sym alike.same) (stands_words names s pools old new.words (record { retire = alike.retire; doom = alike.doom; untraced = alike.untraced; same = refl }) stands)
+    subst (StandFor names s pools) (sym alike.same) (stands_words names s pools old new.words (record { retire = alike.retire; doom = alike.doom; same = refl }) stands)
 
 -- what was never published is not, where nothing but words has changed
 pub unpublished_written : (old : WriterView) (words : List ℕ) (area : AreaRef) → IsUnpublished old area → IsUnpublished (record old { words = words }) area
@@ -66,12 +65,9 @@ block_behind block at =
 pub at_fits : (block function : ℕ) → IsForInstances block → function < 16 → breakpoint_at block function < 1024
 at_fits block function for few = let first = for.first in let last = for.last in omega (arith, first, last, few)
 
-pub tells_written : (block count : ℕ) (words : List ℕ) (old new : WriterView) → 9 ≤ block → HasWritten block count words old new → KeepsOtherBlocks block old new → TellsAlike old new
-tells_written block count words old new high written others = record {
+pub tells_written : (block count : ℕ) (words : List ℕ) (old new : WriterView) → HasWritten block count words old new → TellsAlike old new
+tells_written block count words old new written = record {
   retire = λ other few. written.others (retire_place other) (λ at _ is. absurd (let behind = block_behind block at in omega (arith, is, few, behind)));
   doom = λ other few. written.others (doom_place other) (λ at _ is. absurd (let behind = block_behind block at in omega (arith, is, few, behind)));
-  untraced = λ bp other function low for few.
-      others (3 + bp) (breakpoint_at other function) (λ is. absurd (omega (arith, is, low, high))) (omega (arith, low))
-      (subst (λ (room : ℕ). breakpoint_at other function < room) (sym (big_room (3 + bp) (omega (arith, low)))) (at_fits other function for few));
   same = written.same;
 }

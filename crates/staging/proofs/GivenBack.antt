@@ -79,8 +79,8 @@ module _ (names : List Mfa) (s : ServerState) (change : Change) (old : Tables) (
   }
 
   -- and those before it stay
-  pub placed_less : (new : Tables) → new.pools ≡ without_last area old.pools → written_by new.writer ≡ written_by old.writer → new.terms ≡ old.terms → HavePlaced names s change new taken
-  placed_less new given view terms = record {
+  pub placed_less : (new : Tables) → new.pools ≡ without_last area old.pools → written_by new.writer ≡ written_by old.writer → new.terms ≡ old.terms → new.patch ≡ old.patch → HavePlaced names s change new taken
+  placed_less new given view terms patch = record {
     rest = had.rest;
     stands = subst (StandFor names s had.rest) (sym view) had.stands;
     placed = record {
@@ -90,6 +90,7 @@ module _ (names : List Mfa) (s : ServerState) (change : Change) (old : Tables) (
       each = λ place i a comes at. subst (λ w. IsAreaOf w i a) (sym view) (had.placed.each place i a comes (at_before taken area a place at));
     };
     terms = ap (λ t. t.staged) terms ∙ had.terms;
+    patch = patch ∙ had.patch;
   }
 
 -- ---- one more is given back
@@ -110,8 +111,8 @@ module _ (names : List Mfa) (s : ServerState) (change : Change) (t : Tables) (ne
   pub gives_more : (table : TableId) (opening : Opening) (back : ℕ) (first : Tables) (taken left : List AreaRef) (pools : Areas) → GivesBack table opening names s change back first t taken left → left ≡ next ++ area ∷ [] → pools ≡ without_last area t.pools → ((w : WriterView) → AreOf t.pools w → IsUnpublished w area → AreOf pools w)
       → GivesBack table opening names s change (back + 1) first (record t { pools = pools }) taken next
   gives_more table opening back first taken left pools was left_is given owned = record {
-    tables = record { token = was.tables.token; index = was.tables.index; terms = was.tables.terms; pools = owned (written_by t.writer) was.tables.pools unpublished };
-    placed = placed_less names s change t next area had (record t { pools = pools }) given refl refl;
+    tables = record { token = was.tables.token; index = was.tables.index; terms = was.tables.terms; pools = owned (written_by t.writer) was.tables.pools unpublished; patch = was.tables.patch };
+    placed = placed_less names s change t next area had (record t { pools = pools }) given refl refl refl;
     count = (let count = was.count in let long = length-append next (area ∷ []) in let same = ap length left_is in omega (arith, count, long, same));
     exports = was.exports;
     index = was.index;

@@ -1,9 +1,9 @@
 -- Stores into code indices alone leave what the words tell of areas, and the areas that are placed.
-use Rattle.std.proofs.Common.{◌≡◌, ℕ, ◌+◌, ◌<◌, ◌≤◌, inl, inr, List, sym, ap, subst, ◌∙◌, arith}
+use Rattle.std.proofs.Common.{◌≡◌, ℕ, ◌<◌, ◌≤◌, inl, inr, List, sym, ap, subst, ◌∙◌, arith}
 use Rattle.std.proofs.lemmas.Bool.{cases_lt, lt-ltb, le-ltb}
 use Rattle.term_core.specs.declared.area.AreaRef.{AreaRef}
 use Rattle.term_core.specs.declared.atom.Mfa.{Mfa}
-use Rattle.area_core.specs.Map.{block_place, breakpoint_at, doom_place, retire_place}
+use Rattle.area_core.specs.Map.{block_place, doom_place, retire_place}
 use Rattle.shared_words.specs.declared.view.WriterView.{WriterView}
 use Rattle.progress_words.specs.Tokens.{written_by}
 use Rattle.server_core.specs.declared.change.Change.{Change}
@@ -54,7 +54,6 @@ pub tells_exports : (old new : WriterView) → StoresExports old new → TellsAl
 tells_exports old new stores = record {
   retire = λ block few. stores.others (retire_place block) (front_elsewhere (retire_place block) (omega (arith, few)));
   doom = λ block few. stores.others (doom_place block) (front_elsewhere (doom_place block) (omega (arith, few)));
-  untraced = λ bp block function low for few. let place = breakpoint_at block function in stores.others (block_place (3 + bp) place) (behind_elsewhere (block_place (3 + bp) place) (third_behind (3 + bp) place (omega arith)));
   same = stores.same;
 }
 
@@ -73,8 +72,8 @@ area_still old new i a stores was = record {
 }
 
 -- the words stand for the state, and the areas beside it are placed still
-pub placed_still : (names : List Mfa) (s : ServerState) (change : Change) (old new : Tables) (taken : List AreaRef) → new.pools ≡ old.pools → new.terms ≡ old.terms → StoresExports (written_by old.writer) (written_by new.writer) → HavePlaced names s change old taken → HavePlaced names s change new taken
-placed_still names s change old new taken pools terms stores had = record {
+pub placed_still : (names : List Mfa) (s : ServerState) (change : Change) (old new : Tables) (taken : List AreaRef) → new.pools ≡ old.pools → new.terms ≡ old.terms → new.patch ≡ old.patch → StoresExports (written_by old.writer) (written_by new.writer) → HavePlaced names s change old taken → HavePlaced names s change new taken
+placed_still names s change old new taken pools terms patch stores had = record {
   rest = had.rest;
   stands = stands_alike names s had.rest (written_by old.writer) (written_by new.writer) (tells_exports (written_by old.writer) (written_by new.writer) stores) had.stands;
   placed = record {
@@ -84,4 +83,5 @@ placed_still names s change old new taken pools terms stores had = record {
     each = λ place i a comes at. area_still (written_by old.writer) (written_by new.writer) i a stores (had.placed.each place i a comes at);
   };
   terms = ap (λ t. t.staged) terms ∙ had.terms;
+  patch = patch ∙ had.patch;
 }

@@ -10,7 +10,7 @@ use Rattle.area_core.specs.declared.table.Published.{Published}
 use Rattle.area_core.specs.Blocks.{Among}
 use Rattle.shared_words.specs.declared.view.WriterView.{WriterView}
 use Rattle.progress_words.specs.Roots.{newest_of}
-use Rattle.server_core.specs.Generations.{function_ref}
+use Rattle.server_core.specs.Generations.{function_ref, generation_of}
 use Rattle.server_core.specs.ServerState.{ServerState, dispatch_of}
 use Rattle.change_laws.specs.Uses.{IsUsed}
 use Rattle.code_index.specs.declared.index.Staging.TheVariants as indices
@@ -18,12 +18,11 @@ use Rattle.code_index.specs.Exports.{KeepsExport, LeadTo}
 use Rattle.code_index.specs.Laws as index_laws
 use Rattle.code_index.specs.Staging.{active_index}
 use Rattle.staging.specs.Standing.{IsShownBy}
-use Rattle.staging.specs.Upcoming.{generation_shown}
 use Rattle.staging.proofs.Mixed.{reached_in_state}
 use Rattle.staging.proofs.StagedNames.{newest_exports, reached_used}
 
 -- what a generation of a state has for a number is what calls reach in another state that leaves them
-module _ (names : List Mfa) (s after : ServerState) (p : Published) (state : p.state ≡ generation_shown names after) (calls : (to : Mfa) → dispatch_of after to ≡ dispatch_of s to) where
+module _ (names : List Mfa) (s after : ServerState) (p : Published) (state : p.state ≡ generation_of names after) (calls : (to : Mfa) → dispatch_of after to ≡ dispatch_of s to) where
   entry_at : (o : Option Mfa) → option_and_then (λ e. e) (option_map (reached_in_state after) o) ≡ option_and_then (λ e. e) (option_map (reached_in_state s) o)
   entry_at None = refl
   entry_at (Some to) = ap (option_map function_ref) (calls to)
@@ -31,7 +30,7 @@ module _ (names : List Mfa) (s after : ServerState) (p : Published) (state : p.s
   pub exported : (k : ℕ) → option_and_then (λ e. e) (slice_get p.state.exports k) ≡ option_and_then (λ e. e) (option_map (reached_in_state s) (slice_get names k))
   exported k = ap (λ (g : Generation). option_and_then (λ e. e) (slice_get g.exports k)) state ∙ ap (option_and_then (λ e. e)) (slice_get-map (reached_in_state after) names k) ∙ entry_at (slice_get names k)
 
-module _ (names : List Mfa) (s after : ServerState) (w : WriterView) (p : Published) (shown : IsShownBy names s (newest_of w)) (state : p.state ≡ generation_shown names after) (calls : (to : Mfa) → dispatch_of after to ≡ dispatch_of s to)
+module _ (names : List Mfa) (s after : ServerState) (w : WriterView) (p : Published) (shown : IsShownBy names s (newest_of w)) (state : p.state ≡ generation_of names after) (calls : (to : Mfa) → dispatch_of after to ≡ dispatch_of s to)
     (listed : (a : AreaRef) → Among (newest_of w).areas a → IsUsed s a.serial → Among p.areas a) where
   exports_kept : (k : ℕ) → KeepsExport (newest_of w) p k
   exports_kept k = record {

@@ -8,26 +8,32 @@ use Rattle.mod_core.specs.declared.code.Module.{Module}
 use Rattle.area_core.specs.declared.table.KeptArea.{KeptArea}
 use Rattle.area_core.specs.declared.table.Published.{Published}
 use Rattle.area_core.specs.Generations as generations
-use Rattle.area_core.specs.Map.{block_place, breakpoint_at, breakpoint_place, doom_place, word_at}
+use Rattle.area_core.specs.Map.{block_place, doom_place, word_at}
 use Rattle.area_core.specs.Blocks.{Among, IsForInstances, KeptApart}
 use Rattle.shared_words.specs.declared.view.WriterView.{WriterView}
+use Rattle.shared_words.proofs.ShownMembers.{within_get}
 use Rattle.progress_words.specs.Roots.{newest_of}
 use Rattle.server_core.specs.declared.change.Change.{Change}
+use Rattle.server_core.specs.declared.change.Change.TheVariants.{HoldWord, HoldArea, Forget}
 use Rattle.server_core.specs.ServerState.{ServerState, Versions, code_of, current_among, is_doomed, is_serial_in, words_of_area}
+use Rattle.change_laws.specs.Breakpoints.{KeepsBreakpoints, SetsInCode}
 use Rattle.change_laws.specs.Changes.{state_after}
 use Rattle.change_laws.specs.Images.{words_of}
 use Rattle.change_laws.specs.Uses.{IsUsed}
 use Rattle.change_laws.proofs.Dropped.{used_known}
 use Rattle.change_laws.proofs.KeptImages.{code_comes, code_stays, images_before, images_new}
+use Rattle.change_laws.proofs.KnownCode.{knows_after}
 use Rattle.literal_areas.specs.declared.areas.Areas.{Areas}
 use Rattle.literal_areas.specs.declared.blocks.BlockUse.TheVariants.{Free, Live, Retired}
 use Rattle.literal_areas.specs.Blocks.{Stands, use_of}
 use Rattle.literal_areas.specs.Owned.{IsUnpublished}
 use Rattle.staging.specs.Replaced.{former_of}
+use Rattle.staging.specs.Stages.{IsKeyChange}
 use Rattle.staging.specs.Standing.{AreasPlaced, DoomStands, IsSince, StaysDropped, WordsTell, retire_word_of}
 use Rattle.staging.proofs.BlockUses.{free_retired}
 use Rattle.staging.proofs.CodeAfter.{newest_below}
-use Rattle.staging.proofs.Coming.{ComesNext, HasImage, IsFresh}
+use Rattle.staging.proofs.Coming.{ComesNext, HasImage, IsFresh, TracesAlike}
+use Rattle.staging.proofs.Follows.{alike_same, kept_lives, new_untraced}
 use Rattle.staging.proofs.Frames.{block_behind, unpublished_written}
 use Rattle.staging.proofs.GivenBack.{get_at}
 use Rattle.staging.proofs.KeyBlocks.{IsNew, IsReady, blocks_after, high_block, keyed, live_before, lives_on, new_at, new_live, next_is, pools_use, sound_after, stood_known, stood_or_new, used_now, uses, was_retired}
@@ -36,6 +42,19 @@ use Rattle.staging.proofs.KeyAfter.{key_came}
 use Rattle.staging.proofs.KeyStates.{came_with}
 use Rattle.staging.proofs.Taken.{was_free}
 use Rattle.staging.proofs.TakenUses.{IsTakenAt, retire_alike, serial_taken}
+
+-- a change of a key sets no breakpoint, nor does it clear one
+key_sets : (s : ServerState) (change : Change) → IsKeyChange change → SetsInCode s change
+key_sets s (HoldWord generation key term keys retired) is = tt
+key_sets s (HoldArea generation key term kept areas keys retired) is = tt
+key_sets s (Forget generation key retired) is = tt
+key_sets s change is = absurd is
+
+key_keeps : (change : Change) → IsKeyChange change → KeepsBreakpoints change
+key_keeps (HoldWord generation key term keys retired) is = tt
+key_keeps (HoldArea generation key term kept areas keys retired) is = tt
+key_keeps (Forget generation key retired) is = tt
+key_keeps change is = absurd is
 
 module _ (names : List Mfa) (s : ServerState) (change : Change) (v w : WriterView) (rest before pools : Areas) (taken : List AreaRef) (h : IsReady names s change v w rest before pools taken) where
   abbrev after : ServerState
@@ -87,6 +106,8 @@ module _ (names : List Mfa) (s : ServerState) (change : Change) (v w : WriterVie
     undoomed = ap (λ (xs : List ℕ). is_serial_in xs a.serial) (keyed names s change v w rest before pools taken h).doomed ∙ no_doom a new;
     unheard = subst (λ (q : Published). generations.is_doomed q a.serial ≡ false) (sym newest_same) ((newest_below names s (newest_of v) h.stands.newest_is).unheard a.serial (past new.serial));
     unretired = subst (λ (q : Published). generations.is_retired q a.serial ≡ false) (sym newest_same) ((newest_below names s (newest_of v) h.stands.newest_is).unretired a.serial (past new.serial));
+    untraced = λ function.
+        subst (λ (q : Published). generations.is_traced q a.serial function ≡ false) (sym newest_same) (new_untraced names s change v h.sound h.fits h.stands.knows h.stands.newest_is a.serial function (past new.serial));
   }
     where
       past : a.serial ≡ s.next_serial + new.place → s.next_serial ≤ a.serial
@@ -148,15 +169,15 @@ module _ (names : List Mfa) (s : ServerState) (change : Change) (v w : WriterVie
       rest_live (inl was) = was
       rest_live (inr taken_at) = absurd (let high = high_block names s change v w rest before pools taken h taken_at.place taken_at.area taken_at.at in let here = taken_at.block_is in omega (arith, big, high, here))
 
-  since_after : (block serial since : ℕ) → use_of pools block ≡ Some (Retired serial since) → IsSince w.published serial since
-  since_after block serial since is = subst (λ (ps : List Published). IsSince ps serial since) (sym published_same) (by (was_retired names s change v w rest before pools taken h block serial since is))
+  since_after : (block serial since : ℕ) → use_of pools block ≡ Some (Retired serial since) → IsSince w.published block serial since
+  since_after block serial since is = subst (λ (ps : List Published). IsSince ps block serial since) (sym published_same) (by (was_retired names s change v w rest before pools taken h block serial since is))
     where
-      by : (use_of rest block ≡ Some (Retired serial since)) ⊎ ((former_of s change ≡ Some serial) × (since ≡ length v.published)) → IsSince v.published serial since
+      by : (use_of rest block ≡ Some (Retired serial since)) ⊎ ((former_of s change ≡ Some serial) × (since ≡ length v.published)) → IsSince v.published block serial since
       by (inl was) = h.stands.words.since block serial since was
       by (inr gone) =
           let here = gone.1 in
           let some = h.some in
-          (omega (arith, here, some), omega (arith, here), λ g p at retired. absurd ((h.stands.dropped.retired p serial (g, at) retired).1 (inr (inr ((uses names s change v w rest before pools taken h).held serial gone.0)))))
+          (omega (arith, here, some), omega (arith, here), λ g p at retired. absurd ((h.stands.dropped.retired p serial (g, at) retired).1 (inr (inr ((uses names s change v w rest before pools taken h).held serial gone.0)))), λ g p at past. absurd (let within = within_get v.published g p at in omega (arith, here, past, within)))
 
   words_after : WordsTell after pools w
   words_after = record {
@@ -164,7 +185,6 @@ module _ (names : List Mfa) (s : ServerState) (change : Change) (v w : WriterVie
     since = since_after;
     free = λ block big is. doom_word block ∙ h.stands.words.free block big (free_rest block is);
     doom = doom_after;
-    untraced = λ bp block function low for few. word_still (breakpoint_place bp block function) (inr (let behind = block_behind (3 + bp) (breakpoint_at block function) in omega (arith, behind))) ∙ h.stands.words.untraced bp block function low for few;
   }
 
   -- ---- what was dropped
@@ -204,6 +224,23 @@ module _ (names : List Mfa) (s : ServerState) (change : Change) (v w : WriterVie
           let next = next_is names s change v w rest before pools taken h in
           omega (arith, long, is, first, small, next)
 
+  -- what is kept came in before
+  kept_known : (k : KeptArea) → Among v.kept k → k.area.serial < s.next_serial
+  kept_known k at =
+      elim (stood_or_new names s change v w rest before pools taken h k.area (h.owned.kept k (subst (λ (ks : List KeptArea). Among ks k) (sym kept_same) at))) as (λ _. k.area.serial < s.next_serial) [
+        | inl stood ↦ stood_known names s change v w rest before pools taken h k.area stood
+        | inr new ↦ absurd (new.of.unpublished.kept k at refl)
+      ]
+
+  -- no breakpoint is another
+  pub key_alike : TracesAlike after w
+  key_alike =
+      let was = alike_same names s change v h.sound h.fits h.stands.knows h.stands.newest_is (key_keeps change h.key) in
+      record {
+        fewer = λ serial function e. subst (λ (q : Published). generations.is_traced q serial function ≡ true) (sym newest_same) (was.fewer serial function e);
+        same = λ serial function live. was.same serial function live ∙ ap (λ (q : Published). generations.is_traced q serial function) (sym newest_same);
+      }
+
   -- so the state may be published
   pub key_comes_next : ComesNext names after pools w
   key_comes_next = record {
@@ -220,5 +257,9 @@ module _ (names : List Mfa) (s : ServerState) (change : Change) (v w : WriterVie
     words = words_after;
     dropped = subst (StaysDropped after) (sym published_same) dropped_v;
     bp = subst (λ (q : Published). q.root.bp < 2) (sym newest_same) h.stands.bp;
-    untraced = ap (λ (q : Published). q.state.traced) newest_same ∙ (newest_below names s (newest_of v) h.stands.newest_is).untraced;
+    knows = knows_after s change h.sound h.fits (key_sets s change h.key) h.stands.knows;
+    stay = λ k at. subst (λ (q : Published). Among q.areas k.area) (sym newest_same) (h.stands.stay k (subst (λ (ks : List KeptArea). Among ks k) kept_same at));
+    lives = λ k at live.
+        subst (λ (q : Published). generations.is_instance q k.area.serial ≡ true) (sym newest_same)
+        (kept_lives names s change v h.sound h.fits h.stands.knows h.stands.newest_is k.area.serial (kept_known k (subst (λ (ks : List KeptArea). Among ks k) kept_same at)) live);
   }

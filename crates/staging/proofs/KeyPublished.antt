@@ -26,8 +26,10 @@ use Rattle.progress_words.proofs.Rooted.{some_published}
 use Rattle.server_core.specs.declared.change.Change.{Change}
 use Rattle.server_core.specs.declared.change.Change.TheVariants.{HoldWord, HoldArea, Forget}
 use Rattle.server_core.specs.Decided.{Fits}
-use Rattle.server_core.specs.Generations.{key_term}
+use Rattle.server_core.specs.Generations.{generation_of, key_term}
 use Rattle.server_core.specs.ServerState.{HasItsArea, IsPersistent, IsSound, IsTermArea, Persistent, ServerState, code_of, dispatch_of, key_area, persistent_of}
+use Rattle.breakpoints.specs.Indices.{BreakpointsRest}
+use Rattle.breakpoints.specs.Laws.{TracesStand}
 use Rattle.code_law.specs.Served.{IsServed}
 use Rattle.change_laws.specs.Changes.{incoming, state_after}
 use Rattle.change_laws.specs.Uses.{IsUsed}
@@ -51,9 +53,9 @@ use Rattle.staging.specs.Placed.{ArePlaced}
 use Rattle.staging.specs.Replaced.{FormerRetired, HaveReplaced, former_of}
 use Rattle.staging.specs.Stages.{HasPublished, IsKeyChange}
 use Rattle.staging.specs.Standing.{IsShownBy, StandFor, retire_word_of}
-use Rattle.staging.specs.Upcoming.{IsUpcoming, areas_in, generation_shown}
+use Rattle.staging.specs.Upcoming.{IsUpcoming, areas_in}
 use Rattle.staging.specs.Whose.{AreTablesOf, KeepsKnown}
-use Rattle.staging.proofs.Coming.{ComesNext, IsFresh}
+use Rattle.staging.proofs.Coming.{ComesNext, IsFresh, TracesAlike}
 use Rattle.staging.proofs.Counted.{stands_counted}
 use Rattle.staging.proofs.KeptExports.{leads}
 use Rattle.staging.proofs.Known.{known_same}
@@ -63,11 +65,13 @@ use Rattle.staging.proofs.KeyStates.{rekeys}
 use Rattle.staging.proofs.KeyWords.{retires_words}
 use Rattle.staging.proofs.Taken.{live_stays}
 use Rattle.staging.proofs.KeyBlocks.{IsNew, IsReady, stood_or_new, stood_stands}
-use Rattle.staging.proofs.KeyComes.{key_comes_next}
+use Rattle.staging.proofs.KeyComes.{key_alike, key_comes_next}
 use Rattle.staging.proofs.NextAreas.{apart_next, fresh_comes, go_on, next_listed, used_kept}
 use Rattle.staging.proofs.NextStands.{is_listed, stands_next}
 use Rattle.staging.proofs.NextStays.{old_stays_next, retired_stays_next, served_next}
-use Rattle.staging.proofs.NextWords.{areas_next, breakpoints_next, fresh_fits, fresh_images, instances_next}
+use Rattle.staging.proofs.NextTraces.{traces_next}
+use Rattle.staging.proofs.NextWords.{areas_next, fresh_fits, fresh_images, instances_next}
+use Rattle.staging.proofs.Patched.{rest_counted, rest_of, rests}
 
 -- a change of a key leaves what calls reach
 calls_stay : (s : ServerState) (change : Change) → IsKeyChange change → (to : Mfa) → dispatch_of (state_after s change) to ≡ dispatch_of s to
@@ -188,16 +192,23 @@ module _ (names : List Mfa) (s : ServerState) (change : Change) (table : TableId
   comes = key_comes_next names s change had.view view had.rest had.pools t.pools taken ready
 
   abbrev p : Published
-  p = restaged view (generation_shown names later) (areas_in t.pools)
+  p = restaged view (generation_of names later) (areas_in t.pools)
 
   up : IsUpcoming names later t.pools p
   up = record { state = refl; areas = refl }
 
+  alike : TracesAlike later view
+  alike = key_alike names s change had.view view had.rest had.pools t.pools taken ready
+
+  -- the breakpoint index says what it traces
+  traces : TracesStand view p
+  traces = traces_next names later t.pools view p comes up alike (rest_of t.patch view had.patch own.patch) refl
+
   leads_p : index_laws.KeptByExports → LeadTo view.words (active_index view) p
-  leads_p alike = leads_key names s change had.view view had.rest had.pools t.pools taken ready p up alike own.index.active
+  leads_p by_exports = leads_key names s change had.view view had.rest had.pools t.pools taken ready p up by_exports own.index.active
 
   may : index_laws.KeptByExports → MayPublishTerms (IsServed names) t.terms view p
-  may alike = record {
+  may by_exports = record {
     terms = had.keyed p refl refl;
     counted = had.counted ∙ sym (length-map later.keys key_term);
     served = served_next names later t.pools view p comes up;
@@ -205,10 +216,10 @@ module _ (names : List Mfa) (s : ServerState) (change : Change) (table : TableId
     retired_stays = retired_stays_next names later t.pools view p comes up;
     areas_go_on = go_on names later t.pools view p comes up;
     placed = instances_next names later t.pools view p comes up;
-    code = leads_p alike;
-    breakpoints = breakpoints_next names later t.pools view p comes up refl;
+    code = leads_p by_exports;
+    breakpoints = traces.stands;
     used = used_kept names later t.pools view p comes up;
-    areas = areas_next names later t.pools view p comes up;
+    areas = areas_next names later t.pools view p comes up traces.entries;
     fresh = record {
       fit = fresh_fits names later t.pools view p comes up;
       images = fresh_images names later t.pools view p comes up;
@@ -218,8 +229,8 @@ module _ (names : List Mfa) (s : ServerState) (change : Change) (table : TableId
   }
 
   -- the store of the root is allowed
-  pub may_publish : index_laws.KeptByExports → (exports : List Mfa) → exports ≡ names → MayPublishTerms (IsServed names) t.terms view (restaged view (generation_shown exports later) (areas_in t.pools))
-  may_publish alike exports same = subst (λ (ns : List Mfa). MayPublishTerms (IsServed names) t.terms view (restaged view (generation_shown ns later) (areas_in t.pools))) (sym same) (may alike)
+  pub may_publish : index_laws.KeptByExports → (exports : List Mfa) → exports ≡ names → MayPublishTerms (IsServed names) t.terms view (restaged view (generation_of exports later) (areas_in t.pools))
+  may_publish by_exports exports same = subst (λ (ns : List Mfa). MayPublishTerms (IsServed names) t.terms view (restaged view (generation_of ns later) (areas_in t.pools))) (sym same) (may by_exports)
 
   -- ---- it is stored
 
@@ -228,14 +239,15 @@ module _ (names : List Mfa) (s : ServerState) (change : Change) (table : TableId
     pub tables : AreTablesOf table opening new
     pub published : HasPublished names later t new generation
 
-  pub are_published : (new : Tables) (generation : ℕ) (exports : List Mfa) → exports ≡ names → index_laws.KeptByExports → index_laws.KeptByRoots → index_laws.KeptByCounters → IsWriterOf table opening new.writer → IsTableOf new.terms (written_by new.writer) → t.index ≡ indices.Nothing → new.index ≡ t.index → new.pools ≡ t.pools
-      → published.HasPublished t.terms new.terms (restaged view (generation_shown exports later) (areas_in t.pools)) view (written_by new.writer) generation → ArePublished new generation
-  are_published new generation exports names_are alike by_roots by_counters token terms nothing index pools done = record {
+  pub are_published : (new : Tables) (generation : ℕ) (exports : List Mfa) → exports ≡ names → index_laws.KeptByExports → index_laws.KeptByRoots → index_laws.KeptByCounters → IsWriterOf table opening new.writer → IsTableOf new.terms (written_by new.writer) → t.index ≡ indices.Nothing → new.index ≡ t.index → new.pools ≡ t.pools → new.patch ≡ t.patch
+      → published.HasPublished t.terms new.terms (restaged view (generation_of exports later) (areas_in t.pools)) view (written_by new.writer) generation → ArePublished new generation
+  are_published new generation exports names_are by_exports by_roots by_counters token terms nothing index pools patch done = record {
     tables = record {
       token = token;
       index = subst (λ x. IsIndexOf x (written_by new.writer)) (sym (index ∙ nothing)) ((by_counters indices.Nothing (with_next p view) (written_by new.writer) loaded).owned index_next);
       terms = terms;
       pools = subst (λ (x : Areas). AreOf x (written_by new.writer)) (sym pools) (subst (AreOf t.pools) (sym loaded.view) (kept_counted t.pools (with_next p view) done.counter done.rising (owned_next t.pools view own.pools p (is_listed names later t.pools view p comes up))));
+      patch = rests new.patch (written_by new.writer) (patch ∙ had.patch) (subst BreakpointsRest (sym loaded.view) (rest_counted (with_next p view) done.counter done.rising traces.settled));
     };
     published = record {
       next = p;
@@ -243,14 +255,14 @@ module _ (names : List Mfa) (s : ServerState) (change : Change) (table : TableId
       published = ap (λ (v : WriterView). v.published) loaded.view;
       number = done.number;
       rest = record {
-        stands = subst (λ (x : Areas). StandFor names later x (written_by new.writer)) (sym pools) (subst (StandFor names later t.pools) (sym loaded.view) (stands_counted _ done.counter (with_next p view) names later t.pools (stands_next names later t.pools view p comes up refl)));
-        staged = record { index = index ∙ nothing; terms = ap (λ (x : Terms). x.staged) done.tables };
+        stands = subst (λ (x : Areas). StandFor names later x (written_by new.writer)) (sym pools) (subst (StandFor names later t.pools) (sym loaded.view) (stands_counted _ done.counter (with_next p view) names later t.pools (stands_next names later t.pools view p comes up comes.bp)));
+        staged = record { index = index ∙ nothing; terms = ap (λ (x : Terms). x.staged) done.tables; patch = patch ∙ had.patch };
       };
     };
   }
     where
       loaded : HasLoadedCounter (with_next p view) (written_by new.writer)
-      loaded = record { counter = done.counter; range = done.range; rising = done.rising; view = done.view ∙ ap (λ (ns : List Mfa). counter_kept done.counter (with_next (restaged view (generation_shown ns later) (areas_in t.pools)) view)) names_are }
+      loaded = record { counter = done.counter; range = done.range; rising = done.rising; view = done.view ∙ ap (λ (ns : List Mfa). counter_kept done.counter (with_next (restaged view (generation_of ns later) (areas_in t.pools)) view)) names_are }
 
       index_next : IsIndexOf indices.Nothing (with_next p view)
-      index_next = by_roots view p refl (leads_p alike) (λ k at. (fresh_fits names later t.pools view p comes up k at).first) (subst (λ x. IsIndexOf x view) nothing own.index)
+      index_next = by_roots view p refl (leads_p by_exports) (λ k at. (fresh_fits names later t.pools view p comes up k at).first) (subst (λ x. IsIndexOf x view) nothing own.index)

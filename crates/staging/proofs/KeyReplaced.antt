@@ -61,7 +61,7 @@ module _ (table : TableId) (opening : Opening) (names : List Mfa) (s : ServerSta
         published = (record { area = area; words = kept.0 }, kept.1, refl);
       }
 
-  module _ (new : Tables) (terms : new.terms ≡ old.terms) (former : FormerRetired (former_of s change) old.pools before new.pools (written_by new.writer)) where
+  module _ (new : Tables) (terms : new.terms ≡ old.terms) (patch : new.patch ≡ old.patch) (former : FormerRetired (former_of s change) old.pools before new.pools (written_by new.writer)) where
     high : (block serial : ℕ) → former_of s change ≡ Some serial → use_of old.pools block ≡ Some (Live serial) → 64 ≤ block
     high = former_high names s change had.rest old.pools before taken sound key had.stands had.placed own.pools.sound
 
@@ -91,4 +91,5 @@ module _ (table : TableId) (opening : Opening) (names : List Mfa) (s : ServerSta
       former = former;
       keyed = λ p state areas. staged_still p (had.keyed p state (areas ∙ areas_same));
       counted = ap (λ (n : ℕ). held_in (words_in (written_by new.writer).words n) 512) staging_same ∙ ap (λ (block : ℕ → ℕ). held_in block 512) (table_words old.pools new.pools before (written_by new.writer) (staging_table before) (omega arith) words) ∙ had.counted;
+      patch = patch ∙ had.patch;
     }

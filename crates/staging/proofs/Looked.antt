@@ -56,12 +56,14 @@ module _ (w : WriterView) (looks : WriterKept) where
     newest_is = stands.newest_is;
     numbered = stands.numbered;
     keys_once = stands.keys_once;
+    knows = stands.knows;
     narrow = stands.narrow;
     bp = stands.bp;
     listed = stands.listed;
+    stay = stands.stay;
     blocks = stands.blocks;
     placed = stands.placed;
     images = stands.images;
-    words = record { retire = stands.words.retire; since = stands.words.since; free = stands.words.free; doom = stands.words.doom; untraced = stands.words.untraced };
+    words = record { retire = stands.words.retire; since = stands.words.since; free = stands.words.free; doom = stands.words.doom };
     dropped = stands.dropped;
   }

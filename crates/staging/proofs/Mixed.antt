@@ -13,13 +13,12 @@ use Rattle.area_core.specs.Blocks.{Among}
 use Rattle.area_core.specs.Generations.{is_code_word}
 use Rattle.area_core.specs.Map.{block_place, word_at}
 use Rattle.shared_words.specs.declared.view.WriterView.{WriterView}
-use Rattle.server_core.specs.Generations.{function_ref}
+use Rattle.server_core.specs.Generations.{function_ref, generation_of}
 use Rattle.server_core.specs.ServerState.{ServerState, dispatch_of}
 use Rattle.code_index.specs.declared.index.Staging.{Staging}
 use Rattle.code_index.specs.declared.index.Staging.TheVariants.{Nothing, Staged, Committing}
 use Rattle.code_index.specs.Exports.{ExportsWith, KeepsExport, LeadTo, export_at, function_of}
 use Rattle.code_index.specs.Staging.{Stages}
-use Rattle.staging.specs.Upcoming.{generation_shown}
 
 -- what a call of the name reaches in a state, in plain numbers
 abbrev pub reached_in_state : ServerState → Mfa → Option FunctionRef
@@ -103,14 +102,14 @@ module _ (names : List Mfa) (s after : ServerState) where
     placed = λ to a is among same. placed k to a (shows k ∙ sym (export_behind zero p k (omega arith)) ∙ is) among same;
   }
 
-  leads_whole : (words : List ℕ) (block : ℕ) (p : Published) → p.state ≡ generation_shown names after → LeadTo words block (between 1024 p) → LeadTo words block p
+  leads_whole : (words : List ℕ) (block : ℕ) (p : Published) → p.state ≡ generation_of names after → LeadTo words block (between 1024 p) → LeadTo words block p
   leads_whole words block p is leads entry few =
       ap (λ o. is_code_word p o (word_at words (block_place block entry)))
       (ap (λ g. slice_get g.exports entry) is ∙ slice_get-map (reached_in_state after) names entry ∙ sym (mixed_before (reached_in_state after) (reached_in_state s) 1024 names entry few))
       ∙ leads entry few
 
   -- all names of an index are
-  pub all_changed : (x : Staging) (w : WriterView) (p : Published) → p.state ≡ generation_shown names after → Stages x (between 1024 p) w → Stages x p w
+  pub all_changed : (x : Staging) (w : WriterView) (p : Published) → p.state ≡ generation_of names after → Stages x (between 1024 p) w → Stages x p w
   all_changed Nothing w p is staged = staged
   all_changed (Staged block) w p is staged = leads_whole w.words block p is staged
   all_changed (Committing block need) w p is staged = leads_whole w.words block p is staged

@@ -142,7 +142,7 @@ module _ (names : List Mfa) (s : ServerState) (pools : Areas) (w : WriterView) (
     new = λ k q a fresh published listed. (fresh_comes k fresh).0.unpublished.listed q a published listed;
   }
 
-  same_serial : (a b : AreaRef) → Stands pools a → Stands pools b → a.block ≡ b.block → a.serial ≡ b.serial
+  pub same_serial : (a b : AreaRef) → Stands pools a → Stands pools b → a.block ≡ b.block → a.serial ≡ b.serial
   same_serial a b here there same = some_same a.serial b.serial (sym here ∙ ap (serial_at pools) same ∙ there)
 
   same_block : (a b : AreaRef) → Stands pools a → Stands pools b → a.serial ≡ b.serial → a.block ≡ b.block

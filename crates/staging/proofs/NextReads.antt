@@ -11,14 +11,13 @@ use Rattle.mod_core.specs.Module.{IsModule}
 use Rattle.area_core.specs.declared.table.Published.{Published}
 use Rattle.area_core.specs.Generations as generations
 use Rattle.area_core.specs.Generations.{has_serial, holds_area}
-use Rattle.server_core.specs.Generations.{is_current_code, is_old_code, is_serial, key_term, serials_below}
+use Rattle.server_core.specs.Generations.{generation_of, is_current_code, is_old_code, is_serial, key_term, serials_below}
 use Rattle.server_core.specs.ServerState.{IsDropped, IsInstanceOf, IsSound, Persistent, ServerState, code_of, current_of, is_retired, key_area, old_of, persistent_among}
 use Rattle.machine_core.proofs.ImageKinds.{found_number}
 use Rattle.machine_core.proofs.GenerationAreas.{some_of}
 use Rattle.prgr_core.proofs.Parts.{some_same}
 use Rattle.change_laws.specs.Uses.{IsUsed}
 use Rattle.staging.specs.Standing.{AreKeysOnce}
-use Rattle.staging.specs.Upcoming.{generation_shown}
 
 -- ---- serials that pass a test
 
@@ -135,7 +134,7 @@ module _ (s : ServerState) (sound : IsSound s) where
 
 -- ---- what its generation says
 
-module _ (names : List Mfa) (s : ServerState) (p : Published) (shows : p.state ≡ generation_shown names s) where
+module _ (names : List Mfa) (s : ServerState) (p : Published) (shows : p.state ≡ generation_of names s) where
   pub shown_current : (serial : ℕ) → generations.is_current p serial ≡ true → IsVersion (current_of s) (code_of s serial) serial
   shown_current serial e =
       version_of (current_of s) (code_of s serial) serial (below_passes (is_current_code s) s.next_serial serial (subst (λ (g : Generation). has_serial g.current serial ≡ true) shows e))

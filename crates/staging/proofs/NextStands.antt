@@ -1,10 +1,12 @@
 -- Once the root is stored, the words stand for the state that is published.
 use Rattle.std.proofs.Common.{◌≡◌, ℕ, ◌+◌, ◌<◌, ◌≤◌, inl, inr, List, [], ◌∷◌, ◌++◌, length, Option, Some, refl, sym, ap, subst, ◌∙◌, arith}
 use Rattle.std.specs.Prelude.{unwrap_or}
+use Rattle.std.proofs.lemmas.Bool.{false_from_ne_true}
 use Rattle.std.proofs.lemmas.List.{length-append}
-use Rattle.prgr_core.proofs.Parts.{slice_get-push_at}
+use Rattle.prgr_core.proofs.Parts.{slice_get-push_at, some_same}
 use Rattle.term_core.specs.declared.atom.Mfa.{Mfa}
 use Rattle.area_core.specs.declared.table.Published.{Published}
+use Rattle.area_core.specs.Generations.{is_used}
 use Rattle.area_core.specs.Map.{doom_place, word_at}
 use Rattle.area_core.specs.Blocks.{Among}
 use Rattle.area_core.specs.Step.{opening_published}
@@ -16,12 +18,13 @@ use Rattle.progress_words.specs.Roots.{newest_of}
 use Rattle.server_core.specs.ServerState.{ServerState}
 use Rattle.literal_areas.specs.declared.areas.Areas.{Areas}
 use Rattle.literal_areas.specs.declared.blocks.BlockUse.TheVariants.{Retired}
-use Rattle.literal_areas.specs.Blocks.{use_of}
+use Rattle.literal_areas.specs.Blocks.{serial_at, use_of}
 use Rattle.literal_areas.specs.Owned.{IsListed}
-use Rattle.staging.specs.Standing.{DoomStands, ImagesKept, IsSince, StandFor, WordsTell}
+use Rattle.literal_areas.proofs.Serials.{serial_here}
+use Rattle.staging.specs.Standing.{DoomStands, ImagesKept, IsGoneFrom, IsSince, StandFor, WordsTell}
 use Rattle.staging.specs.Upcoming.{IsUpcoming}
 use Rattle.staging.proofs.Coming.{ComesNext}
-use Rattle.staging.proofs.NextAreas.{apart_next, is_kept_next, kept_is, listed_next}
+use Rattle.staging.proofs.NextAreas.{apart_next, is_kept_next, kept_is, listed_next, next_listed}
 use Rattle.staging.proofs.NextReads.{dropped_unused, shown_retired, shown_used}
 use Rattle.staging.proofs.NextStays.{dropped_next}
 
@@ -52,7 +55,15 @@ module _ (names : List Mfa) (s : ServerState) (pools : Areas) (w : WriterView) (
   long : length (w.published ++ p ∷ []) ≡ length w.published + 1
   long = length-append w.published (p ∷ [])
 
-  since_next : (block serial since : ℕ) → use_of pools block ≡ Some (Retired serial since) → IsSince (w.published ++ p ∷ []) serial since
+  -- it has done with what is retired
+  gone_next : (block serial since : ℕ) → use_of pools block ≡ Some (Retired serial since) → IsGoneFrom p block serial
+  gone_next block serial since is = record {
+    unused = false_from_ne_true (is_used p serial) (λ e. dropped_unused s next.sound serial (next.sound.retired serial (next.blocks.retired block serial since is)) (shown_used names s p up.state next.keys_once serial e));
+    alone = λ a among same.
+        some_same a.serial serial (sym (listed_next names s pools w p next up a among) ∙ ap (serial_at pools) same ∙ serial_here pools block (Retired serial since) is);
+  }
+
+  since_next : (block serial since : ℕ) → use_of pools block ≡ Some (Retired serial since) → IsSince (w.published ++ p ∷ []) block serial since
   since_next block serial since is =
       let when = next.words.since block serial since is in
       let reached = when.1 in
@@ -64,6 +75,11 @@ module _ (names : List Mfa) (s : ServerState) (pools : Areas) (w : WriterView) (
               | inl before ↦ when.2 g q before retired
               | inr last ↦ let place = last.0 in omega (arith, reached, place)
             ],
+        λ g q at past.
+            elim (slice_get-push_at w.published p g q at) as (λ _. IsGoneFrom q block serial) [
+              | inl before ↦ when.3 g q before past
+              | inr last ↦ subst (λ (x : Published). IsGoneFrom x block serial) (sym last.1) (gone_next block serial since is)
+            ],
       )
 
   words_next : WordsTell s pools (with_next p w)
@@ -72,7 +88,6 @@ module _ (names : List Mfa) (s : ServerState) (pools : Areas) (w : WriterView) (
     since = since_next;
     free = next.words.free;
     doom = λ block serial big is. doom_later s serial (length w.published) (length (w.published ++ p ∷ [])) (word_at w.words (doom_place block)) (let more = long in omega (arith, more)) (next.words.doom block serial big is);
-    untraced = next.words.untraced;
   }
 
   images_next : ImagesKept s pools (kept_next w p)
@@ -82,7 +97,7 @@ module _ (names : List Mfa) (s : ServerState) (pools : Areas) (w : WriterView) (
     apart = apart_next names s pools w p next up;
   }
 
-  pub stands_next : p.root.bp ≡ (newest_of w).root.bp → StandFor names s pools (with_next p w)
+  pub stands_next : p.root.bp < 2 → StandFor names s pools (with_next p w)
   stands_next bp = record {
     newest_is = record {
       stood = s;
@@ -92,9 +107,11 @@ module _ (names : List Mfa) (s : ServerState) (pools : Areas) (w : WriterView) (
     };
     numbered = next.numbered;
     keys_once = next.keys_once;
+    knows = next.knows;
     narrow = next.narrow;
-    bp = subst (λ (x : Published). x.root.bp < 2) (sym (newest_next w p)) (let low = next.bp in omega (arith, bp, low));
+    bp = subst (λ (x : Published). x.root.bp < 2) (sym (newest_next w p)) bp;
     listed = λ a at used. listed_next names s pools w p next up a (subst (λ (x : Published). Among x.areas a) (newest_next w p) at);
+    stay = λ k at. subst (λ (x : Published). Among x.areas k.area) (sym (newest_next w p)) (next_listed names s pools w p next up k.area (kept_is names s pools w p next up k at).stands);
     blocks = next.blocks;
     placed = next.placed;
     images = images_next;

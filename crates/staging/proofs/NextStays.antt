@@ -129,7 +129,7 @@ module _ (names : List Mfa) (s : ServerState) (pools : Areas) (w : WriterView) (
 
   pub served_next : IsServed names p
   served_next = record {
-    of = inr (record { state = s; sound = next.sound; numbered = next.numbered; narrow = (let few = next.narrow in less s.next_serial (2 ^ 40) (2 ^ 62) few (lit≤ tt)); is = up.state });
+    of = inr (record { state = s; sound = next.sound; numbered = next.numbered; narrow = (let few = next.narrow in less s.next_serial (2 ^ 40) (2 ^ 62) few (lit≤ tt)); knows = next.knows; is = up.state });
     terms = terms_placed;
   }
     where

@@ -1,18 +1,16 @@
 -- The words that tell of the areas of the generation that is published next.
-use Rattle.std.proofs.Common.{◌≡◌, ℕ, ◌<◌, ◌≤◌, Bool, true, false, List, [], length, Some, refl, sym, ap, ◌∙◌, arith}
-use Rattle.std.specs.Prelude.{◌==◌, ◌&&◌, not, nat_le, if◌then◌else◌}
-use Rattle.std.specs.List.{list_any}
+use Rattle.std.proofs.Common.{◌≡◌, ℕ, ◌<◌, ◌≤◌, Bool, true, false, List, length, Some, refl, sym, ap, ◌∙◌, arith}
+use Rattle.std.specs.Prelude.{◌==◌, not, nat_le}
 use Rattle.std.proofs.lemmas.Bool.{and_from, eqb-true, false_from_ne_true, le-leb, true≢false}
 use Rattle.term_core.specs.declared.area.AreaRef.{AreaRef}
 use Rattle.term_core.specs.declared.atom.Mfa.{Mfa}
-use Rattle.term_core.specs.declared.generation.FunctionRef.{FunctionRef}
 use Rattle.term_core.specs.declared.generation.Generation.{Generation}
 use Rattle.area_core.specs.declared.table.KeptArea.{KeptArea}
 use Rattle.area_core.specs.declared.table.Published.{Published}
 use Rattle.area_core.specs.Generations as generations
 use Rattle.area_core.specs.Generations.{has_serial, tells}
 use Rattle.area_core.specs.Map.{doom_place, retire_place, word_at}
-use Rattle.area_core.specs.Blocks.{Among, AreaStands, BreakpointsStand, FitsBlock, ImageStands, InstancesPlaced}
+use Rattle.area_core.specs.Blocks.{Among, AreaStands, DoomTells, EntriesStand, FitsBlock, ImageStands, InstancesPlaced, RetireTells}
 use Rattle.area_core.specs.Roots.{fresh_areas}
 use Rattle.shared_words.specs.declared.view.WriterView.{WriterView}
 use Rattle.shared_words.specs.Publishing.{kept_next}
@@ -36,13 +34,7 @@ tells_from : (word g : ℕ) → 0 < word → word ≤ g → tells word g ≡ tru
 tells_from word g some reached =
     and_from (not (word == 0)) (nat_le word g) (ap not (false_from_ne_true (word == 0) (λ e. let none = eqb-true word 0 e in omega (arith, none, some)))) (le-leb word g reached)
 
-none_traced : (traced : List FunctionRef) (serial function : ℕ) → traced ≡ [] → list_any (λ f. (f.serial == serial) && (f.function == function)) traced ≡ false
-none_traced traced serial function none = ap (list_any (λ (f : FunctionRef). (f.serial == serial) && (f.function == function))) none
-
 module _ (names : List Mfa) (s : ServerState) (pools : Areas) (w : WriterView) (p : Published) (next : ComesNext names s pools w) (up : IsUpcoming names s pools p) where
-  untraced : p.state.traced ≡ []
-  untraced = ap (λ (g : Generation). g.traced) up.state
-
   block_fits : (a : AreaRef) → Stands pools a → (9 ≤ a.block) × (a.block < 320)
   block_fits a stands =
       by (stands_as pools a stands)
@@ -85,15 +77,14 @@ module _ (names : List Mfa) (s : ServerState) (pools : Areas) (w : WriterView) (
           ∙ sym (ap (λ (g : Generation). has_serial g.doomed a.serial) up.state)
       by (retired_area since is) = absurd (true≢false (sym (retired_true a since is) ∙ unretired))
 
-  -- so they tell of each area that is kept next
-  pub areas_next : (k : KeptArea) → Among (kept_next w p) k → AreaStands (word_at w.words) k (length w.published) p
-  areas_next k at =
-      let stands = (kept_is names s pools w p next up k at).stands in
-      record {
-        entries = λ function has word. none_traced p.state.traced k.area.serial function untraced;
-        retired = retire_tells k.area stands;
-        doomed = λ big unretired. doom_tells k.area stands big unretired;
-      }
+  -- so they tell of each area that is kept
+  pub told_next : (k : KeptArea) → Stands pools k.area → RetireTells (word_at w.words) k (length w.published) p × DoomTells (word_at w.words) k (length w.published) p
+  told_next k stands = (retire_tells k.area stands, λ big unretired. doom_tells k.area stands big unretired)
+
+  pub areas_next : ((k : KeptArea) → Among (kept_next w p) k → EntriesStand (word_at w.words) k p) → (k : KeptArea) → Among (kept_next w p) k → AreaStands (word_at w.words) k (length w.published) p
+  areas_next entries k at =
+      let told = told_next k (kept_is names s pools w p next up k at).stands in
+      record { entries = entries k at; retired = told.0; doomed = told.1 }
 
   -- ---- what comes in
 
@@ -115,18 +106,12 @@ module _ (names : List Mfa) (s : ServerState) (pools : Areas) (w : WriterView) (
       let comes = (fresh_comes names s pools w p next up k at).0 in
       let within = use_within pools k.area.block (Live k.area.serial) next.owned.sound.sizes comes.live in
       record {
-        entries = λ function has word. none_traced (newest_of w).state.traced k.area.serial function next.untraced;
+        entries = λ function has word. comes.untraced function;
         retired = ap (λ (word : ℕ). tells word (newest w.published)) (next.words.retire k.area.block within ∙ ap retire_word_of comes.live) ∙ sym comes.unretired;
         doomed = λ big unretired. ap (λ (word : ℕ). tells word (newest w.published)) ((next.words.doom k.area.block k.area.serial big comes.live).clear comes.undoomed) ∙ sym comes.unheard;
       }
 
-  -- ---- instances and breakpoints
+  -- ---- instances
 
   pub instances_next : InstancesPlaced p
   instances_next a at is = let shown = shown_instance names s p up.state a.serial is in next.placed.instances a shown.m (listed_next names s pools w p next up a at) shown.code
-
-  pub breakpoints_next : p.root.bp ≡ (newest_of w).root.bp → BreakpointsStand (word_at w.words) p
-  breakpoints_next bp a at is function few =
-      let low = next.bp in
-      next.words.untraced p.root.bp a.block function (omega (arith, bp, low)) (instances_next a at is) few
-      ∙ sym (ap (λ (b : Bool). if b then 1 else 0) (none_traced p.state.traced a.serial function untraced))

@@ -19,7 +19,7 @@ use Rattle.change_laws.specs.Changes.{Incoming, incoming, instance, stored}
 use Rattle.change_laws.specs.Images.{words_of}
 use Rattle.staging.specs.Placed.{HasPlaced, HasWords, IsAreaOf, pool_of, with_areas}
 use Rattle.staging.specs.Stages.{HavePlaced}
-use Rattle.staging.proofs.Elsewhere.{block_high, room_same}
+use Rattle.staging.proofs.Elsewhere.{room_same}
 use Rattle.staging.proofs.Frames.{stands_alike, tells_written, unpublished_written}
 use Rattle.staging.proofs.Taken.{apart_from, taken_more, with_one_more}
 
@@ -43,9 +43,6 @@ module _ (names : List Mfa) (s : ServerState) (change : Change) (old new : Table
 
   free : use_of (with_areas taken had.rest) area.block ≡ Some Free
   free = ap (λ (pools : Areas). use_of pools area.block) (sym had.placed.pools_are) ∙ placed.taken.block.free
-
-  high : 9 ≤ area.block
-  high = block_high (pool_of i) old.pools area.block placed.taken.block
 
   -- the areas before keep their words
   area_stays : (j : Incoming) (a : AreaRef) → (a.block ≡ area.block → ⊥) → IsAreaOf before j a → IsAreaOf after j a
@@ -82,7 +79,7 @@ module _ (names : List Mfa) (s : ServerState) (change : Change) (old new : Table
   pub placed_more : HavePlaced names s change new (taken ++ area ∷ [])
   placed_more = record {
     rest = had.rest;
-    stands = stands_alike names s had.rest before after (tells_written area.block (length words) words before after high placed.stored placed.others) had.stands;
+    stands = stands_alike names s had.rest before after (tells_written area.block (length words) words before after placed.stored) had.stands;
     placed = record {
       few = (let long = length-append taken (area ∷ []) in let within = within_get (incoming change) (length taken) i there in omega (arith, long, within));
       taken_are = taken_more taken area had.rest had.placed.taken_are (serial_is ∙ ap (λ (pools : Areas). pools.next) had.placed.pools_are) free;
@@ -90,4 +87,5 @@ module _ (names : List Mfa) (s : ServerState) (change : Change) (old new : Table
       each = each_more;
     };
     terms = ap (λ t. t.staged) placed.staged.terms ∙ had.terms;
+    patch = placed.staged.patch ∙ had.patch;
   }

@@ -9,15 +9,18 @@ use Rattle.server_core.specs.CommandTable.{without_number}
 use Rattle.server_core.specs.Decided.{Fits}
 use Rattle.server_core.specs.Generations.{AreNumbered}
 use Rattle.server_core.specs.ServerState.{IsOldCode, IsSound, ServerState, current_of, dispatch_of, is_doomed, is_retired, is_serial_in, live_count}
+use Rattle.change_laws.specs.Breakpoints.{IsLiveCode, KnowsItsCode}
 use Rattle.change_laws.specs.Changes.{state_after}
 use Rattle.change_laws.specs.Uses.{IsUsed}
 use Rattle.change_laws.proofs.AreaUses.{used_stood}
 use Rattle.change_laws.proofs.Counted.{instances_counted}
 use Rattle.change_laws.proofs.Dropped.{used_known, used_not_dropped}
+use Rattle.change_laws.proofs.KnownCode.{knows_after}
 use Rattle.change_laws.proofs.NotForgotten.{in_pushed, kept_pushed, used_kept}
 use Rattle.change_laws.proofs.NumberedNames.{changes_numbered}
 use Rattle.change_laws.proofs.Reached.{current_purged, others_leave}
 use Rattle.change_laws.proofs.SoundChanges.{change_sound}
+use Rattle.change_laws.proofs.VersionUses.{old_purged}
 use Rattle.staging.proofs.NextReads.{any_either, one_is}
 
 pub record IsPurged (names : List Mfa) (s t : ServerState) (serial : ℕ) : Type 0 where
@@ -27,6 +30,8 @@ pub record IsPurged (names : List Mfa) (s t : ServerState) (serial : ℕ) : Type
   pub calls : (to : Mfa) → dispatch_of t to ≡ dispatch_of s to
   pub numbered : AreNumbered names s → AreNumbered names t
   pub used : (n : ℕ) → IsUsed t n → IsUsed s n
+  pub lives : (n : ℕ) → IsLiveCode t n → IsLiveCode s n
+  pub knows : KnowsItsCode s → KnowsItsCode t
   pub stays : (n : ℕ) → IsUsed s n → n ≢ serial → IsUsed t n
   pub retired : (n : ℕ) → is_retired t n ≡ true → (is_retired s n ≡ true) ⊎ (serial ≡ n)
   pub still : (n : ℕ) → is_retired s n ≡ true → is_retired t n ≡ true
@@ -68,6 +73,10 @@ module _ (names : List Mfa) (s : ServerState) (generation : ℕ) (name : AtomId)
       by (inl stood) = stood
       by (inr past) = absurd (let known : n < s.next_serial = used_known t n now used in omega (arith, known, past))
 
+  live_before : (n : ℕ) → IsLiveCode t n → IsLiveCode s n
+  live_before n (inl current) = inl (current.0, sym (current_purged s name.0 serial current.0) ∙ current.1)
+  live_before n (inr old) = inr (old.0, old_purged s name.0 serial old.0 n old.1)
+
   retired_before : (n : ℕ) → is_retired t n ≡ true → (is_retired s n ≡ true) ⊎ (serial ≡ n)
   retired_before n e =
       elim (any_either (λ (x : ℕ). x == n) s.retired (serial ∷ []) e) as (λ _. (is_retired s n ≡ true) ⊎ (serial ≡ n)) [
@@ -94,6 +103,8 @@ module _ (names : List Mfa) (s : ServerState) (generation : ℕ) (name : AtomId)
     calls = λ to. others_leave s (DropOld generation name serial says block) to tt;
     numbered = λ numbered. changes_numbered names s (DropOld generation name serial says block) was (λ k d below. absurd (omega (arith, below))) numbered;
     used = used_before;
+    lives = live_before;
+    knows = λ knew. knows_after s (DropOld generation name serial says block) was fits tt knew;
     stays = used_still;
     retired = retired_before;
     still = λ n e. kept_pushed s.retired serial n e;

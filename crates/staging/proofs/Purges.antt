@@ -7,8 +7,9 @@ use Rattle.term_core.specs.declared.area.AreaRef.{AreaRef}
 use Rattle.term_core.specs.declared.atom.AtomId.{AtomId}
 use Rattle.term_core.specs.declared.atom.Mfa.{Mfa}
 use Rattle.area_core.specs.Blocks.{IsForInstances}
-use Rattle.area_core.specs.Map.{breakpoint_at, breakpoint_place, doom_place, retire_place, word_at}
+use Rattle.area_core.specs.Map.{doom_place, retire_place, word_at}
 use Rattle.shared_words.specs.declared.view.WriterView.{WriterView}
+use Rattle.shared_words.proofs.ShownMembers.{within_get}
 use Rattle.shared_words.specs.Publishing.{with_word}
 use Rattle.progress_words.specs.Roots.{newest_of}
 use Rattle.server_core.specs.declared.change.Change.TheVariants.{DropOld}
@@ -27,9 +28,8 @@ use Rattle.literal_areas.proofs.Uses.{use_big, use_here}
 use Rattle.staging.specs.Replaced.{HasRetired}
 use Rattle.staging.specs.Standing.{AreasPlaced, DoomStands, IsSince, PoolsStand, StandFor, StaysDropped, WordsTell, live_blocks}
 use Rattle.staging.proofs.BlockUses.{free_retired, live_retired, live_serial, retired_live}
-use Rattle.staging.proofs.CodeAfter.{newest_below}
 use Rattle.staging.proofs.Coming.{HasImage}
-use Rattle.staging.proofs.Frames.{block_behind}
+use Rattle.staging.proofs.Follows.{alike_dropped, live_used, newest_lives}
 use Rattle.staging.proofs.KeyPools.{before_now, gone_now, live_set, stays_now}
 use Rattle.staging.proofs.KeyWords.{RetiresWords, words_area}
 use Rattle.staging.proofs.NextReads.{old_module, used_unretired}
@@ -160,14 +160,14 @@ module _ (names : List Mfa) (s : ServerState) (generation : ℕ) (name : AtomId)
   doom_word : (b : ℕ) → word_at words (doom_place b) ≡ word_at v.words (doom_place b)
   doom_word b = told.others (doom_place b) (λ k few same. omega (arith, few, same))
 
-  since_after : (b n since : ℕ) → use_of pools b ≡ Some (Retired n since) → IsSince v.published n since
+  since_after : (b n since : ℕ) → use_of pools b ≡ Some (Retired n since) → IsSince v.published b n since
   since_after b n since at = by (retired_before b n since at)
     where
-      by : (use_of rest b ≡ Some (Retired n since)) ⊎ ((n ≡ serial) × (since ≡ length v.published)) → IsSince v.published n since
+      by : (use_of rest b ≡ Some (Retired n since)) ⊎ ((n ≡ serial) × (since ≡ length v.published)) → IsSince v.published b n since
       by (inl was) = stands.words.since b n since was
       by (inr gone) =
           let here = gone.1 in
-          (omega (arith, here, some), omega (arith, here), λ g p there retired. absurd ((stands.dropped.retired p n (g, there) retired).1 (subst (IsUsed s) (sym gone.0) (inr (inl is.old)))))
+          (omega (arith, here, some), omega (arith, here), λ g p there retired. absurd ((stands.dropped.retired p n (g, there) retired).1 (subst (IsUsed s) (sym gone.0) (inr (inl is.old)))), λ g p there past. absurd (let within = within_get v.published g p there in omega (arith, here, past, within)))
 
   doom_after : (b n : ℕ) → b < 64 → use_of pools b ≡ Some (Live n) → DoomStands after n (length v.published) (word_at words (doom_place b))
   doom_after b n low at =
@@ -180,8 +180,6 @@ module _ (names : List Mfa) (s : ServerState) (generation : ℕ) (name : AtomId)
     since = since_after;
     free = λ b low at. doom_word b ∙ stands.words.free b low (free_before b at);
     doom = doom_after;
-    untraced = λ bp b function low for few.
-        told.others (breakpoint_place bp b function) (λ k fits same. let behind = block_behind (3 + bp) (breakpoint_at b function) in omega (arith, fits, same, behind)) ∙ stands.words.untraced bp b function low for few;
   }
 
   dropped_after : StaysDropped after v.published
@@ -213,8 +211,11 @@ module _ (names : List Mfa) (s : ServerState) (generation : ℕ) (name : AtomId)
       words = words_after;
       dropped = dropped_after;
       bp = stands.bp;
-      untraced = (newest_below names s (newest_of v) stands.newest_is).untraced;
+      knows = is.knows stands.knows;
+      stay = stands.stay;
+      lives = λ k at live. newest_lives names s (newest_of v) stands.newest_is k.area.serial (is.lives k.area.serial live);
     };
+    alike = alike_dropped names s generation name serial says block now stands.newest_is (λ n live. used_differ n (live_used after n live));
     shown = stands.newest_is;
     once = stands.keys_once;
     calls = is.calls;

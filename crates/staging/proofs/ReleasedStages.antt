@@ -10,6 +10,7 @@ use Rattle.area_core.specs.Blocks.{Among}
 use Rattle.area_core.specs.Map.{block_place}
 use Rattle.shared_words.specs.declared.view.WriterView.{WriterView}
 use Rattle.progress_words.specs.Tokens.{written_by}
+use Rattle.server_core.specs.Generations.{generation_of}
 use Rattle.server_core.specs.declared.change.Change.{Change}
 use Rattle.server_core.specs.declared.change.Change.TheVariants.{BringIn, MakeOld}
 use Rattle.server_core.specs.CommandTable.{Outcome, with_released}
@@ -34,17 +35,17 @@ use Rattle.literal_areas.proofs.Uses.{use_other, use_there}
 use Rattle.term_table.specs.Laws as terms
 use Rattle.term_table.specs.Tables.{IsTableOf, Terms}
 use Rattle.staging.specs.declared.tables.Tables.{Tables}
-use Rattle.staging.specs.declared.stage.Stage.TheVariants.{Untouched, Placed, Exported}
+use Rattle.staging.specs.declared.stage.Stage.TheVariants.{Untouched, Placed, Exported, Patching}
 use Rattle.staging.specs.Placed.{ArePlaced, AreTaken, IsAreaOf, with_areas}
-use Rattle.staging.specs.Released.{StagesReleased}
+use Rattle.staging.specs.Released.{SettlingReleased, StagesReleased}
 use Rattle.staging.specs.Stages.{HaveExported, HavePlaced, IsCodeChange}
 use Rattle.staging.specs.Standing.{StandFor}
-use Rattle.staging.specs.Upcoming.{IsUpcoming, areas_in, generation_shown}
+use Rattle.staging.specs.Upcoming.{IsUpcoming, areas_in}
 use Rattle.staging.proofs.AreasIn.{listed_stands, stands_listed}
 use Rattle.staging.proofs.BlockUses.{retired_live, retired_some}
 use Rattle.staging.proofs.Frames.{block_behind}
 use Rattle.staging.proofs.KeptExports.{exported}
-use Rattle.staging.proofs.ReleasedTables.{keeps, rest_released, retired_here, stands_beside, still_released, told, within}
+use Rattle.staging.proofs.ReleasedTables.{keeps, rest_released, retired_here, stands_beside, stands_released, still_released, told, within}
 use Rattle.staging.proofs.Releases.{other_block, used_differ}
 use Rattle.staging.proofs.StagedKey.{stands_with}
 use Rattle.staging.proofs.StagedNames.{reached_used}
@@ -157,7 +158,7 @@ module _ (pools : Areas) (w : WriterView) (area : AreaRef) (own : AreOf pools w)
 
       module _ (other : IsNoRelease change) (p : Published) (up : IsUpcoming names (made (with_released s serial) change).state freed p) where
         abbrev q : Published
-        q = record p { state = generation_shown names (made s change).state; areas = areas_in pools }
+        q = record p { state = generation_of names (made s change).state; areas = areas_in pools }
 
         calls : (to : Mfa) → dispatch_of (made (with_released s serial) change).state to ≡ dispatch_of (made s change).state to
         calls to = ap (λ (o : Outcome). dispatch_of o.state to) (later_made s serial change other)
@@ -183,13 +184,17 @@ no_release (MakeOld generation name) code = tt
 no_release change code = absurd code
 
 module _ (names : List Mfa) (serial : ℕ) (old new : Tables) (area : AreaRef) (own : AreOf old.pools (written_by old.writer)) (may : MayRelease old.pools (written_by old.writer) area) (is : area.serial ≡ serial) (pools : new.pools ≡ without_area area old.pools)
-    (stored : written_by new.writer ≡ area_released area (written_by old.writer)) (index : new.index ≡ old.index) (tables : new.terms ≡ old.terms) where
+    (stored : written_by new.writer ≡ area_released area (written_by old.writer)) (index : new.index ≡ old.index) (tables : new.terms ≡ old.terms) (patch : new.patch ≡ old.patch) where
+  now_stands : (s : ServerState) → StandFor names s old.pools (written_by old.writer) → StandFor names (with_released s serial) new.pools (written_by new.writer)
+  now_stands s stands = subst (λ (z : Areas × WriterView). StandFor names (with_released s serial) z.0 z.1) (λ i. (sym pools i, sym stored i)) (stands_released old.pools (written_by old.writer) area own may names s serial is stands)
+
   placed_released : (s : ServerState) (change : Change) (taken : List AreaRef) → HavePlaced names s change old taken → HavePlaced names (with_released s serial) change new taken
   placed_released s change taken had = record {
     rest = without_area area had.rest;
     stands = subst (StandFor names (with_released s serial) (without_area area had.rest)) (sym stored) (stands_still old.pools (written_by old.writer) area own may names serial is s change had.rest taken had.placed had.stands);
     placed = subst (λ (z : Areas × WriterView). ArePlaced (incoming change) (without_area area had.rest) z.0 z.1 taken) (λ i. (sym pools i, sym stored i)) (placed_still old.pools (written_by old.writer) area own may names serial is s change had.rest taken had.placed);
     terms = ap (λ (x : Terms). x.staged) tables ∙ had.terms;
+    patch = patch ∙ had.patch;
   }
 
   exported_released : indices.KeptByExports → indices.KeptByStores → terms.KeptByStores → IsIndexOf old.index (written_by old.writer) → IsTableOf old.terms (written_by old.writer) → (s : ServerState) (change : Change) (taken : List AreaRef) → HaveExported names s change old taken
@@ -203,10 +208,29 @@ module _ (names : List Mfa) (serial : ℕ) (old new : Tables) (area : AreaRef) (
         let still = still_released old.index old.terms (written_by old.writer) area by_index by_terms (within old.pools (written_by old.writer) area own may) index_own terms_own in
         subst (λ (z : Staging × WriterView). Stages z.0 p z.1) (λ i. (sym index i, sym stored i))
         (stages_still old.pools (written_by old.writer) area own may names serial is s change had.placed.rest taken had.placed.placed had.placed.stands (no_release change had.code) p freed_up old.index alike
-        (had.exported (record p { state = generation_shown names (made s change).state; areas = areas_in old.pools }) (record { state = refl; areas = refl })) still.staged);
+        (had.exported (record p { state = generation_of names (made s change).state; areas = areas_in old.pools }) (record { state = refl; areas = refl })) still.staged);
   }
 
   pub stages_released : indices.KeptByExports → indices.KeptByStores → terms.KeptByStores → IsIndexOf old.index (written_by old.writer) → IsTableOf old.terms (written_by old.writer) → StagesReleased names serial old new
-  stages_released alike by_index by_terms index_own terms_own s change Untouched had = rest_released names serial old new area own may is pools stored index tables s had
+  stages_released alike by_index by_terms index_own terms_own s change Untouched had = rest_released names serial old new area own may is pools stored index tables patch s had
   stages_released alike by_index by_terms index_own terms_own s change (Placed areas) had = (placed_released s change areas.items had.0, index ∙ had.1)
   stages_released alike by_index by_terms index_own terms_own s change (Exported areas) had = exported_released alike by_index by_terms index_own terms_own s change areas.items had
+  stages_released alike by_index by_terms index_own terms_own s change Patching had = record {
+    stands = now_stands s had.stands;
+    index = index ∙ had.index;
+    terms = ap (λ (x : Terms). x.staged) tables ∙ had.terms;
+    patch = had.patch;
+    is = patch ∙ had.is;
+    of = had.of;
+    before = had.before;
+  }
+
+  pub settling_released : SettlingReleased names serial old new
+  settling_released s had = record {
+    stands = now_stands s had.stands;
+    index = index ∙ had.index;
+    terms = ap (λ (x : Terms). x.staged) tables ∙ had.terms;
+    patch = had.patch;
+    is = patch ∙ had.is;
+    behind = had.behind;
+  }

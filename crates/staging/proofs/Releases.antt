@@ -1,5 +1,5 @@
 -- An area is released: the words stand for the state that has released it, with its block free.
-use Rattle.std.proofs.Common.{◌≡◌, ◌≢◌, ℕ, zero, suc, ◌+◌, ◌-◌, ◌<◌, ◌⊎◌, inl, inr, Bool, true, false, not, ◌&&◌, List, [], ◌∷◌, length, Some, refl, sym, ap, subst, ◌∙◌, arith}
+use Rattle.std.proofs.Common.{◌≡◌, ◌≢◌, ℕ, zero, suc, ◌-◌, ◌<◌, ◌⊎◌, inl, inr, Bool, true, false, not, ◌&&◌, List, [], ◌∷◌, length, Some, refl, sym, ap, subst, ◌∙◌, arith}
 use Rattle.std.specs.Prelude.{◌==◌, nat_eq, slice_get, slice_set}
 use Rattle.std.proofs.lemmas.Bool.{and_from, cases_eq, cases_lt, false_from_ne_true, le-ltb, lt-ltb, true≢false}
 use Rattle.std.proofs.lemmas.Bool.Decides.{nat_tests}
@@ -8,7 +8,7 @@ use Rattle.prgr_core.proofs.Parts.{some_same}
 use Rattle.term_core.specs.declared.area.AreaRef.{AreaRef}
 use Rattle.term_core.specs.declared.atom.Mfa.{Mfa}
 use Rattle.area_core.specs.declared.table.KeptArea.{KeptArea}
-use Rattle.area_core.specs.Map.{breakpoint_at, breakpoint_place, doom_place, retire_place, word_at}
+use Rattle.area_core.specs.Map.{doom_place, retire_place, word_at}
 use Rattle.marks.specs.declared.kept.WriterKept.{WriterKept}
 use Rattle.shared_words.specs.declared.view.WriterView.{WriterView}
 use Rattle.progress_words.specs.Roots.{newest_of}
@@ -16,6 +16,7 @@ use Rattle.server_core.specs.CommandTable.{with_released}
 use Rattle.server_core.specs.ServerState.{ServerState, is_retired, is_serial_in}
 use Rattle.server_core.proofs.Soundness.{held_before, held_without}
 use Rattle.change_laws.specs.Uses.{IsUsed}
+use Rattle.change_laws.proofs.KnownCode.{knows_released}
 use Rattle.change_laws.proofs.NotForgotten.{kept_pushed}
 use Rattle.literal_areas.specs.declared.areas.Areas.{Areas}
 use Rattle.literal_areas.specs.declared.blocks.BlockUse.{BlockUse}
@@ -25,7 +26,6 @@ use Rattle.literal_areas.proofs.Serials.{serial_after, serial_here, serial_other
 use Rattle.literal_areas.proofs.Uses.{use_big, use_here, use_other, use_small, use_there}
 use Rattle.staging.specs.Standing.{AreasPlaced, DoomStands, ImagesKept, IsShownBy, PoolsStand, StandFor, StaysDropped, WordsTell, live_blocks, retire_word_of}
 use Rattle.staging.proofs.BlockUses.{live_retired, live_some, retired_some}
-use Rattle.staging.proofs.Frames.{block_behind}
 use Rattle.staging.proofs.NextReads.{any_either, one_is}
 use Rattle.staging.proofs.ReleasedWords.{KeepsOthers, ReleasesWords}
 
@@ -202,9 +202,6 @@ module _ (names : List Mfa) (s : ServerState) (serial : ℕ) (pools : Areas) (ar
             let before = was b (Live n) (live_some n) there in
             let doom = stands.words.doom b n low before.1 in
             subst (DoomStands after n (length v.published)) (sym (doom_word b before.0 low)) (record { clear = doom.clear; set = doom.set });
-        untraced = λ bp b function low for few.
-            let behind = block_behind (3 + bp) (breakpoint_at b function) in
-            told.others (breakpoint_place bp b function) (λ same. omega (arith, same, behind, within)) (λ big same. omega (arith, same, behind, big)) ∙ stands.words.untraced bp b function low for few;
       }
         where
           free_doom : (b : ℕ) → b < 64 → use_of freed b ≡ Some Free → word_at words (doom_place b) ≡ 0
@@ -222,11 +219,13 @@ module _ (names : List Mfa) (s : ServerState) (serial : ℕ) (pools : Areas) (ar
         newest_is = shown_after;
         numbered = λ to. stands.numbered to;
         keys_once = stands.keys_once;
+        knows = knows_released s serial stands.knows;
         narrow = stands.narrow;
         bp = stands.bp;
         listed = λ a among used.
             let there = stands.listed a among used in
             serial_other pools area.block a.block (Retired serial since) Free at (other_block a.block a.serial (used_differ a.serial used) there) ∙ there;
+        stay = λ k among. stands.stay k (keeps.was k among);
         blocks = blocks_after;
         placed = placed_after;
         images = images_after;

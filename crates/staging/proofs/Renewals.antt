@@ -1,5 +1,5 @@
 -- A change that leaves code and keys is published over the blocks of the newest generation: the store of the root is allowed, and what it leaves.
-use Rattle.std.proofs.Common.{◌≡◌, ℕ, ◌≤◌, List, length, refl, sym, ap, subst, ◌∙◌}
+use Rattle.std.proofs.Common.{◌≡◌, ℕ, ◌≤◌, List, length, None, refl, sym, ap, subst, ◌∙◌}
 use Rattle.atomic_table.specs.Seated.{TableId}
 use Rattle.term_core.specs.declared.area.AreaRef.{AreaRef}
 use Rattle.term_core.specs.declared.atom.Mfa.{Mfa}
@@ -17,7 +17,10 @@ use Rattle.shared_words.specs.Publishing.{MayPublish, with_next}
 use Rattle.progress_words.specs.declared.roots.RootParts.{RootParts}
 use Rattle.progress_words.specs.Roots.{IsNewestRoot, newest_of}
 use Rattle.progress_words.specs.Tokens.{IsWriterOf, written_by}
+use Rattle.server_core.specs.Generations.{generation_of}
 use Rattle.server_core.specs.ServerState.{ServerState, dispatch_of}
+use Rattle.breakpoints.specs.Indices.{BreakpointsRest}
+use Rattle.breakpoints.specs.Laws.{TracesStand}
 use Rattle.code_law.specs.Served.{IsServed}
 use Rattle.change_laws.specs.Uses.{IsUsed}
 use Rattle.code_index.specs.declared.index.Staging.TheVariants as indices
@@ -38,15 +41,17 @@ use Rattle.staging.specs.declared.tables.Tables.{Tables}
 use Rattle.staging.specs.Renewed.{renewed}
 use Rattle.staging.specs.Stages.{HasPublished, NothingStaged}
 use Rattle.staging.specs.Standing.{AreKeysOnce, IsShownBy, StandFor}
-use Rattle.staging.specs.Upcoming.{IsUpcoming, areas_in, generation_shown}
+use Rattle.staging.specs.Upcoming.{IsUpcoming, areas_in}
 use Rattle.staging.specs.Whose.{AreTablesOf}
-use Rattle.staging.proofs.Coming.{ComesNext, IsFresh}
+use Rattle.staging.proofs.Coming.{ComesNext, IsFresh, TracesAlike}
 use Rattle.staging.proofs.KeptExports.{leads}
 use Rattle.staging.proofs.Looked.{index_looked, pools_looked, stands_looked, table_looked}
 use Rattle.staging.proofs.NextAreas.{apart_next, fresh_comes, go_on, next_listed, used_kept}
 use Rattle.staging.proofs.NextStands.{is_listed, stands_next}
 use Rattle.staging.proofs.NextStays.{old_stays_next, retired_stays_next, served_next}
-use Rattle.staging.proofs.NextWords.{areas_next, breakpoints_next, fresh_fits, fresh_images, instances_next}
+use Rattle.staging.proofs.NextTraces.{traces_next}
+use Rattle.staging.proofs.NextWords.{areas_next, fresh_fits, fresh_images, instances_next}
+use Rattle.staging.proofs.Patched.{rest_looked, rest_of, rests}
 use Rattle.staging.proofs.SameKeys.{keys_stay, terms_stay}
 
 -- ---- the root as it was loaded
@@ -70,6 +75,7 @@ module _ (Served : Published → Type 0) (w : WriterView) (state : Generation) (
 -- the state may be published after this one: calls reach what they reached, keys hold what they held, and nothing comes in
 pub record IsRenewed (names : List Mfa) (s after : ServerState) (pools : Areas) (w : WriterView) : Type 0 where
   pub comes : ComesNext names after pools w
+  pub alike : TracesAlike after w
   pub shown : IsShownBy names s (newest_of w)
   pub once : AreKeysOnce s.keys
   pub calls : (to : Mfa) → dispatch_of after to ≡ dispatch_of s to
@@ -77,12 +83,12 @@ pub record IsRenewed (names : List Mfa) (s after : ServerState) (pools : Areas) 
   pub listed : (a : AreaRef) → Among (newest_of w).areas a → IsUsed s a.serial → Stands pools a
   pub stood : (a : AreaRef) → Stands pools a → (words : List ℕ) × Among w.kept (record { area = a; words = words })
 
-module _ (names : List Mfa) (s after : ServerState) (table : TableId) (opening : Opening) (t : Tables) (own : AreTablesOf table opening t) (is : IsRenewed names s after t.pools (written_by t.writer)) where
+module _ (names : List Mfa) (s after : ServerState) (table : TableId) (opening : Opening) (t : Tables) (own : AreTablesOf table opening t) (is : IsRenewed names s after t.pools (written_by t.writer)) (none : t.patch ≡ None) where
   abbrev view : WriterView
   view = written_by t.writer
 
   abbrev p : Published
-  p = renewed view (generation_shown names after) (areas_in t.pools)
+  p = renewed view (generation_of names after) (areas_in t.pools)
 
   up : IsUpcoming names after t.pools p
   up = record { state = refl; areas = refl }
@@ -98,6 +104,10 @@ module _ (names : List Mfa) (s after : ServerState) (table : TableId) (opening :
 
   keeps_keys : KeepsKeys view p
   keeps_keys = record { table = refl; stands = terms_p; counted = own.terms.counted ∙ ap length (sym (keys_stay names s after view p is.shown is.once refl is.keys listed)) }
+
+  -- the breakpoint index says what it traces
+  traces : TracesStand view p
+  traces = traces_next names after t.pools view p is.comes up is.alike (rest_of t.patch view none own.patch) refl
 
   fits : RootFits p.root
   fits = record { code = own.index.fits; bp = is.comes.bp; term = own.terms.fits }
@@ -120,10 +130,10 @@ module _ (names : List Mfa) (s after : ServerState) (table : TableId) (opening :
       root = fits;
       placed = instances_next names after t.pools view p is.comes up;
       code = leads_p alike;
-      breakpoints = breakpoints_next names after t.pools view p is.comes up refl;
+      breakpoints = traces.stands;
       terms = terms_p;
       used = used_kept names after t.pools view p is.comes up;
-      areas = areas_next names after t.pools view p is.comes up;
+      areas = areas_next names after t.pools view p is.comes up traces.entries;
     };
     fresh = record {
       fit = fresh_fits names after t.pools view p is.comes up;
@@ -133,8 +143,8 @@ module _ (names : List Mfa) (s after : ServerState) (table : TableId) (opening :
     };
   }
 
-  pub may_renew : index_laws.KeptByExports → (exports : List Mfa) → exports ≡ names → MayPublish (IsServed names) view (renewed view (generation_shown exports after) (areas_in t.pools))
-  may_renew alike exports same = subst (λ (ns : List Mfa). MayPublish (IsServed names) view (renewed view (generation_shown ns after) (areas_in t.pools))) (sym same) (may alike)
+  pub may_renew : index_laws.KeptByExports → (exports : List Mfa) → exports ≡ names → MayPublish (IsServed names) view (renewed view (generation_of exports after) (areas_in t.pools))
+  may_renew alike exports same = subst (λ (ns : List Mfa). MayPublish (IsServed names) view (renewed view (generation_of ns after) (areas_in t.pools))) (sym same) (may alike)
 
   -- ---- it is stored
 
@@ -153,9 +163,10 @@ module _ (names : List Mfa) (s after : ServerState) (table : TableId) (opening :
     pub index : new.index ≡ t.index
     pub terms : new.terms ≡ t.terms
     pub pools : new.pools ≡ t.pools
+    pub patch : new.patch ≡ t.patch
     pub token : IsWriterOf table opening new.writer
     -- what is kept of looks may be more
-    pub stored : written_by new.writer ≡ record (with_next (renewed view (generation_shown exports after) (areas_in t.pools)) view) { looks = (written_by new.writer).looks }
+    pub stored : written_by new.writer ≡ record (with_next (renewed view (generation_of exports after) (areas_in t.pools)) view) { looks = (written_by new.writer).looks }
     pub number : generation ≡ length view.published
 
   pub are_renewed : (exports : List Mfa) (new : Tables) (generation : ℕ) → HasRenewed exports new generation → AreRenewed new generation
@@ -165,6 +176,7 @@ module _ (names : List Mfa) (s after : ServerState) (table : TableId) (opening :
       index = subst (λ x. IsIndexOf x (written_by new.writer)) (sym (said.index ∙ said.nothing.index)) (subst (IsIndexOf indices.Nothing) (sym stored) (index_looked (with_next p view) (written_by new.writer).looks indices.Nothing index_next));
       terms = subst (λ x. IsTableOf x (written_by new.writer)) (sym said.terms) (subst (IsTableOf t.terms) (sym stored) (table_looked (with_next p view) (written_by new.writer).looks t.terms ((said.tables_by_roots t.terms view p keeps_keys first).owned own.terms)));
       pools = subst (λ (x : Areas). AreOf x (written_by new.writer)) (sym said.pools) (subst (AreOf t.pools) (sym stored) (pools_looked (with_next p view) (written_by new.writer).looks t.pools (owned_next t.pools view own.pools p (is_listed names after t.pools view p is.comes up))));
+      patch = rests new.patch (written_by new.writer) (said.patch ∙ none) (subst BreakpointsRest (sym stored) (rest_looked (with_next p view) (written_by new.writer).looks traces.settled));
     };
     published = record {
       next = p;
@@ -173,8 +185,8 @@ module _ (names : List Mfa) (s after : ServerState) (table : TableId) (opening :
       number = said.number;
       rest = record {
         stands = subst (λ (x : Areas). StandFor names after x (written_by new.writer)) (sym said.pools)
-            (subst (StandFor names after t.pools) (sym stored) (stands_looked (with_next p view) (written_by new.writer).looks names after t.pools (stands_next names after t.pools view p is.comes up refl)));
-        staged = record { index = said.index ∙ said.nothing.index; terms = ap (λ (x : Terms). x.staged) said.terms ∙ said.nothing.terms };
+            (subst (StandFor names after t.pools) (sym stored) (stands_looked (with_next p view) (written_by new.writer).looks names after t.pools (stands_next names after t.pools view p is.comes up is.comes.bp)));
+        staged = record { index = said.index ∙ said.nothing.index; terms = ap (λ (x : Terms). x.staged) said.terms ∙ said.nothing.terms; patch = said.patch ∙ none };
       };
     };
   }
@@ -183,7 +195,7 @@ module _ (names : List Mfa) (s after : ServerState) (table : TableId) (opening :
       first k at = (fresh_fits names after t.pools view p is.comes up k at).first
 
       stored : written_by new.writer ≡ record (with_next p view) { looks = (written_by new.writer).looks }
-      stored = said.stored ∙ ap (λ (ns : List Mfa). record (with_next (renewed view (generation_shown ns after) (areas_in t.pools)) view) { looks = (written_by new.writer).looks }) said.named
+      stored = said.stored ∙ ap (λ (ns : List Mfa). record (with_next (renewed view (generation_of ns after) (areas_in t.pools)) view) { looks = (written_by new.writer).looks }) said.named
 
       index_next : IsIndexOf indices.Nothing (with_next p view)
       index_next = said.by_roots view p refl (leads_p said.alike) first (subst (λ x. IsIndexOf x view) said.nothing.index own.index)

@@ -15,11 +15,10 @@ use Rattle.area_core.specs.Blocks.{Among}
 use Rattle.area_core.specs.Terms.{TermsStand, found_in, is_word_of}
 use Rattle.shared_words.specs.declared.view.WriterView.{WriterView}
 use Rattle.progress_words.specs.Roots.{newest_of}
-use Rattle.server_core.specs.Generations.{key_term}
+use Rattle.server_core.specs.Generations.{generation_of, key_term}
 use Rattle.server_core.specs.ServerState.{Persistent, ServerState}
 use Rattle.change_laws.specs.Uses.{IsUsed}
 use Rattle.staging.specs.Standing.{AreKeysOnce, IsShownBy}
-use Rattle.staging.specs.Upcoming.{generation_shown}
 use Rattle.staging.proofs.KeyLists.{key_at}
 use Rattle.staging.proofs.KeyStaged.{newest_keys}
 use Rattle.staging.proofs.NextFresh.{any_at, at_any}
@@ -82,7 +81,7 @@ key_used s k serial once at is =
 
 -- ---- a change that leaves the keys
 
-module _ (names : List Mfa) (s after : ServerState) (w : WriterView) (p : Published) (shown : IsShownBy names s (newest_of w)) (once : AreKeysOnce s.keys) (state : p.state ≡ generation_shown names after) (keys : after.keys ≡ s.keys)
+module _ (names : List Mfa) (s after : ServerState) (w : WriterView) (p : Published) (shown : IsShownBy names s (newest_of w)) (once : AreKeysOnce s.keys) (state : p.state ≡ generation_of names after) (keys : after.keys ≡ s.keys)
     (listed : (a : AreaRef) → Among (newest_of w).areas a → IsUsed s a.serial → Among p.areas a) where
   -- the next generation has the keys of the newest one
   pub keys_stay : p.state.keys ≡ (newest_of w).state.keys

@@ -36,6 +36,7 @@ use Rattle.staging.specs.Replaced.{former_of}
 use Rattle.staging.specs.Stages.{HasPublished, HavePlaced, IsCodeChange, IsKeyChange}
 use Rattle.staging.specs.Whose.{AreTablesOf}
 use Rattle.staging.proofs.KeyLists.{held_among, term_at}
+use Rattle.staging.proofs.Patched.{patch_loaded}
 use Rattle.staging.proofs.TableStores.{placed_loaded, stands_loaded}
 
 -- ---- the change of the keys
@@ -82,20 +83,22 @@ module _ (names : List Mfa) (s : ServerState) (p : Published) (keys : p.state.ke
 
 -- ---- the wait
 
-pub tables_waited : (table : TableId) (opening : Opening) (old new : Tables) → indices.KeptByCounters → pools.KeptByCounters → AreTablesOf table opening old → IsWriterOf table opening new.writer → IsTableOf new.terms (written_by new.writer) → HasLoadedCounter (written_by old.writer) (written_by new.writer) → new.index ≡ old.index → new.pools ≡ old.pools → AreTablesOf table opening new
-tables_waited table opening old new by_counter by_loads was token terms loaded index_is pools_are = record {
+pub tables_waited : (table : TableId) (opening : Opening) (old new : Tables) → indices.KeptByCounters → pools.KeptByCounters → AreTablesOf table opening old → IsWriterOf table opening new.writer → IsTableOf new.terms (written_by new.writer) → HasLoadedCounter (written_by old.writer) (written_by new.writer) → new.index ≡ old.index → new.pools ≡ old.pools → new.patch ≡ old.patch → AreTablesOf table opening new
+tables_waited table opening old new by_counter by_loads was token terms loaded index_is pools_are patch_is = record {
   token = token;
   index = subst (λ x. IsIndexOf x (written_by new.writer)) (sym index_is) ((by_counter old.index (written_by old.writer) (written_by new.writer) loaded).owned was.index);
   terms = terms;
   pools = subst (λ (x : Areas). AreOf x (written_by new.writer)) (sym pools_are) (by_loads old.pools (written_by old.writer) (written_by new.writer) loaded was.pools);
+  patch = patch_loaded old.patch new.patch (written_by old.writer) (written_by new.writer) patch_is loaded was.patch;
 }
 
-pub placed_waited : (names : List Mfa) (s : ServerState) (change : Change) (old new : Tables) (taken : List AreaRef) → HasLoadedCounter (written_by old.writer) (written_by new.writer) → new.terms ≡ old.terms → new.pools ≡ old.pools → HavePlaced names s change old taken → HavePlaced names s change new taken
-placed_waited names s change old new taken loaded terms pools had = record {
+pub placed_waited : (names : List Mfa) (s : ServerState) (change : Change) (old new : Tables) (taken : List AreaRef) → HasLoadedCounter (written_by old.writer) (written_by new.writer) → new.terms ≡ old.terms → new.pools ≡ old.pools → new.patch ≡ old.patch → HavePlaced names s change old taken → HavePlaced names s change new taken
+placed_waited names s change old new taken loaded terms pools patch had = record {
   rest = had.rest;
   stands = stands_loaded names s had.rest (written_by old.writer) (written_by new.writer) loaded had.stands;
   placed = subst (λ (x : Areas). ArePlaced (incoming change) had.rest x (written_by new.writer) taken) (sym pools) (placed_loaded (incoming change) had.rest old.pools taken (written_by old.writer) (written_by new.writer) loaded had.placed);
   terms = ap (λ t. t.staged) terms ∙ had.terms;
+  patch = patch ∙ had.patch;
 }
 
 -- ---- what is published, from before the key was staged

@@ -108,7 +108,7 @@ pub record StagesOn (table : TableId) (opening : Opening) (names : List Mfa) (s 
   pub known : KeepsKnown (written_by first.writer) (written_by now.writer)
   pub leads : (p : Published) → p.areas ≡ areas_in now.pools → Stages now.index (between names s (made s change).state n p) (written_by now.writer)
 
-module _ (table : TableId) (opening : Opening) (names : List Mfa) (s : ServerState) (change : Change) (first old new : Tables) (taken : List AreaRef) (tables : AreTablesOf table opening new) (exports : new.exports ≡ old.exports) (terms : new.terms ≡ old.terms) (pools : new.pools ≡ old.pools) (staged : IsStaged new.index)
+module _ (table : TableId) (opening : Opening) (names : List Mfa) (s : ServerState) (change : Change) (first old new : Tables) (taken : List AreaRef) (tables : AreTablesOf table opening new) (exports : new.exports ≡ old.exports) (terms : new.terms ≡ old.terms) (pools : new.pools ≡ old.pools) (patch : new.patch ≡ old.patch) (staged : IsStaged new.index)
     (stores : StoresExports (written_by old.writer) (written_by new.writer)) (alike : indices.KeptByExports) where
   abbrev after : ServerState
   after = (made s change).state
@@ -124,7 +124,7 @@ module _ (table : TableId) (opening : Opening) (names : List Mfa) (s : ServerSta
   stages_begun had exports_were is_first leads = record {
     tables = tables;
     exports = exports ∙ exports_were;
-    placed = placed_still names s change old new taken pools terms stores had;
+    placed = placed_still names s change old new taken pools terms patch stores had;
     staged = staged;
     published = published ∙ ap (λ (t : Tables). (written_by t.writer).published) (sym is_first);
     known = subst (λ (t : Tables). KeepsKnown (written_by t.writer) (written_by new.writer)) (sym is_first) known;
@@ -175,7 +175,7 @@ module _ (table : TableId) (opening : Opening) (names : List Mfa) (s : ServerSta
     stages_more = record {
       tables = tables;
       exports = exports ∙ h.exports;
-      placed = placed_still names s change old new taken pools terms stores h.placed;
+      placed = placed_still names s change old new taken pools terms patch stores h.placed;
       staged = staged;
       published = published ∙ h.published;
       known = known_on (written_by first.writer) (written_by old.writer) (written_by new.writer) h.known known;

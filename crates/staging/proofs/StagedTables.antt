@@ -1,5 +1,5 @@
 -- A key is staged: what that leaves of the writer's tables.
-use Rattle.std.proofs.Common.{◌≡◌, ℕ, ◌+◌, true, List, ◌∷◌, length, map, Option, Some, None, refl, sym, ap, subst, ◌∙◌, arith}
+use Rattle.std.proofs.Common.{◌≡◌, ℕ, ◌+◌, ◌≤◌, true, List, ◌∷◌, length, map, Option, Some, None, refl, sym, ap, subst, ◌∙◌, arith}
 use Rattle.std.specs.Prelude.{◌==◌, slice_get, IsSomeAnd}
 use Rattle.std.proofs.lemmas.Bool.{and_parts, eqb-true}
 use Rattle.prgr_core.proofs.Parts.{some_same}
@@ -10,7 +10,9 @@ use Rattle.term_core.specs.declared.area.AreaRef.{AreaRef}
 use Rattle.term_core.specs.declared.atom.Mfa.{Mfa}
 use Rattle.term_core.specs.declared.generation.KeyTerm.{KeyTerm}
 use Rattle.term_core.specs.Plain.{plain}
+use Rattle.area_core.specs.declared.table.KeptArea.{KeptArea}
 use Rattle.area_core.specs.declared.table.Published.{Published}
+use Rattle.area_core.specs.Blocks.{Among}
 use Rattle.area_core.specs.Generations.{is_term_word}
 use Rattle.area_core.specs.Map.{word_at}
 use Rattle.area_core.specs.Terms.{TermsStand, found_in, is_word_of}
@@ -43,7 +45,8 @@ use Rattle.staging.specs.Whose.{AreTablesOf}
 use Rattle.staging.proofs.KeyLists.{StandOnce, held_among, held_one, key_at, length_erased, length_put, none_among, once_stand, term_at}
 use Rattle.staging.proofs.KeyStaged.{newest_keys}
 use Rattle.staging.proofs.StagedKey.{one_taken}
-use Rattle.staging.proofs.TableStores.{StoresTable, index_table, owned_table, placed_loaded, placed_table, stands_loaded, stands_table}
+use Rattle.staging.proofs.Patched.{patch_beside, patch_loaded}
+use Rattle.staging.proofs.TableStores.{StoresTable, index_table, owned_table, placed_loaded, placed_table, stands_loaded, stands_table, table_beside}
 
 -- ---- how many keys there are
 
@@ -70,7 +73,7 @@ module _ (block : ℕ → ℕ) (p : Published) (ps : List Persistent) (key : ℕ
 -- ---- the staged change
 
 module _ (table : TableId) (opening : Opening) (old new : Tables) (staged : changes.Change) (by_counter : indices.KeptByCounters) (by_writes : indices.KeptByWrites) (by_loads : pools.KeptByCounters) (was : AreTablesOf table opening old)
-    (token : IsWriterOf table opening new.writer) (terms : IsTableOf new.terms (written_by new.writer)) (has : HasStaged staged old.terms new.terms (written_by old.writer) (written_by new.writer)) (index_is : new.index ≡ old.index) (pools_are : new.pools ≡ old.pools) where
+    (token : IsWriterOf table opening new.writer) (terms : IsTableOf new.terms (written_by new.writer)) (has : HasStaged staged old.terms new.terms (written_by old.writer) (written_by new.writer)) (index_is : new.index ≡ old.index) (pools_are : new.pools ≡ old.pools) (patch_is : new.patch ≡ old.patch) where
   abbrev before : WriterView
   before = written_by old.writer
 
@@ -94,6 +97,9 @@ module _ (table : TableId) (opening : Opening) (old new : Tables) (staged : chan
     index = subst (λ x. IsIndexOf x after) (sym index_is) ((by_writes old.index has.waited after (index_table (staging_table before) has.waited after stores) waits).owned waits);
     terms = terms;
     pools = subst (λ p. AreOf p after) (sym pools_are) (owned_table old.pools (staging_table before) has.waited after stores (by_loads old.pools before has.waited has.loaded was.pools));
+    patch = patch_beside old.patch new.patch has.waited after patch_is
+        (table_beside (staging_table before) has.waited after (subst (λ (w : WriterView). (k : KeptArea) → Among w.kept k → 9 ≤ k.area.block) (sym has.loaded.view) was.index.areas) stores)
+        (patch_loaded old.patch old.patch before has.waited refl has.loaded was.patch);
   }
     where
       waits : IsIndexOf old.index has.waited
@@ -140,4 +146,5 @@ module _ (table : TableId) (opening : Opening) (old new : Tables) (staged : chan
       whole = whole;
       keyed = λ q state areas. stands q (one_taken names s had.rest old.pools before q had.stands (areas ∙ ap areas_in pools_are) change taken staged had.placed whole state is);
       counted = ap (λ (t : ℕ). held_in (words_in after.words t) 512) staging_is ∙ counted_for change taken is;
+      patch = patch_is ∙ had.patch;
     }

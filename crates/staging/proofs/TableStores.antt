@@ -3,7 +3,9 @@ use Rattle.std.proofs.Common.{◌≡◌, ◌≢◌, ℕ, ◌+◌, ◌<◌, ◌�
 use Rattle.std.proofs.lemmas.Bool.{cases_lt, lt-ltb, le-ltb}
 use Rattle.term_core.specs.declared.area.AreaRef.{AreaRef}
 use Rattle.term_core.specs.declared.atom.Mfa.{Mfa}
-use Rattle.area_core.specs.Map.{block_place, breakpoint_at, doom_place, retire_place, term_place, word_at}
+use Rattle.area_core.specs.declared.table.KeptArea.{KeptArea}
+use Rattle.area_core.specs.Blocks.{Among}
+use Rattle.area_core.specs.Map.{block_place, breakpoint_at, doom_place, entry_at, retire_place, term_place, word_at}
 use Rattle.shared_words.specs.declared.view.WriterView.{WriterView}
 use Rattle.progress_words.specs.Needs.{HasLoadedCounter}
 use Rattle.server_core.specs.ServerState.{ServerState}
@@ -16,6 +18,7 @@ use Rattle.staging.specs.Placed.{ArePlaced, IsAreaOf, pool_of}
 use Rattle.staging.specs.Standing.{StandFor}
 use Rattle.staging.proofs.Counted.{placed_counted, stands_counted}
 use Rattle.staging.proofs.Frames.{TellsAlike, at_fits, stands_alike, unpublished_written}
+use Rattle.staging.proofs.Patched.{StoresBeside}
 use Rattle.staging.proofs.SetNames.{table_place}
 
 -- words of this term table were stored, and nothing else has changed
@@ -34,10 +37,10 @@ front table place fits low at few same = let there = table_place table at fits i
 behind : (table place : ℕ) → table < 4 → 10709 ≤ place → (at : ℕ) → at < 1024 → place ≢ term_place table at
 behind table place fits high at few same = let there = table_place table at fits in omega (arith, high, few, fits, same, there)
 
-block_below : (block at : ℕ) → block < 5 → at < 1024 → block_place block at < 6613
+pub block_below : (block at : ℕ) → block < 5 → at < 1024 → block_place block at < 6613
 block_below block at low few = rw (lt-ltb block 64 (omega (arith, low))) (omega (arith, low, few))
 
-block_above : (block at : ℕ) → 9 ≤ block → 10709 ≤ block_place block at
+pub block_above : (block at : ℕ) → 9 ≤ block → 10709 ≤ block_place block at
 block_above block at high =
     elim (cases_lt block 64) as (λ _. 10709 ≤ block_place block at) [
       | inl low ↦ rw (lt-ltb block 64 low) (omega (arith, high))
@@ -50,9 +53,18 @@ pub tells_table : (table : ℕ) (old new : WriterView) → StoresTable table old
 tells_table table old new stores = record {
   retire = λ block few. stores.others (retire_place block) (front table (retire_place block) stores.fits (omega (arith, few)));
   doom = λ block few. stores.others (doom_place block) (front table (doom_place block) stores.fits (omega (arith, few)));
-  untraced = λ bp block function low for few.
+  same = stores.same;
+}
+
+-- none is a decision, or the entry word of a function
+pub table_beside : (table : ℕ) (old new : WriterView) → ((k : KeptArea) → Among old.kept k → 9 ≤ k.area.block) → StoresTable table old new → StoresBeside old new
+table_beside table old new areas stores = record {
+  long = stores.long;
+  decisions = λ bp block function low for few.
       let at = breakpoint_at block function in
       stores.others (block_place (3 + bp) at) (front table (block_place (3 + bp) at) stores.fits (block_below (3 + bp) at (omega (arith, low)) (at_fits block function for few)));
+  entries = λ k function among has.
+      stores.others (block_place k.area.block (entry_at function)) (behind table (block_place k.area.block (entry_at function)) stores.fits (block_above k.area.block (entry_at function) (areas k among)));
   same = stores.same;
 }
 
@@ -89,7 +101,7 @@ placed_table comes rest pools taken table old new stores placed = record {
 }
 
 -- the pools are still those of the writer
-owned_words : (pools : Areas) (w : WriterView) (words : List ℕ) → length words ≡ length w.words → AreOf pools w → AreOf pools (record w { words = words })
+pub owned_words : (pools : Areas) (w : WriterView) (words : List ℕ) → length words ≡ length w.words → AreOf pools w → AreOf pools (record w { words = words })
 owned_words pools w words long own = record { sound = own.sound; all = long ∙ own.all; kept = own.kept; reached = own.reached; taken = own.taken; past = own.past; since = own.since }
 
 pub owned_table : (pools : Areas) (table : ℕ) (old new : WriterView) → StoresTable table old new → AreOf pools old → AreOf pools new

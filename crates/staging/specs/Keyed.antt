@@ -7,6 +7,7 @@ use Rattle.term_core.specs.Image.{IsImmediate, immediate_word}
 use Rattle.area_core.specs.declared.map.TheConstants.{BLOCKS}
 use Rattle.area_core.specs.declared.table.Published.{Published}
 use Rattle.progress_words.specs.Tokens.{written_by}
+use Rattle.server_core.specs.Generations.{generation_of}
 use Rattle.server_core.specs.declared.change.Change.{Change}
 use Rattle.server_core.specs.declared.change.Change.TheVariants.{HoldWord, HoldArea, Forget}
 use Rattle.server_core.specs.Decided.{made}
@@ -15,7 +16,6 @@ use Rattle.term_table.specs.declared.change.Change as changes
 use Rattle.term_table.specs.declared.change.Change.TheVariants.{Put, Erase}
 use Rattle.term_table.specs.Tables.{Stages}
 use Rattle.staging.specs.declared.tables.Tables.{Tables}
-use Rattle.staging.specs.Upcoming.{generation_shown}
 
 -- the word of a term table that leads to an area
 abbrev pub area_word : AreaRef → ℕ
@@ -37,4 +37,4 @@ HasKeyWord change taken = Unit {0}
 
 -- what is staged is what the keys hold in the state that the change leaves
 abbrev pub AreKeyed : List Mfa → ServerState → Change → List AreaRef → Tables → Type 0
-AreKeyed names s change areas t = (p : Published) → p.state ≡ generation_shown names (made s change).state → p.areas ≡ areas → Stages t.terms p (written_by t.writer)
+AreKeyed names s change areas t = (p : Published) → p.state ≡ generation_of names (made s change).state → p.areas ≡ areas → Stages t.terms p (written_by t.writer)

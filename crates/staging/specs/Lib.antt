@@ -7,4 +7,5 @@ pub mod Keyed
 pub mod Replaced
 pub mod Renewed
 pub mod Stages
+pub mod Traced
 pub mod Released

@@ -12,11 +12,12 @@ use Rattle.progress_words.specs.Tokens.{written_by}
 use Rattle.server_core.specs.declared.change.Change.{Change}
 use Rattle.server_core.specs.CommandTable.{with_released}
 use Rattle.server_core.specs.ServerState.{ServerState, is_retired}
+use Rattle.breakpoints.specs.Laws.{IsCalledByNone, IsUncalled}
 use Rattle.literal_areas.specs.declared.areas.Areas.{Areas}
 use Rattle.literal_areas.specs.Released.{MayRelease}
 use Rattle.staging.specs.declared.tables.Tables.{Tables}
 use Rattle.staging.specs.declared.stage.Stage.{Stage}
-use Rattle.staging.specs.Stages.{AreAtRest, StageStands}
+use Rattle.staging.specs.Stages.{AreAtRest, AreSettling, StageStands}
 use Rattle.staging.specs.Whose.{KeepsWaits}
 
 -- the area of this serial may be released
@@ -24,12 +25,20 @@ pub record IsReleasable (serial : ℕ) (pools : Areas) (w : WriterView) : Type 0
   pub area : AreaRef
   pub serial_is : area.serial ≡ serial
   pub may : MayRelease pools w area
+  -- no generation that may be read has a current or old instance in its block
+  pub called : IsCalledByNone w area.block
+  pub uncalled : IsUncalled w area.block
 
 -- a retired area of which a look in both kinds was clear may be released, at each stage of a change that waits
 abbrev pub ClearAreReleasable : List Mfa → Type 0
 ClearAreReleasable names =
     (s : ServerState) (change : Change) (stage : Stage) (t : Tables) (serial : ℕ) → StageStands names s change t stage → IsTrue (is_retired s serial)
     → IsClear (written_by t.writer) Both serial → IsReleasable serial t.pools (written_by t.writer)
+
+-- so it may while the switch of a breakpoint is not over
+abbrev pub SettlingAreReleasable : List Mfa → Type 0
+SettlingAreReleasable names =
+    (s : ServerState) (t : Tables) (serial : ℕ) → AreSettling names s t → IsTrue (is_retired s serial) → IsClear (written_by t.writer) Both serial → IsReleasable serial t.pools (written_by t.writer)
 
 -- the words stand for each state that they stood for, once it has released the area
 abbrev pub StandReleased : List Mfa → ℕ → Tables → Tables → Type 0
@@ -39,6 +48,16 @@ StandReleased names serial old new = (s : ServerState) → AreAtRest names s old
 abbrev pub StagesReleased : List Mfa → ℕ → Tables → Tables → Type 0
 StagesReleased names serial old new =
     (s : ServerState) (change : Change) (stage : Stage) → StageStands names s change old stage → StageStands names (with_released s serial) change new stage
+
+-- and while the switch of a breakpoint is not over
+abbrev pub SettlingReleased : List Mfa → ℕ → Tables → Tables → Type 0
+SettlingReleased names serial old new = (s : ServerState) → AreSettling names s old → AreSettling names (with_released s serial) new
+
+-- what the words stand for they stand for still, at rest, at each stage of a change that waits, and while the switch of a breakpoint is not over
+pub record StandStill (names : List Mfa) (old new : Tables) : Type 0 where
+  pub rest : (s : ServerState) → AreAtRest names s old → AreAtRest names s new
+  pub stages : (s : ServerState) (change : Change) (stage : Stage) → StageStands names s change old stage → StageStands names s change new stage
+  pub settling : (s : ServerState) → AreSettling names s old → AreSettling names s new
 
 -- that the area was dropped is kept, and nothing is published
 pub record KeepsRelease (serial : ℕ) (before after : WriterView) : Type 0 where

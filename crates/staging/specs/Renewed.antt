@@ -1,5 +1,5 @@
--- A change that leaves what calls reach and what keys hold is published over the blocks of the newest generation, between rounds and with no wait.
--- Source: Erlang/OTP erts internal documentation, Tracing and CodeLoading; that the words tell of generations without what is traced is this project's own.
+-- A change that leaves what calls reach, what keys hold and what is traced of code that stays is published over the blocks of the newest generation, between rounds and with no wait.
+-- Source: Erlang/OTP erts internal documentation, CodeLoading, and the manual page code (purge, soft_purge).
 use Rattle.std.specs.Prelude.{◌≡◌, ℕ, ◌<◌, List, length, Option, Some, None, IsSomeAnd}
 use Rattle.term_core.specs.declared.area.AreaRef.{AreaRef}
 use Rattle.term_core.specs.declared.atom.Mfa.{Mfa}
@@ -17,7 +17,7 @@ use Rattle.shared_words.specs.Slots.{IsClear}
 use Rattle.progress_words.specs.Roots.{newest_of}
 use Rattle.progress_words.specs.Tokens.{written_by}
 use Rattle.server_core.specs.declared.change.Change.{Change}
-use Rattle.server_core.specs.declared.change.Change.TheVariants.{Condemn, DropOld, SetTrace, ClearTrace}
+use Rattle.server_core.specs.declared.change.Change.TheVariants.{Condemn, DropOld}
 use Rattle.server_core.specs.ServerState.{ServerState}
 use Rattle.literal_areas.specs.declared.areas.Areas.{Areas}
 use Rattle.literal_areas.specs.Blocks.{IsLive}
@@ -31,10 +31,8 @@ use Rattle.staging.specs.Standing.{StandFor}
 abbrev pub renewed : WriterView → Generation → List AreaRef → Published
 renewed w state areas = to_publish (newest_of w).root.code (newest_of w).root.bp (newest_of w).root.term state areas
 
--- a change of what is traced or doomed, or the drop of old code
+-- a change of what is doomed, or the drop of old code
 abbrev pub IsRenewal : Change → Type 0
-IsRenewal (SetTrace generation at traced) = Unit {0}
-IsRenewal (ClearTrace generation at) = Unit {0}
 IsRenewal (Condemn generation serial) = Unit {0}
 IsRenewal (DropOld generation name serial says retired) = Unit {0}
 IsRenewal change = ⊥

@@ -73,6 +73,7 @@ pub record HaveKeyed (names : List Mfa) (s : ServerState) (change : Change) (t :
   pub whole : length taken ≡ length (incoming change)
   pub keyed : AreKeyed names s change (areas_in t.pools) t
   pub counted : AreCounted s change t
+  pub patch : t.patch ≡ None
 
 -- and the former area is retired
 pub record HaveReplaced (names : List Mfa) (s : ServerState) (change : Change) (t : Tables) (taken : List AreaRef) : Type 0 where
@@ -87,3 +88,4 @@ pub record HaveReplaced (names : List Mfa) (s : ServerState) (change : Change) (
   pub former : FormerRetired (former_of s change) pools view t.pools (written_by t.writer)
   pub keyed : AreKeyed names s change (areas_in t.pools) t
   pub counted : AreCounted s change t
+  pub patch : t.patch ≡ None

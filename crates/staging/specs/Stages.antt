@@ -1,24 +1,28 @@
 -- How far the words are with a change of the server that waits, and what a step of it leaves.
 -- Source: Erlang/OTP erts internal documentation, CodeLoading (stage, wait for thread progress, commit), and the manual page of persistent_term.
-use Rattle.std.specs.Prelude.{◌≡◌, ◌⊎◌, ℕ, ◌+◌, ◌<◌, ◌≤◌, List, [], ◌∷◌, ◌++◌, length, slice_index, Option, Some, None}
+use Rattle.std.specs.Prelude.{◌≡◌, ◌⊎◌, ℕ, ◌+◌, ◌<◌, ◌≤◌, true, false, List, [], ◌∷◌, ◌++◌, length, slice_index, Option, Some, None}
 use Rattle.term_core.specs.declared.area.AreaRef.{AreaRef}
 use Rattle.term_core.specs.declared.atom.Mfa.{Mfa}
 use Rattle.area_core.specs.declared.table.Published.{Published}
+use Rattle.shared_words.specs.declared.view.WriterView.{WriterView}
 use Rattle.shared_words.specs.Views.{newest}
 use Rattle.progress_words.specs.declared.answers.NotYet.{NotYet}
 use Rattle.progress_words.specs.Needs.{HasTaken}
 use Rattle.progress_words.specs.Tokens.{written_by}
+use Rattle.server_core.specs.Generations.{generation_of}
 use Rattle.server_core.specs.declared.change.Change.{Change}
-use Rattle.server_core.specs.declared.change.Change.TheVariants.{BringIn, MakeOld, HoldWord, HoldArea, Forget}
+use Rattle.server_core.specs.declared.change.Change.TheVariants.{BringIn, MakeOld, HoldWord, HoldArea, Forget, SetTrace, ClearTrace}
 use Rattle.server_core.specs.Decided.{made}
-use Rattle.server_core.specs.ServerState.{ServerState}
+use Rattle.server_core.specs.ServerState.{ServerState, entry_of}
+use Rattle.breakpoints.specs.declared.patch.Patch.{Patch}
+use Rattle.breakpoints.specs.Patches.{IsSettling, IsUnpublished, phase_need}
 use Rattle.code_index.specs.declared.index.Staging.{Staging}
 use Rattle.code_index.specs.declared.index.Staging.TheVariants.{Nothing, Staged, Committing}
 use Rattle.literal_areas.specs.declared.areas.Areas.{Areas}
 use Rattle.term_table.specs.Tables.{staging_table}
 use Rattle.staging.specs.declared.tables.Tables.{Tables}
 use Rattle.staging.specs.declared.stage.Stage.{Stage}
-use Rattle.staging.specs.declared.stage.Stage.TheVariants.{Untouched, Placed, Exported}
+use Rattle.staging.specs.declared.stage.Stage.TheVariants.{Untouched, Placed, Exported, Patching}
 use Rattle.staging.specs.declared.placing.Placing.{Placing}
 use Rattle.staging.specs.declared.placing.Placing.TheVariants.{Whole, AwaitRelease}
 use Rattle.staging.specs.declared.stage.Step.{Step}
@@ -27,14 +31,14 @@ use Rattle.staging.specs.Exported.{AreExported}
 use Rattle.change_laws.specs.Changes.{incoming}
 use Rattle.staging.specs.Placed.{ArePlaced, NextAwaitsRelease}
 use Rattle.staging.specs.Standing.{StandFor}
-use Rattle.staging.specs.Upcoming.{generation_shown}
 
 -- ---- how far
 
--- no exports and no keys are staged
+-- no exports and no keys are staged, and no breakpoint is switched
 pub record NothingStaged (t : Tables) : Type 0 where
   pub index : t.index ≡ Nothing
   pub terms : t.terms.staged ≡ None
+  pub patch : t.patch ≡ None
 
 -- the words stand for the state, and nothing is under way
 pub record AreAtRest (names : List Mfa) (s : ServerState) (t : Tables) : Type 0 where
@@ -47,6 +51,7 @@ pub record HavePlaced (names : List Mfa) (s : ServerState) (change : Change) (t 
   pub stands : StandFor names s rest (written_by t.writer)
   pub placed : ArePlaced (incoming change) rest t.pools (written_by t.writer) taken
   pub terms : t.terms.staged ≡ None
+  pub patch : t.patch ≡ None
 
 -- a change of code alone
 abbrev pub IsCodeChange : Change → Type 0
@@ -61,17 +66,49 @@ pub record HaveExported (names : List Mfa) (s : ServerState) (change : Change) (
   pub whole : length taken ≡ length (incoming change)
   pub exported : AreExported names s change t
 
+-- the patch is that of the change: of its function, and on or off
+abbrev pub IsPatchFor : Change → Patch → Type 0
+IsPatchFor (SetTrace generation at traced) patch = (entry_of patch.at ≡ entry_of at) × (patch.on ≡ true)
+IsPatchFor (ClearTrace generation at) patch = (entry_of patch.at ≡ entry_of at) × (patch.on ≡ false)
+IsPatchFor change patch = ⊥
+
+-- the words stand for the state, and the breakpoint of the change is being switched, with nothing published
+pub record IsPatched (names : List Mfa) (s : ServerState) (change : Change) (t : Tables) : Type 0 where
+  pub stands : StandFor names s t.pools (written_by t.writer)
+  pub index : t.index ≡ Nothing
+  pub terms : t.terms.staged ≡ None
+  pub patch : Patch
+  pub is : t.patch ≡ Some patch
+  pub of : IsPatchFor change patch
+  pub before : IsUnpublished patch.phase
+
+-- the words stand for the state, which the switch of a breakpoint has published; the switch is not over yet
+pub record AreSettling (names : List Mfa) (s : ServerState) (t : Tables) : Type 0 where
+  pub stands : StandFor names s t.pools (written_by t.writer)
+  pub index : t.index ≡ Nothing
+  pub terms : t.terms.staged ≡ None
+  pub patch : Patch
+  pub is : t.patch ≡ Some patch
+  pub behind : IsSettling patch.phase
+
 -- what is so at a stage of the change
 abbrev pub StageStands : List Mfa → ServerState → Change → Tables → Stage → Type 0
 StageStands names s change t Untouched = AreAtRest names s t
 StageStands names s change t (Placed areas) = HavePlaced names s change t areas.items × (t.index ≡ Nothing)
 StageStands names s change t (Exported areas) = HaveExported names s change t areas.items
+StageStands names s change t Patching = IsPatched names s change t
+
+-- what a change that is given up leaves of what the writer knows: a patch has its decision taken back, else nothing is stored
+abbrev pub LeavesView : Stage → WriterView → WriterView → Type 0
+LeavesView Patching old new = new ≡ record old { words = new.words }
+LeavesView stage old new = new ≡ old
 
 -- the areas that the first of what a change brings in has at a stage
 abbrev pub areas_at : Stage → List AreaRef
 areas_at Untouched = []
 areas_at (Placed areas) = areas.items
 areas_at (Exported areas) = areas.items
+areas_at Patching = []
 
 -- whether all that a change brings in has its areas, as it is told
 abbrev pub PlacingAnswers : Change → Tables → List AreaRef → Placing → Type 0
@@ -95,13 +132,20 @@ commit_need (Committing block need) = Some need
 abbrev pub table_need : Tables → ℕ
 table_need t = slice_index t.terms.needs (staging_table (written_by t.writer))
 
--- the value of the counter that a change waits for: a change of code for that of its commit, a change of a key for that of the term table
+-- the value that the next phase of a patch waits for, if one is under way
+abbrev pub patch_need : Option Patch → Option ℕ
+patch_need None = None
+patch_need (Some patch) = phase_need patch.phase
+
+-- the value of the counter that a change waits for: a change of code for that of its commit, a change of a key for that of the term table, a change of what is traced for that of its patch
 abbrev pub awaited_by : Change → Tables → Option ℕ
 awaited_by (BringIn generation modules areas versions) t = commit_need t.index
 awaited_by (MakeOld generation name) t = commit_need t.index
 awaited_by (HoldWord generation key term keys retired) t = Some (table_need t)
 awaited_by (HoldArea generation key term kept areas keys retired) t = Some (table_need t)
 awaited_by (Forget generation key retired) t = Some (table_need t)
+awaited_by (SetTrace generation at traced) t = patch_need t.patch
+awaited_by (ClearTrace generation at) t = patch_need t.patch
 awaited_by change t = None
 
 -- ---- a step
@@ -120,7 +164,7 @@ IsStaged change = IsCodeChange change ⊎ IsKeyChange change
 -- the change is published: one generation more, which is that of the state that it leaves
 pub record HasPublished (names : List Mfa) (s : ServerState) (old new : Tables) (generation : ℕ) : Type 0 where
   pub next : Published
-  pub shows : next.state ≡ generation_shown names s
+  pub shows : next.state ≡ generation_of names s
   pub published : (written_by new.writer).published ≡ (written_by old.writer).published ++ next ∷ []
   pub number : generation ≡ length (written_by old.writer).published
   pub rest : AreAtRest names s new
@@ -156,6 +200,7 @@ abbrev pub stage_number : Stage → ℕ
 stage_number Untouched = 0
 stage_number (Placed areas) = 1
 stage_number (Exported areas) = 2
+stage_number Patching = 1
 
 -- a change that is not published yet has come so far at least
 abbrev pub GoesOn : ℕ → Stage → Step → Type 0

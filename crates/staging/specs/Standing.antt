@@ -4,24 +4,24 @@ use Rattle.std.specs.Prelude.{◌≡◌, ◌≢◌, ◌⊎◌, ℕ, ◌+◌, ◌
 use Rattle.term_core.specs.declared.area.AreaRef.{AreaRef}
 use Rattle.term_core.specs.declared.atom.Mfa.{Mfa}
 use Rattle.mod_core.specs.declared.code.Module.{Module}
-use Rattle.area_core.specs.declared.map.TheConstants.{BLOCKS, BIG_BLOCKS, BREAKPOINT_INDICES, FUNCTIONS}
+use Rattle.area_core.specs.declared.map.TheConstants.{BLOCKS, BIG_BLOCKS, BREAKPOINT_INDICES}
 use Rattle.area_core.specs.declared.table.KeptArea.{KeptArea}
 use Rattle.area_core.specs.declared.table.Published.{Published}
-use Rattle.area_core.specs.Generations.{has_serial}
-use Rattle.area_core.specs.Map.{breakpoint_place, doom_place, retire_place, word_at}
+use Rattle.area_core.specs.Generations.{has_serial, is_used}
+use Rattle.area_core.specs.Map.{doom_place, retire_place, word_at}
 use Rattle.area_core.specs.Blocks.{Among, IsForInstances, KeptApart}
 use Rattle.area_core.specs.Step.{opening_published}
 use Rattle.shared_words.specs.declared.view.WriterView.{WriterView}
 use Rattle.shared_words.specs.Rule.{OldStays, RetiredStays}
 use Rattle.progress_words.specs.Roots.{newest_of}
-use Rattle.server_core.specs.Generations.{AreNumbered}
+use Rattle.server_core.specs.Generations.{AreNumbered, generation_of}
 use Rattle.server_core.specs.ServerState.{IsSound, Persistent, ServerState, code_of, current_of, empty_state, is_doomed, is_retired, is_serial_in, live_areas, live_count, words_of_area}
+use Rattle.change_laws.specs.Breakpoints.{KnowsItsCode}
 use Rattle.change_laws.specs.Uses.{IsUsed}
 use Rattle.literal_areas.specs.declared.blocks.BlockUse.{BlockUse}
 use Rattle.literal_areas.specs.declared.blocks.BlockUse.TheVariants.{Free, Live, Retired}
 use Rattle.literal_areas.specs.declared.areas.Areas.{Areas}
 use Rattle.literal_areas.specs.Blocks.{Stands, is_live, serial_at, use_of}
-use Rattle.staging.specs.Upcoming.{generation_shown}
 
 -- ---- the newest generation
 
@@ -33,7 +33,7 @@ pub record IsReleasedSince (stood now : ServerState) : Type 0 where
 
 -- a generation is that of the state; generation 0 is the empty one, which has no entry for a name
 abbrev pub ShowsState : List Mfa → ServerState → Published → Type 0
-ShowsState names s p = (p.state ≡ generation_shown names s) ⊎ ((p ≡ opening_published) × (s ≡ empty_state))
+ShowsState names s p = (p.state ≡ generation_of names s) ⊎ ((p ≡ opening_published) × (s ≡ empty_state))
 
 -- it is that of the state, but for areas that were released since
 pub record IsShownBy (names : List Mfa) (s : ServerState) (p : Published) : Type 0 where
@@ -94,19 +94,24 @@ pub record DoomStands (s : ServerState) (serial last word : ℕ) : Type 0 where
   pub clear : is_doomed s serial ≡ false → word ≡ 0
   pub set : IsTrue (is_doomed s serial) → (0 < word) × (word ≤ last)
 
--- an area is retired from this generation on, which is published or the next one, and in none before it
-abbrev pub IsSince : List Published → ℕ → ℕ → Type 0
-IsSince published serial since =
-    (0 < since) × (since ≤ length published) × ((g : ℕ) (p : Published) → slice_get published g ≡ Some p → IsTrue (has_serial p.state.retired serial) → since ≤ g)
+-- a generation does not use the area, and has no other one in its block
+pub record IsGoneFrom (p : Published) (block serial : ℕ) : Type 0 where
+  pub unused : is_used p serial ≡ false
+  pub alone : (a : AreaRef) → Among p.areas a → a.block ≡ block → a.serial ≡ serial
 
--- retire words tell of retired areas, doom words of doomed ones, and nothing is traced
+-- an area is retired from this generation on, which is published or the next one, and in none before it; from then on each generation has done with it
+abbrev pub IsSince : List Published → ℕ → ℕ → ℕ → Type 0
+IsSince published block serial since =
+    (0 < since) × (since ≤ length published) × ((g : ℕ) (p : Published) → slice_get published g ≡ Some p → IsTrue (has_serial p.state.retired serial) → since ≤ g)
+    × ((g : ℕ) (p : Published) → slice_get published g ≡ Some p → since ≤ g → IsGoneFrom p block serial)
+
+-- retire words tell of retired areas, and doom words of doomed ones
 pub record WordsTell (s : ServerState) (pools : Areas) (w : WriterView) : Type 0 where
   pub retire : (block : ℕ) → block < BLOCKS → word_at w.words (retire_place block) ≡ retire_word_of (use_of pools block)
-  pub since : (block serial since : ℕ) → use_of pools block ≡ Some (Retired serial since) → IsSince w.published serial since
+  pub since : (block serial since : ℕ) → use_of pools block ≡ Some (Retired serial since) → IsSince w.published block serial since
   pub free : (block : ℕ) → block < BIG_BLOCKS → use_of pools block ≡ Some Free → word_at w.words (doom_place block) ≡ 0
   -- and so is an instance doomed
   pub doom : (block serial : ℕ) → block < BIG_BLOCKS → use_of pools block ≡ Some (Live serial) → DoomStands s serial (length w.published) (word_at w.words (doom_place block))
-  pub untraced : (bp block function : ℕ) → bp < BREAKPOINT_INDICES → IsForInstances block → function < FUNCTIONS → word_at w.words (breakpoint_place bp block function) ≡ 0
 
 -- ---- what was published
 
@@ -126,11 +131,15 @@ pub record StandFor (names : List Mfa) (s : ServerState) (pools : Areas) (w : Wr
   pub newest_is : IsShownBy names s (newest_of w)
   pub numbered : AreNumbered names s
   pub keys_once : AreKeysOnce s.keys
+  -- no code is forgotten
+  pub knows : KnowsItsCode s
   -- each serial has room in the word of a term table
   pub narrow : s.next_serial ≤ 2 ^ 40
   -- the newest generation has a breakpoint index, and its areas that are used still stand in their blocks
   pub bp : (newest_of w).root.bp < BREAKPOINT_INDICES
   pub listed : (a : AreaRef) → Among (newest_of w).areas a → IsUsed s a.serial → Stands pools a
+  -- and what is kept is one of its areas
+  pub stay : (k : KeptArea) → Among w.kept k → Among (newest_of w).areas k.area
   pub blocks : PoolsStand s pools
   pub placed : AreasPlaced s pools
   pub images : ImagesKept s pools w.kept

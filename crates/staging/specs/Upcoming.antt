@@ -1,10 +1,9 @@
 -- What is published next: the generation of the state that a change leaves, over the blocks in which its areas stand.
--- Source: Erlang/OTP erts internal documentation, CodeLoading; that generations leave out what is traced is this project's own.
+-- Source: Erlang/OTP erts internal documentation, CodeLoading; blocks are this project's own.
 use Rattle.std.specs.Prelude.{◌≡◌, ℕ, suc, List, [], ◌∷◌, ◌++◌}
 use Rattle.std.specs.Option.{option_map, option_to_list}
 use Rattle.term_core.specs.declared.area.AreaRef.{AreaRef}
 use Rattle.term_core.specs.declared.atom.Mfa.{Mfa}
-use Rattle.term_core.specs.declared.generation.Generation.{Generation}
 use Rattle.area_core.specs.declared.map.TheConstants.{AREAS_START, BIG_BLOCKS}
 use Rattle.area_core.specs.declared.table.Published.{Published}
 use Rattle.server_core.specs.Generations.{generation_of}
@@ -12,7 +11,6 @@ use Rattle.server_core.specs.ServerState.{ServerState}
 use Rattle.literal_areas.specs.declared.blocks.BlockUse.{BlockUse}
 use Rattle.literal_areas.specs.declared.areas.Areas.{Areas}
 use Rattle.literal_areas.specs.Blocks.{serial_of}
-use Rattle.code_law.specs.Served.{with_traced}
 
 -- the areas in blocks that are numbered from this one on
 abbrev pub areas_from : ℕ → List BlockUse → List AreaRef
@@ -23,11 +21,7 @@ areas_from block (used ∷ uses) = option_to_list (option_map (λ serial. record
 abbrev pub areas_in : Areas → List AreaRef
 areas_in pools = areas_from AREAS_START pools.big ++ areas_from BIG_BLOCKS pools.small
 
--- the generation of a state as the words show it: what is traced is left out
-abbrev pub generation_shown : List Mfa → ServerState → Generation
-generation_shown names s = with_traced [] (generation_of names s)
-
 -- it is the generation of this state, over the blocks of these pools
 pub record IsUpcoming (names : List Mfa) (s : ServerState) (pools : Areas) (p : Published) : Type 0 where
-  pub state : p.state ≡ generation_shown names s
+  pub state : p.state ≡ generation_of names s
   pub areas : p.areas ≡ areas_in pools

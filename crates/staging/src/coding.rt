@@ -56,6 +56,7 @@ pub fn step_code<K: Naming>(
         Stage::Untouched => place_code(alloc, tables, shared, server, change, Vec::new(alloc)),
         Stage::Placed { areas } => place_code(alloc, tables, shared, server, change, areas),
         Stage::Exported { areas } => commit_code(tables, shared, server, change, areas),
+        Stage::Patching => unreachable!(),
     }
 }
 

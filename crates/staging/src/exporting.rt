@@ -125,6 +125,7 @@ fn start_exports<N: Served>(tables: &mut Tables, shared: &Shared<N>)
     ensures exports { tables.new.exports ≡ tables.old.exports }
     ensures terms { tables.new.terms ≡ tables.old.terms }
     ensures pools { tables.new.pools ≡ tables.old.pools }
+    ensures patch { tables.new.patch ≡ tables.old.patch }
     // the exports of the newest generation are staged
     ensures begun { IsStaged tables.new.index }
     ensures stored { StoresExports (written_by tables.old.writer) (written_by tables.new.writer) }
@@ -146,6 +147,7 @@ fn set_name<N: Served>(tables: &mut Tables, shared: &Shared<N>, number: u32, to:
     ensures index { tables.new.index ≡ tables.old.index }
     ensures terms { tables.new.terms ≡ tables.old.terms }
     ensures pools { tables.new.pools ≡ tables.old.pools }
+    ensures patch { tables.new.patch ≡ tables.old.patch }
     // the entry is stored: what is staged has it
     ensures stored { written_by tables.new.writer ≡ with_word (block_place (block_of tables.old.index) number) (code_word to) (written_by tables.old.writer) }
     ensures leads { (p q : Published) → Stages tables.old.index p (written_by tables.old.writer) → ExportsWith number to p q → Stages tables.new.index q (written_by tables.new.writer) }
@@ -175,6 +177,7 @@ fn stage_name<K: Naming>(
     ensures index { tables.new.index ≡ tables.old.index }
     ensures terms { tables.new.terms ≡ tables.old.terms }
     ensures pools { tables.new.pools ≡ tables.old.pools }
+    ensures patch { tables.new.patch ≡ tables.old.patch }
     ensures stored { StoresExports (written_by tables.old.writer) (written_by tables.new.writer) }
     // the name is led to what it reaches then, or is left as it is
     ensures changed { (to : Mfa) (reached : Option CodeRef) → slice_get tables.old.exports number ≡ Some to → reached_after change.now taken.now to ≡ Some reached → (p q : Published) → Stages tables.old.index p (written_by tables.old.writer) → ExportsWith number reached p q → Stages tables.new.index q (written_by tables.new.writer) }

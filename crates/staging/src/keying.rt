@@ -109,6 +109,7 @@ pub fn step_key<K: Naming>(
         Stage::Untouched => place_key(alloc, tables, shared, server, change, Vec::new(alloc)),
         Stage::Placed { areas } => place_key(alloc, tables, shared, server, change, areas),
         Stage::Exported { .. } => unreachable!(),
+        Stage::Patching => unreachable!(),
     }
 }
 
@@ -266,6 +267,7 @@ fn retire_former<K: Naming>(
     ensures exports { tables.new.exports ≡ tables.old.exports }
     ensures index { tables.new.index ≡ tables.old.index }
     ensures terms { tables.new.terms ≡ tables.old.terms }
+    ensures patch { tables.new.patch ≡ tables.old.patch }
     ensures retired { FormerRetired (key_area server.now key.0) tables.old.pools (written_by tables.old.writer) tables.new.pools (written_by tables.new.writer) }
 {
     stores_keep_index();

@@ -1,4 +1,4 @@
-//! Changes that leave code and keys: the next generation is published over the blocks of the newest one.
+//! Changes that leave calls and keys: the next generation is published over the blocks of the newest one.
 
 ghost use Rattle.std.specs.Prelude.{◌≡◌, ℕ, ◌<◌, ◌^◌, length, IfSome, IsSomeAnd, Some};
 ghost use Rattle.term_core.specs.declared.area.AreaRef.{AreaRef};
@@ -125,7 +125,7 @@ fn publish_next<N: Served, M: Next>(
 }
 
 /// The area of this serial, if it is live.
-fn live_area(pools: &Pools, serial: u64) -> Option<AreaRef>
+pub(crate) fn live_area(pools: &Pools, serial: u64) -> Option<AreaRef>
     requires sound { IsSound pools.now }
     requires live { (block : ℕ) × (use_of pools.now block ≡ Some (Live serial)) }
     ensures { IsSomeAnd result (λ area. IsLive pools.now area × (area.serial ≡ serial)) }
@@ -145,6 +145,7 @@ fn doom_instance<K: Naming>(tables: &mut Tables, shared: &Shared<CodeLaw<K>>, se
     ensures exports { tables.new.exports ≡ tables.old.exports }
     ensures index { tables.new.index ≡ tables.old.index }
     ensures terms { tables.new.terms ≡ tables.old.terms }
+    ensures patch { tables.new.patch ≡ tables.old.patch }
     ensures pools { tables.new.pools ≡ tables.old.pools }
     ensures doomed { HasDoomed serial tables.old.pools (written_by tables.old.writer) (written_by tables.new.writer) }
 {
@@ -169,6 +170,7 @@ fn retire_instance<K: Naming>(
     ensures exports { tables.new.exports ≡ tables.old.exports }
     ensures index { tables.new.index ≡ tables.old.index }
     ensures terms { tables.new.terms ≡ tables.old.terms }
+    ensures patch { tables.new.patch ≡ tables.old.patch }
     ensures serial { result.serial ≡ serial }
     ensures retired { HasRetired serial tables.old.pools (written_by tables.old.writer) tables.new.pools (written_by tables.new.writer) }
 {
@@ -181,7 +183,7 @@ fn retire_instance<K: Naming>(
     area
 }
 
-/// Stores the word that tells of the change before the root does, if it has one, and answers the area of the instance that it drops.
+/// Stores the word that tells of the change before the root does, and answers the area of the instance that it drops.
 fn announce<K: Naming>(
     tables: &mut Tables,
     shared: &Shared<CodeLaw<K>>,
@@ -206,7 +208,7 @@ fn announce<K: Naming>(
             None
         }
         Change::DropOld { serial, .. } => Some(retire_instance(tables, shared, *serial)),
-        _ => None,
+        _ => unreachable!(),
     }
 }
 
@@ -251,10 +253,9 @@ fn publish_announced<K: Naming>(
     publish_next(shared, &mut tables.writer, &next, dropped)
 }
 
-/// Publishes a change of what is traced or doomed, or the drop of old code, and answers the generation that shows it. No thread needs to be
-/// waited for.
+/// Publishes a change of what is doomed, or the drop of old code, and answers the generation that shows it. No thread needs to be waited for.
 ///
-/// Source: Erlang/OTP erts internal documentation, Tracing and CodeLoading, and the manual page code (purge, soft_purge).
+/// Source: Erlang/OTP erts internal documentation, CodeLoading, and the manual page code (purge, soft_purge).
 pub fn publish_same<K: Naming>(
     tables: &mut Tables,
     shared: &Shared<CodeLaw<K>>,

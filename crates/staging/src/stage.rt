@@ -12,6 +12,8 @@ pub enum Stage {
     Placed { areas: Vec<AreaRef> },
     /// All that it brings in stands in these areas, and the exports are staged.
     Exported { areas: Vec<AreaRef> },
+    /// The breakpoint that it sets or clears is being switched.
+    Patching,
 }
 
 /// What comes of a step of a change.

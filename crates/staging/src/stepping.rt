@@ -4,7 +4,7 @@ ghost use Rattle.std.specs.Prelude.{◌≡◌, ◌<◌, ◌^◌, false, length, 
 ghost use Rattle.progress_words.specs.Tokens.{written_by};
 ghost use Rattle.server_core.specs.Decided.{Fits, made};
 ghost use Rattle.server_core.specs.Generations.{AreNumbered};
-ghost use Rattle.staging.specs.Stages.{AreAtRest, GoesOn, IsCodeChange, IsStaged, StageStands, StepAnswers, stage_number};
+ghost use Rattle.staging.specs.Stages.{AreAtRest, GoesOn, IsCodeChange, IsStaged, LeavesView, StageStands, StepAnswers, stage_number};
 ghost use Rattle.staging.specs.Whose.{AreTablesOf, KeepsKnown};
 ghost use Rattle.staging.specs.declared.stage.Stage.TheVariants as stages;
 
@@ -13,6 +13,7 @@ use crate::keying::step_key;
 use crate::placing::give_back;
 use crate::stage::{Stage, Step};
 use crate::tables::Tables;
+use crate::tracing::take_patch_back;
 use code_law::{CodeLaw, Naming};
 use server_core::{Change, Server};
 use shared_words::Shared;
@@ -93,7 +94,7 @@ pub fn abandon<K: Naming>(
     ensures tables { AreTablesOf shared.now.table.shared.table_id shared.now.table.shared.key tables.new }
     ensures exports { tables.new.exports ≡ tables.old.exports }
     ensures rest { AreAtRest K.names server.now tables.new }
-    ensures view { written_by tables.new.writer ≡ written_by tables.old.writer }
+    ensures view { LeavesView stage (written_by tables.old.writer) (written_by tables.new.writer) }
 {
     match stage {
         Stage::Untouched => {}
@@ -102,5 +103,6 @@ pub fn abandon<K: Naming>(
             tables.index.abort();
             give_back(tables, shared, server, change, areas);
         }
+        Stage::Patching => take_patch_back(tables, shared, server, change),
     }
 }

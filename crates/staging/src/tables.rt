@@ -9,6 +9,7 @@ ghost use Rattle.code_index.specs.Staging.{IsAtFirst};
 ghost use Rattle.staging.specs.Stages.{AreAtRest};
 ghost use Rattle.staging.specs.Whose.{AreTablesOf};
 
+use breakpoints::Patch;
 use code_index::CodeIndex;
 use export_table::ExportTable;
 use literal_areas::Pools;
@@ -25,10 +26,13 @@ pub struct Tables {
     pub index: CodeIndex,
     pub terms: TermTable,
     pub pools: Pools,
+    /// How far the switch of a breakpoint is, if one is under way.
+    pub patch: Option<Patch>,
 }
 
 impl Tables {
     /// The tables of a writer who has made no step: no block is in use, and nothing is staged.
+    #[tactic(auto, using(crate::proofs::AtFirst::breakpoints_first))]
     pub fn new(alloc: Global, writer: Writer, exports: ExportTable) -> Result<Tables, NoMemory>
         requires first { IsAtFirst (written_by writer) }
         ensures writer { IfOk result (λ tables. tables.writer ≡ writer) }
@@ -45,6 +49,7 @@ impl Tables {
             index,
             terms,
             pools,
+            patch: None,
         })
     }
 }

@@ -6,4 +6,4 @@ use Rattle.staging.proofs.exporting.set_name.Goals as goal
 
 pub returns-clause-tables : goal.returns-clause-tables
 returns-clause-tables g c =
-    tables_set _ _ c.args.tables.now _ c.args.number (code_word c.args.to) c.requires.number c.stores_keep_tables.ensures c.stores_keep_pools.ensures c.requires.tables c.set.ensures.token c.set.ensures.owned c.set.ensures.stored refl refl
+    tables_set _ _ c.args.tables.now _ c.args.number (code_word c.args.to) c.requires.number c.stores_keep_tables.ensures c.stores_keep_pools.ensures c.requires.tables c.set.ensures.token c.set.ensures.owned c.set.ensures.stored refl refl refl

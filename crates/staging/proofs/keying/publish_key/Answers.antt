@@ -14,12 +14,12 @@ publish-requires-clause-next g c =
 pub returns-clause-tables : goal.returns-clause-tables
 returns-clause-tables g c =
     (are_published g.K.Naming.names c.args.server.now c.args.change.now _ _ c.args.tables.now c.args._areas.now c.requires.tables c.generation-generation.ensures.sound c.requires.fits c.requires.key c.requires.replaced
-    _ c.publish.result c.args.tables.now.exports c.requires.names c.exports_that_stay_are_staged.ensures c.roots_keep_index.ensures c.counters_keep_index.ensures c.publish.ensures.token c.publish.ensures.owned c.requires.index refl refl c.publish.ensures.published).tables
+    _ c.publish.result c.args.tables.now.exports c.requires.names c.exports_that_stay_are_staged.ensures c.roots_keep_index.ensures c.counters_keep_index.ensures c.publish.ensures.token c.publish.ensures.owned c.requires.index refl refl refl c.publish.ensures.published).tables
 
 pub returns-clause-published : goal.returns-clause-published
 returns-clause-published g c =
     (are_published g.K.Naming.names c.args.server.now c.args.change.now _ _ c.args.tables.now c.args._areas.now c.requires.tables c.generation-generation.ensures.sound c.requires.fits c.requires.key c.requires.replaced
-    _ c.publish.result c.args.tables.now.exports c.requires.names c.exports_that_stay_are_staged.ensures c.roots_keep_index.ensures c.counters_keep_index.ensures c.publish.ensures.token c.publish.ensures.owned c.requires.index refl refl c.publish.ensures.published).published
+    _ c.publish.result c.args.tables.now.exports c.requires.names c.exports_that_stay_are_staged.ensures c.roots_keep_index.ensures c.counters_keep_index.ensures c.publish.ensures.token c.publish.ensures.owned c.requires.index refl refl refl c.publish.ensures.published).published
 
 pub returns-clause-known : goal.returns-clause-known
 returns-clause-known g c =

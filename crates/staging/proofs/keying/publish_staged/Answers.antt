@@ -25,7 +25,7 @@ pub publish_key-generation-requires-clause-replaced : goal.publish_key-generatio
 publish_key-generation-requires-clause-replaced g c =
     subst (HaveReplaced g.K.Naming.names c.args.server.now c.args.change.now c.retire_former.new.tables) (c.as_slice.ensures.value ∙ sym c.as_slice-in-Ok.ensures.value)
     (have_replaced _ _ g.K.Naming.names c.args.server.now c.args.change.now c.stage_key.new.tables c.as_slice.result.now c.generation-generation.ensures.sound c.requires.key c.stage_key.ensures.tables c.in-Ok.ensures.keyed
-    c.retire_former.new.tables c.retire_former.ensures.terms
+    c.retire_former.new.tables c.retire_former.ensures.terms c.retire_former.ensures.patch
     (subst (λ o. FormerRetired o c.stage_key.new.tables.pools (written_by c.stage_key.new.tables.writer) c.retire_former.new.tables.pools (written_by c.retire_former.new.tables.writer)) (sym c.in-Ok.ensures.former) c.retire_former.ensures.retired))
 
 pub publish_key-generation-requires-clause-room : goal.publish_key-generation-requires-clause-room

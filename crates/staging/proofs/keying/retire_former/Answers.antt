@@ -2,6 +2,7 @@
 use Rattle.std.proofs.Common.{refl, subst}
 use Rattle.std.specs.Prelude.{Some, ◌≡◌}
 use Rattle.progress_words.specs.Tokens.{written_by}
+use Rattle.progress_words.proofs.Rooted.{some_published}
 use Rattle.server_core.specs.ServerState.{key_area}
 use Rattle.literal_areas.specs.declared.blocks.BlockUse.TheVariants.{Live}
 use Rattle.literal_areas.specs.Blocks.{use_of}
@@ -23,7 +24,7 @@ retire-requires-clause-published g c =
 
 pub returns-in-Some-clause-tables : goal.returns-in-Some-clause-tables
 returns-in-Some-clause-tables g c =
-    tables_retired _ _ c.args.tables.now _ c.in-Some.former _ c.stores_keep_index.ensures c.stores_keep_tables.ensures c.requires.tables c.in-Some.ensures.live c.retire.ensures.token c.retire.ensures.owned c.retire.ensures.stored refl refl
+    tables_retired _ _ c.args.tables.now _ c.in-Some.former _ c.stores_keep_index.ensures c.stores_keep_tables.ensures c.requires.tables c.in-Some.ensures.live c.retire.ensures.token c.retire.ensures.owned c.retire.ensures.stored refl refl refl (some_published _ _ c.args.tables.now.writer c.requires.tables.token)
 
 pub returns-in-Some-clause-retired : goal.returns-in-Some-clause-retired
 returns-in-Some-clause-retired g c =

@@ -26,7 +26,7 @@ awaited-requires g c = λ is.
 
 pub returns-in-Ok-clause-tables : goal.returns-in-Ok-clause-tables
 returns-in-Ok-clause-tables g c =
-    tables_staged _ _ c.args.tables.now _ c.in-Some.staged c.counters_keep_index.ensures c.writes_keep_index.ensures c.counters_keep_pools.ensures c.requires.tables c.stage_copy.ensures.token c.stage_copy.ensures.owned c.in-Ok.ensures.staged refl refl
+    tables_staged _ _ c.args.tables.now _ c.in-Some.staged c.counters_keep_index.ensures c.writes_keep_index.ensures c.counters_keep_pools.ensures c.requires.tables c.stage_copy.ensures.token c.stage_copy.ensures.owned c.in-Ok.ensures.staged refl refl refl
 
 pub returns-in-Ok-clause-published : goal.returns-in-Ok-clause-published
 returns-in-Ok-clause-published g c =
@@ -40,7 +40,7 @@ returns-in-Ok-clause-known g c =
 
 pub returns-in-Ok-clause-keyed : goal.returns-in-Ok-clause-keyed
 returns-in-Ok-clause-keyed g c =
-    have_keyed _ _ c.args.tables.now _ c.in-Some.staged c.counters_keep_index.ensures c.writes_keep_index.ensures c.counters_keep_pools.ensures c.requires.tables c.stage_copy.ensures.token c.stage_copy.ensures.owned c.in-Ok.ensures.staged refl refl
+    have_keyed _ _ c.args.tables.now _ c.in-Some.staged c.counters_keep_index.ensures c.writes_keep_index.ensures c.counters_keep_pools.ensures c.requires.tables c.stage_copy.ensures.token c.stage_copy.ensures.owned c.in-Ok.ensures.staged refl refl refl
     g.K.Naming.names c.args.server.now c.args.change.now c.args.areas.now c.requires.placed c.requires.whole (sym c.in-Some.ensures) c.in-Ok.ensures.stands
 
 pub returns-in-Ok-clause-former : goal.returns-in-Ok-clause-former
@@ -49,7 +49,7 @@ returns-in-Ok-clause-former g c = former_is c.args.server.now c.args.change.now 
 pub returns-in-Err-clause-tables : goal.returns-in-Err-clause-tables
 returns-in-Err-clause-tables g c =
     let waits = c.in-Err.ensures.not_yet c.awaited.result (ap Err c.awaited.ensures) in
-    tables_waited _ _ c.args.tables.now _ c.counters_keep_index.ensures c.counters_keep_pools.ensures c.requires.tables c.stage_copy.ensures.token c.stage_copy.ensures.owned waits.loaded refl refl
+    tables_waited _ _ c.args.tables.now _ c.counters_keep_index.ensures c.counters_keep_pools.ensures c.requires.tables c.stage_copy.ensures.token c.stage_copy.ensures.owned waits.loaded refl refl refl
 
 pub returns-in-Err-clause-published : goal.returns-in-Err-clause-published
 returns-in-Err-clause-published g c =
@@ -64,11 +64,11 @@ returns-in-Err-clause-known g c =
 pub returns-in-Err-clause-placed : goal.returns-in-Err-clause-placed
 returns-in-Err-clause-placed g c =
     let waits = c.in-Err.ensures.not_yet c.awaited.result (ap Err c.awaited.ensures) in
-    placed_waited g.K.Naming.names c.args.server.now c.args.change.now c.args.tables.now _ c.args.areas.now waits.loaded c.in-Err.ensures.err refl c.requires.placed
+    placed_waited g.K.Naming.names c.args.server.now c.args.change.now c.args.tables.now _ c.args.areas.now waits.loaded c.in-Err.ensures.err refl refl c.requires.placed
 
 pub returns-in-Err-clause-late : goal.returns-in-Err-clause-late
 returns-in-Err-clause-late g c =
     let waits = c.in-Err.ensures.not_yet c.awaited.result (ap Err c.awaited.ensures) in
     let tables =
-    tables_waited _ _ c.args.tables.now (record c.args.tables.now { writer = c.stage_copy.new.writer; terms = c.stage_copy.new.self }) c.counters_keep_index.ensures c.counters_keep_pools.ensures c.requires.tables c.stage_copy.ensures.token c.stage_copy.ensures.owned waits.loaded refl refl in
+    tables_waited _ _ c.args.tables.now (record c.args.tables.now { writer = c.stage_copy.new.writer; terms = c.stage_copy.new.self }) c.counters_keep_index.ensures c.counters_keep_pools.ensures c.requires.tables c.stage_copy.ensures.token c.stage_copy.ensures.owned waits.loaded refl refl refl in
     late_key c.args.change.now c.args.tables.now (record c.args.tables.now { writer = c.stage_copy.new.writer; terms = c.stage_copy.new.self }) c.awaited.result c.requires.key c.in-Err.ensures.err waits tables.index.staged

@@ -4,7 +4,7 @@ use Rattle.std.specs.Prelude.{None, Some}
 use Rattle.progress_words.specs.Tokens.{written_by}
 use Rattle.server_core.specs.Decided.{Fits}
 use Rattle.staging.specs.Renewed.{HasAnnounced, IsDropOf}
-use Rattle.staging.proofs.Announced.{announced, doomed_same, none_announced, old_big, retired_same, used_there}
+use Rattle.staging.proofs.Announced.{announced, doomed_same, none_else, old_big, retired_same, used_there}
 use Rattle.staging.proofs.Dooms.{undoomed_before}
 use Rattle.staging.proofs.renewing.announce.Goals as goal
 
@@ -30,7 +30,7 @@ retire_instance-requires-clause-live g c =
 
 pub returns-in-Condemn-clause-announced : goal.returns-in-Condemn-clause-announced
 returns-in-Condemn-clause-announced g c =
-    announced g.K.Naming.names c.args.server.now c.args.change.now c.args.tables.now c.doom_instance.new.tables c.requires.rest c.requires.tables.pools c.doom_instance.ensures.index c.doom_instance.ensures.terms
+    announced g.K.Naming.names c.args.server.now c.args.change.now c.args.tables.now c.doom_instance.new.tables c.requires.rest c.requires.tables.pools c.doom_instance.ensures.index c.doom_instance.ensures.terms c.doom_instance.ensures.patch
     (subst (λ change. HasAnnounced change c.args.tables.now.pools (written_by c.args.tables.now.writer) c.doom_instance.new.tables.pools (written_by c.doom_instance.new.tables.writer)) (sym c.in-Condemn.is) (c.doom_instance.ensures.pools, c.doom_instance.ensures.doomed))
 
 pub returns-in-Condemn-clause-dropped : goal.returns-in-Condemn-clause-dropped
@@ -42,7 +42,7 @@ returns-in-Condemn-clause-same g c =
 
 pub returns-in-DropOld-clause-announced : goal.returns-in-DropOld-clause-announced
 returns-in-DropOld-clause-announced g c =
-    announced g.K.Naming.names c.args.server.now c.args.change.now c.args.tables.now c.retire_instance.new.tables c.requires.rest c.requires.tables.pools c.retire_instance.ensures.index c.retire_instance.ensures.terms
+    announced g.K.Naming.names c.args.server.now c.args.change.now c.args.tables.now c.retire_instance.new.tables c.requires.rest c.requires.tables.pools c.retire_instance.ensures.index c.retire_instance.ensures.terms c.retire_instance.ensures.patch
     (subst (λ change. HasAnnounced change c.args.tables.now.pools (written_by c.args.tables.now.writer) c.retire_instance.new.tables.pools (written_by c.retire_instance.new.tables.writer)) (sym c.in-DropOld.is) c.retire_instance.ensures.retired)
 
 pub returns-in-DropOld-clause-dropped : goal.returns-in-DropOld-clause-dropped
@@ -52,10 +52,5 @@ pub returns-in-DropOld-clause-same : goal.returns-in-DropOld-clause-same
 returns-in-DropOld-clause-same g c =
     retired_same c.args.shared.now.table.shared.table_id c.args.shared.now.table.shared.key c.in-DropOld.serial c.args.tables.now c.retire_instance.new.tables c.requires.tables c.retire_instance.ensures.retired
 
-pub returns-in_default-clause-announced : goal.returns-in_default-clause-announced
-returns-in_default-clause-announced g c =
-    announced g.K.Naming.names c.args.server.now c.args.change.now c.args.tables.now c.args.tables.now c.requires.rest c.requires.tables.pools refl refl
-    (none_announced c.args.change.now c.args.tables.now.pools (written_by c.args.tables.now.writer) c.requires.renewal c.in_default.not-Condemn c.in_default.not-DropOld).0
-
-pub returns-in_default-clause-dropped : goal.returns-in_default-clause-dropped
-returns-in_default-clause-dropped g c = (none_announced c.args.change.now c.args.tables.now.pools (written_by c.args.tables.now.writer) c.requires.renewal c.in_default.not-Condemn c.in_default.not-DropOld).1
+pub unreachable-requires : goal.unreachable-requires
+unreachable-requires g c = none_else c.args.change.now c.requires.renewal c.in_default.not-Condemn c.in_default.not-DropOld

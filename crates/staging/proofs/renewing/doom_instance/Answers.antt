@@ -21,7 +21,7 @@ doom-requires-clause-undoomed g c = c.requires.undoomed c.in-Some.area c.in-Some
 
 pub returns-clause-tables : goal.returns-clause-tables
 returns-clause-tables g c =
-    tables_doomed _ _ c.args.tables.now _ c.in-Some.area _ c.stores_keep_index.ensures c.stores_keep_tables.ensures c.requires.tables (c.requires.big c.in-Some.area c.in-Some.ensures.0 c.in-Some.ensures.1) c.doom.ensures.token c.doom.ensures.owned c.doom.ensures.stored refl refl
+    tables_doomed _ _ c.args.tables.now _ c.in-Some.area _ c.stores_keep_index.ensures c.stores_keep_tables.ensures c.requires.tables (c.requires.big c.in-Some.area c.in-Some.ensures.0 c.in-Some.ensures.1) c.doom.ensures.token c.doom.ensures.owned c.doom.ensures.stored refl refl refl
 
 pub returns-clause-doomed : goal.returns-clause-doomed
 returns-clause-doomed g c = record { area = c.in-Some.area; serial_is = c.in-Some.ensures.1; live = c.in-Some.ensures.0; big = c.requires.big c.in-Some.area c.in-Some.ensures.0 c.in-Some.ensures.1; stored = c.doom.ensures.stored }

@@ -1,6 +1,7 @@
 -- The instance is live and was published, and is retired.
 use Rattle.std.proofs.Common.{refl}
 use Rattle.progress_words.specs.Tokens.{written_by}
+use Rattle.progress_words.proofs.Rooted.{some_published}
 use Rattle.staging.proofs.Announced.{live_block, there_published}
 use Rattle.staging.proofs.FormerAreas.{tables_retired}
 use Rattle.staging.proofs.renewing.retire_instance.Goals as goal
@@ -16,7 +17,7 @@ retire-requires-clause-published g c = there_published c.args.serial c.args.tabl
 
 pub returns-clause-tables : goal.returns-clause-tables
 returns-clause-tables g c =
-    tables_retired _ _ c.args.tables.now _ c.in-Some.area _ c.stores_keep_index.ensures c.stores_keep_tables.ensures c.requires.tables c.in-Some.ensures.0 c.retire.ensures.token c.retire.ensures.owned c.retire.ensures.stored refl refl
+    tables_retired _ _ c.args.tables.now _ c.in-Some.area _ c.stores_keep_index.ensures c.stores_keep_tables.ensures c.requires.tables c.in-Some.ensures.0 c.retire.ensures.token c.retire.ensures.owned c.retire.ensures.stored refl refl refl (some_published _ _ c.args.tables.now.writer c.requires.tables.token)
 
 pub returns-clause-serial : goal.returns-clause-serial
 returns-clause-serial g c = c.in-Some.ensures.1
