@@ -6,7 +6,6 @@ use Rattle.std.proofs.lemmas.Bool.{and_parts, cases_Bool, eq-eqb, eqb-true, fals
 use Rattle.std.proofs.lemmas.Bool.Decides.{nat_tests}
 use Rattle.term_core.specs.declared.area.AreaRef.{AreaRef}
 use Rattle.term_core.specs.declared.atom.Mfa.{Mfa}
-use Rattle.term_core.specs.declared.generation.FunctionRef.{FunctionRef}
 use Rattle.term_core.specs.declared.generation.Holding.{Holding}
 use Rattle.term_core.specs.declared.generation.Holding.TheVariants.{Word, Area}
 use Rattle.term_core.specs.declared.generation.KeyTerm.{KeyTerm}
@@ -30,7 +29,6 @@ use Rattle.machine_core.specs.Reads.{IsCurrent, area_of}
 use Rattle.machine_core.specs.View.{IsInBlock, IsReadable}
 use Rattle.word_view.specs.Anchored.{holds_by}
 use Rattle.word_view.specs.Loaded.{IsNamedAt, IsReadAt, IsWordThere, MayCome}
-use Rattle.code_law.specs.Served.{with_traced}
 use Rattle.word_view.specs.Views.{AreOnce, IsAreaOf, IsReader, StandsIn, shown_by}
 use Rattle.word_view.proofs.Anchoring.{held_names, named_any}
 use Rattle.word_view.proofs.KeptHere.{reached_current, used_reached}
@@ -74,8 +72,8 @@ found_among p (y ∷ ys) x e = choose (p y) e (found_among p ys x)
     choose false e rest = or_right (y == x) (list_any (λ z. z == x) ys) (rest e)
 
 -- an instance that is current by its words is current
-pub current_there : (names : List Mfa) (traced : List FunctionRef) (p : Published) (serial : ℕ) → IsCurrent (shown_by names traced p).reads serial → is_current p serial ≡ true
-current_there names traced p serial (name, is) = found_among (λ n. slice_index (words_in (with_traced traced p.state) n) 1 == name) p.state.current serial is
+pub current_there : (names : List Mfa) (p : Published) (serial : ℕ) → IsCurrent (shown_by names p).reads serial → is_current p serial ≡ true
+current_there names p serial (name, is) = found_among (λ n. slice_index (words_in p.state n) 1 == name) p.state.current serial is
 
 key_held : (keys : List KeyTerm) (key serial : ℕ) → holding_among keys key ≡ Some (Area serial) → list_any (λ k. holds_area serial k.holding) keys ≡ true
 key_held [] key serial e = absurd (cc)
@@ -90,10 +88,10 @@ key_held (k ∷ ks) key serial e = choose (k.key.0 == key) e (key_held ks key se
     choose false e rest = or_right (holds_area serial k.holding) (list_any (λ x. holds_area serial x.holding) ks) (rest e)
 
 -- the area of a key by its value is that of a key
-pub key_there : (names : List Mfa) (traced : List FunctionRef) (p : Published) (serial : ℕ) → IsKeyArea (shown_by names traced p).reads serial → is_key_area p serial ≡ true
-key_there names traced p serial (key, is) = by_holding (holding_among p.state.keys key) refl is
+pub key_there : (names : List Mfa) (p : Published) (serial : ℕ) → IsKeyArea (shown_by names p).reads serial → is_key_area p serial ≡ true
+key_there names p serial (key, is) = by_holding (holding_among p.state.keys key) refl is
   where
-    by_holding : (o : Option Holding) → holding_among p.state.keys key ≡ o → option_and_then area_of (option_map (held_value (with_traced traced p.state)) o) ≡ Some serial → is_key_area p serial ≡ true
+    by_holding : (o : Option Holding) → holding_among p.state.keys key ≡ o → option_and_then area_of (option_map (held_value p.state) o) ≡ Some serial → is_key_area p serial ≡ true
     by_holding None e is = absurd (cc)
     by_holding (Some (Word value)) e is = absurd (cc)
     by_holding (Some (Area held)) e is = key_held p.state.keys key serial (e ∙ ap (λ (n : ℕ). Some (Area n)) (same is))
@@ -101,7 +99,7 @@ key_there names traced p serial (key, is) = by_holding (holding_among p.state.ke
         same : ◌≡◌ {A = Option ℕ} (Some held) (Some serial) → held ≡ serial
         same e = cc
 
-module _ (names : List Mfa) (traced : List FunctionRef) (opening : Opening) (process : ℕ) (m : MemberView) (h : IsReader names opening process m) where
+module _ (names : List Mfa) (opening : Opening) (process : ℕ) (m : MemberView) (h : IsReader names opening process m) where
   abbrev p : Published
   p = held_by_view m
 
@@ -113,32 +111,32 @@ module _ (names : List Mfa) (traced : List FunctionRef) (opening : Opening) (pro
   once = record { areas = h.areas; images = images_once names p.state h.served.of }
 
   -- what may be held, the call of a slot may hold
-  pub may_hold : (serial : ℕ) (kind : Kind) → MayHold (shown_by names traced p).reads (holds_by anchors) serial kind → slots.MayHold process kind serial m
+  pub may_hold : (serial : ℕ) (kind : Kind) → MayHold (shown_by names p).reads (holds_by anchors) serial kind → slots.MayHold process kind serial m
   may_hold serial Frame (inl held) = inl (held_names Frame anchors serial held)
-  may_hold serial Frame (inr current) = inr (current_there names traced p serial current)
+  may_hold serial Frame (inr current) = inr (current_there names p serial current)
   may_hold serial Literal (inl held) = inl (held_names Literal anchors serial held)
-  may_hold serial Literal (inr (inl key)) = inr (inl (key_there names traced p serial key))
+  may_hold serial Literal (inr (inl key)) = inr (inl (key_there names p serial key))
   may_hold serial Literal (inr (inr frame)) = inr (inr (held_names Frame anchors serial frame))
 
   -- a turn may come to what may be held
-  may_come : (serial : ℕ) (kind : Kind) → MayHold (shown_by names traced p).reads (holds_by anchors) serial kind → MayCome m serial
+  may_come : (serial : ℕ) (kind : Kind) → MayHold (shown_by names p).reads (holds_by anchors) serial kind → MayCome m serial
   may_come serial kind (inl held) = inr (process, named_any kind anchors serial (held_names kind anchors serial held))
-  may_come serial Frame (inr current) = inl (reached_current p serial (current_there names traced p serial current))
-  may_come serial Literal (inr (inl key)) = inl (or_right (is_current p serial) (is_key_area p serial) (key_there names traced p serial key))
+  may_come serial Frame (inr current) = inl (reached_current p serial (current_there names p serial current))
+  may_come serial Literal (inr (inl key)) = inl (or_right (is_current p serial) (is_key_area p serial) (key_there names p serial key))
   may_come serial Literal (inr (inr frame)) = inr (process, named_any Frame anchors serial (held_names Frame anchors serial frame))
 
-  pub may_come_read : (serial : ℕ) → MayRead (shown_by names traced p).reads (holds_by anchors) serial → MayCome m serial
+  pub may_come_read : (serial : ℕ) → MayRead (shown_by names p).reads (holds_by anchors) serial → MayCome m serial
   may_come_read serial (inl frame) = may_come serial Frame frame
   may_come_read serial (inr literal) = may_come serial Literal literal
 
   -- what a hold newly names stands in the generation
-  pub stands_held : (serial : ℕ) (kind : Kind) → MayHold (shown_by names traced p).reads (holds_by anchors) serial kind → StandsIn p serial
+  pub stands_held : (serial : ℕ) (kind : Kind) → MayHold (shown_by names p).reads (holds_by anchors) serial kind → StandsIn p serial
   stands_held serial kind (inl held) = h.named serial (named_any kind anchors serial (held_names kind anchors serial held))
-  stands_held serial Frame (inr current) = h.used serial (used_reached p serial (reached_current p serial (current_there names traced p serial current)))
-  stands_held serial Literal (inr (inl key)) = h.used serial (used_reached p serial (or_right (is_current p serial) (is_key_area p serial) (key_there names traced p serial key)))
+  stands_held serial Frame (inr current) = h.used serial (used_reached p serial (reached_current p serial (current_there names p serial current)))
+  stands_held serial Literal (inr (inl key)) = h.used serial (used_reached p serial (or_right (is_current p serial) (is_key_area p serial) (key_there names p serial key)))
   stands_held serial Literal (inr (inr frame)) = h.named serial (named_any Frame anchors serial (held_names Frame anchors serial frame))
 
-  pub stands_read : (serial : ℕ) → MayRead (shown_by names traced p).reads (holds_by anchors) serial → StandsIn p serial
+  pub stands_read : (serial : ℕ) → MayRead (shown_by names p).reads (holds_by anchors) serial → StandsIn p serial
   stands_read serial (inl frame) = stands_held serial Frame frame
   stands_read serial (inr literal) = stands_held serial Literal literal
 
@@ -151,7 +149,7 @@ module _ (names : List Mfa) (traced : List FunctionRef) (opening : Opening) (pro
       ]
 
   -- and stands in its block
-  pub named_at : (area : AreaRef) → IsInBlock (shown_by names traced p) area → IsTrue (is_area_held (holds_by anchors) area.serial) → IsNamedAt m area
+  pub named_at : (area : AreaRef) → IsInBlock (shown_by names p) area → IsTrue (is_area_held (holds_by anchors) area.serial) → IsNamedAt m area
   named_at area block held =
       let named = names_held area.serial held in
       let s = h.named area.serial named in
@@ -159,11 +157,11 @@ module _ (names : List Mfa) (traced : List FunctionRef) (opening : Opening) (pro
       record { named = (process, named); words = s.words; stands = subst (λ (a : AreaRef). IsAreaOf p a s.words) same s.stands }
 
   -- the words that it shows of an area that stands
-  shown_words : (serial : ℕ) (s : StandsIn p serial) → (shown_by names traced p).words serial ≡ s.words
+  shown_words : (serial : ℕ) (s : StandsIn p serial) → (shown_by names p).words serial ≡ s.words
   shown_words serial s = ap (λ (o : Option (List ℕ)). unwrap_or o []) (sym (image_same p.state.areas serial) ∙ ap (image_of p.state.areas) (sym s.is) ∙ s.stands.image)
 
   -- a place that may be asked for may be read
-  pub readable_at : (area : AreaRef) (at : ℕ) → IsInBlock (shown_by names traced p) area → IsReadable (shown_by names traced p) area.serial at → MayRead (shown_by names traced p).reads (holds_by anchors) area.serial → IsReadAt m area.block at
+  pub readable_at : (area : AreaRef) (at : ℕ) → IsInBlock (shown_by names p) area → IsReadable (shown_by names p) area.serial at → MayRead (shown_by names p).reads (holds_by anchors) area.serial → IsReadAt m area.block at
   readable_at area at block readable reached =
       let s = stands_read area.serial reached in
       let same = (area_in_block p h.areas area.serial s area.block block) in
@@ -178,7 +176,7 @@ module _ (names : List Mfa) (traced : List FunctionRef) (opening : Opening) (pro
       }
 
   -- and has no entry word
-  pub no_entry_at : (area : AreaRef) (at : ℕ) (block : IsInBlock (shown_by names traced p) area) (readable : IsReadable (shown_by names traced p) area.serial at) (reached : MayRead (shown_by names traced p).reads (holds_by anchors) area.serial) →
+  pub no_entry_at : (area : AreaRef) (at : ℕ) (block : IsInBlock (shown_by names p) area) (readable : IsReadable (shown_by names p) area.serial at) (reached : MayRead (shown_by names p).reads (holds_by anchors) area.serial) →
       is_entry_word (record { area = area; words = (readable_at area at block readable reached).words }) at ≡ false
   unfolding readable_at
   no_entry_at area at block readable reached =
@@ -191,7 +189,7 @@ module _ (names : List Mfa) (traced : List FunctionRef) (opening : Opening) (pro
             elim readable.no_entry as (λ _. is_entry_word (record { area = area; words = s.words }) at ≡ false) [
               | inl term ↦ absurd (true≢false (sym term ∙ instance))
               | inr none ↦
-                  let count : (shown_by names traced p).reads.functions area.serial ≡ slice_index s.words 3 = ap (λ (b : Bool). if b then 0 else slice_index (words_in p.state area.serial) 3) instance ∙ ap (λ (w : List ℕ). slice_index w 3) same in
+                  let count : (shown_by names p).reads.functions area.serial ≡ slice_index s.words 3 = ap (λ (b : Bool). if b then 0 else slice_index (words_in p.state area.serial) 3) instance ∙ ap (λ (w : List ℕ). slice_index w 3) same in
                   other at area.block (unwrap_or (slice_get s.words 3) 0) (λ i less. none i (subst (λ (n : ℕ). i < n) (sym (count ∙ third s.words)) less))
             ]
       ]
@@ -217,8 +215,8 @@ module _ (names : List Mfa) (traced : List FunctionRef) (opening : Opening) (pro
           none (at / 4 - 1) (ltb-true (at / 4 - 1) count back.1) (omega (arith, low, rest)))
 
   -- so what is read there is what it shows
-  pub read_value : (area : AreaRef) (at found : ℕ) (block : IsInBlock (shown_by names traced p) area) (readable : IsReadable (shown_by names traced p) area.serial at) (reached : MayRead (shown_by names traced p).reads (holds_by anchors) area.serial) →
-      IsWordThere m area.block at found → found ≡ slice_index ((shown_by names traced p).words area.serial) at
+  pub read_value : (area : AreaRef) (at found : ℕ) (block : IsInBlock (shown_by names p) area) (readable : IsReadable (shown_by names p) area.serial at) (reached : MayRead (shown_by names p).reads (holds_by anchors) area.serial) →
+      IsWordThere m area.block at found → found ≡ slice_index ((shown_by names p).words area.serial) at
   unfolding readable_at
   read_value area at found block readable reached there =
       let r = readable_at area at block readable reached in

@@ -5,7 +5,6 @@ use Rattle.std.specs.List.{flat_map}
 use Rattle.std.proofs.lemmas.Bool.{eq-eqb, or_left, or_right}
 use Rattle.std.proofs.lemmas.List.Elements.{All-cons, All-head, All-nil, All-tail}
 use Rattle.term_core.specs.declared.atom.Mfa.{Mfa}
-use Rattle.term_core.specs.declared.generation.FunctionRef.{FunctionRef}
 use Rattle.term_core.specs.Image.{IsImageAt, term_at}
 use Rattle.term_core.specs.Plain.{term_of}
 use Rattle.area_core.specs.declared.table.Published.{Published}
@@ -39,7 +38,7 @@ use Rattle.word_view.specs.Views.{IsView, StandsIn, Viewed, held_of_view, shown_
 use Rattle.word_view.proofs.Coming.{block_listed, names_held}
 use Rattle.code_law.proofs.ServedAreas.{image_same}
 
-module _ (names : List Mfa) (traced seen : List FunctionRef) (p q : Published) where
+module _ (names : List Mfa) (p q : Published) where
   -- the area has the words and the block still
   pub record IsSame (serial : ℕ) : Type 0 where
     pub words : words_in p.state serial ≡ words_in q.state serial
@@ -47,13 +46,13 @@ module _ (names : List Mfa) (traced seen : List FunctionRef) (p q : Published) w
 
   -- ---- literals
 
-  readable_on : (serial at : ℕ) → IsSame serial → IsReadable (shown_by names traced p) serial at → IsReadable (shown_by names seen q) serial at
+  readable_on : (serial at : ℕ) → IsSame serial → IsReadable (shown_by names p) serial at → IsReadable (shown_by names q) serial at
   readable_on serial at same h = record {
     within = subst (λ (words : List ℕ). at < length words) same.words h.within;
     no_entry = subst (λ (words : List ℕ). (is_term_image words ≡ true) ⊎ ((i : ℕ) → i < function_count words → at ≢ 4 + 4 * i + 2)) same.words h.no_entry;
   }
 
-  literal_on : (at : LitRef) → IsSame at.area.serial → IsLiteral (shown_by names traced p) at → IsLiteral (shown_by names seen q) at
+  literal_on : (at : LitRef) → IsSame at.area.serial → IsLiteral (shown_by names p) at → IsLiteral (shown_by names q) at
   literal_on at same l = record {
     stands = l.stands ∙ same.block;
     term = l.term;
@@ -61,18 +60,18 @@ module _ (names : List Mfa) (traced seen : List FunctionRef) (p q : Published) w
     readable = λ i h. readable_on at.area.serial (at.at + i) same (l.readable i h);
   }
 
-  value_on : (value : Value) → ((n : ℕ) → is_among (value_areas (value ∷ [])) n ≡ true → IsSame n) → IsValue (shown_by names traced p) value → (value_shown (words_in p.state) value ≡ value_shown (words_in q.state) value) × IsValue (shown_by names seen q) value
+  value_on : (value : Value) → ((n : ℕ) → is_among (value_areas (value ∷ [])) n ≡ true → IsSame n) → IsValue (shown_by names p) value → (value_shown (words_in p.state) value ≡ value_shown (words_in q.state) value) × IsValue (shown_by names q) value
   value_on (Owned term) same h = (refl, tt)
   value_on (Literal at) same h =
       let here : IsSame at.area.serial = same at.area.serial (or_left (at.area.serial == at.area.serial) (is_among [] at.area.serial) (eq-eqb at.area.serial at.area.serial refl)) in
       (ap (λ (words : List ℕ). literal at.area.serial (term_of (term_at words at.at))) here.words, literal_on at here h)
 
-  values_on : (values : List Value) → ((n : ℕ) → is_among (value_areas values) n ≡ true → IsSame n) → All (IsValue (shown_by names traced p)) values → (values_shown (words_in p.state) values ≡ values_shown (words_in q.state) values) × All (IsValue (shown_by names seen q)) values
-  values_on [] same h = (refl, All-nil (IsValue (shown_by names seen q)))
+  values_on : (values : List Value) → ((n : ℕ) → is_among (value_areas values) n ≡ true → IsSame n) → All (IsValue (shown_by names p)) values → (values_shown (words_in p.state) values ≡ values_shown (words_in q.state) values) × All (IsValue (shown_by names q)) values
+  values_on [] same h = (refl, All-nil (IsValue (shown_by names q)))
   values_on (value ∷ values) same h =
-      let first = value_on value (λ n own. same n (among_front value values n own)) (All-head (IsValue (shown_by names traced p)) value values h) in
-      let rest = values_on values (λ n own. same n (among_behind value values n own)) (All-tail (IsValue (shown_by names traced p)) value values h) in
-      (λ i. first.0 i ∷ rest.0 i, All-cons (IsValue (shown_by names seen q)) value values first.1 rest.1)
+      let first = value_on value (λ n own. same n (among_front value values n own)) (All-head (IsValue (shown_by names p)) value values h) in
+      let rest = values_on values (λ n own. same n (among_behind value values n own)) (All-tail (IsValue (shown_by names p)) value values h) in
+      (λ i. first.0 i ∷ rest.0 i, All-cons (IsValue (shown_by names q)) value values first.1 rest.1)
     where
       among_front : (value : Value) (values : List Value) (n : ℕ) → is_among (value_areas (value ∷ [])) n ≡ true → is_among (value_areas (value ∷ values)) n ≡ true
       among_front (Owned term) values n own = absurd (cc)
@@ -94,36 +93,36 @@ module _ (names : List Mfa) (traced seen : List FunctionRef) (p q : Published) w
   abbrev literals : List Frame → List ℕ
   literals fs = flat_map (λ f. value_areas f.registers) fs
 
-  frames_on : (fs : List Frame) → ((n : ℕ) → is_among (instances fs) n ≡ true → IsSame n) → ((n : ℕ) → is_among (literals fs) n ≡ true → IsSame n) → AreValues (shown_by names traced p) fs
-      → (map (frame_of (words_in p.state)) fs ≡ map (frame_of (words_in q.state)) fs) × AreValues (shown_by names seen q) fs
-  frames_on [] own lit h = (refl, All-nil (HasValues (shown_by names seen q)))
+  frames_on : (fs : List Frame) → ((n : ℕ) → is_among (instances fs) n ≡ true → IsSame n) → ((n : ℕ) → is_among (literals fs) n ≡ true → IsSame n) → AreValues (shown_by names p) fs
+      → (map (frame_of (words_in p.state)) fs ≡ map (frame_of (words_in q.state)) fs) × AreValues (shown_by names q) fs
+  frames_on [] own lit h = (refl, All-nil (HasValues (shown_by names q)))
   frames_on (f ∷ fs) own lit h =
-      let head = All-head (HasValues (shown_by names traced p)) f fs h in
+      let head = All-head (HasValues (shown_by names p)) f fs h in
       let here : IsSame f.code.area.serial = own f.code.area.serial (or_left (f.code.area.serial == f.code.area.serial) (is_among (instances fs) f.code.area.serial) (eq-eqb f.code.area.serial f.code.area.serial refl)) in
       let first = values_on f.registers (λ n among. lit n (among_append (value_areas f.registers) (literals fs) n ∙ or_left (is_among (value_areas f.registers) n) (is_among (literals fs) n) among)) head.1 in
       let rest = frames_on fs (λ n among. own n (or_right (f.code.area.serial == n) (is_among (instances fs) n) among))
-      (λ n among. lit n (among_append (value_areas f.registers) (literals fs) n ∙ or_right (is_among (value_areas f.registers) n) (is_among (literals fs) n) among)) (All-tail (HasValues (shown_by names traced p)) f fs h) in (
+      (λ n among. lit n (among_append (value_areas f.registers) (literals fs) n ∙ or_right (is_among (value_areas f.registers) n) (is_among (literals fs) n) among)) (All-tail (HasValues (shown_by names p)) f fs h) in (
         λ i. record { serial = f.code.area.serial; function = f.code.function; place = f.place; back = f.back; registers = first.0 i } ∷ rest.0 i,
-        All-cons (HasValues (shown_by names seen q)) f fs (head.0 ∙ here.block, first.1) rest.1,
+        All-cons (HasValues (shown_by names q)) f fs (head.0 ∙ here.block, first.1) rest.1,
       )
 
   -- ---- places
 
-  placed_on : (f : PlainFrame) → IsSame f.serial → IsPlaced (shown_by names traced p).reads f → IsPlaced (shown_by names seen q).reads f
+  placed_on : (f : PlainFrame) → IsSame f.serial → IsPlaced (shown_by names p).reads f → IsPlaced (shown_by names q).reads f
   placed_on f same h = record {
     known = subst (λ (words : List ℕ). f.function < function_count words) same.words h.known;
     at = subst (λ (words : List ℕ). IsPlaceIn (slice_index words (row_of (entry_at f) + 3)) (λ place. instr_shown words (op_at words place)) f.place) same.words h.at;
     back = h.back;
   }
 
-  all_placed : (held : Holds) (frames : List PlainFrame) → ((n : ℕ) → is_among held.frames n ≡ true → IsSame n) → AreHeld held frames → ArePlaced (shown_by names traced p).reads frames → ArePlaced (shown_by names seen q).reads frames
+  all_placed : (held : Holds) (frames : List PlainFrame) → ((n : ℕ) → is_among held.frames n ≡ true → IsSame n) → AreHeld held frames → ArePlaced (shown_by names p).reads frames → ArePlaced (shown_by names q).reads frames
   all_placed held [] own h placed = tt
   all_placed held (f ∷ below) own h placed = (placed_on f (own f.serial h.0) placed.0, all_placed held below own h.2 placed.1)
 
   -- ---- the process
 
   -- where the areas that a process names are the same, so is what its frames stand for, and it may have a turn by either
-  module _ (held : Holds) (process : Process) (same : (serial : ℕ) → is_area_held held serial ≡ true → IsSame serial) (h : MayTurn (shown_by names traced p) held process) where
+  module _ (held : Holds) (process : Process) (same : (serial : ℕ) → is_area_held held serial ≡ true → IsSame serial) (h : MayTurn (shown_by names p) held process) where
     named : held ≡ code_names process.frames
     named = h.names ∙ sym (code_names-shown (words_in p.state) process.frames)
 
@@ -133,7 +132,7 @@ module _ (names : List Mfa) (traced seen : List FunctionRef) (p q : Published) w
     lit : (n : ℕ) → is_among held.literals n ≡ true → IsSame n
     lit n among = same n (or_right (is_among held.frames n) (is_among held.literals n) among)
 
-    both : (map (frame_of (words_in p.state)) process.frames ≡ map (frame_of (words_in q.state)) process.frames) × AreValues (shown_by names seen q) process.frames
+    both : (map (frame_of (words_in p.state)) process.frames ≡ map (frame_of (words_in q.state)) process.frames) × AreValues (shown_by names q) process.frames
     both =
         frames_on process.frames (λ n among. own n (ap (λ (x : Holds). is_among x.frames n) named ∙ among-serials_of (instances process.frames) n ∙ among))
         (λ n among. lit n (ap (λ (x : Holds). is_among x.literals n) named ∙ among-serials_of (literals process.frames) n ∙ among)) h.values
@@ -141,20 +140,20 @@ module _ (names : List Mfa) (traced seen : List FunctionRef) (p q : Published) w
     pub frames_stay : frames_of (words_in p.state) process.frames ≡ frames_of (words_in q.state) process.frames
     frames_stay = ap reverse both.0
 
-    pub may_go_on : MayTurn (shown_by names seen q) held process
+    pub may_go_on : MayTurn (shown_by names q) held process
     may_go_on =
         let frames : List PlainFrame = frames_of (words_in p.state) process.frames in
         record {
           going = subst (λ (fs : List PlainFrame). fs ≡ [] → process.turns ≡ 0) frames_stay h.going;
           names = named ∙ code_names-shown (words_in q.state) process.frames;
-          placed = subst (ArePlaced (shown_by names seen q).reads) frames_stay
+          placed = subst (ArePlaced (shown_by names q).reads) frames_stay
               (all_placed held frames own (subst (λ (x : Holds). AreHeld x frames) (sym h.names) (all_held frames)) h.placed);
           values = both.1;
         }
 
 -- ---- over a report
 
-module _ (v : Viewed) (b : tokens.Member) (generation : ℕ) (traced : List FunctionRef) (h : IsView v) (r : Reported (IsServed v.names) (view_of v.token) (view_of b) generation) where
+module _ (v : Viewed) (b : tokens.Member) (generation : ℕ) (h : IsView v) (r : Reported (IsServed v.names) (view_of v.token) (view_of b) generation) where
   abbrev m : MemberView
   m = view_of v.token
 
@@ -164,9 +163,9 @@ module _ (v : Viewed) (b : tokens.Member) (generation : ℕ) (traced : List Func
   abbrev q : Published
   q = held_by_view (view_of b)
 
-  same_area : (serial : ℕ) → is_area_held (held_of_view v) serial ≡ true → IsSame v.names v.traced traced p q serial
+  same_area : (serial : ℕ) → is_area_held (held_of_view v) serial ≡ true → IsSame v.names p q serial
   same_area serial held =
-      let anchor = names_held v.names v.traced v.opening v.process m h.reader serial held in
+      let anchor = names_held v.names v.opening v.process m h.reader serial held in
       let s : StandsIn p serial = h.reader.named serial anchor in
       let there = r.named s.area (v.process, subst (HasAnchor tests.names (anchors_of m v.process)) (sym s.is) anchor) s.stands.listed in
       record {
@@ -175,13 +174,13 @@ module _ (v : Viewed) (b : tokens.Member) (generation : ℕ) (traced : List Func
         block = ap (block_among p.areas) (sym s.is) ∙ block_listed p.areas h.reader.areas s.area s.stands.listed ∙ sym (block_listed q.areas r.areas.apart s.area there.listed) ∙ ap (block_among q.areas) s.is;
       }
 
-  pub goes_on : (process : Process) → MayTurn (shown_of_view v) (held_of_view v) process → MayTurn (shown_by v.names traced q) (holds_by (anchors_of (view_of b) v.process)) process
+  pub goes_on : (process : Process) → MayTurn (shown_of_view v) (held_of_view v) process → MayTurn (shown_by v.names q) (holds_by (anchors_of (view_of b) v.process)) process
   goes_on process ready =
-      subst (λ (held : Holds). MayTurn (shown_by v.names traced q) held process) (sym (ap (λ (x : MemberView). holds_by (anchors_of x v.process)) r.view))
-      (may_go_on v.names v.traced traced p q (held_of_view v) process same_area ready)
+      subst (λ (held : Holds). MayTurn (shown_by v.names q) held process) (sym (ap (λ (x : MemberView). holds_by (anchors_of x v.process)) r.view))
+      (may_go_on v.names p q (held_of_view v) process same_area ready)
 
   -- and it stands for what it stood for
-  pub stands_on : (process : Process) → MayTurn (shown_of_view v) (held_of_view v) process → process_of (shown_of_view v).words process ≡ process_of (shown_by v.names traced q).words process
+  pub stands_on : (process : Process) → MayTurn (shown_of_view v) (held_of_view v) process → process_of (shown_of_view v).words process ≡ process_of (shown_by v.names q).words process
   stands_on process ready =
       ap (λ (frames : List PlainFrame). record { number = process.number; target = process.target; args = process.args; turns = process.turns; frames = frames })
-      (frames_stay v.names v.traced traced p q (held_of_view v) process same_area ready)
+      (frames_stay v.names p q (held_of_view v) process same_area ready)

@@ -47,7 +47,7 @@ plain_among (p ∷ ps) (suc i) k value at is = plain_among ps i k value at is
 -- so a generation of the server holds no such word
 pub served_plain : (names : List Mfa) (p : Published) → IsOfServer names p.state → HasPlainWords p
 served_plain names p served key value h =
-    let s = state_of names [] p.state served in
+    let s = state_of names p.state served in
     plain_among s.state.keys h.among.0 h.term value (subst (λ (ks : List KeyTerm). slice_get ks h.among.0 ≡ Some h.term) s.keys h.among.1) h.holding_is
 
 -- ---- what is found

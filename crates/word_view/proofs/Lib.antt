@@ -5,6 +5,7 @@ pub mod Telling
 pub mod Anchoring
 pub mod Fullness
 pub mod Coming
+pub mod Deciding
 pub mod Keys
 pub mod Standing
 pub mod Calls

@@ -86,4 +86,4 @@ begun_view v b word found f read after token copied reading begun =
 -- and is lawful
 pub begun_lawful : (v : Viewed) (b : tokens.Member) → HasRead v.token b → MayBegin v.names v.opening v.process (view_of v.token) → IsLawful (shown_of_view (record v { token = b }))
 begun_lawful v b read begun =
-    subst (λ (p : Published). IsLawful (shown_by v.names v.traced p)) (sym (held_still v.token b read)) (served_lawful v.names (held_by_view (view_of v.token)).state begun.served.of v.traced (block_among (held_by_view (view_of v.token)).areas))
+    subst (λ (p : Published). IsLawful (shown_by v.names p)) (sym (held_still v.token b read)) (served_lawful v.names (held_by_view (view_of v.token)).state begun.served.of (block_among (held_by_view (view_of v.token)).areas))

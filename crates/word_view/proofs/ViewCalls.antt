@@ -14,7 +14,7 @@ use Rattle.term_core.specs.declared.hold.Kind.TheVariants.{Frame}
 use Rattle.mod_core.specs.ModuleImage.{function_place, module_image}
 use Rattle.mod_core.proofs.Places.{place_word}
 use Rattle.area_core.specs.declared.table.Published.{Published}
-use Rattle.area_core.specs.Generations.{has_serial, is_doomed, is_retired}
+use Rattle.area_core.specs.Generations.{has_serial, is_doomed, is_retired, is_traced}
 use Rattle.shared_words.specs.declared.seats.Member as tokens
 use Rattle.shared_words.specs.declared.view.MemberView.{MemberView}
 use Rattle.shared_words.specs.Processes.{AreCopied, held_by_view}
@@ -23,6 +23,7 @@ use Rattle.anchors.specs.Drops.{AnchorsStored, HasDropped}
 use Rattle.anchors.specs.Holds as slots
 use Rattle.anchors.specs.Holds.{AreOthers, HasHeld, anchors_of, view_of}
 use Rattle.anchors.proofs.Stored.{hold_stored}
+use Rattle.breakpoints.specs.Decisions.{MayDecide}
 use Rattle.term_table.specs.Keys.{HasPlainWords}
 use Rattle.server_core.specs.Generations.{number_of_name}
 use Rattle.server_core.specs.ServerState.{Entry, entry_of, found_as}
@@ -39,6 +40,7 @@ use Rattle.word_view.specs.Views.{IsView, Viewed, held_of_view, shown_by, shown_
 use Rattle.word_view.proofs.Anchoring.{held_less, held_more, held_names}
 use Rattle.word_view.proofs.Calls.{export_stands, export_value, leads_callable, nothing_reached}
 use Rattle.word_view.proofs.Coming.{block_listed, may_hold, named_at, read_value, readable_at, stands_held}
+use Rattle.word_view.proofs.Deciding.{may_decide, small_untraced}
 use Rattle.word_view.proofs.Fullness.{full_iff}
 use Rattle.word_view.proofs.Keys.{served_plain}
 use Rattle.word_view.proofs.HoldsKept.{hold_kept, refused_kept}
@@ -67,7 +69,7 @@ module _ (v old : Viewed) (is : v ≡ old) (h : IsView v) where
   -- ---- what stays
 
   pub same_shown : (b : tokens.Member) → HasRead v.token b → shown_of_view (record v { token = b }) ≡ shown_of_view old
-  same_shown b read = ap (shown_by v.names v.traced) (held_still v.token b read) ∙ ap shown_of_view is
+  same_shown b read = ap (shown_by v.names) (held_still v.token b read) ∙ ap shown_of_view is
 
   pub same_held : (b : tokens.Member) → HasRead v.token b → held_of_view (record v { token = b }) ≡ held_of_view old
   same_held b read = ap (λ (x : MemberView). holds_by (anchors_of x v.process)) read.view ∙ ap held_of_view is
@@ -78,13 +80,13 @@ module _ (v old : Viewed) (is : v ≡ old) (h : IsView v) where
   leads to n number = leads_callable v.names v.opening v.process m h.reader to n number
 
   pub export_none : (to : Mfa) → number_of_name v.names to ≡ None → None ≡ dispatched (shown_of_view old).reads to
-  export_none to none = sym (nothing_reached v.names v.opening v.process m h.reader to v.traced none) ∙ ap (λ (x : Viewed). dispatched (shown_of_view x).reads to) is
+  export_none to none = sym (nothing_reached v.names v.opening v.process m h.reader to none) ∙ ap (λ (x : Viewed). dispatched (shown_of_view x).reads to) is
 
   pub export_found : (to : Mfa) (n : ℕ) (r : Option CodeRef) → number_of_name v.names to ≡ Some n → IsCodeOf p (export_at p n) r → option_map entry_of r ≡ dispatched (shown_of_view old).reads to
-  export_found to n r number code = export_value v.names v.opening v.process m h.reader to v.traced n r number code ∙ ap (λ (x : Viewed). dispatched (shown_of_view x).reads to) is
+  export_found to n r number code = export_value v.names v.opening v.process m h.reader to n r number code ∙ ap (λ (x : Viewed). dispatched (shown_of_view x).reads to) is
 
   pub export_in_block : (to : Mfa) (n : ℕ) (r : Option CodeRef) → IsCodeOf p (export_at p n) r → IfSome r (λ at. IsInBlock (shown_of_view old) at.area)
-  export_in_block to n r code = subst (λ (x : Viewed). IfSome r (λ at. IsInBlock (shown_of_view x) at.area)) is (export_stands v.names v.opening v.process m h.reader to v.traced n r code)
+  export_in_block to n r code = subst (λ (x : Viewed). IfSome r (λ at. IsInBlock (shown_of_view x) at.area)) is (export_stands v.names v.opening v.process m h.reader to n r code)
 
   -- ---- words
 
@@ -99,11 +101,11 @@ module _ (v old : Viewed) (is : v ≡ old) (h : IsView v) where
     own_reached = subst (λ (x : Viewed). MayRead (shown_of_view x).reads (held_of_view x) area.serial) (sym is) reached
 
     pub word_may : IsReadAt m area.block at
-    word_may = readable_at v.names v.traced v.opening v.process m h.reader area at own_block own_readable own_reached
+    word_may = readable_at v.names v.opening v.process m h.reader area at own_block own_readable own_reached
 
     pub word_value : (found : ℕ) → IsWordThere m area.block at found → found ≡ slice_index ((shown_of_view old).words area.serial) at
     word_value found there =
-        read_value v.names v.traced v.opening v.process m h.reader area at found own_block own_readable own_reached there ∙ ap (λ (x : Viewed). slice_index ((shown_of_view x).words area.serial) at) is
+        read_value v.names v.opening v.process m h.reader area at found own_block own_readable own_reached there ∙ ap (λ (x : Viewed). slice_index ((shown_of_view x).words area.serial) at) is
 
   -- ---- the first places of functions
 
@@ -120,12 +122,36 @@ module _ (v old : Viewed) (is : v ≡ old) (h : IsView v) where
     pub entry_fits : (found : ℕ) → IsWordThere m code.area.block (4 + 4 * code.function + 3) found → found ≤ 1024
     entry_fits found there = subst (λ (n : ℕ). n ≤ 1024) (sym (entry_value found there)) entry.within
 
+    -- ---- breakpoints
+
+    own_lawful : IsLawful (shown_of_view v)
+    own_lawful = subst (λ (x : Viewed). IsLawful (shown_of_view x)) (sym is) lawful
+
+    own_stands : IsInBlock (shown_of_view v) code.area
+    own_stands = subst (λ (x : Viewed). IsInBlock (shown_of_view x) code.area) (sym is) block
+
+    own_known : HasFunction (shown_of_view v).reads (entry_of code)
+    own_known = subst (λ (x : Viewed). HasFunction (shown_of_view x).reads (entry_of code)) (sym is) known
+
+    own_come : MayHold (shown_of_view v).reads (held_of_view v) code.area.serial Frame
+    own_come = subst (λ (x : Viewed). MayHold (shown_of_view x).reads (held_of_view x) code.area.serial Frame) (sym is) reached
+
+    pub decision_may : code.area.block < 64 → MayDecide v.token.root m code
+    decision_may big = may_decide v.names v.opening v.process m h.reader code own_lawful own_stands own_known own_come v.token.root h.reading big
+
+    pub decision_value : (b : Bool) → b ≡ is_traced p code.area.serial code.function → b ≡ (shown_of_view old).reads.traced (entry_of code)
+    decision_value b told = told ∙ ap (λ (x : Viewed). (shown_of_view x).reads.traced (entry_of code)) is
+
+    -- what has a small block has no breakpoint
+    pub small_decided : 64 ≤ code.area.block → false ≡ (shown_of_view old).reads.traced (entry_of code)
+    small_decided small = decision_value false (sym (small_untraced v.names v.opening v.process m h.reader code own_lawful own_stands own_known own_come small))
+
   -- ---- what is told of areas
 
   module _ (area : AreaRef) (block : IsInBlock (shown_of_view old) area) (held : IsTrue (is_area_held (held_of_view old) area.serial)) where
     pub told_named : IsNamedAt m area
     told_named =
-        named_at v.names v.traced v.opening v.process m h.reader area (subst (λ (x : Viewed). IsInBlock (shown_of_view x) area) (sym is) block) (subst (λ (x : Viewed). IsTrue (is_area_held (held_of_view x) area.serial)) (sym is) held)
+        named_at v.names v.opening v.process m h.reader area (subst (λ (x : Viewed). IsInBlock (shown_of_view x) area) (sym is) block) (subst (λ (x : Viewed). IsTrue (is_area_held (held_of_view x) area.serial)) (sym is) held)
 
     pub retired_value : (b : Bool) → b ≡ is_retired p area.serial → b ≡ (shown_of_view old).reads.retired area.serial
     retired_value b told = told ∙ ap (λ (x : Viewed). (shown_of_view x).reads.retired area.serial) is
@@ -152,17 +178,17 @@ module _ (v old : Viewed) (is : v ≡ old) (h : IsView v) where
     own_hold = subst (λ (x : Viewed). MayHold (shown_of_view x).reads (held_of_view x) serial kind) (sym is) reached
 
     pub hold_may : slots.MayHold v.process kind serial m
-    hold_may = may_hold v.names v.traced v.opening v.process m h.reader serial kind own_hold
+    hold_may = may_hold v.names v.opening v.process m h.reader serial kind own_hold
 
     -- its serial has room in an anchor
     pub hold_room : serial < 2 ^ 62
     hold_room =
-        let s = stands_held v.names v.traced v.opening v.process m h.reader serial kind own_hold in
+        let s = stands_held v.names v.opening v.process m h.reader serial kind own_hold in
         subst (λ (n : ℕ). n < 2 ^ 62) s.is (serial_fits v.names p.state h.reader.served.of s.area.serial s.words s.stands.image)
 
     -- what is true of the view stays true, whether it is refused or not
     pub hold_view : (b : tokens.Member) (r : Result (Unit {0}) Full) → b.root ≡ v.token.root → IsMemberSeat v.table b.number b.seat → AreCopied b.anchors.items (view_of b) → OnOk r (HasHeld v.process kind serial m (view_of b)) → OnErr r (view_of b ≡ m) → IsView (record v { token = b })
-    hold_view b (Ok u) root token copied held same = hold_kept v b kind serial h root token copied (stands_held v.names v.traced v.opening v.process m h.reader serial kind own_hold) held
+    hold_view b (Ok u) root token copied held same = hold_kept v b kind serial h root token copied (stands_held v.names v.opening v.process m h.reader serial kind own_hold) held
     hold_view b (Err f) root token copied held same = refused_kept v b h root token copied same
 
   -- it is refused where 16 other areas are held
@@ -180,11 +206,11 @@ module _ (v old : Viewed) (is : v ≡ old) (h : IsView v) where
   refused_then b (Err f) same = ap (λ (x : MemberView). holds_by (anchors_of x v.process)) same ∙ ap held_of_view is
 
   shown_stored : (b : tokens.Member) → AnchorsStored v.process m (view_of b) → shown_of_view (record v { token = b }) ≡ shown_of_view old
-  shown_stored b stored = ap (λ (x : MemberView). shown_by v.names v.traced (held_by_view x)) stored.same ∙ ap shown_of_view is
+  shown_stored b stored = ap (λ (x : MemberView). shown_by v.names (held_by_view x)) stored.same ∙ ap shown_of_view is
 
   pub hold_shown : (b : tokens.Member) (serial : ℕ) (kind : Kind) (r : Result (Unit {0}) Full) → OnOk r (HasHeld v.process kind serial m (view_of b)) → OnErr r (view_of b ≡ m) → shown_of_view (record v { token = b }) ≡ shown_of_view old
   hold_shown b serial kind (Ok u) held same = shown_stored b (hold_stored v.process m (view_of b) held.stored)
-  hold_shown b serial kind (Err f) held same = ap (λ (x : MemberView). shown_by v.names v.traced (held_by_view x)) same ∙ ap shown_of_view is
+  hold_shown b serial kind (Err f) held same = ap (λ (x : MemberView). shown_by v.names (held_by_view x)) same ∙ ap shown_of_view is
 
   -- ---- drops
 
@@ -204,7 +230,7 @@ module _ (v old : Viewed) (is : v ≡ old) (h : IsView v) where
 
   pub term_value : (key : ℕ) (r : Found) → found_as r ≡ found_held (holding_among p.state.keys key) → found_as r ≡ found_of ((shown_of_view old).reads.key key)
   term_value key r is_found =
-      is_found ∙ served_keys v.names p.state h.reader.served.of v.traced key ∙ ap (λ (x : Viewed). found_of ((shown_of_view x).reads.key key)) is
+      is_found ∙ served_keys v.names p.state h.reader.served.of key ∙ ap (λ (x : Viewed). found_of ((shown_of_view x).reads.key key)) is
 
   pub term_stands : (r : Found) → IsFoundIn p r → IsFoundInBlock (shown_of_view old) r
   term_stands r listed = subst (λ (x : Viewed). IsFoundInBlock (shown_of_view x) r) is (in_block r listed)

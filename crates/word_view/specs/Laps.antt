@@ -2,7 +2,6 @@
 -- Source: Erlang/OTP erts internal documentation, ThreadProgress: a thread reports between what it does.
 use Rattle.std.specs.Prelude.{◌≡◌, ◌≢◌, ℕ, ◌%◌, ◌<◌, List, length, slice_get, Some}
 use Rattle.term_core.specs.declared.atom.Mfa.{Mfa}
-use Rattle.term_core.specs.declared.generation.FunctionRef.{FunctionRef}
 use Rattle.area_core.specs.declared.map.TheConstants.{PROCESSES}
 use Rattle.shared_words.specs.declared.opening.Opening.{Opening}
 use Rattle.shared_words.specs.declared.seats.Member as tokens
@@ -47,9 +46,9 @@ WakesAreReports =
 -- what a process stands for does not change by a report
 abbrev pub ReportsLeaveProcesses : Type 0
 ReportsLeaveProcesses =
-    (v : Viewed) (b : tokens.Member) (generation : ℕ) (traced : List FunctionRef) (process : Process) → IsView v
+    (v : Viewed) (b : tokens.Member) (generation : ℕ) (process : Process) → IsView v
     → Reported (IsServed v.names) (view_of v.token) (view_of b) generation → MayTurn (shown_of_view v) (held_of_view v) process
-    → process_of (shown_of_view v).words process ≡ process_of (shown_by v.names traced (held_by_view (view_of b))).words process
+    → process_of (shown_of_view v).words process ≡ process_of (shown_by v.names (held_by_view (view_of b))).words process
 
 -- ---- stores
 

@@ -1,7 +1,6 @@
 -- What holds of the generations that the shared words show.
 -- Source: Erlang/OTP erts internal documentation, CodeLoading: a turn sees one state of the code.
-use Rattle.std.specs.Prelude.{◌≢◌, ℕ, List}
-use Rattle.term_core.specs.declared.generation.FunctionRef.{FunctionRef}
+use Rattle.std.specs.Prelude.{◌≢◌, ℕ}
 use Rattle.shared_words.specs.declared.seats.Member as tokens
 use Rattle.progress_words.specs.Reports.{IsAwake, Reported}
 use Rattle.shared_words.specs.Processes.{held_by_view}
@@ -25,5 +24,5 @@ OthersStay =
 -- a process that may have its next turn under one generation may have it under the one that its member holds once it has reported
 abbrev pub TurnsGoOn : Type 0
 TurnsGoOn =
-    (v : Viewed) (b : tokens.Member) (generation : ℕ) (traced : List FunctionRef) (process : Process) → IsView v → Reported (IsServed v.names) (view_of v.token) (view_of b) generation → MayTurn (shown_of_view v) (held_of_view v) process
-    → MayTurn (shown_by v.names traced (held_by_view (view_of b))) (holds_by (anchors_of (view_of b) v.process)) process
+    (v : Viewed) (b : tokens.Member) (generation : ℕ) (process : Process) → IsView v → Reported (IsServed v.names) (view_of v.token) (view_of b) generation → MayTurn (shown_of_view v) (held_of_view v) process
+    → MayTurn (shown_by v.names (held_by_view (view_of b))) (holds_by (anchors_of (view_of b) v.process)) process

@@ -1,12 +1,10 @@
--- What a process sees of the code server by the shared words: the generation that its member holds, with a list of traced functions,
--- and what its slot names.
+-- What a process sees of the code server by the shared words: the generation that its member holds, and what its slot names.
 -- Source: Erlang/OTP erts internal documentation, CodeLoading; the words are this project's own.
 use Rattle.std.specs.Prelude.{◌≡◌, ℕ, true, List, Option, Some, None, IsTrue}
 use Rattle.atomic_table.specs.Seated.{TableId}
 use Rattle.prgr_core.specs.Members.{is_value}
 use Rattle.term_core.specs.declared.area.AreaRef.{AreaRef}
 use Rattle.term_core.specs.declared.atom.Mfa.{Mfa}
-use Rattle.term_core.specs.declared.generation.FunctionRef.{FunctionRef}
 use Rattle.area_core.specs.declared.table.Published.{Published}
 use Rattle.area_core.specs.Blocks.{Among, FitsBlock, InstancesPlaced}
 use Rattle.area_core.specs.Generations as tests
@@ -24,7 +22,7 @@ use Rattle.machine_core.specs.GenerationReads.{block_among, shown_in}
 use Rattle.machine_core.specs.Holds.{Holds}
 use Rattle.machine_core.specs.View.{Shown}
 use Rattle.word_view.specs.Anchored.{holds_by}
-use Rattle.code_law.specs.Served.{IsServed, with_traced}
+use Rattle.code_law.specs.Served.{IsServed}
 
 -- what contracts see of a view: the token of its member, of which table that is, and what the view was given
 pub record Viewed : Type 0 where
@@ -33,19 +31,17 @@ pub record Viewed : Type 0 where
   pub token : tokens.Member
   -- the names of functions by their numbers
   pub names : List Mfa
-  -- the functions whose calls are traced
-  pub traced : List FunctionRef
   pub process : ℕ
 
 -- ---- what it shows
 
--- what was published, by these names, with these functions traced, each area in its block
-abbrev pub shown_by : List Mfa → List FunctionRef → Published → Shown
-shown_by names traced p = shown_in names (block_among p.areas) (with_traced traced p.state)
+-- what was published, by these names, each area in its block
+abbrev pub shown_by : List Mfa → Published → Shown
+shown_by names p = shown_in names (block_among p.areas) p.state
 
 -- what a view shows is the generation that its member holds
 abbrev pub shown_of_view : Viewed → Shown
-shown_of_view v = shown_by v.names v.traced (held_by_view (view_of v.token))
+shown_of_view v = shown_by v.names (held_by_view (view_of v.token))
 
 -- what it holds is what the slot of its process names
 abbrev pub held_of_view : Viewed → Holds

@@ -1,9 +1,6 @@
-//! What is told of functions and areas: which are traced, retired and doomed.
+//! What is told of areas: which are retired and doomed.
 
 ghost use Rattle.std.specs.Prelude.{◌≡◌, ◌<◌, false, true};
-ghost use Rattle.std.specs.List.{list_any};
-ghost use Rattle.server_core.specs.ServerState.{entry_of};
-ghost use Rattle.machine_core.specs.GenerationReads.{is_function};
 ghost use Rattle.area_core.specs.declared.map.TheConstants.{BIG_BLOCKS as BIG};
 ghost use Rattle.area_core.specs.Generations.{is_doomed, is_retired, tells};
 ghost use Rattle.shared_words.specs.Processes.{held_by_view};
@@ -16,14 +13,7 @@ use crate::places::GENERATION_UNIT;
 use crate::reads::load;
 use literal_areas::{doom_word, retire_word};
 use shared_words::{Member, Served, Shared};
-use term_core::{AreaRef, CodeRef, FunctionRef};
-
-/// Whether a function is one of these.
-pub fn traced_in(traced: &[FunctionRef], at: CodeRef) -> bool
-    ensures { result ≡ list_any (is_function (entry_of at)) traced.now }
-{
-    traced.iter().any(|f| f.serial == at.area.serial && f.function == at.function)
-}
+use term_core::AreaRef;
 
 /// Whether a retire or doom word tells that something is so under a generation.
 fn tells_at(word: u64, generation: u64) -> bool

@@ -17,7 +17,7 @@ use machine_core::{LineList, Process, TurnEnd, turn};
 use shared_words::{Member, Served, Shared};
 use std::alloc::Global;
 use std::marker::Brand;
-use term_core::{FunctionRef, NoMemory};
+use term_core::NoMemory;
 
 /// A turn over a view, which is then taken apart.
 fn turn_over<N: Served, K: Began>(
@@ -41,7 +41,6 @@ fn begin_turn<N: Served, K: Began>(
     shared: &Shared<N>,
     member: Member,
     exports: &ExportTable,
-    traced: &[FunctionRef],
     number: u32,
     process: &mut Process,
     lines: &mut LineList,
@@ -50,16 +49,16 @@ fn begin_turn<N: Served, K: Began>(
     requires copied { AreCopied member.anchors.items (view_of member) }
     requires reading { IsReading member.root (view_of member) }
     requires begun { MayBegin exports.now shared.now.table.shared.key number (view_of member) }
-    requires ready { MayTurn (shown_by exports.now traced.now (held_by_view (view_of member))) (holds_by (anchors_of (view_of member) number)) process.old }
-    requires from { IsFrom K.began (record { table = shared.now.table.shared.table_id; opening = shared.now.table.shared.key; token = member; names = exports.now; traced = traced.now; process = number }) }
-    ensures { HasTurned K.began (shown_by exports.now traced.now (held_by_view (view_of member))) result.0 result.1 process.old process.new lines.old lines.new }
+    requires ready { MayTurn (shown_by exports.now (held_by_view (view_of member))) (holds_by (anchors_of (view_of member) number)) process.old }
+    requires from { IsFrom K.began (record { table = shared.now.table.shared.table_id; opening = shared.now.table.shared.key; token = member; names = exports.now; process = number }) }
+    ensures { HasTurned K.began (shown_by exports.now (held_by_view (view_of member))) result.0 result.1 process.old process.new lines.old lines.new }
 {
-    let view = WordView::<N, K>::new(shared, member, exports, traced, number);
+    let view = WordView::<N, K>::new(shared, member, exports, number);
     turn_over(alloc, view, process, lines)
 }
 
-/// One turn of the process of this number, under the generation that its member holds, over the shared words,
-/// with these functions traced. It takes memory for what the turn makes.
+/// One turn of the process of this number, under the generation that its member holds, over the shared words. It
+/// takes memory for what the turn makes.
 ///
 /// The member comes back, also after `NoMemory`. It has read words and stored anchors of this process, and
 /// else knows what it knew.
@@ -69,7 +68,6 @@ pub fn turn_of<N: Served>(
     shared: &Shared<N>,
     member: Member,
     exports: &ExportTable,
-    traced: &[FunctionRef],
     number: u32,
     process: &mut Process,
     lines: &mut LineList,
@@ -78,12 +76,10 @@ pub fn turn_of<N: Served>(
     requires copied { AreCopied member.anchors.items (view_of member) }
     requires reading { IsReading member.root (view_of member) }
     requires begun { MayBegin exports.now shared.now.table.shared.key number (view_of member) }
-    requires ready { MayTurn (shown_by exports.now traced.now (held_by_view (view_of member))) (holds_by (anchors_of (view_of member) number)) process.old }
-    ensures turn { IfOk result.1 (IsTurn (shown_by exports.now traced.now (held_by_view (view_of member))) (holds_by (anchors_of (view_of result.0) number)) process.old process.new lines.old lines.new) }
-    ensures view { IsView (record { table = shared.now.table.shared.table_id; opening = shared.now.table.shared.key; token = result.0; names = exports.now; traced = traced.now; process = number }) }
-    ensures gone { HasGoneOn (record { table = shared.now.table.shared.table_id; opening = shared.now.table.shared.key; token = member; names = exports.now; traced = traced.now; process = number }) (record { table = shared.now.table.shared.table_id; opening = shared.now.table.shared.key; token = result.0; names = exports.now; traced = traced.now; process = number }) }
+    requires ready { MayTurn (shown_by exports.now (held_by_view (view_of member))) (holds_by (anchors_of (view_of member) number)) process.old }
+    ensures turn { IfOk result.1 (IsTurn (shown_by exports.now (held_by_view (view_of member))) (holds_by (anchors_of (view_of result.0) number)) process.old process.new lines.old lines.new) }
+    ensures view { IsView (record { table = shared.now.table.shared.table_id; opening = shared.now.table.shared.key; token = result.0; names = exports.now; process = number }) }
+    ensures gone { HasGoneOn (record { table = shared.now.table.shared.table_id; opening = shared.now.table.shared.key; token = member; names = exports.now; process = number }) (record { table = shared.now.table.shared.table_id; opening = shared.now.table.shared.key; token = result.0; names = exports.now; process = number }) }
 {
-    begin_turn::<N, Brand>(
-        alloc, shared, member, exports, traced, number, process, lines,
-    )
+    begin_turn::<N, Brand>(alloc, shared, member, exports, number, process, lines)
 }

@@ -12,26 +12,25 @@ use crate::began::Began;
 use crate::exports::export_of;
 use crate::places::{BIG_BLOCKS, FIRST_PLACE, FIRST_ROW, ROW_WORDS};
 use crate::reads::{area_word, code_word};
-use crate::tells::{doomed_in, retired_in, traced_in};
+use crate::tells::{doomed_in, retired_in};
 use crate::terms::held_under;
 use anchors::{drop_hold, hold};
+use breakpoints::decision;
 use export_table::ExportTable;
 use machine_core::CodeView;
 use shared_words::{Member, Served, Shared};
 use std::marker::{Model, PhantomData};
-use term_core::{AreaRef, AtomId, CodeRef, Found, Full, FunctionRef, Kind, Mfa};
+use term_core::{AreaRef, AtomId, CodeRef, Found, Full, Kind, Mfa};
 
 /// The view of the generation that a member holds, for a turn of one of its processes. It has the member's
 /// token until it is taken apart.
 ///
-/// Contracts see the token, of which table it is, the names of functions by their numbers, the functions
-/// that are traced, and the process.
+/// Contracts see the token, of which table it is, the names of functions by their numbers, and the process.
 #[derive(Drop)]
 pub struct WordView<'a, N: Served, K: Began> {
     shared: &'a Shared<N>,
     member: Member,
     exports: &'a ExportTable,
-    traced: &'a [FunctionRef],
     process: u32,
     of: PhantomData<K>,
 }
@@ -51,7 +50,6 @@ impl<'a, N: Served, K: Began> Model for WordView<'a, N, K> {
       opening = v.shared.now.table.shared.key;
       token = v.member;
       names = v.exports.now;
-      traced = v.traced.now;
       process = v.process;
     } };
 
@@ -60,19 +58,17 @@ impl<'a, N: Served, K: Began> Model for WordView<'a, N, K> {
       opening = v.shared.now.table.shared.key;
       token = v.member;
       names = v.exports.now;
-      traced = v.traced.now;
       process = v.process;
     }) };
 }
 
 impl<'a, N: Served, K: Began> WordView<'a, N, K> {
-    /// The view of the generation that the member holds, with these functions traced. It loads one word,
-    /// which tells where the areas of the generation stand. It takes no memory.
+    /// The view of the generation that the member holds. It loads one word, which tells where the areas of the
+    /// generation stand. It takes no memory.
     pub fn new(
         shared: &'a Shared<N>,
         member: Member,
         exports: &'a ExportTable,
-        traced: &'a [FunctionRef],
         process: u32,
     ) -> WordView<'a, N, K>
         // the member is one of the table, and holds the generation of its root word
@@ -82,14 +78,13 @@ impl<'a, N: Served, K: Began> WordView<'a, N, K> {
         // it may make a turn of the process
         requires begun { MayBegin exports.now shared.now.table.shared.key process (view_of member) }
         // this is what the view was, if that is picked
-        requires from { IsFrom K.began (record { table = shared.now.table.shared.table_id; opening = shared.now.table.shared.key; token = member; names = exports.now; traced = traced.now; process = process }) }
-        ensures shown { shown_of_view result ≡ shown_by exports.now traced.now (held_by_view (view_of member)) }
+        requires from { IsFrom K.began (record { table = shared.now.table.shared.table_id; opening = shared.now.table.shared.key; token = member; names = exports.now; process = process }) }
+        ensures shown { shown_of_view result ≡ shown_by exports.now (held_by_view (view_of member)) }
         ensures held { held_of_view result ≡ holds_by (anchors_of (view_of member) process) }
         ensures lawful { IsLawful (shown_of_view result) }
         ensures table { result.table ≡ shared.now.table.shared.table_id }
         ensures opening { result.opening ≡ shared.now.table.shared.key }
         ensures names { result.names ≡ exports.now }
-        ensures traced { result.traced ≡ traced.now }
         ensures process { result.process ≡ process }
     {
         let mut member = member;
@@ -98,7 +93,6 @@ impl<'a, N: Served, K: Began> WordView<'a, N, K> {
             shared,
             member,
             exports,
-            traced,
             process,
             of: PhantomData,
         }
@@ -134,7 +128,12 @@ impl<'a, N: Served, K: Began> CodeView for WordView<'a, N, K> {
     }
 
     fn decision(&mut self, at: CodeRef) -> bool {
-        traced_in(self.traced, at)
+        let shared = self.shared;
+        // what has a small block was dropped, and has no breakpoints
+        if at.area.block >= BIG_BLOCKS {
+            return false;
+        }
+        decision(shared, &mut self.member, at)
     }
 
     fn doomed(&mut self, area: AreaRef) -> bool {

@@ -26,7 +26,7 @@ module _ (v : Viewed) (shown : Shown) (member : tokens.Member) (end : Result Tur
   has_gone = subst (HasGoneOn v) after_is h.from
 
 pub begin_turn-requires-clause-from : goal.begin_turn-requires-clause-from
-begin_turn-requires-clause-from g c = gone_none (record { table = c.args.shared.now.table.shared.table_id; opening = c.args.shared.now.table.shared.key; token = c.args.member; names = c.args.exports.now; traced = c.args.traced.now; process = c.args.number })
+begin_turn-requires-clause-from g c = gone_none (record { table = c.args.shared.now.table.shared.table_id; opening = c.args.shared.now.table.shared.key; token = c.args.member; names = c.args.exports.now; process = c.args.number })
 
 pub returns-clause-turn : goal.returns-clause-turn
 returns-clause-turn g c = is_turn _ _ _ _ _ _ _ _ c.begin_turn.ensures

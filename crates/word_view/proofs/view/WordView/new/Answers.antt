@@ -16,17 +16,17 @@ code_word-requires-clause-entry g c = lit< tt
 
 pub invariant_of-result : goal.invariant_of-result
 invariant_of-result g c =
-    let v : Viewed = record { table = c.args.shared.now.table.shared.table_id; opening = c.args.shared.now.table.shared.key; token = c.args.member; names = c.args.exports.now; traced = c.args.traced.now; process = c.args.process } in
+    let v : Viewed = record { table = c.args.shared.now.table.shared.table_id; opening = c.args.shared.now.table.shared.key; token = c.args.member; names = c.args.exports.now; process = c.args.process } in
     begun_from g.K.Began.began v c.code_word.new.member c.code_word.ensures.read
     (begun_view v c.code_word.new.member (block_place (held_by_view (view_of c.args.member)).root.code 0) c.code_word.result c.code_word.ensures.found c.code_word.ensures.read c.code_word.ensures.token c.requires.token c.requires.copied c.requires.reading c.requires.begun)
     c.requires.from
 
 pub returns-clause-shown : goal.returns-clause-shown
-returns-clause-shown g c = ap (shown_by c.args.exports.now c.args.traced.now) (held_still c.args.member c.code_word.new.member c.code_word.ensures.read)
+returns-clause-shown g c = ap (shown_by c.args.exports.now) (held_still c.args.member c.code_word.new.member c.code_word.ensures.read)
 
 pub returns-clause-held : goal.returns-clause-held
 returns-clause-held g c = ap (λ (m : MemberView). holds_by (anchors_of m c.args.process)) c.code_word.ensures.read.view
 
 pub returns-clause-lawful : goal.returns-clause-lawful
 returns-clause-lawful g c =
-    begun_lawful (record { table = c.args.shared.now.table.shared.table_id; opening = c.args.shared.now.table.shared.key; token = c.args.member; names = c.args.exports.now; traced = c.args.traced.now; process = c.args.process }) c.code_word.new.member c.code_word.ensures.read c.requires.begun
+    begun_lawful (record { table = c.args.shared.now.table.shared.table_id; opening = c.args.shared.now.table.shared.key; token = c.args.member; names = c.args.exports.now; process = c.args.process }) c.code_word.new.member c.code_word.ensures.read c.requires.begun
