@@ -37,7 +37,6 @@ use Rattle.word_view.proofs.Anchoring.{agree}
 use Rattle.run_law.specs.Answers.{AreAnswersKept, HasDrop, HasLingering, HasPurge, IsAnswerKept}
 use Rattle.run_law.specs.Ended.{IsMemberOf}
 use Rattle.run_law.specs.Ends.{IsOver}
-use Rattle.run_law.specs.Reading.{TracedBy}
 use Rattle.run_law.proofs.Marks.{Tells, both_unnamed, frame_left, last_told, lingers_told, told_of}
 use Rattle.run_law.proofs.Processes.{has_slot, known_in, line_of_process, member_of_process, ran, rests_in, told}
 
@@ -53,7 +52,7 @@ drop_kept s published kept (cmds.SoftPurge name None) serial is h = MatchOption-
 drop_kept s published kept (cmds.Purge name killed) serial is h = (MatchOption-at_some ⊤ (λ n. HasPurge kept n published killed) serial is h).dropped
 drop_kept s published kept cmd serial is h = absurd (none-some serial is)
 
-module _ (names : List Mfa) (traced : TracedBy) (s : Script) (log : RunLog) (w : WriterView) (over : IsOver names traced s log w)
+module _ (names : List Mfa) (s : Script) (log : RunLog) (w : WriterView) (over : IsOver names s log w)
     (answered : AreAnswersKept s.modules log.journal w.looks) where
   -- what the entry of this command keeps
   own_answer : (place : ℕ) (e : Entry) → slice_get log.journal place ≡ Some e → (cmd : Cmd) → e.cmd ≡ cmd
@@ -67,11 +66,11 @@ module _ (names : List Mfa) (traced : TracedBy) (s : Script) (log : RunLog) (w :
       → slice_get log.processes number ≡ Some process → IsMemberOf w number m
       → IfSome (last_turn_up_to published (reverse (process_of m number).marks)) (slots.NamesNot kind serial)
   unmarked kind serial published number process m d at own =
-      let line = line_of_process names traced s log w over number process at in
+      let line = line_of_process names s log w over number process at in
       let turns : List words.Mark = reverse (process_of m number).marks in
       let here = drop_true (under_of m) number (process_of m number) w.looks d.drop
-      (known_in names traced s log w over number line.0 process m line.1 at own)
-      (rests_in names traced s log w over number line.0 process m line.1 at own) d.among in
+      (known_in names s log w over number line.0 process m line.1 at own)
+      (rests_in names s log w over number line.0 process m line.1 at own) d.among in
       subst (λ (n : ℕ). IfSome (last_turn_up_to n turns) (slots.NamesNot kind serial)) d.published_is
       (subst (λ (n : ℕ). IfSome (last_turn_up_to d.drop.generation turns) (slots.NamesNot kind n)) d.serial_is
       (subst (λ (k : LookKind). IfSome (last_turn_up_to d.drop.generation turns) (slots.NamesNot k d.drop.wait.serial)) d.kind_is here))
@@ -81,11 +80,11 @@ module _ (names : List Mfa) (traced : TracedBy) (s : Script) (log : RunLog) (w :
       → ((m : words.Mark) (turn : Mark) → Tells m turn → slots.NamesNot kind serial m → Q turn) → HasDrop w.looks kind serial published
       → slice_get log.processes number ≡ Some process → IfSome (last_up_to published (turns_in_log s log number process)) Q
   unnamed kind serial published number process Q f d at =
-      let m = member_of_process names traced s log w over number in
-      let line = line_of_process names traced s log w over number process at in
+      let m = member_of_process names s log w over number in
+      let line = line_of_process names s log w over number process at in
       let turns : List words.Mark = reverse (process_of m.0 number).marks in
       told_of (slots.NamesNot kind serial) Q f (last_turn_up_to published turns) (last_up_to published (turns_in_log s log number process))
-      (last_told published turns (turns_in_log s log number process) (told names traced s log w over number line.0 process m.0 line.1 at m.1).marks)
+      (last_told published turns (turns_in_log s log number process) (told names s log w over number line.0 process m.0 line.1 at m.1).marks)
       (unmarked kind serial published number process m.0 d at m.1)
 
   pub released_unnamed : ReleasedUnnamed s log
@@ -115,7 +114,7 @@ module _ (names : List Mfa) (traced : TracedBy) (s : Script) (log : RunLog) (w :
   lingering : (serial published : ℕ) (linger : Linger) → HasLingering w.looks serial published linger
       → IsSomeAnd (slice_get log.processes linger.process) (λ process. Lingers serial published linger.turn (turns_in_log s log linger.process process))
   lingering serial published linger kept =
-      let m = member_of_process names traced s log w over linger.process in
+      let m = member_of_process names s log w over linger.process in
       let marks : List words.Mark = reverse (process_of m.0 linger.process).marks in
       let known = over.come.known linger.process m.0 kept.below m.1 in
       let here = answer_true (under_of m.0) linger.process (process_of m.0 linger.process) w.looks kept.answer known kept.among kept.process_is in
@@ -125,10 +124,10 @@ module _ (names : List Mfa) (traced : TracedBy) (s : Script) (log : RunLog) (w :
       (subst (λ (n : ℕ). LingersAfter n kept.answer.wait.generation kept.answer.turns marks) kept.serial_is here)) in
       by_number linger.process (IsSomeAnd (slice_get log.processes linger.process) (λ process. Lingers serial published linger.turn (turns_in_log s log linger.process process)))
       (λ process at.
-      let line = line_of_process names traced s log w over linger.process process at in
+      let line = line_of_process names s log w over linger.process process at in
       some_at (slice_get log.processes linger.process) (λ x. Lingers serial published linger.turn (turns_in_log s log linger.process x)) process at
       (lingers_told serial published linger.turn marks (turns_in_log s log linger.process process)
-      (told names traced s log w over linger.process line.0 process m.0 line.1 at m.1).marks lingered))
+      (told names s log w over linger.process line.0 process m.0 line.1 at m.1).marks lingered))
       (λ past.
       let none = (over.run.others linger.process m.0 past kept.below m.1).marks in
       absurd (none-some lingered.mark (sym (ap (λ (ms : List words.Mark). slice_get (reverse ms) lingered.place) none) ∙ lingered.had)))
@@ -152,22 +151,22 @@ module _ (names : List Mfa) (traced : TracedBy) (s : Script) (log : RunLog) (w :
       there : killed ≡ true → list_any (λ process. is_killed_by serial process.fin) log.processes ≡ true
       there yes_killed =
           let k = p.told.0 yes_killed in
-          let m = member_of_process names traced s log w over k.0 in
+          let m = member_of_process names s log w over k.0 in
           let anchor = (slot_told k.0 m.0 k.1.0 m.1).1 k.1.1 in
           by_number k.0 (list_any (λ process. is_killed_by serial process.fin) log.processes ≡ true)
           (λ process at.
-          let line = line_of_process names traced s log w over k.0 process at in
-          let fin = ((ran names traced s log w over k.0 line.0 process m.0 line.1 at m.1).killed serial).0 anchor in
+          let line = line_of_process names s log w over k.0 process at in
+          let fin = ((ran names s log w over k.0 line.0 process m.0 line.1 at m.1).killed serial).0 anchor in
           some_passes (λ (x : ProcessLog). is_killed_by serial x.fin) log.processes k.0 process at (ap (is_killed_by serial) fin ∙ eq-eqb serial serial refl))
           (λ past. absurd ((over.run.others k.0 m.0 past k.1.0 m.1).killed serial anchor))
 
       back : list_any (λ process. is_killed_by serial process.fin) log.processes ≡ true → killed ≡ true
       back some_killed =
           let q = passed_by (λ (x : ProcessLog). is_killed_by serial x.fin) log.processes some_killed in
-          let m = member_of_process names traced s log w over q.1 in
-          let line = line_of_process names traced s log w over q.1 q.0 q.2 in
-          let below = has_slot names traced s log w over q.1 q.0 q.2 in
-          let anchor = ((ran names traced s log w over q.1 line.0 q.0 m.0 line.1 q.2 m.1).killed serial).1 (killed_by serial (q.0).fin q.3) in
+          let m = member_of_process names s log w over q.1 in
+          let line = line_of_process names s log w over q.1 q.0 q.2 in
+          let below = has_slot names s log w over q.1 q.0 q.2 in
+          let anchor = ((ran names s log w over q.1 line.0 q.0 m.0 line.1 q.2 m.1).killed serial).1 (killed_by serial (q.0).fin q.3) in
           p.told.1 (q.1, (below, (slot_told q.1 m.0 below m.1).0 anchor))
 
   pub purged_unnamed : PurgedUnnamed s log

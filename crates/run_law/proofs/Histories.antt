@@ -8,28 +8,27 @@ use Rattle.run_log.specs.Legal.{SpawnBeforeTurns, TurnsFollow}
 use Rattle.run_law.specs.Answers.{AreAnswersKept}
 use Rattle.run_law.specs.Ends.{Closes, HasItsRest, IsHistory, IsOver}
 use Rattle.run_law.specs.Laws.{HasAllTurns}
-use Rattle.run_law.specs.Reading.{TracedBy}
 use Rattle.run_law.proofs.Clauses.{lingering_told, purged_unnamed, released_unnamed}
 use Rattle.run_law.proofs.Processes.{all_match, all_published, all_turned, all_whole, line_of_process, member_of_process, told}
 
-module _ (names : List Mfa) (traced : TracedBy) (s : Script) (log : RunLog) (w : WriterView) (over : IsOver names traced s log w) where
+module _ (names : List Mfa) (s : Script) (log : RunLog) (w : WriterView) (over : IsOver names s log w) where
   pub spawn_first : SpawnBeforeTurns s log
   spawn_first number line process line_is at =
-      let m = member_of_process names traced s log w over number in
-      (told names traced s log w over number line process m.0 line_is at m.1).started
+      let m = member_of_process names s log w over number in
+      (told names s log w over number line process m.0 line_is at m.1).started
 
   pub turns_follow : TurnsFollow s log
   turns_follow number process at =
-      let m = member_of_process names traced s log w over number in
-      let line = line_of_process names traced s log w over number process at in
-      (told names traced s log w over number line.0 process m.0 line.1 at m.1).follow
+      let m = member_of_process names s log w over number in
+      let line = line_of_process names s log w over number process at in
+      (told names s log w over number line.0 process m.0 line.1 at m.1).follow
 
   pub all_turns : HasAllTurns s log
   all_turns = record {
-    processes = all_match names traced s log w over;
-    turns = all_turned names traced s log w over;
-    generations = all_published names traced s log w over;
-    whole = all_whole names traced s log w over;
+    processes = all_match names s log w over;
+    turns = all_turned names s log w over;
+    generations = all_published names s log w over;
+    whole = all_whole names s log w over;
   }
 
   pub table_closes : Closes names s log w
@@ -38,8 +37,8 @@ module _ (names : List Mfa) (traced : TracedBy) (s : Script) (log : RunLog) (w :
     staffed = over.come.staffed;
     published = over.published;
     marks = λ number process m at own.
-        let line = line_of_process names traced s log w over number process at in
-        (told names traced s log w over number line.0 process m line.1 at own).marks;
+        let line = line_of_process names s log w over number process at in
+        (told names s log w over number line.0 process m line.1 at own).marks;
   }
 
   pub run_history : AreAnswersKept s.modules log.journal w.looks → HasItsRest s log → IsHistory names s log w
@@ -49,9 +48,9 @@ module _ (names : List Mfa) (traced : TracedBy) (s : Script) (log : RunLog) (w :
       loaders_in_order = rest.loaders_in_order;
       spawn_before_turns = spawn_first;
       turns_follow = turns_follow;
-      released_unnamed = released_unnamed names traced s log w over answered;
-      lingers_told = lingering_told names traced s log w over answered;
-      purged_unnamed = purged_unnamed names traced s log w over answered;
+      released_unnamed = released_unnamed names s log w over answered;
+      lingers_told = lingering_told names s log w over answered;
+      purged_unnamed = purged_unnamed names s log w over answered;
       snapshots_true = rest.snapshots_true;
       nothing_retired = rest.nothing_retired;
       complete = record {

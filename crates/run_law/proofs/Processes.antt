@@ -38,7 +38,7 @@ use Rattle.run_law.specs.Ended.{HasRun, IsMemberOf}
 use Rattle.run_law.specs.Ends.{IsOver}
 use Rattle.run_law.specs.Laws.{AreLearnt}
 use Rattle.run_law.specs.Published.{states_of}
-use Rattle.run_law.specs.Reading.{MarksTell, TracedBy, reads_under}
+use Rattle.run_law.specs.Reading.{MarksTell, reads_under}
 use Rattle.run_law.proofs.Marks.{between_within, made_generations, rising}
 use Rattle.run_law.proofs.States.{own_generation}
 use Rattle.run_law.proofs.Tied.{made_tied}
@@ -60,7 +60,7 @@ pub record IsTold (s : Script) (log : RunLog) (m : MemberView) (number : ℕ) (l
   pub whole : AreWhole process.spans
   pub marks : MarksTell (reverse (process_of m number).marks) (turns_in_log s log number process)
 
-module _ (names : List Mfa) (traced : TracedBy) (s : Script) (log : RunLog) (w : WriterView) (over : IsOver names traced s log w) where
+module _ (names : List Mfa) (s : Script) (log : RunLog) (w : WriterView) (over : IsOver names s log w) where
   abbrev states : ℕ → ServerState
   states = states_of s.modules log.journal
 
@@ -86,19 +86,18 @@ module _ (names : List Mfa) (traced : TracedBy) (s : Script) (log : RunLog) (w :
       let long : length w.published ≡ length (m.seen ++ b.0) = ap (λ (xs : List Published). length xs) b.1 in
       omega (arith, long, length-append m.seen b.0)
 
-  member_learnt : (k : ℕ) (m : MemberView) → slice_get w.members k ≡ Some m → AreLearnt names s.modules log.journal traced m.seen
+  member_learnt : (k : ℕ) (m : MemberView) → slice_get w.members k ≡ Some m → AreLearnt names s.modules log.journal m.seen
   member_learnt k m at = record {
     replayed = over.journal;
     published = w.published;
     beginning = over.come.learnt k m at;
     are = over.published;
-    traces = λ g below. over.traces g (omega (arith, below, few_learnt k m at));
   }
 
   -- ---- one process of the log
   module _ (number : ℕ) (line : SpawnLine) (process : ProcessLog) (m : MemberView)
       (line_is : slice_get (spawns_of 0 s.loaders) number ≡ Some line) (at : slice_get log.processes number ≡ Some process) (own : IsMemberOf w number m) where
-    pub ran : HasRun names traced log.journal m number line process
+    pub ran : HasRun names log.journal m number line process
     ran = over.run.each number line process m line_is at own
 
     pub known_in : IsKnown (under_of m) number (process_of m number) w.looks
@@ -113,16 +112,16 @@ module _ (names : List Mfa) (traced : TracedBy) (s : Script) (log : RunLog) (w :
     abbrev from : ℕ
     from = published_before line.loader line.place log.journal
 
-    made : AreAlsoMade (λ g. reads_of (states g)) ran.turned.generations (marks_made (reads_under names traced m.seen) ran.turned.generations first) first ran.last
+    made : AreAlsoMade (λ g. reads_of (states g)) ran.turned.generations (marks_made (reads_under names m.seen) ran.turned.generations first) first ran.last
     made =
-        made_tied names s.modules log.journal traced m.seen (member_learnt (number % length w.members) m own) ran.turned.generations first ran.last
+        made_tied names s.modules log.journal m.seen (member_learnt (number % length w.members) m own) ran.turned.generations first ran.last
         ran.turned.learnt ran.turned.placed ran.turned.made
 
     -- its turns are under no generation before that of its spawn, and under none before that of the turn before
     rises : AreBetween from (under_of m).generation ran.turned.generations
     rises =
         subst (AreBetween from (under_of m).generation)
-        (made_generations (reads_under names traced m.seen) ran.turned.generations first (reverse (process_of m number).marks) ran.turned.marks)
+        (made_generations (reads_under names m.seen) ran.turned.generations first (reverse (process_of m number).marks) ran.turned.marks)
         (rising from (under_of m).generation (process_of m number).marks known_in.falling
         (subst (λ (o : Option ℕ). IsNoted o (under_of m) (process_of m number)) ran.noted known_in.noted).0)
 
@@ -143,7 +142,7 @@ module _ (names : List Mfa) (traced : TracedBy) (s : Script) (log : RunLog) (w :
     start : new_process number line.target line.args ≡ new_process number (ran.last).process.target (ran.last).process.args
     start = same_start number line (ran.last).process spawned.was.target spawned.was.args
 
-    turns_same : marks_made (reads_under names traced m.seen) ran.turned.generations first ≡ turns_in_log s log number process
+    turns_same : marks_made (reads_under names m.seen) ran.turned.generations first ≡ turns_in_log s log number process
     turns_same =
         made.marks_are
         ∙ sym follows.marks

@@ -1,32 +1,28 @@
 -- A turn by the words of a generation that was learnt of is the turn under the state of the journal.
-use Rattle.std.proofs.Common.{◌≡◌, ℕ, zero, suc, ◌+◌, ◌<◌, List, [], ◌∷◌, ◌++◌, length, map, slice_get, Option, Some, refl, sym, ap, subst, ◌∙◌, arith}
+use Rattle.std.proofs.Common.{◌≡◌, ℕ, zero, suc, ◌<◌, List, [], ◌∷◌, ◌++◌, length, slice_get, Option, Some, refl, sym, ap, subst, ◌∙◌}
 use Rattle.std.specs.List.{AllByRecursion}
-use Rattle.std.specs.Prelude.{min, unwrap_or}
+use Rattle.std.specs.Prelude.{unwrap_or}
 use Rattle.term_core.specs.declared.atom.Mfa.{Mfa}
-use Rattle.term_core.specs.declared.generation.FunctionRef.{FunctionRef}
-use Rattle.term_core.specs.declared.generation.Generation.{Generation}
 use Rattle.mod_core.specs.declared.code.Module.{Module}
 use Rattle.area_core.specs.declared.table.Published.{Published}
-use Rattle.area_core.specs.Step.{empty_generation, opening_published}
+use Rattle.area_core.specs.Step.{opening_published}
 use Rattle.shared_words.specs.Views.{published_at}
-use Rattle.server_core.specs.Generations.{function_ref, generation_of}
+use Rattle.server_core.specs.Generations.{generation_of}
 use Rattle.server_core.specs.ServerState.{ServerState, empty_state}
 use Rattle.machine_core.specs.GenerationReads.{reads_in}
 use Rattle.machine_core.specs.Reads.{Reads}
 use Rattle.machine_core.specs.ServerReads.{reads_of}
 use Rattle.machine_core.specs.Turn.{ArePlaced, turn_by}
 use Rattle.machine_core.proofs.GenerationTurns.{generation_ran}
-use Rattle.code_law.specs.Served.{with_traced}
 use Rattle.code_law.proofs.States.{empty_reads}
 use Rattle.run_log.specs.declared.logs.Entry.{Entry}
-use Rattle.run_log.specs.Journal.{published_count}
 use Rattle.run_log.proofs.ListPlaces.{all_weaker, get_within}
 use Rattle.run_steps.specs.MadeTurns.{AreAlsoMade, ArePlacedOver, TurnsAlike, TurnsMade, marks_made}
 use Rattle.run_steps.specs.Stands.{Stand}
 use Rattle.run_steps.proofs.MadeTurns.{made_alike}
 use Rattle.run_law.specs.Laws.{AreLearnt}
 use Rattle.run_law.specs.Published.{shown_at, states_of}
-use Rattle.run_law.specs.Reading.{AreTraced, TracedBy, reads_under, traced_by}
+use Rattle.run_law.specs.Reading.{reads_under}
 use Rattle.run_law.proofs.States.{journal_good}
 
 -- what stands in a front stands in the whole
@@ -41,18 +37,12 @@ first_state texts [] = refl
 first_state texts (e ∷ journal) = refl
 
 module _ (names : List Mfa) (texts : List Module) (journal : List Entry) where
-  -- what is read of a generation, with what its state traces, is read of the generation of the state
-  shown_reads : (g : ℕ) (traced : List FunctionRef) → traced ≡ map function_ref (states_of texts journal g).traced
-      → reads_in names (with_traced traced (shown_at names texts journal g)) ≡ reads_in names (generation_of names (states_of texts journal g))
-  shown_reads zero traced is =
-      let first = first_state texts journal in
-      let none : traced ≡ [] = is ∙ ap (λ (s : ServerState). map function_ref s.traced) first in
-      ap (λ (ts : List FunctionRef). reads_in names (with_traced ts empty_generation)) none
-      ∙ empty_reads names []
-      ∙ ap (λ (s : ServerState). reads_in names (generation_of names s)) (sym first)
-  shown_reads (suc k) traced is = ap (λ (ts : List FunctionRef). reads_in names (with_traced ts (generation_of names (states_of texts journal (suc k))))) is
+  -- what is read of a generation is read of the generation of the state
+  shown_reads : (g : ℕ) → reads_in names (shown_at names texts journal g) ≡ reads_in names (generation_of names (states_of texts journal g))
+  shown_reads zero = empty_reads names ∙ ap (λ (s : ServerState). reads_in names (generation_of names s)) (sym (first_state texts journal))
+  shown_reads (suc k) = refl
 
-  module _ (traced : TracedBy) (seen : List Published) (l : AreLearnt names texts journal traced seen) where
+  module _ (seen : List Published) (l : AreLearnt names texts journal seen) where
     -- what was learnt of under a number is that generation of the journal
     learnt_at : (g : ℕ) → g < length seen → (published_at seen g).state ≡ shown_at names texts journal g
     learnt_at g below =
@@ -60,12 +50,11 @@ module _ (names : List Mfa) (texts : List Module) (journal : List Entry) where
         let there : slice_get l.published g ≡ Some p.0 = ap (λ (xs : List Published). slice_get xs g) l.beginning.1 ∙ front_at seen l.beginning.0 g p.0 p.1 in
         ap (λ (o : Option Published). (unwrap_or o opening_published).state) p.1 ∙ l.are.each g p.0 there
 
-    pub reads_tied : (g : ℕ) → g < length seen → reads_under names traced seen g ≡ reads_in names (generation_of names (states_of texts journal g))
+    pub reads_tied : (g : ℕ) → g < length seen → reads_under names seen g ≡ reads_in names (generation_of names (states_of texts journal g))
     reads_tied g below =
-        ap (λ (x : Generation). reads_in names (with_traced (traced g) x)) (learnt_at g below)
-        ∙ shown_reads g (traced g) (l.traces g below)
+        ap (reads_in names) (learnt_at g below) ∙ shown_reads g
 
-    pub turns_tied : (g : ℕ) → g < length seen → TurnsAlike (reads_under names traced seen g) (reads_of (states_of texts journal g))
+    pub turns_tied : (g : ℕ) → g < length seen → TurnsAlike (reads_under names seen g) (reads_of (states_of texts journal g))
     turns_tied g below p placed =
         let tied = reads_tied g below in
         let good = journal_good names texts journal g l.replayed in
@@ -73,14 +62,8 @@ module _ (names : List Mfa) (texts : List Module) (journal : List Entry) where
         ∙ (generation_ran names (states_of texts journal g) good.sound good.numbered p (subst (λ (r : Reads). ArePlaced r p.frames) tied placed)).turn
 
     pub made_tied : (generations : List ℕ) (x y : Stand) → AllByRecursion (λ g. g < length seen) generations
-        → ArePlacedOver (reads_under names traced seen) generations x → TurnsMade (reads_under names traced seen) generations x y
-        → AreAlsoMade (λ g. reads_of (states_of texts journal g)) generations (marks_made (reads_under names traced seen) generations x) x y
+        → ArePlacedOver (reads_under names seen) generations x → TurnsMade (reads_under names seen) generations x y
+        → AreAlsoMade (λ g. reads_of (states_of texts journal g)) generations (marks_made (reads_under names seen) generations x) x y
     made_tied generations x y below placed made =
-        made_alike (reads_under names traced seen) (λ g. reads_of (states_of texts journal g)) generations x y
-        (all_weaker (λ g. g < length seen) (λ g. TurnsAlike (reads_under names traced seen g) (reads_of (states_of texts journal g))) turns_tied generations below) placed made
-
--- the functions that are traced under a generation that is published are those of its state
-pub traces_tied : (texts : List Module) (journal : List Entry) → AreTraced texts journal (published_count journal + 1) (traced_by texts journal)
-traces_tied texts journal g below =
-    let low : min g (published_count journal) ≡ g = omega (arith, below) in
-    ap (λ (n : ℕ). map function_ref (states_of texts journal n).traced) low
+        made_alike (reads_under names seen) (λ g. reads_of (states_of texts journal g)) generations x y
+        (all_weaker (λ g. g < length seen) (λ g. TurnsAlike (reads_under names seen g) (reads_of (states_of texts journal g))) turns_tied generations below) placed made

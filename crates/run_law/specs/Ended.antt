@@ -21,7 +21,7 @@ use Rattle.run_log.specs.declared.logs.RunLog.{RunLog}
 use Rattle.run_log.specs.Journal.{published_before}
 use Rattle.run_steps.specs.MadeTurns.{ArePlacedOver, TurnsMade, marks_made}
 use Rattle.run_steps.specs.Stands.{IsEnd, Stand, going_stand, log_of}
-use Rattle.run_law.specs.Reading.{MarksTell, TracedBy, reads_under}
+use Rattle.run_law.specs.Reading.{MarksTell, reads_under}
 
 -- ---- what the closed table tells
 
@@ -43,19 +43,19 @@ pub record HaveCome (w : WriterView) : Type 0 where
 -- ---- what the schedulers kept
 
 -- a process had turns, each by what was read of a generation that its member has learnt of, with the marks that they left in the words
-pub record HasTurned (names : List Mfa) (traced : TracedBy) (m : MemberView) (number : ℕ) (first last : Stand) : Type 0 where
+pub record HasTurned (names : List Mfa) (m : MemberView) (number : ℕ) (first last : Stand) : Type 0 where
   pub generations : List ℕ
-  pub made : TurnsMade (reads_under names traced m.seen) generations first last
-  pub placed : ArePlacedOver (reads_under names traced m.seen) generations first
+  pub made : TurnsMade (reads_under names m.seen) generations first last
+  pub placed : ArePlacedOver (reads_under names m.seen) generations first
   pub learnt : AllByRecursion (λ g. g < length m.seen) generations
-  pub marks : MarksTell (reverse (process_of m number).marks) (marks_made (reads_under names traced m.seen) generations first)
+  pub marks : MarksTell (reverse (process_of m number).marks) (marks_made (reads_under names m.seen) generations first)
 
 -- a process of a spawn line has ended: its note tells how many generations were published before its spawn, its turns are those of its log, and its slot
 -- tells that an instance killed it exactly where one did
-pub record HasRun (names : List Mfa) (traced : TracedBy) (journal : List Entry) (m : MemberView) (number : ℕ) (line : SpawnLine) (process : ProcessLog) : Type 0 where
+pub record HasRun (names : List Mfa) (journal : List Entry) (m : MemberView) (number : ℕ) (line : SpawnLine) (process : ProcessLog) : Type 0 where
   pub noted : note_in m.notes number ≡ Some (published_before line.loader line.place journal)
   pub last : Stand
-  pub turned : HasTurned names traced m number (going_stand number line.target line.args) last
+  pub turned : HasTurned names m number (going_stand number line.target line.args) last
   pub over : IsEnd last.phase
   pub log_is : log_of last ≡ process
   pub killed : (serial : ℕ) → HasAnchor tells_kill (process_of m number).slot.anchors serial ↔ (process.fin ≡ Killed serial)
@@ -66,11 +66,11 @@ pub record HasNotRun (m : MemberView) (number : ℕ) : Type 0 where
   pub killed : (serial : ℕ) → HasAnchor tells_kill (process_of m number).slot.anchors serial → ⊥
 
 -- each process of the script has ended and has its log, no turn is under way, and none of another number has run
-pub record HaveRun (names : List Mfa) (traced : TracedBy) (s : Script) (log : RunLog) (w : WriterView) : Type 0 where
+pub record HaveRun (names : List Mfa) (s : Script) (log : RunLog) (w : WriterView) : Type 0 where
   pub many : length log.processes ≡ length (spawns_of 0 s.loaders)
   pub few : length log.processes ≤ PROCESSES
   pub rest : (k : ℕ) (m : MemberView) → slice_get w.members k ≡ Some m → AreAtRest m
   pub each : (number : ℕ) (line : SpawnLine) (process : ProcessLog) (m : MemberView)
       → slice_get (spawns_of 0 s.loaders) number ≡ Some line → slice_get log.processes number ≡ Some process → IsMemberOf w number m
-      → HasRun names traced log.journal m number line process
+      → HasRun names log.journal m number line process
   pub others : (number : ℕ) (m : MemberView) → length log.processes ≤ number → number < PROCESSES → IsMemberOf w number m → HasNotRun m number

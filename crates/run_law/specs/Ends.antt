@@ -15,15 +15,14 @@ use Rattle.run_log.specs.Legal.{Legal, LoadersInOrder, NothingRetired, Snapshots
 use Rattle.run_log.specs.WholeSpans.{AreWhole}
 use Rattle.run_law.specs.Ended.{HaveCome, HaveRun, IsMemberOf}
 use Rattle.run_law.specs.Published.{ArePublished, IsJournal}
-use Rattle.run_law.specs.Reading.{AreTraced, MarksTell, TracedBy}
+use Rattle.run_law.specs.Reading.{MarksTell}
 
 -- the threads of a run have ended and its table is closed: the journal's generations are published, the members came in, and the processes have run
-pub record IsOver (names : List Mfa) (traced : TracedBy) (s : Script) (log : RunLog) (w : WriterView) : Type 0 where
+pub record IsOver (names : List Mfa) (s : Script) (log : RunLog) (w : WriterView) : Type 0 where
   pub journal : IsJournal names s.modules log.journal
   pub published : ArePublished names s.modules log.journal w.published
-  pub traces : AreTraced s.modules log.journal (length w.published) traced
   pub come : HaveCome w
-  pub run : HaveRun names traced s log w
+  pub run : HaveRun names s log w
 
 -- the closed table has published the generations of the journal, by names that have a number each, and has of each process of the log one mark for each
 -- turn, in order, of its generation and with its names: there are members, and each process is one of a member's

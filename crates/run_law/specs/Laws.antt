@@ -1,6 +1,6 @@
 -- The laws on the end of a run over shared words.
 -- Source: this project's profile, as the sequential reading of erts internal documentation, CodeLoading.
-use Rattle.std.specs.Prelude.{◌≡◌, ◌≢◌, ℕ, ◌+◌, ◌<◌, ◌≤◌, ◌%◌, List, length, slice_get, Some, All}
+use Rattle.std.specs.Prelude.{◌≡◌, ◌≢◌, ℕ, ◌<◌, ◌≤◌, ◌%◌, List, length, slice_get, Some, All}
 use Rattle.std.specs.List.{AllByRecursion}
 use Rattle.atomic_table.specs.Seated.{TableId}
 use Rattle.term_core.specs.declared.atom.Mfa.{Mfa}
@@ -30,7 +30,7 @@ use Rattle.run_law.specs.Ended.{AreBeginnings, HaveCome}
 use Rattle.run_law.specs.Ends.{Closes, HasItsRest, IsHistory, IsOver}
 use Rattle.run_law.specs.Newcomers.{AreAllDone, ArePosted, AreTaken, IsTaken, Spawn}
 use Rattle.run_law.specs.Published.{ArePublished, IsJournal, states_of}
-use Rattle.run_law.specs.Reading.{AreTraced, TracedBy, reads_under, traced_by}
+use Rattle.run_law.specs.Reading.{reads_under}
 
 -- ---- the journal's states
 
@@ -49,38 +49,33 @@ JournalsAreSaid =
 
 -- ---- what was learnt, and the journal
 
--- what was learnt of are the first generations of a journal, with what was traced under each
-pub record AreLearnt (names : List Mfa) (texts : List Module) (journal : List Entry) (traced : TracedBy) (seen : List Published) : Type 0 where
+-- what was learnt of are the first generations of a journal
+pub record AreLearnt (names : List Mfa) (texts : List Module) (journal : List Entry) (seen : List Published) : Type 0 where
   pub replayed : IsJournal names texts journal
   pub published : List Published
   pub beginning : IsBeginning seen published
   pub are : ArePublished names texts journal published
-  pub traces : AreTraced texts journal (length seen) traced
-
--- the functions that a journal's states trace are those under each generation that is published
-abbrev pub TracesAreThoseOfStates : Type 0
-TracesAreThoseOfStates = (texts : List Module) (journal : List Entry) → AreTraced texts journal (published_count journal + 1) (traced_by texts journal)
 
 -- what a turn reads of each is what it reads of the generation of the journal's state
 abbrev pub ReadsAreThoseOfStates : Type 0
 ReadsAreThoseOfStates =
-    (names : List Mfa) (texts : List Module) (journal : List Entry) (traced : TracedBy) (seen : List Published) (g : ℕ)
-    → AreLearnt names texts journal traced seen → g < length seen
-    → reads_under names traced seen g ≡ reads_in names (generation_of names (states_of texts journal g))
+    (names : List Mfa) (texts : List Module) (journal : List Entry) (seen : List Published) (g : ℕ)
+    → AreLearnt names texts journal seen → g < length seen
+    → reads_under names seen g ≡ reads_in names (generation_of names (states_of texts journal g))
 
 -- so a turn by it, of a process at places, is the turn under that state
 abbrev pub TurnsAreThoseOfStates : Type 0
 TurnsAreThoseOfStates =
-    (names : List Mfa) (texts : List Module) (journal : List Entry) (traced : TracedBy) (seen : List Published) (g : ℕ)
-    → AreLearnt names texts journal traced seen → g < length seen → TurnsAlike (reads_under names traced seen g) (reads_of (states_of texts journal g))
+    (names : List Mfa) (texts : List Module) (journal : List Entry) (seen : List Published) (g : ℕ)
+    → AreLearnt names texts journal seen → g < length seen → TurnsAlike (reads_under names seen g) (reads_of (states_of texts journal g))
 
 -- and turns that were made one by one by what was learnt were made under the states
 abbrev pub MadeByStates : Type 0
 MadeByStates =
-    (names : List Mfa) (texts : List Module) (journal : List Entry) (traced : TracedBy) (seen : List Published) (generations : List ℕ) (x y : Stand)
-    → AreLearnt names texts journal traced seen
-    → AllByRecursion (λ g. g < length seen) generations → ArePlacedOver (reads_under names traced seen) generations x → TurnsMade (reads_under names traced seen) generations x y
-    → AreAlsoMade (λ g. reads_of (states_of texts journal g)) generations (marks_made (reads_under names traced seen) generations x) x y
+    (names : List Mfa) (texts : List Module) (journal : List Entry) (seen : List Published) (generations : List ℕ) (x y : Stand)
+    → AreLearnt names texts journal seen
+    → AllByRecursion (λ g. g < length seen) generations → ArePlacedOver (reads_under names seen) generations x → TurnsMade (reads_under names seen) generations x y
+    → AreAlsoMade (λ g. reads_of (states_of texts journal g)) generations (marks_made (reads_under names seen) generations x) x y
 
 -- ---- the closed table
 
@@ -105,7 +100,7 @@ SpawnsAreTaken =
 
 -- a law of each run over shared words whose threads have ended
 abbrev pub OfEachRun : (List Mfa → Script → RunLog → WriterView → Type 0) → Type 0
-OfEachRun law = (names : List Mfa) (traced : TracedBy) (s : Script) (log : RunLog) (w : WriterView) → IsOver names traced s log w → law names s log w
+OfEachRun law = (names : List Mfa) (s : Script) (log : RunLog) (w : WriterView) → IsOver names s log w → law names s log w
 
 -- and of each in which what the journal tells of processes was kept in the words
 abbrev pub OfEachAnswered : (Script → RunLog → Type 0) → Type 0

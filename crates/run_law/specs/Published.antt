@@ -1,6 +1,6 @@
 -- What a run has published: the generations of its journal, as the words show them.
 -- Source: Erlang/OTP erts internal documentation, CodeLoading. The definition replays the journal; the writer of the words keeps one server and one root.
-use Rattle.std.specs.Prelude.{◌≡◌, ℕ, zero, suc, ◌+◌, List, [], length, slice_get, Some, All}
+use Rattle.std.specs.Prelude.{◌≡◌, ℕ, zero, suc, ◌+◌, List, length, slice_get, Some, All}
 use Rattle.term_core.specs.declared.atom.Mfa.{Mfa}
 use Rattle.term_core.specs.declared.generation.Generation.{Generation}
 use Rattle.mod_core.specs.declared.code.Module.{Module}
@@ -11,7 +11,6 @@ use Rattle.server_core.specs.CommandTable.{IsOfText}
 use Rattle.server_core.specs.Generations.{generation_of}
 use Rattle.server_core.specs.ServerState.{ServerState, empty_state}
 use Rattle.change_laws.specs.Names.{IsNumbered}
-use Rattle.code_law.specs.Served.{with_traced}
 use Rattle.run_log.specs.declared.logs.Entry.{Entry}
 use Rattle.run_log.specs.Journal.{published_count, state_at}
 use Rattle.run_log.specs.Legal.{Replays}
@@ -34,7 +33,7 @@ pub record IsJournal (names : List Mfa) (texts : List Module) (journal : List En
 -- a generation of a journal as the words show it; generation 0 is the empty one, which has no entry for a name
 abbrev pub shown_at : List Mfa → List Module → List Entry → ℕ → Generation
 shown_at names texts journal zero = empty_generation
-shown_at names texts journal (suc k) = with_traced [] (generation_of names (states_of texts journal (suc k)))
+shown_at names texts journal (suc k) = generation_of names (states_of texts journal (suc k))
 
 -- the published generations are those of the journal, each at its number
 pub record ArePublished (names : List Mfa) (texts : List Module) (journal : List Entry) (published : List Published) : Type 0 where

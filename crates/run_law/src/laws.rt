@@ -1,6 +1,6 @@
 //! What holds of every run over shared words, once its threads have ended.
 
-ghost use Rattle.run_law.specs.Laws.{JournalsAreSaid, JournalsAreSound, LingeringIsTold, MadeByStates, PurgesAreUnnamed, ReadsAreThoseOfStates, ReleasesAreUnnamed, RunsAreHistories, SpawnsAreTaken, SpawnsComeFirst, TablesClose, TablesTell, TracesAreThoseOfStates, TurnsAreAll, TurnsAreFollowed, TurnsAreThoseOfStates};
+ghost use Rattle.run_law.specs.Laws.{JournalsAreSaid, JournalsAreSound, LingeringIsTold, MadeByStates, PurgesAreUnnamed, ReadsAreThoseOfStates, ReleasesAreUnnamed, RunsAreHistories, SpawnsAreTaken, SpawnsComeFirst, TablesClose, TablesTell, TurnsAreAll, TurnsAreFollowed, TurnsAreThoseOfStates};
 
 /// Each state of a journal of texts that can be loaded is sound, and each name that it exports has a number; so is the journal in which the
 /// commands of a script were made.
@@ -17,7 +17,6 @@ pub fn reads_are_those_of_states()
     ensures reads { ReadsAreThoseOfStates }
     ensures turns { TurnsAreThoseOfStates }
     ensures made { MadeByStates }
-    ensures traces { TracesAreThoseOfStates }
 {}
 
 /// What is known of each process once a table was closed.
