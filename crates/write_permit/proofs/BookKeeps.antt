@@ -20,6 +20,7 @@ use Rattle.write_permit.specs.declared.loader_run.LoaderRun.{LoaderRun}
 use Rattle.write_permit.specs.Agreement.{Agrees}
 use Rattle.write_permit.specs.Book.{IsBook, IsPermit, shown}
 use Rattle.write_permit.specs.Permit.{PermitState, Step, at_once_of, counted_in, done_by, done_of, is_spawn, joined, made_of, needs_permission, next_of, loader_after, opening, spawned_by}
+use Rattle.write_permit.proofs.Entered.{next_number}
 use Rattle.write_permit.proofs.Kept.{at_once_keeps, release_keeps, there}
 
 -- the outcome of a command that was made
@@ -119,7 +120,7 @@ pub record NextProcess (p : PermitState) (who : ℕ) (l : LoaderRun) : Type 0 wh
 pub next_process : (p : PermitState) (who : ℕ) (l : LoaderRun) → IsPermit p → slice_get p.loaders who ≡ Some l → NextProcess p who l
 next_process p who l known found =
     let done : done_of p.loaders who ≡ l.done = ap (λ o. unwrap_or (option_map (λ (x : LoaderRun). x.done) o) 0) found in
-    let number : l.next_process ≡ spawn_number p.script.loaders who (done_of p.loaders who) = known.log.numbers who l found ∙ ap (spawn_number p.script.loaders who) (sym done) in
+    let number : l.next_process ≡ spawn_number p.script.loaders who (done_of p.loaders who) = next_number p known who l found ∙ ap (spawn_number p.script.loaders who) (sym done) in
     record { number = number; few = omega (arith, number, number_bounded p.script.loaders who (done_of p.loaders who), known.script.few_processes); done = sym done }
 
 -- the process that is told
@@ -153,5 +154,3 @@ counted_by b m who command cmd answer l after spawns made found is told =
     let same : m.loaders.items ≡ b.loaders.items = ap (λ (x : PermitState). x.loaders) w.state in
     let new : after ≡ loader_after command l = is ∙ ap (λ n. record { done = l.done + 1; next_process = l.next_process + n }) (ap (λ s. if s then 1 else 0) told ∙ count_same command) in
     (λ i. slice_set (same i) who (new i)) ∙ sym (ap (λ o. unwrap_or (option_map (λ x. slice_set b.loaders.items who (loader_after command x)) o) b.loaders.items) found)
-
--- ---- the permission

@@ -6,9 +6,11 @@ use Rattle.server_core.specs.declared.command.Applied.{Applied}
 use Rattle.server_core.specs.declared.command.Cmd.{Cmd}
 use Rattle.server_core.specs.declared.command.Cmd.TheVariants as cmds
 use Rattle.server_core.specs.declared.command.Linger.{Linger}
+use Rattle.server_core.specs.declared.command.Reply.TheVariants as replies
+use Rattle.term_core.specs.declared.atom.Mfa.{Mfa}
 use Rattle.server_core.specs.ServerState.{ServerState, IsSound, old_of}
 use Rattle.script_core.specs.declared.script.ScriptCmd.{ScriptCmd}
-use Rattle.script_core.specs.declared.script.ScriptCmd.TheVariants.{Purge}
+use Rattle.script_core.specs.declared.script.ScriptCmd.TheVariants.{Purge, Trace}
 use Rattle.run_log.specs.declared.logs.Who.TheVariants.{Loader}
 use Rattle.run_log.proofs.SpanRuns.{some_and, some_at}
 use Rattle.write_permit.specs.declared.answers.OpStep.{OpStep}
@@ -16,17 +18,18 @@ use Rattle.write_permit.specs.declared.answers.OpStep.TheVariants.{Done}
 use Rattle.write_permit.specs.declared.book.Book.{Book}
 use Rattle.write_permit.specs.declared.commands.OldCode.{OldCode}
 use Rattle.write_permit.specs.declared.holder.Holder.{Holder}
-use Rattle.write_permit.specs.declared.holder.Holder.TheVariants.{Free, Held, Purging}
+use Rattle.write_permit.specs.declared.holder.Holder.TheVariants.{Free, Held, Purging, Tracing}
 use Rattle.write_permit.specs.declared.loader_run.LoaderRun.{LoaderRun}
 use Rattle.write_permit.specs.Agreement.{Agrees}
-use Rattle.write_permit.specs.Book.{EndsBy, HoldsJust, IsBook, IsHeld, PurgeWaits, shown}
-use Rattle.write_permit.specs.Permit.{Advanced, PermitState, Step, begun, counted_in, done_by, doomed_by, ended_with, freed, given_up, holder_of, is_spawn, joined, loader_after, made_of, next_of, opening, purged_code}
+use Rattle.write_permit.specs.Book.{EndsBy, HoldsJust, IsBook, IsHeld, PurgeWaits, TraceWaits, shown}
+use Rattle.write_permit.specs.Permit.{Advanced, PermitState, Step, advanced, begun, counted_in, done_by, doomed_by, ended_with, entered_by, entered_trace, freed, given_up, holder_of, is_spawn, joined, loader_after, made_of, next_of, opening, purged_code, settled}
 use Rattle.write_permit.proofs.BookKeeps.{book_by, count_same, was_made}
-use Rattle.write_permit.proofs.Ends.{CanEnd, can_end, code_of_module, counted_after, doom_keeps, end_keeps, ends_own, given_permit, waiting_code}
+use Rattle.write_permit.proofs.Ends.{CanEnd, can_end, code_of_module, counted_after, doom_keeps, end_keeps, ends_own, given_permit, settled_keeps, trace_keeps, waiting_code}
+use Rattle.write_permit.proofs.Entered.{entered_is}
 use Rattle.write_permit.proofs.Kept.{there}
 
 -- what is told, as an answer that is there
-abbrev told : PermitState → OpStep → Option Advanced
+abbrev pub told : PermitState → OpStep → Option Advanced
 told q a = Some (record { state = q; answer = a })
 
 -- ---- the last command of the server
@@ -95,6 +98,60 @@ module _ (b : Book) (known : IsBook b) (who : ℕ) (code : OldCode) (held : b.ho
             (subst (λ s. Agrees c.modules.instances s) (sym server) (subst (λ ms. Agrees ms m.server) (sym table) agrees));
       }
 
+-- ---- a trace that goes by phases
+
+-- what the entry of a trace leaves
+pub record TraceMade (b c : Book) (who : ℕ) (target : Mfa) (on : Bool) : Type 0 where
+  pub ok : entered_trace (shown b) who target on ≡ Some (shown c)
+  pub book : IsBook c
+
+-- a permit to which the entry of a trace joined, by the generation that it published
+abbrev pub tracing_in : PermitState → ℕ → Option ℕ → Option PermitState
+tracing_in p who published = option_map {U = PermitState} (λ generation. record p { holder = Tracing who generation }) published
+
+module _ (b : Book) (known : IsBook b) (who generation : ℕ) (target : Mfa) (on : Bool) (held : b.holder ≡ Held who) (next : next_of (shown b) who ≡ Some (Trace target on)) where
+  pub trace_left : (m c : Book) (answer : Applied) → answer ≡ record { reply = replies.True; published = Some generation } → made_of (shown b) (Loader who) (cmds.Trace target on) ≡ Some (record { state = shown m; answer = answer })
+      → shown c ≡ record (shown m) { holder = Tracing who generation } → c.modules.instances ≡ m.modules.instances → IsSound m.server → Agrees m.modules.instances m.server → TraceMade b c who target on
+  trace_left m c answer answer_is made same table sound agrees =
+      let cmd = cmds.Trace target on in
+      let w = was_made (shown b) (Loader who) cmd (shown m) answer made in
+      let left : shown c ≡ record (joined (shown b) (Loader who) cmd w.outcome) { holder = Tracing who generation } = same ∙ ap (λ (x : PermitState). record x { holder = Tracing who generation }) w.state in
+      let server : c.server ≡ m.server = ap (λ (x : PermitState). x.server) same in
+      record {
+        ok = ap (option_and_then {U = PermitState} (λ (s : Step). tracing_in s.state who s.answer.published)) made ∙ ap (λ (a : Applied). tracing_in (shown m) who a.published) answer_is ∙ ap (λ (x : PermitState). Some x) (sym same);
+        book = book_by c (record (joined (shown b) (Loader who) cmd w.outcome) { holder = Tracing who generation }) left
+            (trace_keeps (shown b) known.permit who generation target on w.outcome held next w.applied (w.answer_is ∙ answer_is) (subst IsSound (sym server ∙ ap (λ (x : PermitState). x.server) left) sound))
+            (subst (λ s. Agrees c.modules.instances s) (sym server) (subst (λ ms. Agrees ms m.server) (sym table) agrees));
+      }
+
+-- what the end of a trace leaves
+pub record SettleMade (b c : Book) (who generation : ℕ) : Type 0 where
+  pub ok : advanced (shown b) [] who b.holder ≡ Some (record { state = shown c; answer = Done (record { reply = replies.True; published = Some generation }) })
+  pub state : shown c ≡ (settled (shown b) who generation).state
+  pub book : IsBook c
+
+module _ (b : Book) (known : IsBook b) (who generation : ℕ) (held : b.holder ≡ Tracing who generation) where
+  -- what waits
+  pub trace_waits : TraceWaits (shown b) who generation
+  trace_waits = subst (HoldsJust (shown b)) held known.permit.holds
+
+  pub trace_there : IsSome (next_of (shown b) who)
+  trace_there = ap is_some trace_waits.next
+
+  pub settle_left : (c : Book) (after : LoaderRun) → IsSomeAnd (next_of (shown b) who) (λ command. option_map (loader_after command) (slice_get b.loaders.items who) ≡ Some after)
+      → shown c ≡ record (shown b) { loaders = slice_set b.loaders.items who after; holder = Free } → c.modules.instances ≡ b.modules.instances → SettleMade b c who generation
+  settle_left c after counts same table =
+      let command = Trace trace_waits.target trace_waits.on in
+      let after_is : option_map (loader_after command) (slice_get b.loaders.items who) ≡ Some after = subst (λ o. IsSomeAnd o (λ x. option_map (loader_after x) (slice_get b.loaders.items who) ≡ Some after)) trace_waits.next counts in
+      let counted : slice_set b.loaders.items who after ≡ entered_by (Tracing who generation) b.loaders.items = counted_after b.loaders.items who command after after_is ∙ sym (entered_is who generation trace_waits.target trace_waits.on b.loaders.items) in
+      let left : shown c ≡ (settled (shown b) who generation).state = same ∙ ap (λ ls. record (shown b) { loaders = ls; holder = Free }) counted in
+      record {
+        ok = ap (advanced (shown b) [] who) held ∙ ap (λ (x : PermitState). told x (Done (record { reply = replies.True; published = Some generation }))) (sym left);
+        state = left;
+        book = book_by c (settled (shown b) who generation).state left (settled_keeps (shown b) known.permit who generation held)
+            (subst (λ s. Agrees c.modules.instances s) (sym (ap (λ (x : PermitState). x.server) same)) (subst (λ ms. Agrees ms b.server) (sym table) known.agrees));
+      }
+
 -- ---- the loader that is counted
 
 -- the loader that the code reads
@@ -137,6 +194,9 @@ held_by h n who is own = is ∙ ap Held (same_Some n who (sym (ap holder_of is) 
 
 pub purging_by : (s : ServerState) (h : Holder) (n who : ℕ) (name : AtomId) (code : OldCode) → h ≡ Purging n name → holder_of h ≡ Some who → purged_code s (Purge name) ≡ Some code → h ≡ Purging who code.«module»
 purging_by s h n who name code is own found = is ∙ ap (λ k. Purging k name) (same_Some n who (sym (ap holder_of is) ∙ own)) ∙ ap (Purging who) (code_of_module s name code found)
+
+pub tracing_by : (h : Holder) (n who generation : ℕ) → h ≡ Tracing n generation → holder_of h ≡ Some who → h ≡ Tracing who generation
+tracing_by h n who generation is own = is ∙ ap (λ k. Tracing k generation) (same_Some n who (sym (ap holder_of is) ∙ own))
 
 -- a loader whose purge waits has old code to purge
 pub second_code : (b : Book) (n : ℕ) (name : AtomId) → IsBook b → b.holder ≡ Purging n name → IsSome (purged_code b.server (Purge name))

@@ -1,5 +1,5 @@
--- What every permit shows goes on to hold while the loader goes on that has the permission: its command ends, its purge begins, or it gives up.
-use Rattle.std.proofs.Common.{◌≡◌, ℕ, zero, suc, ◌≤◌, Bool, false, List, [], ◌∷◌, ◌++◌, length, slice_set, slice_get, Option, Some, None, IsSome, IsSomeAnd, is_some, option_map, unwrap_or, refl, sym, ap, subst, ◌∙◌}
+-- What every permit shows goes on to hold while the loader goes on that has the permission: its command ends, its purge begins, its trace joins or is done, or it gives up.
+use Rattle.std.proofs.Common.{◌≡◌, ℕ, zero, suc, ◌≤◌, Bool, false, List, [], ◌∷◌, ◌++◌, length, slice_set, slice_get, Option, Some, None, IsSome, IsSomeAnd, is_some, option_map, unwrap_or, refl, sym, ap, subst, ◌∙◌, arith}
 use Rattle.std.proofs.lemmas.Option.{none-some, same_Some}
 use Rattle.term_core.specs.declared.atom.AtomId.{AtomId}
 use Rattle.term_core.specs.declared.names.TheConstants.{MOST_NAMES}
@@ -7,37 +7,45 @@ use Rattle.term_core.specs.Plain.{plain}
 use Rattle.mod_core.specs.declared.code.Module.{Module}
 use Rattle.server_core.specs.declared.command.Cmd.{Cmd}
 use Rattle.server_core.specs.declared.command.Cmd.TheVariants as cmds
+use Rattle.server_core.specs.declared.command.Applied.{Applied}
 use Rattle.server_core.specs.declared.command.Linger.{Linger}
+use Rattle.server_core.specs.declared.command.Reply.TheVariants as replies
+use Rattle.term_core.specs.declared.atom.Mfa.{Mfa}
 use Rattle.server_core.specs.ServerState.{ServerState, IsSound, empty_state, old_among, old_of, persistent_of, traceable_of}
 use Rattle.server_core.specs.CommandTable.{IsOfText, Outcome, apply_of, delete_of, erase_of, put_of, soft_purge_of, trace_of}
 use Rattle.script_core.specs.declared.script.ScriptCmd.{ScriptCmd}
 use Rattle.script_core.specs.declared.script.ScriptCmd.TheVariants.{Load, Delete, SoftPurge, Purge, CheckOld, Put, Erase, Trace, Spawn}
 use Rattle.script_core.specs.Processes.{commands_at}
 use Rattle.script_core.specs.Sound.{IsCmdOf}
+use Rattle.script_core.proofs.JoinedPlaces.{get_behind}
 use Rattle.script_core.proofs.ShortTerms.{short_term}
 use Rattle.std.specs.List.{AllByRecursion}
+use Rattle.run_log.specs.declared.logs.Entry.{Entry}
+use Rattle.run_log.specs.declared.logs.Who.{Who}
 use Rattle.run_log.specs.declared.logs.Who.TheVariants.{Loader}
 use Rattle.run_log.specs.Legal.{MayStand, PurgesGo, ended_by, half_after, is_release}
 use Rattle.run_log.proofs.ListPlaces.{all_at}
 use Rattle.run_log.proofs.SpanRuns.{some_and}
 use Rattle.write_permit.specs.declared.commands.OldCode.{OldCode}
 use Rattle.write_permit.specs.declared.holder.Holder.{Holder}
-use Rattle.write_permit.specs.declared.holder.Holder.TheVariants.{Free, Held, Purging}
+use Rattle.write_permit.specs.declared.holder.Holder.TheVariants.{Free, Held, Purging, Tracing}
 use Rattle.write_permit.specs.declared.loader_run.LoaderRun.{LoaderRun}
-use Rattle.write_permit.specs.Book.{EndsBy, HoldsJust, IsHeld, IsLog, IsPermit, PurgeWaits}
-use Rattle.write_permit.specs.Permit.{PermitState, counted_in, given_up, half_of, holder_of, joined, lingering, loader_after, next_of, opening, purged_code}
+use Rattle.write_permit.specs.Book.{EndsBy, HoldsJust, IsHeld, IsLog, IsPermit, PurgeWaits, TraceWaits}
+use Rattle.write_permit.specs.Permit.{PermitState, counted_in, entered_by, given_up, half_of, holder_of, joined, lingering, loader_after, next_of, opening, purged_code, settled}
 use Rattle.write_permit.proofs.Dooms.{at_rest, doom_dooms, idle_purge_enabled, load_enabled, purge_enabled, purge_lifts, rest_kept}
+use Rattle.write_permit.proofs.Entered.{entered_is}
 use Rattle.write_permit.proofs.Kept.{there}
 use Rattle.write_permit.proofs.Logs.{counted_is, entry_of, log_counted, log_joined, purges_joined}
 
 -- ---- an entry that ends a command
 
--- an entry that may stand where this loader has the permission, and ends its command
+-- an entry that may stand where this loader has the permission, and ends its command, which had none before
 pub record EndsOwn (p : PermitState) (h : Holder) (who : ℕ) (command : ScriptCmd) (cmd : Cmd) (o : Outcome) : Type 0 where
   pub ended : ended_by cmd ≡ command ∷ []
   pub loads : is_release cmd ≡ false
   pub stands : MayStand p.server (half_of h) (entry_of (Loader who) cmd o)
   pub half : half_after (half_of h) (Loader who) cmd ≡ None
+  pub entered : entered_by h p.loaders ≡ p.loaders
   pub rest : o.state.doomed ≡ []
 
 -- a purge that purges no old code is of a module without such code
@@ -48,15 +56,15 @@ no_code name (Some serial) h = absurd (none-some _ (sym h))
 module _ (p : PermitState) (by who : ℕ) (among : List Linger) (o : Outcome) (none : p.server.doomed ≡ []) where
   -- a command that is made at once ends itself
   opened : (command : ScriptCmd) → purged_code p.server command ≡ None → apply_of p.script.modules p.server (opening p.server among command) ≡ Some o → EndsOwn p (Held by) who command (opening p.server among command) o
-  opened (Purge name) code applied = record { ended = refl; loads = refl; stands = no_code name (old_of p.server name.0) code; half = refl; rest = rest_kept p.script.modules p.server (cmds.Purge name false) o none tt applied }
-  opened command code applied = record { ended = refl; loads = refl; stands = tt; half = refl; rest = rest_kept p.script.modules p.server (opening p.server among command) o none tt applied }
+  opened (Purge name) code applied = record { ended = refl; loads = refl; stands = no_code name (old_of p.server name.0) code; half = refl; entered = refl; rest = rest_kept p.script.modules p.server (cmds.Purge name false) o none tt applied }
+  opened command code applied = record { ended = refl; loads = refl; stands = tt; half = refl; entered = refl; rest = rest_kept p.script.modules p.server (opening p.server among command) o none tt applied }
 
 -- the second half of a purge ends the purge
 closed_ends : (p : PermitState) (by who : ℕ) (name : AtomId) (killed : Bool) (o : Outcome) → PurgeWaits p by name → by ≡ who → apply_of p.script.modules p.server (cmds.Purge name killed) ≡ Some o
     → EndsOwn p (Purging by name) who (Purge name) (cmds.Purge name killed) o
 closed_ends p by who name killed o waits own applied =
     let d = some_and (old_of p.server name.0) (λ serial. p.server.doomed ≡ serial ∷ []) waits.doomed in
-    record { ended = refl; loads = refl; stands = (ap Loader (sym own), refl); half = refl; rest = purge_lifts p.script.modules p.server name killed d.0 o d.1.1 d.1.0 applied }
+    record { ended = refl; loads = refl; stands = (ap Loader (sym own), refl); half = refl; entered = refl; rest = purge_lifts p.script.modules p.server name killed d.0 o d.1.1 d.1.0 applied }
 
 -- whose purge waits has that purge as its next command
 waiting_command : (p : PermitState) (by who : ℕ) (name : AtomId) (command : ScriptCmd) → PurgeWaits p by name → by ≡ who → next_of p who ≡ Some command → command ≡ Purge name
@@ -66,6 +74,7 @@ waiting_command p by who name command waits own next = same_Some command (Purge 
 pub ends_own : (p : PermitState) (h : Holder) (who : ℕ) (command : ScriptCmd) (cmd : Cmd) (o : Outcome) → HoldsJust p h → holder_of h ≡ Some who → next_of p who ≡ Some command → EndsBy p h command cmd → apply_of p.script.modules p.server cmd ≡ Some o
     → EndsOwn p h who command cmd o
 ends_own p Free who command cmd o holds own next by applied = absurd by
+ends_own p (Tracing n generation) who command cmd o holds own next by applied = absurd by
 ends_own p (Held n) who command cmd o holds own next by applied =
     subst (λ c. EndsOwn p (Held n) who command c o) (sym by.1.1)
     (opened p n who by.1.0 o holds.rest command by.0 (subst (λ c. apply_of p.script.modules p.server c ≡ Some o) by.1.1 applied))
@@ -80,15 +89,20 @@ pub end_keeps : (p : PermitState) (known : IsPermit p) (who : ℕ) (command : Sc
     → IsPermit (record (joined p (Loader who) cmd o) { loaders = counted_in p.loaders who command; holder = Free })
 end_keeps p known who command next cmd o applied ends sound =
     let t = there p known who command next in
-    let counted = counted_is p.script p.server p.journal p.loaders known.log who command next t.0 t.1 in
+    let counted = counted_is p.loaders who command t.0 t.1 in
+    let log : IsLog p.script p.server p.journal p.loaders = subst (IsLog p.script p.server p.journal) ends.entered known.log in
     record {
       script = known.script;
-      log = subst (IsLog p.script o.state (p.journal ++ entry_of (Loader who) cmd o ∷ [])) (sym counted) (log_counted p.script p.server p.journal p.loaders known.log who command next t.0 t.1 cmd o applied ends.ended ends.loads);
+      log = subst (IsLog p.script o.state (p.journal ++ entry_of (Loader who) cmd o ∷ [])) (sym counted) (log_counted p.script p.server p.journal p.loaders log who command next t.0 t.1 cmd o applied ends.ended ends.loads);
       sound = sound;
       purges = subst (PurgesGo p.script.modules empty_state None (p.journal ++ entry_of (Loader who) cmd o ∷ [])) ends.half
-          (purges_joined p.script p.server p.journal p.loaders known.log (Loader who) cmd o applied (half_of p.holder) known.purges ends.stands);
+          (purges_joined p.script p.server p.journal p.loaders log (Loader who) cmd o applied (half_of p.holder) known.purges ends.stands);
       holds = ends.rest;
     }
+
+-- where a loader has the permission and no entry of its command is there, the journal is that of the loaders
+held_log : (p : PermitState) (who : ℕ) → IsPermit p → p.holder ≡ Held who → IsLog p.script p.server p.journal p.loaders
+held_log p who known held = subst (λ h. IsLog p.script p.server p.journal (entered_by h p.loaders)) held known.log
 
 -- ---- the first half of a purge
 
@@ -98,15 +112,58 @@ pub doom_keeps : (p : PermitState) (known : IsPermit p) (who : ℕ) (name : Atom
 doom_keeps p known who name serial o held next old applied sound =
     let k : IsHeld p who = subst (HoldsJust p) held known.holds in
     let d = doom_dooms p.script.modules p.server name serial o k.rest old applied in
+    let log = held_log p who known held in
     record {
       script = known.script;
-      log = log_joined p.script p.server p.journal p.loaders known.log (Loader who) (cmds.Doom name) o applied refl refl;
+      log = log_joined p.script p.server p.journal p.loaders log (Loader who) (cmds.Doom name) o applied refl refl;
       sound = sound;
-      purges = purges_joined p.script p.server p.journal p.loaders known.log (Loader who) (cmds.Doom name) o applied None (subst (λ h. PurgesGo p.script.modules empty_state None p.journal (half_of h)) held known.purges) tt;
+      purges = purges_joined p.script p.server p.journal p.loaders log (Loader who) (cmds.Doom name) o applied None (subst (λ h. PurgesGo p.script.modules empty_state None p.journal (half_of h)) held known.purges) tt;
       holds = record {
         next = next;
         doomed = subst (λ vs. IsSomeAnd (old_among vs name.0) (λ n. o.state.doomed ≡ n ∷ [])) (sym d.versions) (subst (λ x. IsSomeAnd x (λ n. o.state.doomed ≡ n ∷ [])) (sym old) d.doomed);
       };
+    }
+
+-- ---- a trace
+
+-- an entry with this answer
+abbrev answered_by : Who → Cmd → Applied → Option Entry
+answered_by who cmd a = Some (record { who = who; cmd = cmd; reply = a.reply; published = a.published })
+
+-- the entry of a trace keeps it: from now on the trace waits
+pub trace_keeps : (p : PermitState) (known : IsPermit p) (who generation : ℕ) (target : Mfa) (on : Bool) (o : Outcome) → p.holder ≡ Held who → next_of p who ≡ Some (Trace target on) → apply_of p.script.modules p.server (cmds.Trace target on) ≡ Some o
+    → o.answer ≡ record { reply = replies.True; published = Some generation } → IsSound o.state → IsPermit (record (joined p (Loader who) (cmds.Trace target on) o) { holder = Tracing who generation })
+trace_keeps p known who generation target on o held next applied answer sound =
+    let k : IsHeld p who = subst (HoldsJust p) held known.holds in
+    let log = held_log p who known held in
+    let t = there p known who (Trace target on) next in
+    let entered = entered_is who generation target on p.loaders ∙ counted_is p.loaders who (Trace target on) t.0 t.1 in
+    let longer : List Entry = p.journal ++ entry_of (Loader who) (cmds.Trace target on) o ∷ [] in
+    record {
+      script = known.script;
+      log = subst (IsLog p.script o.state longer) (sym entered) (log_counted p.script p.server p.journal p.loaders log who (Trace target on) next t.0 t.1 (cmds.Trace target on) o applied refl refl);
+      sound = sound;
+      purges = purges_joined p.script p.server p.journal p.loaders log (Loader who) (cmds.Trace target on) o applied None (subst (λ h. PurgesGo p.script.modules empty_state None p.journal (half_of h)) held known.purges) tt;
+      holds = record {
+        rest = rest_kept p.script.modules p.server (cmds.Trace target on) o k.rest tt applied;
+        target = target;
+        on = on;
+        next = next;
+        place = length p.journal;
+        entry = ap (slice_get longer) (omega arith) ∙ get_behind p.journal (entry_of (Loader who) (cmds.Trace target on) o ∷ []) 0 ∙ ap (answered_by (Loader who) (cmds.Trace target on)) answer;
+      };
+    }
+
+-- so does the end of the trace: nobody has the permission
+pub settled_keeps : (p : PermitState) (known : IsPermit p) (who generation : ℕ) → p.holder ≡ Tracing who generation → IsPermit (settled p who generation).state
+settled_keeps p known who generation held =
+    let k : TraceWaits p who generation = subst (HoldsJust p) held known.holds in
+    record {
+      script = known.script;
+      log = subst (λ h. IsLog p.script p.server p.journal (entered_by h p.loaders)) held known.log;
+      sound = known.sound;
+      purges = subst (λ h. PurgesGo p.script.modules empty_state None p.journal (half_of h)) held known.purges;
+      holds = k.rest;
     }
 
 -- ---- want of memory
@@ -115,22 +172,37 @@ doom_keeps p known who name serial o held next old applied sound =
 pub given_permit : (p : PermitState) (h : Holder) → IsPermit p → p.holder ≡ h → IsPermit (record p { holder = given_up h })
 given_permit p Free known is = record {
   script = known.script;
-  log = known.log;
+  log = subst (λ x. IsLog p.script p.server p.journal (entered_by x p.loaders)) is known.log;
   sound = known.sound;
   purges = subst (λ x. PurgesGo p.script.modules empty_state None p.journal (half_of x)) is known.purges;
   holds = subst (HoldsJust p) is known.holds;
 }
 given_permit p (Held by) known is =
     let k : IsHeld p by = subst (HoldsJust p) is known.holds in
-    record { script = known.script; log = known.log; sound = known.sound; purges = subst (λ x. PurgesGo p.script.modules empty_state None p.journal (half_of x)) is known.purges; holds = k.rest }
+    record {
+      script = known.script;
+      log = held_log p by known is;
+      sound = known.sound;
+      purges = subst (λ x. PurgesGo p.script.modules empty_state None p.journal (half_of x)) is known.purges;
+      holds = k.rest;
+    }
 given_permit p (Purging by name) known is =
     let k : PurgeWaits p by name = subst (HoldsJust p) is known.holds in
     record {
       script = known.script;
-      log = known.log;
+      log = subst (λ x. IsLog p.script p.server p.journal (entered_by x p.loaders)) is known.log;
       sound = known.sound;
       purges = subst (λ x. PurgesGo p.script.modules empty_state None p.journal (half_of x)) is known.purges;
       holds = record { next = k.next; doomed = k.doomed };
+    }
+given_permit p (Tracing by generation) known is =
+    let k : TraceWaits p by generation = subst (HoldsJust p) is known.holds in
+    record {
+      script = known.script;
+      log = subst (λ x. IsLog p.script p.server p.journal (entered_by x p.loaders)) is known.log;
+      sound = known.sound;
+      purges = subst (λ x. PurgesGo p.script.modules empty_state None p.journal (half_of x)) is known.purges;
+      holds = record { rest = k.rest; target = k.target; on = k.on; next = k.next; place = k.place; entry = k.entry };
     }
 
 -- ---- commands that have a case
@@ -171,6 +243,7 @@ pub record CanEnd (p : PermitState) (cmd : Cmd) : Type 0 where
 
 pub can_end : (p : PermitState) (known : IsPermit p) (h : Holder) (who : ℕ) (command : ScriptCmd) (cmd : Cmd) → p.holder ≡ h → next_of p who ≡ Some command → EndsBy p h command cmd → CanEnd p cmd
 can_end p known Free who command cmd is next by = absurd by
+can_end p known (Tracing n generation) who command cmd is next by = absurd by
 can_end p known (Held n) who command cmd is next by =
     let k : IsHeld p n = subst (HoldsJust p) is known.holds in
     let fits = next_fits (IsCmdOf p.script.names p.script.modules) p.script.loaders who _ command known.script.commands next in

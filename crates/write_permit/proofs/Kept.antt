@@ -1,5 +1,5 @@
 -- What every permit shows goes on to hold: after a command that is made at once, and after a release.
-use Rattle.std.proofs.Common.{◌≡◌, ◌≢◌, ℕ, zero, suc, ◌<◌, true, false, Bool, List, [], ◌∷◌, ◌++◌, length, slice_get, Some, None, IsSomeAnd, if◌then◌else◌, refl, sym, ap, subst, ◌∙◌, arith}
+use Rattle.std.proofs.Common.{◌≡◌, ◌≢◌, ℕ, zero, suc, ◌<◌, true, false, Bool, List, [], ◌∷◌, ◌++◌, length, slice_get, slice_set, Some, None, IsSomeAnd, if◌then◌else◌, refl, sym, ap, subst, ◌∙◌, arith}
 use Rattle.std.proofs.lemmas.Bool.{false≢true}
 use Rattle.std.proofs.lemmas.Option.{none-some, same_Some}
 use Rattle.term_core.specs.declared.atom.AtomId.{AtomId}
@@ -12,22 +12,27 @@ use Rattle.term_core.specs.declared.atom.Mfa.{Mfa}
 use Rattle.term_core.specs.PlainTerm.{PlainTerm}
 use Rattle.script_core.specs.declared.script.ScriptCmd.{ScriptCmd}
 use Rattle.script_core.specs.Processes.{commands_at}
-use Rattle.script_core.specs.declared.script.ScriptCmd.TheVariants.{Purge, CheckOld, Spawn}
+use Rattle.script_core.specs.declared.script.ScriptCmd.TheVariants.{Purge, CheckOld, Spawn, Trace}
+use Rattle.script_core.proofs.JoinedPlaces.{get_front}
+use Rattle.run_log.specs.declared.logs.Entry.{Entry}
 use Rattle.run_log.specs.declared.logs.Who.TheVariants.{Loader, Runtime}
 use Rattle.run_log.specs.Legal.{commands_of, MayStand, PurgesGo, ended_by, half_after, is_release}
 use Rattle.run_log.proofs.ListPlaces.{get_within}
 use Rattle.write_permit.specs.declared.holder.Holder.{Holder}
-use Rattle.write_permit.specs.declared.holder.Holder.TheVariants.{Free, Held, Purging}
+use Rattle.write_permit.specs.declared.holder.Holder.TheVariants.{Free, Held, Purging, Tracing}
 use Rattle.write_permit.specs.declared.loader_run.LoaderRun.{LoaderRun}
 use Rattle.write_permit.specs.Book.{HoldsJust, IsLog, IsPermit}
-use Rattle.write_permit.specs.Permit.{PermitState, counted_in, done_of, half_of, holder_of, joined, needs_permission, next_of, opening}
+use Rattle.write_permit.specs.Permit.{PermitState, counted_in, done_of, entered_by, half_of, holder_of, joined, loader_after, needs_permission, next_of, opening}
+use Rattle.write_permit.proofs.Entered.{entered_counted, entered_done, entered_other, many_loaders}
 use Rattle.write_permit.proofs.Logs.{counted_is, done_other, entry_of, log_counted, log_joined, purges_joined}
 
--- what the holder is about stays, where what is doomed, the versions and its next command do
-pub holds_same : (p q : PermitState) (h : Holder) → q.server.doomed ≡ p.server.doomed → q.server.versions ≡ p.server.versions → ((by : ℕ) → holder_of h ≡ Some by → next_of q by ≡ next_of p by) → HoldsJust p h → HoldsJust q h
-holds_same p q Free d v n k = d ∙ k
-holds_same p q (Held by) d v n k = record { rest = d ∙ k.rest; next = subst (λ x. IsSomeAnd x (λ command. needs_permission command ≡ true)) (sym (n by refl)) k.next }
-holds_same p q (Purging by name) d v n k = record {
+-- what the holder is about stays, where what is doomed, the versions, its next command and the entries do
+pub holds_same : (p q : PermitState) (h : Holder) → q.server.doomed ≡ p.server.doomed → q.server.versions ≡ p.server.versions → ((by : ℕ) → holder_of h ≡ Some by → next_of q by ≡ next_of p by)
+    → ((place : ℕ) (e : Entry) → slice_get p.journal place ≡ Some e → slice_get q.journal place ≡ Some e) → HoldsJust p h → HoldsJust q h
+holds_same p q Free d v n j k = d ∙ k
+holds_same p q (Held by) d v n j k = record { rest = d ∙ k.rest; next = subst (λ x. IsSomeAnd x (λ command. needs_permission command ≡ true)) (sym (n by refl)) k.next }
+holds_same p q (Tracing by generation) d v n j k = record { rest = d ∙ k.rest; target = k.target; on = k.on; next = n by refl ∙ k.next; place = k.place; entry = j k.place _ k.entry }
+holds_same p q (Purging by name) d v n j k = record {
   next = n by refl ∙ k.next;
   doomed = subst (λ vs. IsSomeAnd (old_among vs name.0) (λ serial. q.server.doomed ≡ serial ∷ [])) (sym v) (subst (λ x. IsSomeAnd (old_of p.server name.0) (λ serial. x ≡ serial ∷ [])) (sym d) k.doomed);
 }
@@ -42,6 +47,10 @@ holder_apart p (Held x) who command k next free by is same =
 holder_apart p (Purging x name) who command k next free by is same =
     let e : x ≡ who = same_Some x by is ∙ same in
     let c : command ≡ Purge name = same_Some command (Purge name) (sym next ∙ sym (ap (next_of p) e) ∙ k.next) in
+    false≢true (sym free ∙ ap needs_permission c)
+holder_apart p (Tracing x generation) who command k next free by is same =
+    let e : x ≡ who = same_Some x by is ∙ same in
+    let c : command ≡ Trace k.target k.on = same_Some command (Trace k.target k.on) (sym next ∙ sym (ap (next_of p) e) ∙ k.next) in
     false≢true (sym free ∙ ap needs_permission c)
 
 -- two loaders are two
@@ -66,6 +75,7 @@ between : (p : PermitState) (who : ℕ) (cmd : Cmd) (o : Outcome) → ((by : ℕ
 between p who cmd o stands alone Free n = alone
 between p who cmd o stands alone (Held by) n = alone
 between p who cmd o stands alone (Purging by name) n = stands by name (n by refl)
+between p who cmd o stands alone (Tracing by generation) n = alone
 
 quick_check : (p : PermitState) (who : ℕ) (name : AtomId) (o : Outcome) → apply_of p.script.modules p.server (cmds.CheckOld name) ≡ Some o → IsQuick p who (CheckOld name) (cmds.CheckOld name) o
 quick_check p who name o applied = record {
@@ -99,7 +109,7 @@ loader_there (commands ∷ loaders) (suc k) place command h = omega (arith, load
 
 module _ (p : PermitState) (known : IsPermit p) (who : ℕ) (command : ScriptCmd) (next : next_of p who ≡ Some command) where
   pub there : (l : LoaderRun) × (slice_get p.loaders who ≡ Some l)
-  there = get_within p.loaders who (omega (arith, known.log.many, loader_there p.script.loaders who (done_of p.loaders who) command next))
+  there = get_within p.loaders who (omega (arith, many_loaders p known, loader_there p.script.loaders who (done_of p.loaders who) command next))
 
   abbrev with_counted : PermitState → PermitState
   with_counted q = record q { loaders = counted_in p.loaders who command }
@@ -108,7 +118,7 @@ module _ (p : PermitState) (known : IsPermit p) (who : ℕ) (command : ScriptCmd
   pub next_kept : (q : PermitState) → q.script ≡ p.script → (by : ℕ) → (by ≡ who → ⊥) → next_of (with_counted q) by ≡ next_of p by
   next_kept q same by n =
       ap (λ s. slice_get (commands_of s by) (done_of (counted_in p.loaders who command) by)) same
-      ∙ ap (slice_get (commands_of p.script by)) (ap (λ ls. done_of ls by) (counted_is p.script p.server p.journal p.loaders known.log who command next there.0 there.1) ∙ done_other p.script p.server p.journal p.loaders known.log who command next there.0 there.1 by n)
+      ∙ ap (slice_get (commands_of p.script by)) (ap (λ ls. done_of ls by) (counted_is p.loaders who command there.0 there.1) ∙ done_other p.loaders who command there.0 there.1 by n)
 
   -- a command that is made at once keeps what a permit shows
   pub at_once_keeps : (o : Outcome) → needs_permission command ≡ false → apply_of p.script.modules p.server (opening p.server [] command) ≡ Some o → IsSound o.state → IsPermit (with_counted (joined p (Loader who) (opening p.server [] command) o))
@@ -116,15 +126,18 @@ module _ (p : PermitState) (known : IsPermit p) (who : ℕ) (command : ScriptCmd
       let q = quick p who command o free applied in
       let cmd = opening p.server [] command in
       let apart = holder_apart p p.holder who command known.holds next free in
-      let counted = counted_is p.script p.server p.journal p.loaders known.log who command next there.0 there.1 in
+      let logged : List LoaderRun = entered_by p.holder p.loaders in
+      let found : slice_get logged who ≡ Some there.0 = entered_other p.holder p.loaders who apart ∙ there.1 in
+      let due : slice_get (commands_of p.script who) (done_of logged who) ≡ Some command = ap (slice_get (commands_of p.script who)) (entered_done p.holder p.loaders who apart) ∙ next in
+      let counted : entered_by p.holder (counted_in p.loaders who command) ≡ slice_set logged who (loader_after command there.0) = entered_counted p.holder p.loaders who command apart ∙ counted_is logged who command there.0 found in
       record {
         script = known.script;
-        log = subst (IsLog p.script o.state (p.journal ++ entry_of (Loader who) cmd o ∷ [])) (sym counted) (log_counted p.script p.server p.journal p.loaders known.log who command next there.0 there.1 cmd o applied q.ended q.loads);
+        log = subst (IsLog p.script o.state (p.journal ++ entry_of (Loader who) cmd o ∷ [])) (sym counted) (log_counted p.script p.server p.journal logged known.log who command due there.0 found cmd o applied q.ended q.loads);
         sound = sound;
         purges = subst (PurgesGo p.script.modules empty_state None (p.journal ++ entry_of (Loader who) cmd o ∷ [])) (q.half p.holder)
-            (purges_joined p.script p.server p.journal p.loaders known.log (Loader who) cmd o applied (half_of p.holder) known.purges (q.stands p.holder apart));
+            (purges_joined p.script p.server p.journal logged known.log (Loader who) cmd o applied (half_of p.holder) known.purges (q.stands p.holder apart));
         holds = holds_same p (with_counted (joined p (Loader who) cmd o)) p.holder (ap (λ (x : ServerState). x.doomed) q.same) (ap (λ (x : ServerState). x.versions) q.same)
-            (λ by is. next_kept (joined p (Loader who) cmd o) refl by (apart by is)) known.holds;
+            (λ by is. next_kept (joined p (Loader who) cmd o) refl by (apart by is)) (get_front p.journal (entry_of (Loader who) cmd o ∷ [])) known.holds;
       }
 
 -- ---- a release
@@ -136,6 +149,7 @@ release_is false x o h = absurd (none-some o h)
 released_stands : (p : PermitState) (serial : ℕ) (o : Outcome) (h : Holder) → MayStand p.server (half_of h) (entry_of Runtime (cmds.Release serial) o)
 released_stands p serial o Free = tt
 released_stands p serial o (Held by) = tt
+released_stands p serial o (Tracing by generation) = tt
 released_stands p serial o (Purging by name) = runtime_apart by
 
 -- so does a release
@@ -144,8 +158,9 @@ release_keeps p serial o known applied sound =
     let e : unchanged (with_released p.server serial) replies.Ok ≡ o = release_is (is_retired p.server serial) _ o applied in
     record {
       script = known.script;
-      log = log_joined p.script p.server p.journal p.loaders known.log Runtime (cmds.Release serial) o applied refl refl;
+      log = log_joined p.script p.server p.journal (entered_by p.holder p.loaders) known.log Runtime (cmds.Release serial) o applied refl refl;
       sound = sound;
-      purges = purges_joined p.script p.server p.journal p.loaders known.log Runtime (cmds.Release serial) o applied (half_of p.holder) known.purges (released_stands p serial o p.holder);
-      holds = holds_same p (joined p Runtime (cmds.Release serial) o) p.holder (sym (ap (λ x. x.state.doomed) e)) (sym (ap (λ x. x.state.versions) e)) (λ by is. refl) known.holds;
+      purges = purges_joined p.script p.server p.journal (entered_by p.holder p.loaders) known.log Runtime (cmds.Release serial) o applied (half_of p.holder) known.purges (released_stands p serial o p.holder);
+      holds = holds_same p (joined p Runtime (cmds.Release serial) o) p.holder (sym (ap (λ x. x.state.doomed) e)) (sym (ap (λ x. x.state.versions) e)) (λ by is. refl)
+          (get_front p.journal (entry_of Runtime (cmds.Release serial) o ∷ [])) known.holds;
     }

@@ -1,10 +1,12 @@
 pub mod Loads
 pub mod Agreement
 pub mod Logs
+pub mod Entered
 pub mod Dooms
 pub mod Kept
 pub mod Ends
 pub mod Begun
 pub mod BookKeeps
 pub mod EndBooks
+pub mod Traces
 pub mod Over

@@ -27,7 +27,8 @@ use Rattle.write_permit.specs.Permit.{counted_in, done_of, loader_after}
 abbrev pub entry_of : Who → Cmd → Outcome → Entry
 entry_of who cmd o = record { who = who; cmd = cmd; reply = o.answer.reply; published = o.answer.published }
 
-abbrev count_in : Option LoaderRun → ℕ
+-- how many commands of a loader are done, as it is found
+abbrev pub count_in : Option LoaderRun → ℕ
 count_in o = unwrap_or (option_map (λ l. l.done) o) 0
 
 module _ (s : Script) (server : ServerState) (journal : List Entry) (loaders : List LoaderRun) (log : IsLog s server journal loaders) (who : Who) (cmd : Cmd) (o : Outcome) (applied : apply_of s.modules server cmd ≡ Some o) where
@@ -62,6 +63,23 @@ module _ (s : Script) (server : ServerState) (journal : List Entry) (loaders : L
     numbers = log.numbers;
   }
 
+-- a command of a loader is counted
+module _ (loaders : List LoaderRun) (loader : ℕ) (command : ScriptCmd) (l : LoaderRun) (found : slice_get loaders loader ≡ Some l) where
+  abbrev counted : List LoaderRun
+  counted = slice_set loaders loader (loader_after command l)
+
+  place_is : done_of loaders loader ≡ l.done
+  place_is = ap count_in found
+
+  pub done_own : done_of counted loader ≡ done_of loaders loader + 1
+  done_own = ap count_in (set_here loaders loader l (loader_after command l) found) ∙ ap (λ n. n + 1) (sym place_is)
+
+  pub done_other : (other : ℕ) → (other ≡ loader → ⊥) → done_of counted other ≡ done_of loaders other
+  done_other other n = ap count_in (set_there loaders loader (loader_after command l) other n)
+
+  pub counted_is : counted_in loaders loader command ≡ counted
+  counted_is = ap (λ o. unwrap_or (option_map (λ x. slice_set loaders loader (loader_after command x)) o) loaders) found
+
 -- an entry that ends the next command of a loader
 module _ (s : Script) (server : ServerState) (journal : List Entry) (loaders : List LoaderRun) (log : IsLog s server journal loaders) (loader : ℕ) (command : ScriptCmd) (next : slice_get (commands_of s loader) (done_of loaders loader) ≡ Some command)
     (l : LoaderRun) (found : slice_get loaders loader ≡ Some l) where
@@ -69,30 +87,18 @@ module _ (s : Script) (server : ServerState) (journal : List Entry) (loaders : L
   place = done_of loaders loader
 
   abbrev after : List LoaderRun
-  after = slice_set loaders loader (loader_after command l)
-
-  place_is : place ≡ l.done
-  place_is = ap count_in found
-
-  pub done_own : done_of after loader ≡ place + 1
-  done_own = ap count_in (set_here loaders loader l (loader_after command l) found) ∙ ap (λ n. n + 1) (sym place_is)
-
-  pub done_other : (other : ℕ) → (other ≡ loader → ⊥) → done_of after other ≡ done_of loaders other
-  done_other other n = ap count_in (set_there loaders loader (loader_after command l) other n)
+  after = counted loaders loader command l found
 
   within_at : (other : ℕ) → (other ≡ loader) ⊎ (other ≡ loader → ⊥) → done_of after other ≤ length (commands_of s other)
-  within_at other (inl e) = rw e (rw done_own (omega (arith, slice_get_within (commands_of s loader) place command next)))
-  within_at other (inr n) = rw (done_other other n) (log.within other)
+  within_at other (inl e) = rw e (rw (done_own loaders loader command l found) (omega (arith, slice_get_within (commands_of s loader) place command next)))
+  within_at other (inr n) = rw (done_other loaders loader command l found other n) (log.within other)
 
   number_at : (other : ℕ) (m : LoaderRun) → SetAt loaders loader (loader_after command l) other m → m.next_process ≡ spawn_number s.loaders other m.done
   number_at other m (here e h) =
       let before : l.next_process ≡ spawn_number s.loaders loader l.done = log.numbers loader l found in
-      let more = number_next s.loaders loader l.done command (subst (λ n. slice_get (commands_of s loader) n ≡ Some command) place_is next) in
+      let more = number_next s.loaders loader l.done command (subst (λ n. slice_get (commands_of s loader) n ≡ Some command) (place_is loaders loader command l found) next) in
       subst (λ x. x.next_process ≡ spawn_number s.loaders other x.done) h (rw e (ap (λ n. n + spawns_in command) before ∙ sym more))
   number_at other m (there n h) = log.numbers other m h
-
-  pub counted_is : counted_in loaders loader command ≡ after
-  counted_is = ap (λ o. unwrap_or (option_map (λ x. slice_set loaders loader (loader_after command x)) o) loaders) found
 
   module _ (cmd : Cmd) (o : Outcome) (applied : apply_of s.modules server cmd ≡ Some o) (ended : ended_by cmd ≡ command ∷ []) (loads : is_release cmd ≡ false) where
     abbrev more : List Entry
@@ -105,11 +111,11 @@ module _ (s : Script) (server : ServerState) (journal : List Entry) (loaders : L
         ∙ ap (λ xs. commands_in loader journal ++ xs) ended
         ∙ ap (λ xs. xs ++ command ∷ []) (log.in_order loader)
         ∙ sym (take_next (commands_of s loader) place command next)
-        ∙ ap (λ n. take n (commands_of s loader)) (sym done_own))
+        ∙ ap (λ n. take n (commands_of s loader)) (sym (done_own loaders loader command l found)))
     in_order_at other (inr n) =
         commands_other other journal (entry_of (Loader loader) cmd o) (ne_eqb loader other (λ x. n (sym x)))
         ∙ log.in_order other
-        ∙ ap (λ m. take m (commands_of s other)) (sym (done_other other n))
+        ∙ ap (λ m. take m (commands_of s other)) (sym (done_other loaders loader command l found other n))
 
     pub log_counted : IsLog s o.state more after
     log_counted = record {

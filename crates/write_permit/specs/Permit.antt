@@ -2,10 +2,12 @@
 -- Source: this project's profile; the phases of a purge are those of the manual page `erlang`, on `purge_module`. A call that has no case here is not made.
 use Rattle.std.specs.Prelude.{ℕ, suc, ◌+◌, Bool, true, false, List, [], ◌∷◌, ◌++◌, length, min, slice_get, slice_set, Option, Some, None, option_map, option_and_then, unwrap_or}
 use Rattle.term_core.specs.declared.atom.AtomId.{AtomId}
+use Rattle.term_core.specs.declared.atom.Mfa.{Mfa}
 use Rattle.server_core.specs.declared.command.Applied.{Applied}
 use Rattle.server_core.specs.declared.command.Cmd.{Cmd}
 use Rattle.server_core.specs.declared.command.Cmd.TheVariants as cmds
 use Rattle.server_core.specs.declared.command.Linger.{Linger}
+use Rattle.server_core.specs.declared.command.Reply.TheVariants as replies
 use Rattle.server_core.specs.ServerState.{ServerState, old_of}
 use Rattle.server_core.specs.CommandTable.{Outcome, apply_of}
 use Rattle.script_core.specs.declared.script.Script.{Script}
@@ -25,7 +27,7 @@ use Rattle.write_permit.specs.declared.answers.Seize.{Seize}
 use Rattle.write_permit.specs.declared.answers.Seize.TheVariants as seizes
 use Rattle.write_permit.specs.declared.commands.OldCode.{OldCode}
 use Rattle.write_permit.specs.declared.holder.Holder.{Holder}
-use Rattle.write_permit.specs.declared.holder.Holder.TheVariants.{Free, Held, Purging}
+use Rattle.write_permit.specs.declared.holder.Holder.TheVariants.{Free, Held, Purging, Tracing}
 use Rattle.write_permit.specs.declared.loader_run.LoaderRun.{LoaderRun}
 use Rattle.write_permit.specs.declared.spawned.Spawned.{Spawned}
 
@@ -50,12 +52,21 @@ abbrev pub holder_of : Holder → Option ℕ
 holder_of Free = None
 holder_of (Held by) = Some by
 holder_of (Purging by name) = Some by
+holder_of (Tracing by generation) = Some by
 
 -- the purge that waits for its second half, as the journal has it
 abbrev pub half_of : Holder → Option HalfPurge
 half_of Free = None
 half_of (Held by) = None
 half_of (Purging by name) = Some (record { who = Loader by; «module» = name })
+half_of (Tracing by generation) = None
+
+-- the loaders as the journal has them: a trace has its entry there before its command is done
+abbrev pub entered_by : Holder → List LoaderRun → List LoaderRun
+entered_by Free loaders = loaders
+entered_by (Held by) loaders = loaders
+entered_by (Purging by name) loaders = loaders
+entered_by (Tracing by generation) loaders = unwrap_or (option_map (λ l. slice_set loaders by (record l { done = l.done + 1 })) (slice_get loaders by)) loaders
 
 -- whether a command of the script needs the permission
 abbrev pub needs_permission : ScriptCmd → Bool
@@ -73,18 +84,21 @@ abbrev pub seize_answer : Holder → Seize
 seize_answer Free = seizes.Seized
 seize_answer (Held by) = seizes.Held by
 seize_answer (Purging by name) = seizes.Held by
+seize_answer (Tracing by generation) = seizes.Held by
 
 -- who has the permission after a loader asked for it
 abbrev pub seized_by : ℕ → Holder → Holder
 seized_by who Free = Held who
 seized_by who (Held by) = Held by
 seized_by who (Purging by name) = Purging by name
+seized_by who (Tracing by generation) = Tracing by generation
 
 -- who has the permission after want of memory: a loader gives it up where its command has no entry yet
 abbrev pub given_up : Holder → Holder
 given_up Free = Free
 given_up (Held by) = Free
 given_up (Purging by name) = Purging by name
+given_up (Tracing by generation) = Tracing by generation
 
 -- a permit after a call, with what the server answered
 pub record Step : Type 0 where
@@ -164,16 +178,27 @@ purged_code s command = None
 abbrev pub doomed_by : PermitState → ℕ → AtomId → Option PermitState
 doomed_by p who name = option_map (λ s. record (s.state) { holder = Purging who name }) (made_of p (Loader who) (cmds.Doom name))
 
+-- the entry of a trace that changes what is traced joins; its command is not done until the breakpoint is switched throughout
+abbrev pub entered_trace : PermitState → ℕ → Mfa → Bool → Option PermitState
+entered_trace p who target on =
+    option_and_then (λ s. option_map (λ generation. record (s.state) { holder = Tracing who generation }) s.answer.published) (made_of p (Loader who) (cmds.Trace target on))
+
+-- then it is done, with the answer of its entry
+abbrev pub settled : PermitState → ℕ → ℕ → Advanced
+settled p by generation =
+    record { state = record p { loaders = entered_by (Tracing by generation) p.loaders; holder = Free }; answer = Done (record { reply = replies.True; published = Some generation }) }
+
 -- a command is done that purges no old code
 abbrev pub begun : PermitState → List Linger → ℕ → ScriptCmd → Option OldCode → Option Advanced
 begun p among who command None = ended_with p who (opening p.server among command)
 begun p among who command (Some code) = None
 
--- the loader that has the permission goes on with its next command, where that purges no old code
+-- the loader that has the permission goes on with its next command to its end, where that purges no old code
 abbrev pub advanced : PermitState → List Linger → ℕ → Holder → Option Advanced
 advanced p among who Free = None
 advanced p among who (Held by) = option_and_then (λ command. begun p among who command (purged_code p.server command)) (next_of p who)
 advanced p among who (Purging by name) = None
+advanced p among who (Tracing by generation) = Some (settled p by generation)
 
 -- ---- areas
 

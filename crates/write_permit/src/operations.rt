@@ -1,12 +1,14 @@
-ghost use Rattle.std.specs.Prelude.{◌≡◌, ◌<◌, length, slice_get, slice_set, IsSome, IsSomeAnd, Some, option_map};
+ghost use Rattle.std.specs.Prelude.{◌≡◌, ◌<◌, [], length, slice_get, slice_set, IsSome, IsSomeAnd, Some, option_map};
 ghost use Rattle.write_permit.specs.Book.{IsBook, shown};
-ghost use Rattle.write_permit.specs.Permit.{loader_after, next_of};
+ghost use Rattle.write_permit.specs.Permit.{advanced, loader_after, next_of, settled};
 
+use crate::answers::OpStep;
 use crate::book::Book;
 use crate::commands::is_spawn;
 use crate::holder::Holder;
 use crate::loader_run::LoaderRun;
 use crate::steps::{count, next_command};
+use server_core::{Applied, Reply};
 
 /// How far a loader is once its next command is done.
 pub fn after_next(book: &Book, who: u32) -> LoaderRun
@@ -31,4 +33,33 @@ pub fn set_free(book: &mut Book, who: u32, after: LoaderRun)
 {
     book.loaders[who as usize] = after;
     book.holder = Holder::Free;
+}
+
+/// The loader's trace waits: its entry, which published this generation, is in the journal.
+pub fn set_tracing(book: &mut Book, who: u32, generation: u64)
+    ensures state { shown book.new ≡ record (shown book.old) { holder = Holder.Tracing who generation } }
+    ensures table { book.new.modules ≡ book.old.modules }
+{
+    book.holder = Holder::Tracing {
+        loader: who,
+        generation,
+    };
+}
+
+/// The loader's trace that waits is done, and nobody has the permission. The answer is that of its entry.
+pub fn settle(book: &mut Book, who: u32, generation: u64) -> Applied
+    requires book { IsBook book.old }
+    requires tracing { book.old.holder ≡ Holder.Tracing who generation }
+    ensures ok { advanced (shown book.old) [] who book.old.holder ≡ Some (record { state = shown book.new; answer = OpStep.Done result }) }
+    ensures answer { result ≡ record { reply = Reply.True; published = Some generation } }
+    ensures state { shown book.new ≡ (settled (shown book.old) who generation).state }
+    ensures table { book.new.modules ≡ book.old.modules }
+    ensures book { IsBook book.new }
+{
+    let after = after_next(book, who);
+    set_free(book, who, after);
+    Applied {
+        reply: Reply::True,
+        published: Some(generation),
+    }
 }

@@ -4,7 +4,11 @@ use Rattle.std.proofs.lemmas.Option.{slice_get_within}
 use Rattle.write_permit.specs.Book.{shown}
 use Rattle.write_permit.proofs.BookKeeps.{next_process}
 use Rattle.write_permit.proofs.EndBooks.{loader_read, next_counted}
+use Rattle.write_permit.proofs.Entered.{many_loaders}
 use Rattle.write_permit.proofs.operations.after_next.Goals as goal
+
+pub next_command-requires : goal.next_command-requires
+next_command-requires c = many_loaders (shown c.args.book.now) c.requires.book.permit
 
 pub count-requires-clause-next : goal.count-requires-clause-next
 count-requires-clause-next c =

@@ -5,7 +5,11 @@ use Rattle.write_permit.specs.Book.{shown}
 use Rattle.write_permit.specs.Permit.{made_of, needs_permission}
 use Rattle.run_log.specs.declared.logs.Who.TheVariants.{Loader}
 use Rattle.write_permit.proofs.BookKeeps.{at_once_enabled, at_once_is, at_once_text, book_at_once, counted_by, loader_found, loader_stays, next_process, spawned_is}
+use Rattle.write_permit.proofs.Entered.{many_loaders}
 use Rattle.write_permit.proofs.steps.make_at_once.Goals as goal
+
+pub next_command-requires : goal.next_command-requires
+next_command-requires c = many_loaders (shown c.args.book.now) c.requires.book.permit
 
 -- it needs no permission
 pub make-requires-clause-put : goal.make-requires-clause-put
