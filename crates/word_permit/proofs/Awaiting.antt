@@ -24,7 +24,7 @@ use Rattle.server_core.specs.declared.change.Change.{Change}
 use Rattle.server_core.specs.ServerState.{ServerState, is_retired}
 use Rattle.literal_areas.specs.declared.areas.Areas.{Areas}
 use Rattle.staging.specs.declared.stage.Stage.{Stage}
-use Rattle.staging.specs.declared.stage.Stage.TheVariants.{Untouched, Placed, Exported}
+use Rattle.staging.specs.declared.stage.Stage.TheVariants.{Untouched, Placed, Exported, Patching}
 use Rattle.staging.specs.declared.tables.Tables.{Tables}
 use Rattle.staging.specs.Stages.{StageStands}
 use Rattle.staging.specs.Standing.{StandFor}
@@ -38,6 +38,7 @@ use Rattle.word_permit.specs.Books.{IsWordBook}
 use Rattle.word_permit.specs.Needs.{IsAwaited}
 use Rattle.word_permit.specs.Pumped.{IsAwaitedStill}
 use Rattle.word_permit.specs.Waiting.{WordsStand}
+use Rattle.word_permit.proofs.Resting.{stands_by}
 
 -- ---- what is retired
 
@@ -55,9 +56,10 @@ stage_retired : (names : List Mfa) (s : ServerState) (change : Change) (t : Tabl
 stage_retired names s change t Untouched serial h = newest_retired names s t.pools (written_by t.writer) serial h.stands
 stage_retired names s change t (Placed areas) serial h = newest_retired names s h.0.rest (written_by t.writer) serial h.0.stands
 stage_retired names s change t (Exported areas) serial h = newest_retired names s h.placed.rest (written_by t.writer) serial h.placed.stands
+stage_retired names s change t Patching serial h = newest_retired names s t.pools (written_by t.writer) serial h.stands
 
 pub words_retired : (names : List Mfa) (p : PermitState) (t : Tables) (o : Option Waiting) (serial : ℕ) → WordsStand names p t o → IsTrue (is_retired p.server serial) → IsTrue (generations.is_retired (newest_of (written_by t.writer)) serial)
-words_retired names p t None serial h = newest_retired names p.server t.pools (written_by t.writer) serial h.stands
+words_retired names p t None serial h = newest_retired names p.server t.pools (written_by t.writer) serial (stands_by names p.holder p.server t h)
 words_retired names p t (Some w) serial h = stage_retired names p.server w.decision.change t w.stage serial h.stands
 
 -- ---- what is waited for

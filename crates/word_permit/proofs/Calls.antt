@@ -34,8 +34,8 @@ use Rattle.write_permit.specs.declared.answers.AtOnce.{AtOnce}
 use Rattle.write_permit.specs.declared.spawned.Spawned as plains
 use Rattle.write_permit.specs.declared.book.Book.{Book}
 use Rattle.write_permit.specs.declared.holder.Holder.TheVariants.{Free, Held}
-use Rattle.write_permit.specs.Book.{HoldsJust, IsBook, IsPermit, shown}
-use Rattle.write_permit.specs.Permit.{PermitState, Step, at_once_of, counted_in, done_by, half_of, holder_of, joined, needs_permission, next_of, opening, spawned_by}
+use Rattle.write_permit.specs.Book.{HoldsJust, IsBook, IsLog, IsPermit, shown}
+use Rattle.write_permit.specs.Permit.{PermitState, Step, at_once_of, counted_in, done_by, entered_by, half_of, holder_of, joined, needs_permission, next_of, opening, spawned_by}
 use Rattle.write_permit.proofs.Kept.{holder_apart, next_kept}
 use Rattle.word_permit.specs.declared.book.AreaNeed.{AreaNeed}
 use Rattle.word_permit.specs.declared.book.Decision.{Decision}
@@ -47,9 +47,10 @@ use Rattle.word_permit.specs.Needs.{IsAwaited}
 use Rattle.word_permit.specs.Notes.{AreOfSpawned, IsSpawnedIn}
 use Rattle.run_law.specs.Answers.{AreAnswersKept}
 use Rattle.run_law.specs.Published.{ArePublished, shown_at}
-use Rattle.word_permit.specs.Waiting.{IsDecided, WordsStand}
+use Rattle.word_permit.specs.Waiting.{IsDecided, RestsBy, WordsStand}
 use Rattle.word_permit.proofs.Answered.{answered_first, answered_quietly}
 use Rattle.word_permit.proofs.Growing.{published_same}
+use Rattle.word_permit.proofs.Resting.{IsNoTrace, free_no_trace, rest_by, rests_by}
 use Rattle.word_permit.proofs.SpawnedBefore.{if_spawned, may_split, notes_later, spawned_now}
 
 -- ---- the first book
@@ -68,8 +69,8 @@ pub no_look : (b : WordBook) → b.look ≡ None → IfSome b.look (IsLookTaken 
 no_look b none = subst (λ (o : Option ℕ). IfSome o (IsLookTaken (written_by b.tables.writer))) (sym none) tt
 
 pub begun_word_book : (names : List Mfa) (table : TableId) (opening : Opening) (b : WordBook) → IsBook b.plain → All (IsNumbered names) b.plain.script.modules → AreTablesOf table opening b.tables → b.tables.exports ≡ names → b.plain.journal ≡ []
-    → b.plain.server ≡ empty_state → (written_by b.tables.writer).published ≡ opening_published ∷ [] → (written_by b.tables.writer).notes ≡ [] → AreAtRest names empty_state b.tables → b.waiting ≡ None → b.need ≡ None → b.look ≡ None → IsWordBook names table opening b
-begun_word_book names table opening b book texts tables exports journal server published notes rest none needs look = record {
+    → b.plain.server ≡ empty_state → b.plain.holder ≡ Free → (written_by b.tables.writer).published ≡ opening_published ∷ [] → (written_by b.tables.writer).notes ≡ [] → AreAtRest names empty_state b.tables → b.waiting ≡ None → b.need ≡ None → b.look ≡ None → IsWordBook names table opening b
+begun_word_book names table opening b book texts tables exports journal server free published notes rest none needs look = record {
   has = record {
     book = book;
     texts = texts;
@@ -80,7 +81,7 @@ begun_word_book names table opening b book texts tables exports journal server p
     answered = answered_first b.plain.script.modules b.plain.journal (written_by b.tables.writer).looks journal;
     awaited = subst (λ (o : Option AreaNeed). IfSome o (IsAwaited (written_by b.tables.writer))) (sym needs) tt;
   };
-  words = subst (WordsStand names (shown b.plain) b.tables) (sym none) (subst (λ s. AreAtRest names s b.tables) (sym server) rest);
+  words = subst (WordsStand names (shown b.plain) b.tables) (sym none) (rests_by names b.plain.holder b.plain.server b.tables (free_no_trace b.plain.holder free) (subst (λ s. AreAtRest names s b.tables) (sym server) rest));
   looked = no_look b look;
 }
 
@@ -90,9 +91,9 @@ free_apart : (n : ℕ) → Free ≡ Held n → ⊥
 free_apart n e = cc
 
 -- while nobody has the permission no command waits
-words_free : (names : List Mfa) (p q : PermitState) (t : Tables) (o : Option Waiting) → p.holder ≡ Free → q.server ≡ p.server → WordsStand names p t o → WordsStand names q t o
-words_free names p q t None free same h = subst (λ s. AreAtRest names s t) (sym same) h
-words_free names p q t (Some w) free same h = absurd (free_apart h.who (sym free ∙ h.holder))
+words_free : (names : List Mfa) (p q : PermitState) (t : Tables) (o : Option Waiting) → p.holder ≡ Free → IsNoTrace q.holder → q.server ≡ p.server → WordsStand names p t o → WordsStand names q t o
+words_free names p q t None free untraced same h = rests_by names q.holder q.server t untraced (subst (λ s. AreAtRest names s t) (sym same) (rest_by names p.holder p.server t (free_no_trace p.holder free) h))
+words_free names p q t (Some w) free untraced same h = absurd (free_apart h.who (sym free ∙ h.holder))
 
 book_seized : (b : Book) (who : ℕ) → b.holder ≡ Free → IsSomeAnd (next_of (shown b) who) (λ command. needs_permission command ≡ true) → IsBook b → IsBook (record b { holder = Held who })
 book_seized b who free needs known =
@@ -100,7 +101,7 @@ book_seized b who free needs known =
     record {
       permit = record {
         script = p.script;
-        log = p.log;
+        log = subst (λ h. IsLog b.script b.server b.journal (entered_by h b.loaders.items)) free p.log;
         sound = p.sound;
         purges = subst (λ h. PurgesGo b.script.modules empty_state None b.journal (half_of h)) free p.purges;
         holds = record { rest = subst (HoldsJust (shown b)) free p.holds; next = needs };
@@ -123,7 +124,7 @@ seized_kept b who free needs = record {
       answered = known.has.answered;
       awaited = known.has.awaited;
     };
-    words = words_free names (shown b.plain) (record (shown b.plain) { holder = Held who }) b.tables b.waiting free refl known.words;
+    words = words_free names (shown b.plain) (record (shown b.plain) { holder = Held who }) b.tables b.waiting free tt refl known.words;
     looked = known.looked;
   };
 }
@@ -179,7 +180,7 @@ decided_moved p q who d server script next k = record {
 
 words_at_once : (names : List Mfa) (p q : PermitState) (who : ℕ) (command : ScriptCmd) (t : Tables) (o : Option Waiting) → HoldsJust p p.holder → next_of p who ≡ Some command → needs_permission command ≡ false → LeftAtOnce p who command q
     → WordsStand names p t o → WordsStand names q t o
-words_at_once names p q who command t None holds next free left h = subst (λ s. AreAtRest names s t) (sym left.server) h
+words_at_once names p q who command t None holds next free left h = subst (λ k. RestsBy names k q.server t) (sym left.holder) (subst (λ s. RestsBy names p.holder s t) (sym left.server) h)
 words_at_once names p q who command t (Some w) holds next free left h = record {
   who = h.who;
   holder = left.holder ∙ h.holder;

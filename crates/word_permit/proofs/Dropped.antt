@@ -1,12 +1,12 @@
 -- A command of the server that publishes is made: what the book keeps then, and how far its loader is.
-use Rattle.std.proofs.Common.{◌≡◌, ℕ, suc, ◌≤◌, true, List, [], ◌∷◌, ◌++◌, slice_get, slice_set, Option, Some, None, is_some, IfSome, IsSomeAnd, IfOk, Result, Ok, Err, All, option_map, option_and_then, if◌then◌else◌, inl, inr, refl, sym, ap, subst, ◌∙◌, arith}
+use Rattle.std.proofs.Common.{◌≡◌, ℕ, suc, ◌≤◌, true, List, [], ◌∷◌, ◌++◌, slice_get, Option, Some, None, is_some, IfSome, IsSomeAnd, IfOk, Result, Ok, Err, All, option_map, option_and_then, if◌then◌else◌, refl, sym, ap, subst, ◌∙◌, arith}
 use Rattle.std.proofs.lemmas.Option.{none-some, same_Some}
-use Rattle.std.proofs.lemmas.Bool.{cases_eq}
 use Rattle.atomic_table.specs.Seated.{TableId}
 use Rattle.term_core.specs.declared.atom.AtomId.{AtomId}
 use Rattle.term_core.specs.declared.atom.Mfa.{Mfa}
 use Rattle.term_core.specs.declared.no_memory.NoMemory.{NoMemory}
 use Rattle.mod_core.specs.declared.code.Module.{Module}
+use Rattle.area_core.specs.declared.table.Published.{Published}
 use Rattle.area_core.specs.Blocks.{Among}
 use Rattle.marks.specs.declared.kept.LookKind.TheVariants.{Frame}
 use Rattle.marks.specs.declared.kept.WriterKept.{WriterKept}
@@ -25,6 +25,7 @@ use Rattle.server_core.specs.declared.command.Cmd.{Cmd}
 use Rattle.server_core.specs.declared.command.Cmd.TheVariants as cmds
 use Rattle.server_core.specs.CommandTable.{Outcome, apply_of}
 use Rattle.server_core.specs.Decided.{Fits, made}
+use Rattle.server_core.specs.Generations.{generation_of}
 use Rattle.server_core.specs.ServerState.{IsSound, ServerState, empty_state, old_of}
 use Rattle.script_core.specs.declared.script.Script.{Script}
 use Rattle.script_core.specs.declared.script.ScriptCmd.{ScriptCmd}
@@ -35,8 +36,6 @@ use Rattle.run_log.specs.Journal.{newest_state, published_count, publishes}
 use Rattle.module_table.specs.Modules.{Modules}
 use Rattle.staging.specs.declared.tables.Tables.{Tables}
 use Rattle.staging.specs.Renewed.{IsClearOf, IsRenewal, KeepsDrop}
-use Rattle.staging.specs.Stages.{AreAtRest, HasPublished}
-use Rattle.staging.specs.Upcoming.{generation_shown}
 use Rattle.staging.specs.Whose.{AreTablesOf, KeepsWaits}
 use Rattle.run_law.specs.Answers.{AreAnswersKept, IsAnswerKept}
 use Rattle.run_law.specs.Published.{ArePublished}
@@ -47,12 +46,12 @@ use Rattle.write_permit.specs.declared.commands.OldCode.{OldCode}
 use Rattle.write_permit.specs.declared.holder.Holder.TheVariants.{Free, Held, Purging}
 use Rattle.write_permit.specs.declared.loader_run.LoaderRun.{LoaderRun}
 use Rattle.write_permit.specs.Agreement.{Agrees, CanFollowNewest, new_modules, newest_followed, newest_of}
-use Rattle.write_permit.specs.Book.{IsBook, IsPermit, shown}
-use Rattle.write_permit.specs.Permit.{Advanced, PermitState, Step, counted_in, done_of, ended_with, freed, holder_of, joined, loader_after, made_of, next_of}
+use Rattle.write_permit.specs.Book.{IsBook, shown}
+use Rattle.write_permit.specs.Permit.{Advanced, PermitState, Step, counted_in, done_of, ended_with, entered_by, freed, holder_of, joined, loader_after, made_of, next_of}
 use Rattle.write_permit.proofs.Agreement.{NewestFollows, newest_follows}
 use Rattle.write_permit.proofs.EndBooks.{DoomMade, EndMade, doom_left, end_made}
-use Rattle.write_permit.proofs.Kept.{there}
-use Rattle.write_permit.proofs.Logs.{counted_is, done_other, done_own, server_joined}
+use Rattle.write_permit.proofs.Entered.{counted_grows}
+use Rattle.write_permit.proofs.Logs.{server_joined}
 use Rattle.word_permit.specs.declared.book.AreaNeed.{AreaNeed}
 use Rattle.word_permit.specs.declared.book.Decision.{Decision}
 use Rattle.word_permit.specs.declared.book.WordBook.{WordBook}
@@ -61,7 +60,7 @@ use Rattle.word_permit.specs.Needs.{IsAwaited}
 use Rattle.word_permit.specs.Notes.{AreOfSpawned}
 use Rattle.word_permit.specs.Purged.{DoomsCode, DropsCode, EndsNext, HasGrown, IsDoomMade, IsMadeBy, IsToldBy, IsToldByDrop}
 use Rattle.word_permit.specs.Settled.{IsFinished}
-use Rattle.word_permit.specs.Waiting.{WordsStand}
+use Rattle.word_permit.specs.Waiting.{RestsBy, WordsStand}
 use Rattle.word_permit.proofs.Answered.{KeepsAnswers, answered_joined, answered_more}
 use Rattle.word_permit.proofs.Awaiting.{need_on}
 use Rattle.word_permit.proofs.Calls.{no_look}
@@ -132,7 +131,7 @@ module _ (p : Book) (book : IsBook p) (who : ℕ) (d : Decision) (known : IsMade
   -- the state behind it
   pub state_behind : (made p.server d.change).state ≡ newest_state p.script.modules empty_state (p.journal ++ entry_for who d ∷ [])
   state_behind =
-      server_joined p.script p.server p.journal p.loaders.items book.permit.log (Loader who) d.cmd (made p.server d.change) known.given
+      server_joined p.script p.server p.journal (entered_by p.holder p.loaders.items) book.permit.log (Loader who) d.cmd (made p.server d.change) known.given
       ∙ ap (λ a. newest_state p.script.modules empty_state (p.journal ++ told_entry who d a ∷ [])) known.answer
 
   module _ (table : Modules) (same : table.instances ≡ p.modules.instances) (room : new_modules d.cmd ≤ table.room) (journal : List Entry) (more : journal ≡ p.journal ++ entry_for who d ∷ []) where
@@ -167,7 +166,8 @@ module _ (p : Book) (book : IsBook p) (who : ℕ) (d : Decision) (known : IsMade
 
 module _ (names : List Mfa) (table : TableId) (opening : Opening) (b : WordBook) (had : HasItsTables names table opening b) (who : ℕ) (d : Decision) (known : IsMadeBy (shown b.plain) d) (publishing : is_some (made b.plain.server d.change).answer.published ≡ true)
     (t : Tables) (of_table : AreTablesOf table opening t) (exports : t.exports ≡ names) (notes : (written_by t.writer).notes ≡ (written_by b.tables.writer).notes) (waits : KeepsWaits (written_by b.tables.writer) (written_by t.writer))
-    (keeps : KeepsTold b.plain.server (written_by b.tables.writer) (written_by t.writer) d.cmd) (generation : ℕ) (published : HasPublished names (made b.plain.server d.change).state b.tables t generation) where
+    (keeps : KeepsTold b.plain.server (written_by b.tables.writer) (written_by t.writer) d.cmd) (next : Published) (shows : next.state ≡ generation_of names (made b.plain.server d.change).state)
+    (published : (written_by t.writer).published ≡ (written_by b.tables.writer).published ++ next ∷ []) where
   abbrev texts : List Module
   texts = b.plain.script.modules
 
@@ -179,9 +179,9 @@ module _ (names : List Mfa) (table : TableId) (opening : Opening) (b : WordBook)
 
   published_longer : ArePublished names texts longer (written_by t.writer).published
   published_longer =
-      subst (ArePublished names texts longer) (sym published.published)
-      (published_more names texts b.plain.journal (entry_for who d) had.book.permit.log.replays (written_by b.tables.writer).published published.next had.published counts_one
-      (published.shows ∙ ap (generation_shown names) (state_behind b.plain had.book who d known)))
+      subst (ArePublished names texts longer) (sym published)
+      (published_more names texts b.plain.journal (entry_for who d) had.book.permit.log.replays (written_by b.tables.writer).published next had.published counts_one
+      (shows ∙ ap (generation_of names) (state_behind b.plain had.book who d known)))
 
   newest_counts : newest (written_by b.tables.writer).published ≡ published_count b.plain.journal
   newest_counts = omega (arith, had.published.many)
@@ -199,8 +199,9 @@ module _ (names : List Mfa) (table : TableId) (opening : Opening) (b : WordBook)
   notes_longer : AreOfSpawned b.plain.script longer (written_by t.writer).notes
   notes_longer = subst (AreOfSpawned b.plain.script longer) (sym notes) (notes_later b.plain.script b.plain.journal (entry_for who d) (written_by b.tables.writer).notes had.notes)
 
-  pub published_book : (c : WordBook) → IsBook c.plain → c.plain.script ≡ b.plain.script → c.plain.journal ≡ longer → c.plain.server ≡ (made b.plain.server d.change).state → c.tables ≡ t → c.need ≡ b.need → c.look ≡ None → c.waiting ≡ None → IsWordBook names table opening c
-  published_book c book script journal server tables_are need look waiting = record {
+  pub published_book : (c : WordBook) → IsBook c.plain → c.plain.script ≡ b.plain.script → c.plain.journal ≡ longer → c.plain.server ≡ (made b.plain.server d.change).state → c.tables ≡ t → c.need ≡ b.need → c.look ≡ None → c.waiting ≡ None
+      → RestsBy names c.plain.holder (made b.plain.server d.change).state t → IsWordBook names table opening c
+  published_book c book script journal server tables_are need look waiting rests = record {
     has = record {
       book = book;
       texts = subst (λ (x : Script). All (IsNumbered names) x.modules) (sym script) had.texts;
@@ -217,9 +218,9 @@ module _ (names : List Mfa) (table : TableId) (opening : Opening) (b : WordBook)
           (subst (λ (x : Script). AreAnswersKept x.modules longer (written_by t.writer).looks) (sym script) answers_longer));
       awaited = subst (λ (o : Option AreaNeed). IfSome o (IsAwaited (written_by c.tables.writer))) (sym need)
           (subst (λ (x : Tables). IfSome b.need (IsAwaited (written_by x.writer))) (sym tables_are)
-          (need_on (written_by b.tables.writer) (written_by t.writer) (published.next ∷ []) b.need waits published.published had.awaited));
+          (need_on (written_by b.tables.writer) (written_by t.writer) (next ∷ []) b.need waits published had.awaited));
     };
-    words = subst (WordsStand names (shown c.plain) c.tables) (sym waiting) (subst (λ s. AreAtRest names s c.tables) (sym server) (subst (AreAtRest names (made b.plain.server d.change).state) (sym tables_are) published.rest));
+    words = subst (WordsStand names (shown c.plain) c.tables) (sym waiting) (subst (λ s. RestsBy names c.plain.holder s c.tables) (sym server) (subst (RestsBy names c.plain.holder (made b.plain.server d.change).state) (sym tables_are) rests));
     looked = no_look c look;
   }
 
@@ -248,25 +249,15 @@ was_ended p q who cmd answer h = by (next_of p who) (apply_of p.script.modules p
         let s = same_Some (advanced_as (record (joined p (Loader who) cmd x) { loaders = counted_in p.loaders who command; holder = Free }) (steps.Done x.answer)) (advanced_as q answer) g in
         record { command = command; next = e; outcome = x; applied = f; state = sym (ap (λ (a : Advanced). a.state) s) }
 
--- one command more of the loader is done, and as many as before of each other one
-pub done_more : (p : PermitState) (known : IsPermit p) (who : ℕ) (command : ScriptCmd) → next_of p who ≡ Some command → (loader : ℕ) → done_of p.loaders loader ≤ done_of (counted_in p.loaders who command) loader
-done_more p known who command next loader =
-    let t = there p known who command next in
-    let counted = counted_is p.script p.server p.journal p.loaders known.log who command next t.0 t.1 in
-    subst (λ ls. done_of p.loaders loader ≤ done_of ls loader) (sym counted)
-    (elim (cases_eq loader who) as (λ _. done_of p.loaders loader ≤ done_of (slice_set p.loaders who (loader_after command t.0)) loader) [
-      | inl same ↦ omega (arith, ap (done_of p.loaders) same, ap (done_of (slice_set p.loaders who (loader_after command t.0))) same, done_own p.script p.server p.journal p.loaders known.log who command next t.0 t.1)
-      | inr other ↦ omega (arith, done_other p.script p.server p.journal p.loaders known.log who command next t.0 t.1 loader other)
-    ])
-
-pub ended_grown : (b c : Book) (who : ℕ) (cmd : Cmd) (answer : OpStep) → IsBook b → ended_with (shown b) who cmd ≡ Some (record { state = shown c; answer = answer }) → HasGrown b c
-ended_grown b c who cmd answer book step =
+-- entries join, and no loader has fewer commands done
+pub ended_grown : (b c : Book) (who : ℕ) (cmd : Cmd) (answer : OpStep) → ended_with (shown b) who cmd ≡ Some (record { state = shown c; answer = answer }) → HasGrown b c
+ended_grown b c who cmd answer step =
     let e = was_ended (shown b) (shown c) who cmd answer step in
     record {
       script = ap (λ (x : PermitState). x.script) e.state;
       more = record { who = Loader who; cmd = cmd; reply = e.outcome.answer.reply; published = e.outcome.answer.published } ∷ [];
       journal = ap (λ (x : PermitState). x.journal) e.state;
-      done = λ loader. subst (λ ls. done_of b.loaders.items loader ≤ done_of ls loader) (sym (ap (λ (x : PermitState). x.loaders) e.state)) (done_more (shown b) book.permit who e.command e.next loader);
+      done = λ loader. subst (λ ls. done_of b.loaders.items loader ≤ done_of ls loader) (sym (ap (λ (x : PermitState). x.loaders) e.state)) (counted_grows b.loaders.items who e.command loader);
     }
 
 -- ---- what is decided

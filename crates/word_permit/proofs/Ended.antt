@@ -13,7 +13,7 @@ use Rattle.write_permit.specs.declared.holder.Holder.TheVariants.{Held}
 use Rattle.write_permit.specs.declared.loader_run.LoaderRun.{LoaderRun}
 use Rattle.write_permit.specs.Agreement.{Agrees, CanFollowNewest, new_modules, newest_of}
 use Rattle.write_permit.specs.Book.{IsBook, shown}
-use Rattle.write_permit.specs.Permit.{PermitState, Step, advanced, holder_of, joined, loader_after, made_of, next_of}
+use Rattle.write_permit.specs.Permit.{PermitState, Step, advanced, entered_by, holder_of, joined, loader_after, made_of, next_of}
 use Rattle.write_permit.proofs.Agreement.{NewestFollows, newest_follows}
 use Rattle.write_permit.proofs.EndBooks.{EndMade, end_made, open_ok}
 use Rattle.write_permit.proofs.Logs.{server_joined}
@@ -43,7 +43,7 @@ module _ (p : Book) (book : IsBook p) (who : ℕ) (d : Decision) (held : p.holde
   -- the state behind the entry
   pub state_joined : (made p.server d.change).state ≡ newest_state p.script.modules empty_state (p.journal ++ entry_for who d ∷ [])
   state_joined =
-      server_joined p.script p.server p.journal p.loaders.items book.permit.log (Loader who) d.cmd (made p.server d.change) known.given
+      server_joined p.script p.server p.journal (entered_by p.holder p.loaders.items) book.permit.log (Loader who) d.cmd (made p.server d.change) known.given
       ∙ ap (λ a. newest_state p.script.modules empty_state (p.journal ++ told_entry who d a ∷ [])) known.answer
 
   module _ (table : Modules) (same : table.instances ≡ p.modules.instances) (room : new_modules d.cmd ≤ table.room) (journal : List Entry) (more : journal ≡ p.journal ++ entry_for who d ∷ []) where

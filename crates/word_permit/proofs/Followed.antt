@@ -1,13 +1,15 @@
 -- How the loader that has the permission goes on: what its book is before and after.
-use Rattle.std.proofs.Common.{◌≡◌, ℕ, List, [], Option, Some, None, IfSome, IsSomeAnd, IfOk, OnErr, Result, Ok, Err, refl, sym, ap, subst, ◌∙◌}
-use Rattle.std.proofs.lemmas.Option.{none-some, same_Some}
+use Rattle.std.proofs.Common.{◌≡◌, ◌⊎◌, inl, inr, ℕ, List, [], Option, Some, None, IfSome, IsSomeAnd, IfOk, OnErr, Result, Ok, Err, refl, sym, ap, subst, ◌∙◌}
+use Rattle.std.proofs.lemmas.Option.{same_Some}
 use Rattle.atomic_table.specs.Seated.{TableId}
+use Rattle.term_core.specs.declared.atom.AtomId.{AtomId}
 use Rattle.term_core.specs.declared.atom.Mfa.{Mfa}
 use Rattle.term_core.specs.declared.no_memory.NoMemory.{NoMemory}
 use Rattle.shared_words.specs.declared.opening.Opening.{Opening}
-use Rattle.shared_words.specs.declared.view.WriterView.{WriterView}
+use Rattle.progress_words.specs.declared.answers.NotYet as late
+use Rattle.progress_words.specs.Tokens.{written_by}
 use Rattle.server_core.specs.declared.change.Change.{Change}
-use Rattle.server_core.specs.declared.change.Change.TheVariants.{Nothing, SetTrace, ClearTrace}
+use Rattle.server_core.specs.declared.change.Change.TheVariants.{Nothing}
 use Rattle.server_core.specs.declared.command.Cmd.{Cmd}
 use Rattle.server_core.specs.CommandTable.{apply_of}
 use Rattle.server_core.specs.Decided.{Fits, made}
@@ -15,23 +17,22 @@ use Rattle.server_core.specs.ServerState.{ServerState}
 use Rattle.script_core.specs.declared.script.ScriptCmd.{ScriptCmd}
 use Rattle.script_core.specs.declared.script.ScriptCmd.TheVariants.{Purge}
 use Rattle.staging.specs.declared.tables.Tables.{Tables}
-use Rattle.staging.specs.Renewed.{IsClearOf, IsRenewal, KeepsDrop}
 use Rattle.staging.specs.Stages.{AreAtRest, IsStaged, StageStands}
-use Rattle.staging.specs.Whose.{KeepsKnown, KeepsWaits}
+use Rattle.staging.specs.Traced.{IsTraceChange}
 use Rattle.write_permit.specs.declared.book.Book.{Book}
-use Rattle.write_permit.specs.declared.holder.Holder.{Holder}
-use Rattle.write_permit.specs.declared.holder.Holder.TheVariants.{Free, Held, Purging}
-use Rattle.write_permit.specs.Book.{HoldsJust, IsBook, shown}
-use Rattle.write_permit.specs.Permit.{PermitState, given_up, holder_of, next_of, opening}
+use Rattle.write_permit.specs.declared.holder.Holder.TheVariants.{Free, Held}
+use Rattle.write_permit.specs.Book.{IsBook, PurgeWaits, shown}
+use Rattle.write_permit.specs.Permit.{PermitState, entered_trace, given_up, holder_of, next_of, opening}
 use Rattle.write_permit.proofs.EndBooks.{book_given}
 use Rattle.word_permit.specs.declared.answers.CommandStep.{CommandStep}
 use Rattle.word_permit.specs.declared.answers.CommandStep.TheVariants.{Done, NotYet, AwaitRelease, Lingers}
 use Rattle.word_permit.specs.declared.book.Decision.{Decision}
 use Rattle.word_permit.specs.declared.book.Waiting.{Waiting}
 use Rattle.word_permit.specs.declared.book.WordBook.{WordBook}
-use Rattle.word_permit.specs.Books.{HasGivenUp, HasItsTables, HasTakenBack, IsWordBook, JoinsUnpublished, OpAnswers, with_holder}
-use Rattle.word_permit.specs.Waiting.{GoesOverWords, IsDecided, IsTraceChange, IsWaiting, LeavesState, WordsStand}
+use Rattle.word_permit.specs.Books.{AwaitsPatch, HasEntered, HasGivenUp, HasItsTables, HasTakenBack, IsWordBook, JoinsUnpublished, OpAnswers, StillSettles, with_holder}
+use Rattle.word_permit.specs.Waiting.{GoesOverWords, IsDecided, IsWaiting, LeavesState, WordsStand}
 use Rattle.word_permit.proofs.Calls.{has_joined, no_look}
+use Rattle.word_permit.proofs.Resting.{IsNoTrace, free_no_trace, none_waiting, rest_by, rests_by, rests_given}
 
 -- ---- the command that waits is taken out of the book
 
@@ -42,13 +43,13 @@ pub has_without : (names : List Mfa) (table : TableId) (opening : Opening) (b : 
 has_without names table opening b o had = record { book = had.book; texts = had.texts; tables = had.tables; exports = had.exports; published = had.published; notes = had.notes; answered = had.answered; awaited = had.awaited }
 
 -- what the words are about, where nothing waits
-pub at_rest : (names : List Mfa) (p : PermitState) (t : Tables) (o : Option Waiting) → o ≡ None → WordsStand names p t o → AreAtRest names p.server t
-at_rest names p t o is h = subst (WordsStand names p t) is h
+pub at_rest : (names : List Mfa) (p : PermitState) (t : Tables) (o : Option Waiting) → o ≡ None → IsNoTrace p.holder → WordsStand names p t o → AreAtRest names p.server t
+at_rest names p t o is untraced h = rest_by names p.holder p.server t untraced (none_waiting names p t o is h)
 
 -- and where a command does
 pub record WaitsFor (names : List Mfa) (p : PermitState) (t : Tables) (who : ℕ) (w : Waiting) : Type 0 where
   pub decided : IsDecided p who w.decision
-  pub staged : IsStaged w.decision.change
+  pub staged : IsStaged w.decision.change ⊎ IsTraceChange w.decision.change
   pub stands : StageStands names p.server w.decision.change t w.stage
 
 held_same : (a b : ℕ) → Held a ≡ Held b → a ≡ b
@@ -63,11 +64,36 @@ waits_for names p t o who w held is h =
       stands = k.stands;
     }
 
+-- that a trace waits for its patch speaks of no command that waited before
+patch_waits : (who : ℕ) (a b c : WordBook) (answer : late.NotYet) → b.plain ≡ a.plain → b.tables ≡ a.tables → AwaitsPatch who a c answer → AwaitsPatch who b c answer
+patch_waits who a b c answer plain tables h = record { late = h.late; none = h.none; since = by h.since }
+  where
+    by : StillSettles who a c ⊎ HasEntered who a c → StillSettles who b c ⊎ HasEntered who b c
+    by (inl still) = inl (record {
+      generation = still.generation;
+      holds = ap (λ (x : Book). x.holder) plain ∙ still.holds;
+      same = still.same ∙ ap shown (sym plain);
+      published = still.published ∙ ap (λ (x : Tables). (written_by x.writer).published) (sym tables);
+    })
+    by (inr entered) = inr (record {
+      target = entered.target;
+      on = entered.on;
+      holds = ap (λ (x : Book). x.holder) plain ∙ entered.holds;
+      next = ap (λ (x : Book). next_of (shown x) who) plain ∙ entered.next;
+      entered = ap (λ (x : Book). entered_trace (shown x) who entered.target entered.on) plain ∙ entered.entered;
+    })
+
+-- a change that waits and is not one of what is traced goes by stages
+pub staged_left : (change : Change) → IsStaged change ⊎ IsTraceChange change → (IsTraceChange change → ⊥) → IsStaged change
+staged_left change (inl staged) other = staged
+staged_left change (inr trace) other = absurd (other trace)
+
 -- what is said of a step speaks of the command that waited before by its decision alone
 answers_without : (who : ℕ) (b : WordBook) (o : Option Waiting) (c : WordBook) (step : CommandStep) → ((w : Waiting) → c.waiting ≡ Some w → IfSome b.waiting (λ before. w.decision ≡ before.decision)) → OpAnswers who (with_waiting b o) c step → OpAnswers who b c step
 answers_without who b o c (Done applied) same h = h
-answers_without who b o c (NotYet answer) same h =
-    record { same = h.same; published = h.published; waits = h.waits; why = record { waiting = h.why.waiting; waits = h.why.waits; same = same h.why.waiting h.why.waits; late = h.why.late } }
+answers_without who b o c (NotYet answer) same (inl h) =
+    inl (record { same = h.same; published = h.published; waits = h.waits; why = record { waiting = h.why.waiting; waits = h.why.waits; same = same h.why.waiting h.why.waits; late = h.why.late } })
+answers_without who b o c (NotYet answer) same (inr h) = inr (patch_waits who (with_waiting b o) b c answer refl refl h)
 answers_without who b o c AwaitRelease same h =
     record { same = h.same; published = h.published; waits = h.waits; why = record { waiting = h.why.waiting; waits = h.why.waits; same = same h.why.waiting h.why.waits; lacks = h.why.lacks } }
 answers_without who b o c (Lingers process turn place word) same h = h
@@ -99,8 +125,9 @@ unlooked names table opening b known =
 
 pub answers_unlooked : (who : ℕ) (b c : WordBook) (step : CommandStep) → OpAnswers who (record b { look = None }) c step → OpAnswers who b c step
 answers_unlooked who b c (Done applied) h = h
-answers_unlooked who b c (NotYet answer) h =
-    record { same = h.same; published = h.published; waits = h.waits; why = record { waiting = h.why.waiting; waits = h.why.waits; same = h.why.same; late = h.why.late } }
+answers_unlooked who b c (NotYet answer) (inl h) =
+    inl (record { same = h.same; published = h.published; waits = h.waits; why = record { waiting = h.why.waiting; waits = h.why.waits; same = h.why.same; late = h.why.late } })
+answers_unlooked who b c (NotYet answer) (inr h) = inr (patch_waits who (record b { look = None }) b c answer refl refl h)
 answers_unlooked who b c AwaitRelease h =
     record { same = h.same; published = h.published; waits = h.waits; why = record { waiting = h.why.waiting; waits = h.why.waits; same = h.why.same; lacks = h.why.lacks } }
 answers_unlooked who b c (Lingers process turn place word) h = h
@@ -115,12 +142,8 @@ pub goes_next : (o : Option ScriptCmd) (command : ScriptCmd) → o ≡ Some comm
 goes_next o command is h = subst (λ x. IsSomeAnd x GoesOverWords) is h
 
 -- and no purge waits then
-pub held_over_words : (p : PermitState) (h : Holder) (who : ℕ) → HoldsJust p h → holder_of h ≡ Some who → IsSomeAnd (next_of p who) GoesOverWords → h ≡ Held who
-held_over_words p Free who holds own goes = absurd (none-some who own)
-held_over_words p (Held n) who holds own goes = ap Held (same_Some n who own)
-held_over_words p (Purging n name) who holds own goes =
-    let k : next_of p who ≡ Some (Purge name) = ap (next_of p) (sym (same_Some n who own)) ∙ holds.next in
-    absurd (goes_next (next_of p who) (Purge name) k goes)
+pub purging_apart : (p : PermitState) (n who : ℕ) (name : AtomId) → PurgeWaits p n name → n ≡ who → IsSomeAnd (next_of p who) GoesOverWords → ⊥
+purging_apart p n who name holds own goes = goes_next (next_of p who) (Purge name) (ap (next_of p) (sym own) ∙ holds.next) goes
 
 -- what was decided of it, put together
 pub decided_all : (p : PermitState) (who : ℕ) (command : ScriptCmd) (cmd : Cmd) (r : Result Decision NoMemory) → next_of p who ≡ Some command → GoesOverWords command → cmd ≡ opening p.server [] command
@@ -148,36 +171,20 @@ leaves_state s change h = absurd h
 
 -- the book after it, where the words stay
 pub ended_book : (names : List Mfa) (table : TableId) (opening : Opening) (b : WordBook) (plain : Book) → HasItsTables names table opening b → AreAtRest names b.plain.server b.tables → b.waiting ≡ None → b.look ≡ None → IsBook plain → plain.script ≡ b.plain.script
-    → plain.server ≡ b.plain.server → JoinsUnpublished b.plain.journal plain.journal → IsWordBook names table opening (record b { plain = plain })
-ended_book names table opening b plain had rest none look book script server journal = record {
+    → plain.holder ≡ Free → plain.server ≡ b.plain.server → JoinsUnpublished b.plain.journal plain.journal → IsWordBook names table opening (record b { plain = plain })
+ended_book names table opening b plain had rest none look book script free server journal = record {
   has = has_joined names table opening b (record b { plain = plain }) had book script journal refl refl;
-  words = subst (WordsStand names (shown plain) b.tables) (sym none) (subst (λ s. AreAtRest names s b.tables) (sym server) rest);
+  words = subst (WordsStand names (shown plain) b.tables) (sym none) (rests_by names plain.holder plain.server b.tables (free_no_trace plain.holder free) (subst (λ s. AreAtRest names s b.tables) (sym server) rest));
   looked = no_look b look;
 }
 
 -- the book where want of memory came before any word was stored
-pub refused_book : (names : List Mfa) (table : TableId) (opening : Opening) (b : WordBook) → HasItsTables names table opening b → AreAtRest names b.plain.server b.tables → b.waiting ≡ None → b.look ≡ None → IsWordBook names table opening b
-refused_book names table opening b had rest none look = record { has = had; words = subst (WordsStand names (shown b.plain) b.tables) (sym none) rest; looked = no_look b look }
-
--- ---- a change of what is traced
-
--- it goes over the blocks of the newest generation
-pub traces_renew : (change : Change) → IsTraceChange change → IsRenewal change
-traces_renew (SetTrace generation at traced) h = h
-traces_renew (ClearTrace generation at) h = h
-traces_renew change h = absurd h
-
--- and drops no code
-pub traces_drop_none : (change : Change) (w : WriterView) → IsTraceChange change → IsClearOf change w
-traces_drop_none (SetTrace generation at traced) w h = h
-traces_drop_none (ClearTrace generation at) w h = h
-traces_drop_none change w h = absurd h
-
--- so the writer keeps what it knows of processes
-pub traces_known : (change : Change) (old new : WriterView) → IsTraceChange change → new.notes ≡ old.notes → KeepsWaits old new → KeepsDrop change old new → KeepsKnown old new
-traces_known (SetTrace generation at traced) old new h notes waits looks = record { notes = notes; looks = looks; waits = waits }
-traces_known (ClearTrace generation at) old new h notes waits looks = record { notes = notes; looks = looks; waits = waits }
-traces_known change old new h notes waits looks = absurd h
+pub refused_book : (names : List Mfa) (table : TableId) (opening : Opening) (b : WordBook) → HasItsTables names table opening b → IsNoTrace b.plain.holder → AreAtRest names b.plain.server b.tables → b.waiting ≡ None → b.look ≡ None → IsWordBook names table opening b
+refused_book names table opening b had untraced rest none look = record {
+  has = had;
+  words = subst (WordsStand names (shown b.plain) b.tables) (sym none) (rests_by names b.plain.holder b.plain.server b.tables untraced rest);
+  looked = no_look b look;
+}
 
 -- ---- the permission is given up
 
@@ -196,7 +203,7 @@ given_word_book names table opening m c known none is =
         answered = known.has.answered;
         awaited = known.has.awaited;
       };
-      words = subst (WordsStand names (record (shown m.plain) { holder = h }) m.tables) (sym none) (at_rest names (shown m.plain) m.tables m.waiting none known.words);
+      words = subst (WordsStand names (record (shown m.plain) { holder = h }) m.tables) (sym none) (rests_given names m.plain.holder m.plain.server m.tables (none_waiting names (shown m.plain) m.tables m.waiting none known.words));
       looked = known.looked;
     })
 

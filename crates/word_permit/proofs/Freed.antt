@@ -1,5 +1,5 @@
 -- An area is released: the words stand for the server that has released it, and what the journal tells is kept.
-use Rattle.std.proofs.Common.{◌≡◌, ℕ, suc, ◌+◌, List, [], ◌∷◌, ◌++◌, Option, Some, None, IfSome, if◌then◌else◌, All, inl, inr, refl, sym, ap, subst, ◌∙◌, arith}
+use Rattle.std.proofs.Common.{◌≡◌, ℕ, suc, ◌+◌, List, [], ◌∷◌, ◌++◌, Option, Some, None, IfSome, if◌then◌else◌, All, ◌⊎◌, inl, inr, refl, sym, ap, subst, ◌∙◌, arith}
 use Rattle.std.specs.Prelude.{IsTrue}
 use Rattle.std.proofs.lemmas.Option.{same_Some}
 use Rattle.atomic_table.specs.Seated.{TableId}
@@ -16,7 +16,7 @@ use Rattle.progress_words.specs.Tokens.{written_by}
 use Rattle.change_laws.specs.Names.{IsNumbered}
 use Rattle.change_laws.specs.Releases.{DecidedStays}
 use Rattle.server_core.specs.declared.change.Change.{Change}
-use Rattle.server_core.specs.declared.change.Change.TheVariants.{BringIn, Nothing, MakeOld, HoldWord, HoldArea, Forget}
+use Rattle.server_core.specs.declared.change.Change.TheVariants.{BringIn, Nothing, MakeOld, HoldWord, HoldArea, Forget, SetTrace, ClearTrace}
 use Rattle.server_core.specs.declared.command.Applied.{Applied}
 use Rattle.server_core.specs.declared.command.Cmd.TheVariants as cmds
 use Rattle.server_core.specs.declared.command.Reply.{Reply}
@@ -31,9 +31,12 @@ use Rattle.run_log.specs.declared.logs.Who.TheVariants.{Runtime}
 use Rattle.run_log.specs.Journal.{published_count}
 use Rattle.staging.specs.declared.tables.Tables.{Tables}
 use Rattle.staging.specs.declared.stage.Stage.TheVariants.{Untouched}
-use Rattle.staging.specs.Released.{ClearAreReleasable, IsReleasable, KeepsRelease, StagesReleased, StandReleased}
+use Rattle.staging.specs.Released.{ClearAreReleasable, IsReleasable, KeepsRelease, SettlingAreReleasable, SettlingReleased, StagesReleased, StandReleased}
 use Rattle.staging.specs.Stages.{AreAtRest, IsCodeChange, IsKeyChange, IsStaged, StageStands}
+use Rattle.staging.specs.Traced.{IsTraceChange}
 use Rattle.staging.specs.Whose.{AreTablesOf}
+use Rattle.write_permit.specs.declared.holder.Holder.{Holder}
+use Rattle.write_permit.specs.declared.holder.Holder.TheVariants.{Free, Held, Purging, Tracing}
 use Rattle.write_permit.specs.Book.{IsBook, shown}
 use Rattle.write_permit.specs.Permit.{PermitState, joined, made_of, opening}
 use Rattle.write_permit.proofs.BookKeeps.{was_made}
@@ -46,7 +49,7 @@ use Rattle.word_permit.specs.declared.book.WordBook.{WordBook}
 use Rattle.word_permit.specs.Books.{IsWordBook}
 use Rattle.word_permit.specs.Needs.{IsAwaited}
 use Rattle.word_permit.specs.Notes.{AreOfSpawned}
-use Rattle.word_permit.specs.Waiting.{GoesOverWords, IsDecided, WordsStand}
+use Rattle.word_permit.specs.Waiting.{GoesOverWords, IsDecided, RestsBy, WordsStand}
 use Rattle.word_permit.proofs.Calls.{no_look}
 use Rattle.word_permit.proofs.Answered.{answered_joined, answered_more}
 use Rattle.word_permit.proofs.Awaiting.{need_still}
@@ -66,10 +69,19 @@ has_freed p q serial answer made waits =
     record { state = w.state ∙ ap (joined p Runtime (cmds.Release serial)) (sym is) }
 
 -- the area may be released, whatever waits, where a look was clear of it
-pub words_releasable : (names : List Mfa) (p : PermitState) (t : Tables) (o : Option Waiting) (serial : ℕ) → ClearAreReleasable names → WordsStand names p t o → IsTrue (is_retired p.server serial) → IsClear (written_by t.writer) Both serial
+pub words_releasable : (names : List Mfa) (p : PermitState) (t : Tables) (o : Option Waiting) (serial : ℕ) → ClearAreReleasable names → SettlingAreReleasable names → WordsStand names p t o → IsTrue (is_retired p.server serial) → IsClear (written_by t.writer) Both serial
     → IsReleasable serial t.pools (written_by t.writer)
-words_releasable names p t None serial law h waits clear = law p.server (Nothing replies.Ok) Untouched t serial h waits clear
-words_releasable names p t (Some w) serial law h waits clear = law p.server w.decision.change w.stage t serial h.stands waits clear
+words_releasable names p t None serial law also h waits clear = by p.holder h
+  where
+    at_rest : AreAtRest names p.server t → IsReleasable serial t.pools (written_by t.writer)
+    at_rest rest = law p.server (Nothing replies.Ok) Untouched t serial rest waits clear
+
+    by : (holder : Holder) → RestsBy names holder p.server t → IsReleasable serial t.pools (written_by t.writer)
+    by Free rest = at_rest rest
+    by (Held n) rest = at_rest rest
+    by (Purging n name) rest = at_rest rest
+    by (Tracing n generation) rest = also p.server t serial rest.settling waits clear
+words_releasable names p t (Some w) serial law also h waits clear = law p.server w.decision.change w.stage t serial h.stands waits clear
 
 -- ---- a command that waits
 
@@ -87,6 +99,15 @@ staged_no_release change (inr key) = key_no change key
     key_no (HoldArea generation key term stored areas keys retired) h = tt
     key_no (Forget generation key retired) h = tt
     key_no change h = absurd h
+
+trace_no_release : (change : Change) → IsTraceChange change → IsNoRelease change
+trace_no_release (SetTrace generation at traced) h = tt
+trace_no_release (ClearTrace generation at) h = tt
+trace_no_release change h = absurd h
+
+waits_no_release : (change : Change) → IsStaged change ⊎ IsTraceChange change → IsNoRelease change
+waits_no_release change (inl staged) = staged_no_release change staged
+waits_no_release change (inr trace) = trace_no_release change trace
 
 -- modules come in within one generation
 loads_stay : (s : ServerState) (modules : List Module) → (with_all s modules).generation ≡ s.generation
@@ -112,6 +133,15 @@ answer_stays s serial change (inr key) = by_key change key
     by_key (Forget generation key retired) h = refl
     by_key change h = absurd h
 
+trace_stays : (s : ServerState) (serial : ℕ) (change : Change) → IsTraceChange change → (made (with_released s serial) change).answer ≡ (made s change).answer
+trace_stays s serial (SetTrace generation at traced) h = refl
+trace_stays s serial (ClearTrace generation at) h = refl
+trace_stays s serial change h = absurd h
+
+waits_stay : (s : ServerState) (serial : ℕ) (change : Change) → IsStaged change ⊎ IsTraceChange change → (made (with_released s serial) change).answer ≡ (made s change).answer
+waits_stay s serial change (inl staged) = answer_stays s serial change staged
+waits_stay s serial change (inr trace) = trace_stays s serial change trace
+
 opens_same : (s t : ServerState) (command : ScriptCmd) → GoesOverWords command → opening s [] command ≡ opening t [] command
 opens_same s t (Load refs) h = refl
 opens_same s t (Delete name) h = refl
@@ -120,7 +150,7 @@ opens_same s t (Erase key) h = refl
 opens_same s t (Trace target on) h = refl
 opens_same s t command h = absurd h
 
-decided_freed : (p q : PermitState) (serial who : ℕ) (d : Decision) → DecidedStays → StayFit → HasFreed p serial q → IsStaged d.change → IsDecided p who d → IsDecided q who d
+decided_freed : (p q : PermitState) (serial who : ℕ) (d : Decision) → DecidedStays → StayFit → HasFreed p serial q → IsStaged d.change ⊎ IsTraceChange d.change → IsDecided p who d → IsDecided q who d
 decided_freed p q serial who d decided fit freed staged k =
     subst (λ (x : PermitState). IsDecided x who d) (sym freed.state)
     (record {
@@ -128,17 +158,24 @@ decided_freed p q serial who d decided fit freed staged k =
       next = k.next;
       goes = k.goes;
       cmd_is = k.cmd_is ∙ opens_same p.server (with_released p.server serial) k.command k.goes;
-      fits = fit p.server serial d.change (staged_no_release d.change staged) k.fits;
-      given = decided p.script.modules p.server serial d.cmd d.change (staged_no_release d.change staged) k.given;
-      answer = answer_stays p.server serial d.change staged ∙ k.answer;
+      fits = fit p.server serial d.change (waits_no_release d.change staged) k.fits;
+      given = decided p.script.modules p.server serial d.cmd d.change (waits_no_release d.change staged) k.given;
+      answer = waits_stay p.server serial d.change staged ∙ k.answer;
     })
 
 server_freed : (p q : PermitState) (serial : ℕ) → HasFreed p serial q → with_released p.server serial ≡ q.server
 server_freed p q serial freed = ap (λ (x : PermitState). x.server) (sym freed.state)
 
-words_freed : (names : List Mfa) (p q : PermitState) (serial : ℕ) (t u : Tables) (o : Option Waiting) → DecidedStays → StayFit → HasFreed p serial q → StandReleased names serial t u → StagesReleased names serial t u → WordsStand names p t o → WordsStand names q u o
-words_freed names p q serial t u None decided fit freed stands stages h = subst (λ s. AreAtRest names s u) (server_freed p q serial freed) (stands p.server h)
-words_freed names p q serial t u (Some w) decided fit freed stands stages h = record {
+words_freed : (names : List Mfa) (p q : PermitState) (serial : ℕ) (t u : Tables) (o : Option Waiting) → DecidedStays → StayFit → HasFreed p serial q → StandReleased names serial t u → StagesReleased names serial t u → SettlingReleased names serial t u → WordsStand names p t o → WordsStand names q u o
+words_freed names p q serial t u None decided fit freed stands stages settles h =
+    subst (λ k. RestsBy names k q.server u) (sym (ap (λ (x : PermitState). x.holder) freed.state)) (subst (λ s. RestsBy names p.holder s u) (server_freed p q serial freed) (by p.holder h))
+  where
+    by : (holder : Holder) → RestsBy names holder p.server t → RestsBy names holder (with_released p.server serial) u
+    by Free rest = stands p.server rest
+    by (Held n) rest = stands p.server rest
+    by (Purging n name) rest = stands p.server rest
+    by (Tracing n generation) rest = record { settling = settles p.server rest.settling; room = rest.room }
+words_freed names p q serial t u (Some w) decided fit freed stands stages settles h = record {
   who = h.who;
   holder = ap (λ (x : PermitState). x.holder) freed.state ∙ h.holder;
   decided = decided_freed p q serial h.who w.decision decided fit freed h.staged h.decided;
@@ -174,8 +211,8 @@ module _ (names : List Mfa) (table : TableId) (opening : Opening) (b c : WordBoo
     lingering = λ l had. subst (λ (k : WriterKept). Among k.lingering l) (sym keeps.looks) had;
   })
 
-  pub freed_book : c.need ≡ b.need → c.look ≡ None → c.waiting ≡ b.waiting → DecidedStays → StayFit → StandReleased names serial b.tables c.tables → StagesReleased names serial b.tables c.tables → IsWordBook names table opening c
-  freed_book need look waiting decided fit stands stages = record {
+  pub freed_book : c.need ≡ b.need → c.look ≡ None → c.waiting ≡ b.waiting → DecidedStays → StayFit → StandReleased names serial b.tables c.tables → StagesReleased names serial b.tables c.tables → SettlingReleased names serial b.tables c.tables → IsWordBook names table opening c
+  freed_book need look waiting decided fit stands stages settles = record {
     has = record {
       book = book;
       texts = subst (λ (x : PermitState). All (IsNumbered names) x.script.modules) (sym freed.state) known.has.texts;
@@ -189,6 +226,6 @@ module _ (names : List Mfa) (table : TableId) (opening : Opening) (b c : WordBoo
       answered = subst (λ (x : PermitState). AreAnswersKept x.script.modules x.journal after.looks) (sym freed.state) (answered_joined b.plain.script.modules b.plain.journal entry after.looks answers_kept dropped);
       awaited = subst (λ (o : Option AreaNeed). IfSome o (IsAwaited after)) (sym need) (need_still before after b.need keeps.waits keeps.published known.has.awaited);
     };
-    words = subst (WordsStand names (shown c.plain) c.tables) (sym waiting) (words_freed names (shown b.plain) (shown c.plain) serial b.tables c.tables b.waiting decided fit freed stands stages known.words);
+    words = subst (WordsStand names (shown c.plain) c.tables) (sym waiting) (words_freed names (shown b.plain) (shown c.plain) serial b.tables c.tables b.waiting decided fit freed stands stages settles known.words);
     looked = no_look c look;
   }

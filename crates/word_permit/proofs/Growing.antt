@@ -11,7 +11,7 @@ use Rattle.run_log.specs.Journal.{newest_state, next_state, published_count, pub
 use Rattle.run_log.specs.Legal.{Replays}
 use Rattle.run_log.proofs.HistoryLists.{PushedAt, at_end, before, pushed_at}
 use Rattle.run_log.proofs.Journals.{count-cons, counted, later, state_kept}
-use Rattle.staging.specs.Upcoming.{generation_shown}
+use Rattle.server_core.specs.Generations.{generation_of}
 use Rattle.run_law.specs.Published.{ArePublished, shown_at}
 
 -- ---- states of a journal with one entry more
@@ -38,7 +38,7 @@ module _ (names : List Mfa) (texts : List Module) (journal : List Entry) (e : En
   -- generations that were published stay as they are shown
   shown_stay : (k : ℕ) → k ≤ published_count journal → shown_at names texts longer k ≡ shown_at names texts journal k
   shown_stay zero h = refl
-  shown_stay (suc k) h = ap (generation_shown names) (state_kept texts empty_state journal e (suc k) (omega arith) (omega (arith, h, newest_counted)))
+  shown_stay (suc k) h = ap (generation_of names) (state_kept texts empty_state journal e (suc k) (omega arith) (omega (arith, h, newest_counted)))
 
   kept_at : (published : List Published) → ArePublished names texts journal published → (k : ℕ) (p : Published) → slice_get published k ≡ Some p → p.state ≡ shown_at names texts longer k
   kept_at published known k p h =
@@ -49,10 +49,10 @@ module _ (names : List Mfa) (texts : List Module) (journal : List Entry) (e : En
   published_same published known none = record { many = omega (arith, known.many, none, count_more journal e); each = kept_at published known }
 
   -- the last one is of the state behind the entry
-  shown_last : (n : ℕ) → n ≡ published_count journal → shown_at names texts longer (suc n) ≡ generation_shown names (newest_state texts empty_state longer)
-  shown_last n is = ap (generation_shown names) (last_at texts empty_state journal e (suc n) (omega (arith, is, newest_counted)))
+  shown_last : (n : ℕ) → n ≡ published_count journal → shown_at names texts longer (suc n) ≡ generation_of names (newest_state texts empty_state longer)
+  shown_last n is = ap (generation_of names) (last_at texts empty_state journal e (suc n) (omega (arith, is, newest_counted)))
 
-  each_more : (published : List Published) (next : Published) → ArePublished names texts journal published → next.state ≡ generation_shown names (newest_state texts empty_state longer)
+  each_more : (published : List Published) (next : Published) → ArePublished names texts journal published → next.state ≡ generation_of names (newest_state texts empty_state longer)
       → (k : ℕ) (p : Published) → PushedAt published next k p → p.state ≡ shown_at names texts longer k
   each_more published next known shows k p (before less h) = kept_at published known k p h
   each_more published next known shows k p (at_end is same) =
@@ -60,7 +60,7 @@ module _ (names : List Mfa) (texts : List Module) (journal : List Entry) (e : En
       ap (λ (x : Published). x.state) (sym same) ∙ shows ∙ sym (shown_last (published_count journal) refl) ∙ ap (shown_at names texts longer) (sym number)
 
   -- one that publishes adds the generation behind it
-  pub published_more : (published : List Published) (next : Published) → ArePublished names texts journal published → publishes e ≡ 1 → next.state ≡ generation_shown names (newest_state texts empty_state longer)
+  pub published_more : (published : List Published) (next : Published) → ArePublished names texts journal published → publishes e ≡ 1 → next.state ≡ generation_of names (newest_state texts empty_state longer)
       → ArePublished names texts longer (published ++ next ∷ [])
   published_more published next known one shows = record {
     many = omega (arith, known.many, one, count_more journal e, length-append published (next ∷ []));

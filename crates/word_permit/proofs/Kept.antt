@@ -15,9 +15,9 @@ use Rattle.script_core.specs.declared.script.ScriptCmd.{ScriptCmd}
 use Rattle.script_core.specs.declared.script.ScriptCmd.TheVariants.{Load, Delete, Put, Erase, Trace}
 use Rattle.run_log.proofs.Journals.{counted}
 use Rattle.staging.specs.declared.stage.Stage.{Stage}
-use Rattle.staging.specs.declared.stage.Stage.TheVariants.{Untouched, Placed, Exported}
+use Rattle.staging.specs.declared.stage.Stage.TheVariants.{Untouched, Placed, Exported, Patching}
 use Rattle.staging.specs.declared.tables.Tables.{Tables}
-use Rattle.staging.specs.Stages.{AreAtRest, StageStands}
+use Rattle.staging.specs.Stages.{AreAtRest, LeavesView, StageStands}
 use Rattle.staging.specs.Whose.{AreTablesOf, KeepsKnown}
 use Rattle.write_permit.specs.declared.book.Book.{Book}
 use Rattle.write_permit.specs.declared.holder.Holder.TheVariants.{Held}
@@ -37,6 +37,7 @@ use Rattle.run_law.specs.Published.{ArePublished}
 use Rattle.word_permit.specs.Waiting.{GoesOverWords, IsDecided, WordsStand}
 use Rattle.word_permit.proofs.Awaiting.{need_still}
 use Rattle.word_permit.proofs.Calls.{no_look}
+use Rattle.word_permit.proofs.Resting.{IsNoTrace, rests_by}
 
 -- ---- a book that shows the same
 
@@ -44,12 +45,33 @@ use Rattle.word_permit.proofs.Calls.{no_look}
 abbrev pub KeepsAllKnown : WordBook → WordBook → Type 0
 KeepsAllKnown b c = KeepsKnown (written_by b.tables.writer) (written_by c.tables.writer)
 
-pub known_same : (a b : WriterView) → b ≡ a → KeepsKnown a b
+known_same : (a b : WriterView) → b ≡ a → KeepsKnown a b
 known_same a b is = record {
   notes = ap (λ (w : WriterView). w.notes) is;
   looks = ap (λ (w : WriterView). w.looks) is;
   waits = λ pair had. subst (λ (w : WriterView). Among w.pairs pair) (sym is) had;
 }
+
+-- a change that is given up leaves all but words
+pub record LeavesKnown (a b : WriterView) : Type 0 where
+  pub published : b.published ≡ a.published
+  pub known : KeepsKnown a b
+
+words_known : (a b : WriterView) → b ≡ record a { words = b.words } → LeavesKnown a b
+words_known a b is = record {
+  published = ap (λ (w : WriterView). w.published) is;
+  known = record {
+    notes = ap (λ (w : WriterView). w.notes) is;
+    looks = ap (λ (w : WriterView). w.looks) is;
+    waits = λ pair had. subst (λ (w : WriterView). Among w.pairs pair) (sym is) had;
+  };
+}
+
+pub known_abandoned : (stage : Stage) (a b : WriterView) → LeavesView stage a b → LeavesKnown a b
+known_abandoned Patching a b is = words_known a b is
+known_abandoned Untouched a b is = record { published = ap (λ (w : WriterView). w.published) is; known = known_same a b is }
+known_abandoned (Placed areas) a b is = record { published = ap (λ (w : WriterView). w.published) is; known = known_same a b is }
+known_abandoned (Exported areas) a b is = record { published = ap (λ (w : WriterView). w.published) is; known = known_same a b is }
 
 pub has_same : (names : List Mfa) (table : TableId) (opening : Opening) (b c : WordBook) → HasItsTables names table opening b → shown c.plain ≡ shown b.plain → c.plain.modules.instances ≡ b.plain.modules.instances → AreTablesOf table opening c.tables
     → c.tables.exports ≡ names → PublishesNone b c → KeepsAllKnown b c → c.need ≡ b.need → HasItsTables names table opening c
@@ -66,10 +88,10 @@ has_same names table opening b c had same modules tables exports none known need
 
 -- with the words at rest and nothing that waits it is all that a permit keeps
 pub rests : (names : List Mfa) (table : TableId) (opening : Opening) (b c : WordBook) → HasItsTables names table opening b → shown c.plain ≡ shown b.plain → c.plain.modules.instances ≡ b.plain.modules.instances → AreTablesOf table opening c.tables
-    → c.tables.exports ≡ names → PublishesNone b c → KeepsAllKnown b c → c.need ≡ b.need → c.waiting ≡ None → c.look ≡ None → AreAtRest names c.plain.server c.tables → IsWordBook names table opening c
-rests names table opening b c had same modules tables exports none known need waits look rest = record {
+    → c.tables.exports ≡ names → PublishesNone b c → KeepsAllKnown b c → c.need ≡ b.need → c.waiting ≡ None → c.look ≡ None → IsNoTrace b.plain.holder → AreAtRest names c.plain.server c.tables → IsWordBook names table opening c
+rests names table opening b c had same modules tables exports none known need waits look untraced rest = record {
   has = has_same names table opening b c had same modules tables exports none known need;
-  words = subst (WordsStand names (shown c.plain) c.tables) (sym waits) rest;
+  words = subst (WordsStand names (shown c.plain) c.tables) (sym waits) (rests_by names c.plain.holder c.plain.server c.tables (subst (λ (x : PermitState). IsNoTrace x.holder) (sym same) untraced) rest);
   looked = no_look c look;
 }
 
@@ -93,6 +115,7 @@ pub stage_numbered : (names : List Mfa) (s : ServerState) (change : Change) (t :
 stage_numbered names s change t Untouched h = h.stands.numbered
 stage_numbered names s change t (Placed areas) h = h.0.stands.numbered
 stage_numbered names s change t (Exported areas) h = h.placed.stands.numbered
+stage_numbered names s change t Patching h = h.stands.numbered
 
 -- and so they have once the command is made
 pub made_numbered : (names : List Mfa) (table : TableId) (opening : Opening) (b : WordBook) (who : ℕ) (d : Decision) (stage : Stage) → CommandsKeepNumbers → HasItsTables names table opening b → IsDecided (shown b.plain) who d
@@ -105,3 +128,9 @@ pub numbers_left : (names : List Mfa) (table : TableId) (opening : Opening) (b :
 numbers_left names table opening b had room =
     let is = ap (λ (s : ServerState). s.generation) had.book.permit.log.server_is in
     omega (arith, room, is, had.published.many, counted b.plain.script.modules _ b.plain.journal had.book.permit.log.replays)
+
+-- as many generations are published as the server's number says, and generation 0
+pub numbers_are : (names : List Mfa) (table : TableId) (opening : Opening) (b : WordBook) → HasItsTables names table opening b → length (written_by b.tables.writer).published ≡ b.plain.server.generation + 1
+numbers_are names table opening b had =
+    let is = ap (λ (s : ServerState). s.generation) had.book.permit.log.server_is in
+    omega (arith, is, had.published.many, counted b.plain.script.modules _ b.plain.journal had.book.permit.log.replays)

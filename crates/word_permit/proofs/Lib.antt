@@ -1,3 +1,6 @@
+pub mod Resting
+mod Patches
+mod TraceCode
 pub mod Growing
 pub mod SpawnedBefore
 pub mod Answered
@@ -19,4 +22,6 @@ pub mod OldCode
 pub mod Dropped
 pub mod Lingered
 pub mod PurgeCalls
+pub mod Switched
+pub mod Grown
 mod PumpedThrough

@@ -19,12 +19,14 @@ use Rattle.term_table.specs.Laws as terms
 use Rattle.term_table.specs.Tables.{IsTableOf}
 use Rattle.change_laws.specs.Changes.{Incoming, incoming}
 use Rattle.staging.specs.declared.stage.Stage.{Stage}
-use Rattle.staging.specs.declared.stage.Stage.TheVariants.{Untouched, Placed, Exported}
+use Rattle.staging.specs.declared.stage.Stage.TheVariants.{Untouched, Placed, Exported, Patching}
 use Rattle.staging.specs.declared.tables.Tables.{Tables}
 use Rattle.staging.specs.Placed.{ArePlaced}
-use Rattle.staging.specs.Stages.{AreAtRest, HavePlaced, StageStands}
+use Rattle.staging.specs.Stages.{AreAtRest, HavePlaced, IsPatched, StageStands}
 use Rattle.staging.specs.Standing.{StandFor}
 use Rattle.staging.specs.Whose.{AreTablesOf}
+use Rattle.write_permit.specs.declared.holder.Holder.{Holder}
+use Rattle.write_permit.specs.declared.holder.Holder.TheVariants.{Free, Held, Purging, Tracing}
 use Rattle.write_permit.specs.declared.spawned.Spawned as plain
 use Rattle.write_permit.specs.Book.{shown}
 use Rattle.write_permit.specs.Permit.{PermitState}
@@ -36,9 +38,10 @@ use Rattle.word_permit.specs.Needs.{IsAwaited}
 use Rattle.word_permit.specs.Notes.{AreOfSpawned, IsSpawnedIn, noted_for}
 use Rattle.run_law.specs.Answers.{AreAnswersKept}
 use Rattle.run_law.specs.Published.{ArePublished}
-use Rattle.word_permit.specs.Waiting.{WordsStand}
+use Rattle.word_permit.specs.Waiting.{RestsBy, WordsStand}
 use Rattle.word_permit.proofs.Awaiting.{need_still}
 use Rattle.word_permit.proofs.Looked.{if_still}
+use Rattle.word_permit.proofs.Patches.{patch_noted}
 use Rattle.word_permit.proofs.SpawnedBefore.{notes_more}
 
 -- ---- the words
@@ -48,13 +51,15 @@ stands_noted names s pools w process h = record {
   newest_is = h.newest_is;
   numbered = h.numbered;
   keys_once = h.keys_once;
+  knows = h.knows;
   narrow = h.narrow;
   bp = h.bp;
   listed = h.listed;
+  stay = h.stay;
   blocks = h.blocks;
   placed = h.placed;
   images = h.images;
-  words = record { retire = h.words.retire; since = h.words.since; free = h.words.free; doom = h.words.doom; untraced = h.words.untraced };
+  words = record { retire = h.words.retire; since = h.words.since; free = h.words.free; doom = h.words.doom };
   dropped = h.dropped;
 }
 
@@ -77,7 +82,34 @@ module _ (names : List Mfa) (s : ServerState) (t : Tables) (writer : writers.Wri
   rest_noted : AreAtRest names s t → AreAtRest names s (with_writer t writer)
   rest_noted h = record {
     stands = subst (StandFor names s t.pools) (sym view) (stands_noted names s t.pools (written_by t.writer) process h.stands);
-    staged = record { index = h.staged.index; terms = h.staged.terms };
+    staged = record { index = h.staged.index; terms = h.staged.terms; patch = h.staged.patch };
+  }
+
+  by_noted : (holder : Holder) → RestsBy names holder s t → RestsBy names holder s (with_writer t writer)
+  by_noted Free h = rest_noted h
+  by_noted (Held by) h = rest_noted h
+  by_noted (Purging by name) h = rest_noted h
+  by_noted (Tracing by generation) h = record {
+    settling = record {
+      stands = subst (StandFor names s t.pools) (sym view) (stands_noted names s t.pools (written_by t.writer) process h.settling.stands);
+      index = h.settling.index;
+      terms = h.settling.terms;
+      patch = h.settling.patch;
+      is = h.settling.is;
+      behind = h.settling.behind;
+    };
+    room = h.room;
+  }
+
+  patched_noted : (change : Change) → IsPatched names s change t → IsPatched names s change (with_writer t writer)
+  patched_noted change h = record {
+    stands = subst (StandFor names s t.pools) (sym view) (stands_noted names s t.pools (written_by t.writer) process h.stands);
+    index = h.index;
+    terms = h.terms;
+    patch = h.patch;
+    is = h.is;
+    of = h.of;
+    before = h.before;
   }
 
   areas_noted : (change : Change) (taken : List AreaRef) → HavePlaced names s change t taken → HavePlaced names s change (with_writer t writer) taken
@@ -86,6 +118,7 @@ module _ (names : List Mfa) (s : ServerState) (t : Tables) (writer : writers.Wri
     stands = subst (StandFor names s h.rest) (sym view) (stands_noted names s h.rest (written_by t.writer) process h.stands);
     placed = subst (λ v. ArePlaced (incoming change) h.rest t.pools v taken) (sym view) (placed_noted (incoming change) h.rest t.pools (written_by t.writer) taken process h.placed);
     terms = h.terms;
+    patch = h.patch;
   }
 
   stage_noted : (change : Change) (stage : Stage) → StageStands names s change t stage → StageStands names s change (with_writer t writer) stage
@@ -99,10 +132,11 @@ module _ (names : List Mfa) (s : ServerState) (t : Tables) (writer : writers.Wri
         whole = h.whole;
         exported = λ p upcoming. subst (Stages t.index p) (sym view) (kept.staged p (h.exported p upcoming));
       }
+  stage_noted change Patching h = patched_noted change h
 
 words_noted : (names : List Mfa) (p : PermitState) (t : Tables) (writer : writers.Writer) (process : ℕ) (o : Option Waiting) → written_by writer ≡ with_note process (written_by t.writer) → indices.KeptByNotes
     → WordsStand names p t o → WordsStand names p (with_writer t writer) o
-words_noted names p t writer process None view by_notes h = rest_noted names p.server t writer process view by_notes h
+words_noted names p t writer process None view by_notes h = by_noted names p.server t writer process view by_notes p.holder h
 words_noted names p t writer process (Some w) view by_notes h = record {
   who = h.who;
   holder = h.holder;
@@ -124,6 +158,7 @@ module _ (names : List Mfa) (table : TableId) (opening : Opening) (b : WordBook)
         index = subst (IsIndexOf b.tables.index) (sym view) (index.owned h.index);
         terms = subst (IsTableOf b.tables.terms) (sym view) (keys.owned h.terms);
         pools = subst (AreOf b.tables.pools) (sym view) (by_pools b.tables.pools (written_by b.tables.writer) process h.pools);
+        patch = patch_noted b.tables.patch (written_by b.tables.writer) (written_by writer) process view h.patch;
       }
 
   book_noted : (process : ℕ) → written_by writer ≡ with_note process (written_by b.tables.writer) → IsSpawnedIn b.plain.script b.plain.journal process → IsWordBook names table opening b → IsWordBook names table opening left

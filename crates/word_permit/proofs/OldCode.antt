@@ -14,11 +14,10 @@ use Rattle.area_core.specs.declared.table.Published.{Published}
 use Rattle.area_core.specs.Generations.{has_serial, is_retired}
 use Rattle.marks.specs.declared.kept.LookKind.TheVariants.{Frame}
 use Rattle.shared_words.specs.Rule.{is_gone}
-use Rattle.server_core.specs.Generations.{is_old_code, is_serial, serials_below}
+use Rattle.server_core.specs.Generations.{generation_of, is_old_code, is_serial, serials_below}
 use Rattle.server_core.specs.ServerState.{IsInstanceOf, IsSound, ServerState, code_of, empty_state, old_of}
 use Rattle.run_log.proofs.SpanRuns.{some_and}
 use Rattle.staging.specs.Standing.{IsShownBy}
-use Rattle.staging.specs.Upcoming.{generation_shown}
 
 or_right : (a b : Bool) → b ≡ true → (a || b) ≡ true
 or_right true b h = refl
@@ -56,7 +55,7 @@ module _ (s : ServerState) (sound : IsSound s) (name serial : ℕ) (old : old_of
       ∙ ap (λ o. is_serial o serial) (ap (old_of s) code.1.1 ∙ old)
       ∙ eq-eqb serial serial refl
 
-  has_old : (names : List Mfa) → has_serial (generation_shown names s).old serial ≡ true
+  has_old : (names : List Mfa) → has_serial (generation_of names s).old serial ≡ true
   has_old names = below_has (is_old_code s) s.next_serial serial low_serial is_old
 
 no_old_first : (name serial : ℕ) → old_of empty_state name ≡ Some serial → ⊥

@@ -45,8 +45,8 @@ use Rattle.write_permit.specs.declared.answers.OpStep.TheVariants as steps
 use Rattle.write_permit.specs.declared.book.Book.{Book}
 use Rattle.write_permit.specs.declared.commands.OldCode.{OldCode}
 use Rattle.write_permit.specs.declared.holder.Holder.{Holder}
-use Rattle.write_permit.specs.declared.holder.Holder.TheVariants.{Free, Held, Purging}
-use Rattle.write_permit.specs.Book.{HoldsJust, IsBook, PurgeWaits, shown}
+use Rattle.write_permit.specs.declared.holder.Holder.TheVariants.{Free, Held, Purging, Tracing}
+use Rattle.write_permit.specs.Book.{HoldsJust, IsBook, PurgeWaits, TraceWaits, shown}
 use Rattle.write_permit.specs.Permit.{PermitState, Step, done_of, doomed_by, ended_with, holder_of, joined, lingering, needs_permission, next_of, purged_code}
 use Rattle.write_permit.proofs.EndBooks.{open_ends}
 use Rattle.write_permit.proofs.Ends.{code_of_module}
@@ -67,6 +67,7 @@ use Rattle.word_permit.proofs.Dropped.{ended_grown, was_ended}
 use Rattle.word_permit.proofs.Followed.{at_rest}
 use Rattle.word_permit.proofs.Growing.{published_same}
 use Rattle.word_permit.proofs.OldCode.{old_gone}
+use Rattle.word_permit.proofs.Resting.{ends_no_trace, free_no_trace, none_waiting, rests_by, stands_by}
 use Rattle.word_permit.proofs.SpawnedBefore.{notes_later}
 use Rattle.word_permit.proofs.Told.{drop_told, purge_told}
 
@@ -92,7 +93,17 @@ none_waits names p t (Some w) who holds purges h =
 pub needs_next : (p : PermitState) (h : Holder) (who : ℕ) → HoldsJust p h → holder_of h ≡ Some who → IsSomeAnd (next_of p who) (λ command. needs_permission command ≡ true)
 needs_next p Free who holds own = absurd (none-some who own)
 needs_next p (Held n) who holds own = subst (λ k. IsSomeAnd (next_of p k) (λ command. needs_permission command ≡ true)) (same_Some n who own) holds.next
+needs_next p (Tracing n generation) who holds own =
+    some_at (next_of p who) (λ command. needs_permission command ≡ true) (Trace holds.target holds.on) (ap (next_of p) (sym (same_Some n who own)) ∙ holds.next) refl
 needs_next p (Purging n name) who holds own = some_at (next_of p who) (λ command. needs_permission command ≡ true) (Purge name) (ap (next_of p) (sym (same_Some n who own)) ∙ holds.next) refl
+
+-- while a trace goes on, no purge is the next command
+pub tracing_apart : (p : PermitState) (n generation who : ℕ) (purged : Purged) → TraceWaits p n generation → n ≡ who → next_of p who ≡ Some (purging_command purged) → ⊥
+tracing_apart p n generation who purged holds own next = apart purged (same_Some (Trace holds.target holds.on) (purging_command purged) (sym (ap (next_of p) (sym own) ∙ holds.next) ∙ next))
+  where
+    apart : (purged : Purged) → Trace holds.target holds.on ≡ purging_command purged → ⊥
+    apart (Softly name) e = cc
+    apart (Wholly name) e = cc
 
 -- what it purges, as it is told
 pub some_purged : (o : Option ScriptCmd) (command : ScriptCmd) (told : Option Purged) → o ≡ Some command → told ≡ purged_by command → IfSome told (λ purged. o ≡ Some (purging_command purged))
@@ -300,8 +311,8 @@ holder_still b m h looks held = ap (λ (x : Book). x.holder) looks.plain ∙ hel
 -- old code is gone for frames in the newest generation
 pub gone_now : (names : List Mfa) (table : TableId) (opening : Opening) (b : WordBook) (name serial : ℕ) → IsWordBook names table opening b → b.waiting ≡ None → old_of b.plain.server name ≡ Some serial → IsTrue (is_gone (newest_of (written_by b.tables.writer)) Frame serial)
 gone_now names table opening b name serial known none old =
-    let rest = at_rest names (shown b.plain) b.tables b.waiting none known.words in
-    old_gone names b.plain.server (newest_of (written_by b.tables.writer)) name serial rest.stands.newest_is old
+    let stands = stands_by names b.plain.holder b.plain.server b.tables (none_waiting names (shown b.plain) b.tables b.waiting none known.words) in
+    old_gone names b.plain.server (newest_of (written_by b.tables.writer)) name serial stands.newest_is old
 
 -- the value that was taken is reached
 pub value_reached : {T : Type 0} (r : Result T late.NotYet) (w : WriterView) (need : ℕ) → IsLookTaken w need → OnOk r (need ≤ w.counter) → OnOk r (IsReached w)
@@ -356,9 +367,9 @@ kept_still b m serial l looks h = subst (λ n. HasLingering (written_by m.tables
 
 -- ---- an end that leaves the server
 
-pub quiet_end : (names : List Mfa) (table : TableId) (opening : Opening) (b : WordBook) (plain : Book) (who : ℕ) (cmd : Cmd) (answer : OpStep) → IsWordBook names table opening b → b.waiting ≡ None → IsBook plain → ended_with (shown b.plain) who cmd ≡ Some (record { state = shown plain; answer = answer })
+pub quiet_end : (names : List Mfa) (table : TableId) (opening : Opening) (b : WordBook) (plain : Book) (who : ℕ) (cmd : Cmd) (answer : OpStep) → IsWordBook names table opening b → b.waiting ≡ None → IsBook plain → EndsNext (shown b.plain) who cmd → ended_with (shown b.plain) who cmd ≡ Some (record { state = shown plain; answer = answer })
     → LeavesServer b.plain.script.modules b.plain.server cmd → IsToldBy b.plain.server (written_by b.tables.writer) (written_by b.tables.writer).looks cmd → IsWordBook names table opening (record b { plain = plain; look = None })
-quiet_end names table opening b plain who cmd answer known none book step leaves told =
+quiet_end names table opening b plain who cmd answer known none book ends step leaves told =
     let e = was_ended (shown b.plain) (shown plain) who cmd answer step in
     let left = leaves e.outcome e.applied in
     let entry : Entry = record { who = Loader who; cmd = cmd; reply = e.outcome.answer.reply; published = e.outcome.answer.published } in
@@ -384,17 +395,19 @@ quiet_end names table opening b plain who cmd answer known none book step leaves
             (subst (λ js. AreAnswersKept b.plain.script.modules js w.looks) (sym journal) (answered_joined b.plain.script.modules b.plain.journal entry w.looks known.has.answered tells));
         awaited = known.has.awaited;
       };
-      words = subst (WordsStand names (shown plain) b.tables) (sym none) (subst (λ s. AreAtRest names s b.tables) (sym server) (at_rest names (shown b.plain) b.tables b.waiting none known.words));
+      words = subst (WordsStand names (shown plain) b.tables) (sym none)
+          (rests_by names plain.holder plain.server b.tables (free_no_trace plain.holder (ap (λ (x : PermitState). x.holder) e.state))
+          (subst (λ s. AreAtRest names s b.tables) (sym server) (at_rest names (shown b.plain) b.tables b.waiting none (ends_no_trace (shown b.plain) who cmd ends) known.words)));
       looked = tt;
     }
 
 -- ---- what the calls leave together
 
-append_none : {X : Type 0} (xs : List X) → xs ++ [] ≡ xs
+pub append_none : {X : Type 0} (xs : List X) → xs ++ [] ≡ xs
 append_none [] = refl
 append_none (x ∷ xs) = ap (λ ys. x ∷ ys) (append_none xs)
 
-grown_same : (b c : Book) → shown c ≡ shown b → HasGrown b c
+pub grown_same : (b c : Book) → shown c ≡ shown b → HasGrown b c
 grown_same b c same = record {
   script = ap (λ (x : PermitState). x.script) same;
   more = [];
@@ -433,15 +446,15 @@ grown_doomed b c who name h =
       done = λ loader. subst (λ ls. done_of b.loaders.items loader ≤ done_of ls loader) (sym d.loaders) (omega arith);
     }
 
-pub grown_by : (who : ℕ) (b c : WordBook) (step : CommandStep) → IsBook b.plain → PurgeAnswers who b c step → HasGrown b.plain c.plain
-grown_by who b c (Done applied) book h = ended_grown b.plain c.plain who h.cmd (steps.Done applied) book h.step
-grown_by who b c (NotYet answer) book h = by h.since
+pub grown_by : (who : ℕ) (b c : WordBook) (step : CommandStep) → PurgeAnswers who b c step → HasGrown b.plain c.plain
+grown_by who b c (Done applied) h = ended_grown b.plain c.plain who h.cmd (steps.Done applied) h.step
+grown_by who b c (NotYet answer) h = by h.since
   where
     by : StillWaits b c answer.need ⊎ HasDoomedCode who b c → HasGrown b.plain c.plain
     by (inl still) = grown_same b.plain c.plain still.same
     by (inr doomed) = grown_doomed b.plain c.plain who doomed.name doomed.doomed
-grown_by who b c AwaitRelease book h = absurd h
-grown_by who b c (Lingers process turn place word) book h = grown_same b.plain c.plain h.same
+grown_by who b c AwaitRelease h = absurd h
+grown_by who b c (Lingers process turn place word) h = grown_same b.plain c.plain h.same
 
 pub grown_given : (b c : WordBook) → HasGivenUp b c → HasGrown b.plain c.plain
 grown_given b c h = record {

@@ -18,6 +18,7 @@ use Rattle.progress_words.specs.Tokens.{IsWriterOf, written_by}
 use Rattle.anchors.specs.Scans.{LooksMore}
 use Rattle.server_core.specs.declared.change.Change.{Change}
 use Rattle.server_core.specs.ServerState.{ServerState}
+use Rattle.breakpoints.proofs.Others.{counted_leaves}
 use Rattle.code_index.specs.declared.index.Staging.{Staging}
 use Rattle.code_index.specs.declared.index.Staging.TheVariants as staged_as
 use Rattle.code_index.specs.Laws as indices
@@ -29,12 +30,14 @@ use Rattle.literal_areas.specs.Laws as areas
 use Rattle.literal_areas.specs.declared.areas.Areas.{Areas}
 use Rattle.change_laws.specs.Changes.{Incoming, incoming}
 use Rattle.staging.specs.declared.stage.Stage.{Stage}
-use Rattle.staging.specs.declared.stage.Stage.TheVariants.{Untouched, Placed, Exported}
+use Rattle.staging.specs.declared.stage.Stage.TheVariants.{Untouched, Placed, Exported, Patching}
 use Rattle.staging.specs.declared.tables.Tables.{Tables}
 use Rattle.staging.specs.Placed.{ArePlaced}
-use Rattle.staging.specs.Stages.{AreAtRest, HavePlaced, StageStands}
+use Rattle.staging.specs.Stages.{AreAtRest, AreSettling, HavePlaced, IsPatched, StageStands}
 use Rattle.staging.specs.Standing.{StandFor}
 use Rattle.staging.specs.Whose.{AreTablesOf}
+use Rattle.write_permit.specs.declared.holder.Holder.{Holder}
+use Rattle.write_permit.specs.declared.holder.Holder.TheVariants.{Free, Held, Purging, Tracing}
 use Rattle.write_permit.specs.Book.{shown}
 use Rattle.write_permit.specs.Permit.{PermitState}
 use Rattle.run_law.specs.Published.{ArePublished}
@@ -45,10 +48,11 @@ use Rattle.word_permit.specs.Books.{IsWordBook}
 use Rattle.word_permit.specs.Looks.{IsLookTaken}
 use Rattle.word_permit.specs.Needs.{IsAwaited}
 use Rattle.word_permit.specs.Notes.{AreOfSpawned}
-use Rattle.word_permit.specs.Waiting.{WordsStand}
+use Rattle.word_permit.specs.Waiting.{RestsBy, WordsStand}
 use Rattle.word_permit.proofs.Answered.{KeepsAnswers, answered_more}
 use Rattle.word_permit.proofs.Awaiting.{need_still, waits_loaded, waits_same}
 use Rattle.word_permit.proofs.Looked.{if_loaded, if_still}
+use Rattle.word_permit.proofs.Patches.{patch_left, patch_looked}
 
 -- ---- the words
 
@@ -61,13 +65,15 @@ module _ (pairs : List Retirement) (counter : ℕ) (looks : WriterKept) (named :
     newest_is = h.newest_is;
     numbered = h.numbered;
     keys_once = h.keys_once;
+    knows = h.knows;
     narrow = h.narrow;
     bp = h.bp;
     listed = h.listed;
+    stay = h.stay;
     blocks = h.blocks;
     placed = h.placed;
     images = h.images;
-    words = record { retire = h.words.retire; since = h.words.since; free = h.words.free; doom = h.words.doom; untraced = h.words.untraced };
+    words = record { retire = h.words.retire; since = h.words.since; free = h.words.free; doom = h.words.doom };
     dropped = h.dropped;
   }
 
@@ -107,7 +113,34 @@ module _ (names : List Mfa) (s : ServerState) (t : Tables) (writer : writers.Wri
   rest_quiet : AreAtRest names s t → AreAtRest names s (with_writer t writer)
   rest_quiet h = record {
     stands = subst (StandFor names s t.pools) (sym quiet) (stands_now after.pairs after.counter after.looks after.named before names s t.pools h.stands);
-    staged = record { index = h.staged.index; terms = h.staged.terms };
+    staged = record { index = h.staged.index; terms = h.staged.terms; patch = h.staged.patch };
+  }
+
+  settling_quiet : AreSettling names s t → AreSettling names s (with_writer t writer)
+  settling_quiet h = record {
+    stands = subst (StandFor names s t.pools) (sym quiet) (stands_now after.pairs after.counter after.looks after.named before names s t.pools h.stands);
+    index = h.index;
+    terms = h.terms;
+    patch = h.patch;
+    is = h.is;
+    behind = h.behind;
+  }
+
+  by_quiet : (holder : Holder) → RestsBy names holder s t → RestsBy names holder s (with_writer t writer)
+  by_quiet Free h = rest_quiet h
+  by_quiet (Held by) h = rest_quiet h
+  by_quiet (Purging by name) h = rest_quiet h
+  by_quiet (Tracing by generation) h = record { settling = settling_quiet h.settling; room = h.room }
+
+  patched_quiet : (change : Change) → IsPatched names s change t → IsPatched names s change (with_writer t writer)
+  patched_quiet change h = record {
+    stands = subst (StandFor names s t.pools) (sym quiet) (stands_now after.pairs after.counter after.looks after.named before names s t.pools h.stands);
+    index = h.index;
+    terms = h.terms;
+    patch = h.patch;
+    is = h.is;
+    of = h.of;
+    before = h.before;
   }
 
   areas_quiet : (change : Change) (taken : List AreaRef) → HavePlaced names s change t taken → HavePlaced names s change (with_writer t writer) taken
@@ -116,6 +149,7 @@ module _ (names : List Mfa) (s : ServerState) (t : Tables) (writer : writers.Wri
     stands = subst (StandFor names s h.rest) (sym quiet) (stands_now after.pairs after.counter after.looks after.named before names s h.rest h.stands);
     placed = subst (λ v. ArePlaced (incoming change) h.rest t.pools v taken) (sym quiet) (placed_now after.pairs after.counter after.looks after.named before (incoming change) h.rest t.pools taken h.placed);
     terms = h.terms;
+    patch = h.patch;
   }
 
   stage_quiet : (change : Change) (stage : Stage) → StageStands names s change t stage → StageStands names s change (with_writer t writer) stage
@@ -127,10 +161,11 @@ module _ (names : List Mfa) (s : ServerState) (t : Tables) (writer : writers.Wri
     whole = h.whole;
     exported = λ p upcoming. staged p (h.exported p upcoming);
   }
+  stage_quiet change Patching h = patched_quiet change h
 
 words_quiet : (names : List Mfa) (p : PermitState) (t : Tables) (writer : writers.Writer) (o : Option Waiting) → IsQuiet (written_by t.writer) (written_by writer)
     → ((q : Published) → Stages t.index q (written_by t.writer) → Stages t.index q (written_by writer)) → WordsStand names p t o → WordsStand names p (with_writer t writer) o
-words_quiet names p t writer None quiet staged h = rest_quiet names p.server t writer quiet staged h
+words_quiet names p t writer None quiet staged h = by_quiet names p.server t writer quiet staged p.holder h
 words_quiet names p t writer (Some w) quiet staged h = record {
   who = h.who;
   holder = h.holder;
@@ -180,6 +215,7 @@ module _ (names : List Mfa) (table : TableId) (opening : Opening) (b : WordBook)
         index = index.owned known.has.tables.index;
         terms = keys.owned known.has.tables.terms;
         pools = by_pools b.tables.pools (written_by b.tables.writer) (written_by writer) loaded known.has.tables.pools;
+        patch = patch_left b.tables.patch (written_by b.tables.writer) (written_by writer) (counted_leaves (written_by b.tables.writer) (written_by writer) loaded) known.has.tables.patch;
       })
       (quiet_loaded (written_by b.tables.writer) (written_by writer) loaded) index.staged (answers_same (written_by b.tables.writer).looks (written_by writer).looks (ap (λ (w : WriterView). w.looks) loaded.view)) awaited looked
 
@@ -250,6 +286,7 @@ module _ (names : List Mfa) (table : TableId) (opening : Opening) (b : WordBook)
         index = subst (IsIndexOf b.tables.index) (sym same) (index_looked looked_from looked_to.looks looked_to.named b.tables.index known.has.tables.index);
         terms = subst (IsTableOf b.tables.terms) (sym same) (table_looked looked_from looked_to.looks looked_to.named b.tables.terms known.has.tables.terms);
         pools = by_pools b.tables.pools looked_from looked_to same known.has.tables.pools;
+        patch = patch_looked b.tables.patch looked_from looked_to same known.has.tables.patch;
       })
       (quiet_looked looked_from looked_to looked_to.looks looked_to.named same)
       (λ q staged. subst (Stages b.tables.index q) (sym same) (stages_looked looked_from looked_to.looks looked_to.named b.tables.index q staged))

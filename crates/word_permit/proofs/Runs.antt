@@ -1,18 +1,15 @@
 -- A permit is of the run that a name stands for, before each call and after it.
-use Rattle.std.proofs.Common.{◌≡◌, ℕ, List, Option, Some, None, IfOk, OnErr, Result, Ok, Err, sym, ap, subst, ◌∙◌}
+use Rattle.std.proofs.Common.{◌≡◌, List, length, Option, Some, None, sym, subst, ◌∙◌}
 use Rattle.atomic_table.specs.Seated.{TableId}
 use Rattle.term_core.specs.declared.atom.Mfa.{Mfa}
-use Rattle.term_core.specs.declared.no_memory.NoMemory.{NoMemory}
 use Rattle.shared_words.specs.declared.opening.Opening.{Opening}
 use Rattle.script_core.specs.declared.script.Script.{Script}
 use Rattle.staging.specs.declared.tables.Tables.{Tables}
 use Rattle.staging.specs.Whose.{AreTablesOf}
-use Rattle.write_permit.specs.Book.{IsBook}
-use Rattle.write_permit.specs.Permit.{PermitState}
-use Rattle.word_permit.specs.declared.answers.CommandStep.{CommandStep}
-use Rattle.word_permit.specs.declared.answers.CommandStep.TheVariants.{Done, NotYet, AwaitRelease, Lingers}
+use Rattle.write_permit.specs.Book.{IsBook, shown}
+use Rattle.write_permit.proofs.Entered.{many_loaders}
 use Rattle.word_permit.specs.declared.book.WordBook.{WordBook}
-use Rattle.word_permit.specs.Books.{HasGivenUp, IsKept, IsWordBook, KeepsRun, OpAnswers}
+use Rattle.word_permit.specs.Books.{IsKept, IsWordBook, KeepsRun}
 use Rattle.word_permit.specs.Runs.{IsBegunWith, IsOverWords, Run}
 
 -- a call that keeps a book keeps it of its run
@@ -36,20 +33,11 @@ pub begun_of_run : (names : List Mfa) (run : Option Run) (script : Script) (t : 
 begun_of_run names None script t c begun same book = begun
 begun_of_run names (Some r) script t c begun same book = (book r.table r.opening begun.0, same ∙ sym begun.1)
 
--- the script stays, whatever a step answers
-pub script_after : (who : ℕ) (b c : WordBook) (step : CommandStep) → OpAnswers who b c step → c.plain.script ≡ b.plain.script
-script_after who b c (Done applied) h = h.script
-script_after who b c (NotYet answer) h = ap (λ (x : PermitState). x.script) h.same
-script_after who b c AwaitRelease h = ap (λ (x : PermitState). x.script) h.same
-script_after who b c (Lingers process turn place word) h = absurd h
-
 -- its plain half is kept
 pub book_of_run : (names : List Mfa) (run : Option Run) (b : WordBook) → KeepsRun names run b → IsBook b.plain
 book_of_run names None b h = absurd h
 book_of_run names (Some r) b h = h.0.has.book
 
--- a step leaves it of its run, whatever it answers
-pub run_after : (names : List Mfa) (run : Option Run) (table : TableId) (opening : Opening) (who : ℕ) (b c : WordBook) (r : Result CommandStep NoMemory) → IsOverWords table opening run → KeepsRun names run b → IfOk r (OpAnswers who b c) → OnErr r (HasGivenUp b c)
-    → IsWordBook names table opening c → KeepsRun names run c
-run_after names run table opening who b c (Ok step) over h ok err book = of_run names run table opening b c over h (script_after who b c step ok) book
-run_after names run table opening who b c (Err fault) over h ok err book = of_run names run table opening b c over h (ap (λ (x : PermitState). x.script) err.same) book
+-- and tells how far each loader of the script is
+pub many_of_run : (names : List Mfa) (run : Option Run) (b : WordBook) → KeepsRun names run b → length b.plain.loaders.items ≡ length b.plain.script.loaders
+many_of_run names run b h = let k = book_of_run names run b h in many_loaders (shown b.plain) k.permit

@@ -1,5 +1,5 @@
 -- Processes that were spawned, as the journal and the numbers of spawn lines tell.
-use Rattle.std.proofs.Common.{◌≡◌, ℕ, zero, suc, ◌+◌, ◌<◌, true, List, [], ◌∷◌, ◌++◌, length, take, slice_get, Some, IfSome, refl, sym, ap, subst, ◌∙◌, arith}
+use Rattle.std.proofs.Common.{◌≡◌, ℕ, zero, suc, ◌+◌, ◌<◌, false, true, List, [], ◌∷◌, ◌++◌, length, take, slice_get, Some, IfSome, refl, sym, ap, subst, ◌∙◌, arith}
 use Rattle.std.proofs.lemmas.Bool.{false≢true}
 use Rattle.std.proofs.lemmas.List.{length-take-le}
 use Rattle.std.proofs.lemmas.Option.{none-some, same_Some, slice_get_within}
@@ -19,7 +19,9 @@ use Rattle.run_log.proofs.Journals.{commands_more}
 use Rattle.run_log.proofs.SpanRuns.{some_and, some_at}
 use Rattle.write_permit.specs.declared.spawned.Spawned as plain
 use Rattle.write_permit.specs.Book.{IsPermit}
-use Rattle.write_permit.specs.Permit.{PermitState, done_of, is_spawn, next_of, spawned_by}
+use Rattle.write_permit.specs.Permit.{PermitState, done_of, entered_by, is_spawn, needs_permission, next_of, spawned_by}
+use Rattle.write_permit.proofs.Entered.{entered_done}
+use Rattle.write_permit.proofs.Kept.{holder_apart}
 use Rattle.word_permit.specs.Notes.{AreOfSpawned, IsSpawnedIn}
 
 -- ---- spawn lines
@@ -76,6 +78,11 @@ front_within (suc place) (suc k) (y ∷ xs) x h = let f = front_within place k x
 
 -- ---- the loader's next command is a spawn
 
+-- it needs no permission
+spawns_free : (command : ScriptCmd) → is_spawn command ≡ true → needs_permission command ≡ false
+spawns_free (Spawn target args) h = refl
+spawns_free command h = absurd (false≢true h)
+
 module _ (p : PermitState) (known : IsPermit p) (who : ℕ) (command : ScriptCmd) (next : next_of p who ≡ Some command) (spawns : is_spawn command ≡ true) where
   abbrev done : ℕ
   done = done_of p.loaders who
@@ -86,13 +93,17 @@ module _ (p : PermitState) (known : IsPermit p) (who : ℕ) (command : ScriptCmd
   line_next : HasLine p.script.loaders who done
   line_next = has_line p.script.loaders who done command next spawns
 
+  -- its trace is not under way, so its entries are those of its commands that are done
+  entered_same : done_of (entered_by p.holder p.loaders) who ≡ done
+  entered_same = entered_done p.holder p.loaders who (λ by own. holder_apart p p.holder who command known.holds next (spawns_free command spawns) by own)
+
   -- no process that was spawned has its number
   spawned_apart : (process : ℕ) → IsSpawnedIn p.script p.journal process → process ≡ number → ⊥
   spawned_apart process h same =
       let s = some_and (slice_get (commands_in h.loader p.journal) h.place) (λ c. is_spawn c ≡ true) h.spawns in
-      let f = front_within (done_of p.loaders h.loader) h.place (commands_of p.script h.loader) s.0 (ap (λ commands. slice_get commands h.place) (sym (known.log.in_order h.loader)) ∙ s.1.0) in
+      let f = front_within (done_of (entered_by p.holder p.loaders) h.loader) h.place (commands_of p.script h.loader) s.0 (ap (λ commands. slice_get commands h.place) (sym (known.log.in_order h.loader)) ∙ s.1.0) in
       let one = number_once p.script.loaders h.loader h.place who done (has_line p.script.loaders h.loader h.place s.0 f.1 s.1.1) line_next (sym h.number ∙ same) in
-      let at : done_of p.loaders h.loader ≡ done = ap (done_of p.loaders) one.0 in
+      let at : done_of (entered_by p.holder p.loaders) h.loader ≡ done = ap (done_of (entered_by p.holder p.loaders)) one.0 ∙ entered_same in
       omega (arith, f.0, one.1, at)
 
   -- so a note may be split for it
@@ -105,7 +116,7 @@ module _ (p : PermitState) (known : IsPermit p) (who : ℕ) (command : ScriptCmd
   -- once its entry is in the journal it was spawned
   pub spawned_now : (q : PermitState) → q.script ≡ p.script → commands_in who q.journal ≡ commands_in who p.journal ++ command ∷ [] → IsSpawnedIn q.script q.journal number
   spawned_now q script longer =
-      let many : length (commands_in who p.journal) ≡ done = ap length (known.log.in_order who) ∙ length-take-le done (commands_of p.script who) (known.log.within who) in
+      let many : length (commands_in who p.journal) ≡ done = ap length (known.log.in_order who) ∙ length-take-le (done_of (entered_by p.holder p.loaders) who) (commands_of p.script who) (known.log.within who) ∙ entered_same in
       let at : done ≡ length (commands_in who p.journal) + 0 = omega (arith, many) in
       record {
         loader = who;

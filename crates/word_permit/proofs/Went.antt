@@ -1,5 +1,5 @@
 -- What a step of a decided command leaves of a permit's book, by what the words answered.
-use Rattle.std.proofs.Common.{◌≡◌, ℕ, ◌≤◌, inl, inr, List, [], ◌∷◌, ◌++◌, slice_get, Option, Some, None, is_some, true, IfSome, IsSomeAnd, IfOk, OnErr, Result, Ok, Err, All, option_map, if◌then◌else◌, refl, sym, ap, subst, ◌∙◌}
+use Rattle.std.proofs.Common.{◌≡◌, ℕ, ◌≤◌, ◌⊎◌, inl, inr, List, [], ◌∷◌, ◌++◌, slice_get, Option, Some, None, is_some, true, IfSome, IsSomeAnd, IfOk, OnErr, Result, Ok, Err, All, option_map, if◌then◌else◌, refl, sym, ap, subst, ◌∙◌}
 use Rattle.atomic_table.specs.Seated.{TableId}
 use Rattle.term_core.specs.declared.atom.Mfa.{Mfa}
 use Rattle.term_core.specs.declared.no_memory.NoMemory.{NoMemory}
@@ -8,7 +8,7 @@ use Rattle.progress_words.specs.declared.answers.NotYet as late
 use Rattle.progress_words.specs.Tokens.{written_by}
 use Rattle.change_laws.specs.Names.{IsNumbered}
 use Rattle.server_core.specs.declared.change.Change.{Change}
-use Rattle.server_core.specs.declared.change.Change.TheVariants.{BringIn, MakeOld, HoldWord, HoldArea, Forget, SetTrace, ClearTrace}
+use Rattle.server_core.specs.declared.change.Change.TheVariants.{BringIn, MakeOld, HoldWord, HoldArea, Forget}
 use Rattle.server_core.specs.declared.command.Applied.{Applied}
 use Rattle.server_core.specs.CommandTable.{Outcome}
 use Rattle.server_core.specs.Decided.{made}
@@ -22,7 +22,8 @@ use Rattle.staging.specs.declared.stage.Step.TheVariants as steps
 use Rattle.staging.specs.declared.tables.Tables.{Tables}
 use Rattle.staging.specs.Placed.{NextAwaitsRelease}
 use Rattle.staging.specs.Stages.{AreAtRest, HasPublished, IsCodeChange, IsKeyChange, IsLateFor, IsStaged, StageStands, StepAnswers, areas_at}
-use Rattle.staging.specs.Upcoming.{generation_shown}
+use Rattle.staging.specs.Traced.{IsTraceChange}
+use Rattle.server_core.specs.Generations.{generation_of}
 use Rattle.staging.specs.Whose.{AreTablesOf, KeepsKnown}
 use Rattle.write_permit.specs.declared.holder.Holder.TheVariants.{Held}
 use Rattle.write_permit.specs.declared.loader_run.LoaderRun.{LoaderRun}
@@ -35,19 +36,20 @@ use Rattle.word_permit.specs.declared.book.AreaNeed.{AreaNeed}
 use Rattle.word_permit.specs.declared.book.Decision.{Decision}
 use Rattle.word_permit.specs.declared.book.Waiting.{Waiting}
 use Rattle.word_permit.specs.declared.book.WordBook.{WordBook}
-use Rattle.word_permit.specs.Books.{HasItsTables, HasTakenBack, IsWordBook, OpAnswers, PublishesNone, TellsNone}
+use Rattle.word_permit.specs.Books.{HasItsTables, HasTakenBack, HasWaited, IsLateBy, IsLateStill, IsWordBook, OpAnswers, PublishesNone, TellsNone}
 use Rattle.word_permit.specs.Needs.{IsAwaited}
 use Rattle.word_permit.specs.Notes.{AreOfSpawned}
 use Rattle.run_law.specs.Answers.{AreAnswersKept}
 use Rattle.run_law.specs.Published.{ArePublished}
 use Rattle.word_permit.specs.Settled.{IsFinished, IsSettled, waiting_with, without_newest}
-use Rattle.word_permit.specs.Waiting.{IsDecided, IsTraceChange, WordsStand}
+use Rattle.word_permit.specs.Waiting.{IsDecided, RestsBy, WordsStand}
 use Rattle.word_permit.proofs.Answered.{answered_quietly, goes_quiet}
 use Rattle.word_permit.proofs.Awaiting.{need_on}
 use Rattle.word_permit.proofs.Calls.{no_look}
 use Rattle.word_permit.proofs.Ended.{PlainDone, entry_for, plain_done, state_joined}
 use Rattle.word_permit.proofs.Growing.{published_more}
 use Rattle.word_permit.proofs.Kept.{has_same, rests}
+use Rattle.word_permit.proofs.Resting.{free_no_trace, held_no_trace, rests_by}
 use Rattle.word_permit.proofs.SpawnedBefore.{notes_later}
 
 -- a change that goes by stages publishes
@@ -66,11 +68,21 @@ staged_publishes : (s : ServerState) (change : Change) → IsStaged change → i
 staged_publishes s change (inl code) = code_publishes s change code
 staged_publishes s change (inr key) = key_publishes s change key
 
--- and so does one of what is traced
-pub trace_publishes : (s : ServerState) (change : Change) → IsTraceChange change → is_some (made s change).answer.published ≡ true
-trace_publishes s (SetTrace generation at traced) h = refl
-trace_publishes s (ClearTrace generation at) h = refl
-trace_publishes s change h = absurd h
+-- it waits for the value that it waited for before
+late_by : (change : Change) (old new : Tables) (answer : late.NotYet) → IsStaged change → IsLateFor change old new answer → IsLateBy change old new answer
+late_by change old new answer (inl code) why = by change code why
+  where
+    by : (change : Change) → IsCodeChange change → IsLateFor change old new answer → IsLateBy change old new answer
+    by (BringIn generation modules areas versions) h is = is
+    by (MakeOld generation name) h is = is
+    by change h is = absurd h
+late_by change old new answer (inr key) why = by change key why
+  where
+    by : (change : Change) → IsKeyChange change → IsLateFor change old new answer → IsLateBy change old new answer
+    by (HoldWord generation key term keys retired) h is = is
+    by (HoldArea generation key term stored areas keys retired) h is = is
+    by (Forget generation key retired) h is = is
+    by change h is = absurd h
 
 -- what a step leaves
 pub record Went (names : List Mfa) (table : TableId) (opening : Opening) (who : ℕ) (d : Decision) (b c : WordBook) (told : Result CommandStep NoMemory) : Type 0 where
@@ -86,7 +98,7 @@ module _ (names : List Mfa) (table : TableId) (opening : Opening) (b : WordBook)
     stepped = record b { plain = record (b.plain) { journal = journal; modules = modules }; tables = t }
 
     -- want of memory: the words are at rest, and the journal is as before
-    pub taken_back : (c : WordBook) (told : Result CommandStep NoMemory) (fault : NoMemory) → PublishesNone b stepped → AreAtRest names b.plain.server t → told ≡ Err fault → c ≡ without_newest stepped b.plain.journal → Went names table opening who d b c told
+    taken_back : (c : WordBook) (told : Result CommandStep NoMemory) (fault : NoMemory) → PublishesNone b stepped → AreAtRest names b.plain.server t → told ≡ Err fault → c ≡ without_newest stepped b.plain.journal → Went names table opening who d b c told
     taken_back c told fault published rest is left =
         subst (λ x. Went names table opening who d b x told) (sym left)
         (subst (Went names table opening who d b (without_newest stepped b.plain.journal)) (sym is)
@@ -94,15 +106,15 @@ module _ (names : List Mfa) (table : TableId) (opening : Opening) (b : WordBook)
           ok = tt;
           decision = tt;
           err = record { same = refl; published = published; none = none };
-          book = rests names table opening b (without_newest stepped b.plain.journal) had refl same of_table exports published keeps refl none look rest;
+          book = rests names table opening b (without_newest stepped b.plain.journal) had refl same of_table exports published keeps refl none look (held_no_trace b.plain.holder who held) rest;
         }))
 
     -- nothing is published: the command waits
-    module _ (stage : Stage) (staged : IsStaged d.change) (published : PublishesNone b stepped) (stands : StageStands names b.plain.server d.change t stage) where
-      abbrev waiting : WordBook
+    module _ (stage : Stage) (staged : IsStaged d.change ⊎ IsTraceChange d.change) (published : PublishesNone b stepped) (stands : StageStands names b.plain.server d.change t stage) where
+      abbrev pub waiting : WordBook
       waiting = waiting_with stepped b.plain.journal (entry_for who d) d.change stage
 
-      waiting_book : IsWordBook names table opening waiting
+      pub waiting_book : IsWordBook names table opening waiting
       waiting_book = record {
         has = has_same names table opening b waiting had refl same of_table exports published keeps refl;
         words = record { who = who; holder = held; decided = known; staged = staged; stands = stands };
@@ -117,10 +129,13 @@ module _ (names : List Mfa) (table : TableId) (opening : Opening) (b : WordBook)
       as_decided : IfSome b.waiting (λ before. d ≡ before.decision)
       as_decided = subst (λ (o : Option Waiting). IfSome o (λ before. d ≡ before.decision)) (sym none) tt
 
-      pub is_late : (c : WordBook) (told : Result CommandStep NoMemory) (answer : late.NotYet) → IsLateFor d.change b.tables t answer → told ≡ Ok (NotYet answer) → c ≡ waiting → Went names table opening who d b c told
-      is_late c told answer why = left_waiting c told (NotYet answer) (record { same = refl; published = published; waits = (_, refl); why = record { waiting = record { decision = d; stage = stage }; waits = refl; same = as_decided; late = why } })
+      pub late_waits : (answer : late.NotYet) → IsLateBy d.change b.tables t answer → HasWaited b waiting (IsLateStill b waiting answer)
+      late_waits answer why = record { same = refl; published = published; waits = (_, refl); why = record { waiting = record { decision = d; stage = stage }; waits = refl; same = as_decided; late = why } }
 
-      pub awaits_release : (c : WordBook) (told : Result CommandStep NoMemory) → NextAwaitsRelease d.change t.pools (areas_at stage) → told ≡ Ok AwaitRelease → c ≡ waiting → Went names table opening who d b c told
+      is_late : (c : WordBook) (told : Result CommandStep NoMemory) (answer : late.NotYet) → IsLateBy d.change b.tables t answer → told ≡ Ok (NotYet answer) → c ≡ waiting → Went names table opening who d b c told
+      is_late c told answer why = left_waiting c told (NotYet answer) (inl (late_waits answer why))
+
+      awaits_release : (c : WordBook) (told : Result CommandStep NoMemory) → NextAwaitsRelease d.change t.pools (areas_at stage) → told ≡ Ok AwaitRelease → c ≡ waiting → Went names table opening who d b c told
       awaits_release c told why = left_waiting c told AwaitRelease (record { same = refl; published = published; waits = (_, refl); why = record { waiting = record { decision = d; stage = stage }; waits = refl; same = as_decided; lacks = why } })
 
     -- the change is published: the server makes it
@@ -148,7 +163,7 @@ module _ (names : List Mfa) (table : TableId) (opening : Opening) (b : WordBook)
               (subst (ArePublished names b.plain.script.modules journal) (sym published.published)
               (subst (λ js. ArePublished names b.plain.script.modules js ((written_by b.tables.writer).published ++ published.next ∷ [])) (sym more)
               (published_more names b.plain.script.modules b.plain.journal (entry_for who d) had.book.permit.log.replays (written_by b.tables.writer).published published.next had.published publishes_one
-              (published.shows ∙ ap (generation_shown names) (state_joined b.plain had.book who d held known))))))
+              (published.shows ∙ ap (generation_of names) (state_joined b.plain had.book who d held known))))))
 
           notes_are : AreOfSpawned c.plain.script c.plain.journal (written_by c.tables.writer).notes
           notes_are =
@@ -184,13 +199,15 @@ module _ (names : List Mfa) (table : TableId) (opening : Opening) (b : WordBook)
             awaited = need_is;
           }
 
-          done_rest : AreAtRest names c.plain.server c.tables
-          done_rest = subst (AreAtRest names c.plain.server) (sym tables_are) (subst (λ s. AreAtRest names s t) server_is published.rest)
+          done_rest : RestsBy names c.plain.holder c.plain.server c.tables
+          done_rest =
+              rests_by names c.plain.holder c.plain.server c.tables (free_no_trace c.plain.holder (ap (λ (x : PermitState). x.holder) finished.state))
+              (subst (AreAtRest names c.plain.server) (sym tables_are) (subst (λ s. AreAtRest names s t) server_is published.rest))
 
           none_waits : IfSome c.waiting (λ w. w.decision ≡ d)
           none_waits = subst (λ (o : Option Waiting). IfSome o (λ w. w.decision ≡ d)) (sym (ap (λ (x : WordBook). x.waiting) left ∙ none)) tt
 
-          pub is_done : (told : Result CommandStep NoMemory) → told ≡ Ok (Done applied) → Went names table opening who d b c told
+          is_done : (told : Result CommandStep NoMemory) → told ≡ Ok (Done applied) → Went names table opening who d b c told
           is_done told is =
               subst (Went names table opening who d b c) (sym is)
               (record {
@@ -204,6 +221,6 @@ module _ (names : List Mfa) (table : TableId) (opening : Opening) (b : WordBook)
       pub went_on : (staged : IsStaged d.change) (c : WordBook) (stage : Stage) (step : Result Step NoMemory) (told : Result CommandStep NoMemory) → IsSettled who d.change stage after stepped c step told
           → IfOk step (StepAnswers names b.plain.server d.change b.tables t stage) → OnErr step (AreAtRest names b.plain.server t) → OnErr step (PublishesNone b stepped) → Went names table opening who d b c told
       went_on staged c stage (Ok (steps.Published generation)) told settled ok rest same_published = is_done (staged_publishes b.plain.server d.change staged) generation ok c settled.0 settled.1.1.0 settled.1.1.1 told settled.1.0
-      went_on staged c stage (Ok (steps.NotYet answer)) told settled ok rest same_published = is_late stage staged ok.published ok.stands c told answer ok.why settled.0 (settled.1 b.plain.journal (entry_for who d) more)
-      went_on staged c stage (Ok steps.AwaitRelease) told settled ok rest same_published = awaits_release stage staged ok.published ok.stands c told ok.why settled.0 (settled.1 b.plain.journal (entry_for who d) more)
+      went_on staged c stage (Ok (steps.NotYet answer)) told settled ok rest same_published = is_late stage (inl staged) ok.published ok.stands c told answer (late_by d.change b.tables t answer staged ok.why) settled.0 (settled.1 b.plain.journal (entry_for who d) more)
+      went_on staged c stage (Ok steps.AwaitRelease) told settled ok rest same_published = awaits_release stage (inl staged) ok.published ok.stands c told ok.why settled.0 (settled.1 b.plain.journal (entry_for who d) more)
       went_on staged c stage (Err fault) told settled ok rest same_published = taken_back c told fault same_published rest settled.0 (settled.1 b.plain.journal (entry_for who d) more)

@@ -1,28 +1,32 @@
 -- What a permit keeps over the words that all threads share, and what each call leaves of it.
 -- Source: this project's profile; the phases of a load are those of erts internal documentation, CodeLoading.
-use Rattle.std.specs.Prelude.{◌≡◌, ℕ, List, [], ◌∷◌, ◌++◌, Option, Some, None, IfSome, IsSomeAnd, All}
+use Rattle.std.specs.Prelude.{◌≡◌, ◌⊎◌, ℕ, Bool, List, [], ◌∷◌, ◌++◌, Option, Some, None, IfSome, IsSomeAnd, All}
 use Rattle.atomic_table.specs.Seated.{TableId}
 use Rattle.term_core.specs.declared.atom.Mfa.{Mfa}
 use Rattle.shared_words.specs.declared.opening.Opening.{Opening}
 use Rattle.progress_words.specs.declared.answers.NotYet as told
 use Rattle.progress_words.specs.Tokens.{written_by}
 use Rattle.change_laws.specs.Names.{IsNumbered}
+use Rattle.server_core.specs.declared.change.Change.{Change}
+use Rattle.server_core.specs.declared.change.Change.TheVariants.{SetTrace, ClearTrace}
 use Rattle.server_core.specs.declared.command.Applied.{Applied}
 use Rattle.server_core.specs.declared.command.Cmd.{Cmd}
 use Rattle.server_core.specs.declared.command.Cmd.TheVariants.{Purge, Release, SoftPurge}
 use Rattle.server_core.specs.ServerState.{empty_state}
 use Rattle.script_core.specs.declared.script.Script.{Script}
+use Rattle.script_core.specs.declared.script.ScriptCmd.TheVariants.{Trace}
 use Rattle.staging.specs.declared.tables.Tables.{Tables}
 use Rattle.staging.specs.Placed.{NextAwaitsRelease}
 use Rattle.staging.specs.Stages.{IsLateFor, areas_at}
+use Rattle.staging.specs.Traced.{IsPatchLate}
 use Rattle.staging.specs.Whose.{AreTablesOf}
 use Rattle.run_log.specs.declared.logs.Entry.{Entry}
 use Rattle.write_permit.specs.declared.answers.OpStep.TheVariants as steps
 use Rattle.write_permit.specs.declared.book.Book.{Book}
 use Rattle.write_permit.specs.declared.holder.Holder.{Holder}
-use Rattle.write_permit.specs.declared.holder.Holder.TheVariants.{Free}
+use Rattle.write_permit.specs.declared.holder.Holder.TheVariants.{Free, Held, Tracing}
 use Rattle.write_permit.specs.Book.{IsBook, shown}
-use Rattle.write_permit.specs.Permit.{advanced, given_up}
+use Rattle.write_permit.specs.Permit.{advanced, entered_trace, given_up, next_of}
 use Rattle.word_permit.specs.declared.answers.CommandStep.{CommandStep}
 use Rattle.word_permit.specs.declared.answers.CommandStep.TheVariants.{Done, NotYet, AwaitRelease, Lingers}
 use Rattle.word_permit.specs.declared.book.Waiting.{Waiting}
@@ -107,13 +111,19 @@ pub record HasWaited (old new : WordBook) (Why : Type 0) : Type 0 where
   pub waits : (w : Waiting) × (new.waiting ≡ Some w)
   pub why : Why
 
--- the command waits on as it was decided, for the value that its change waits for: the same as before this call, if it waited then; and the newest counter
--- that the writer loaded is below it
+-- what a change waits for: one of what is traced for the value of the next phase of its patch, each other one for the same value as before this call, if it
+-- waited then
+abbrev pub IsLateBy : Change → Tables → Tables → told.NotYet → Type 0
+IsLateBy (SetTrace generation at traced) old new answer = IsPatchLate new answer
+IsLateBy (ClearTrace generation at) old new answer = IsPatchLate new answer
+IsLateBy change old new answer = IsLateFor change old new answer
+
+-- the command waits on as it was decided, for the value that its change waits for, and the newest counter that the writer loaded is below it
 pub record IsLateStill (old new : WordBook) (answer : told.NotYet) : Type 0 where
   pub waiting : Waiting
   pub waits : new.waiting ≡ Some waiting
   pub same : IfSome old.waiting (λ before. waiting.decision ≡ before.decision)
-  pub late : IsLateFor waiting.decision.change old.tables new.tables answer
+  pub late : IsLateBy waiting.decision.change old.tables new.tables answer
 
 -- the command waits on as it was decided, for a block: in the pool of what comes in next none is free, and one waits for its release
 pub record LacksBlock (old new : WordBook) : Type 0 where
@@ -122,10 +132,31 @@ pub record LacksBlock (old new : WordBook) : Type 0 where
   pub same : IfSome old.waiting (λ before. waiting.decision ≡ before.decision)
   pub lacks : NextAwaitsRelease waiting.decision.change new.tables.pools (areas_at waiting.stage)
 
+-- nothing changes: the trace was published before
+pub record StillSettles (who : ℕ) (old new : WordBook) : Type 0 where
+  pub generation : ℕ
+  pub holds : old.plain.holder ≡ Tracing who generation
+  pub same : shown new.plain ≡ shown old.plain
+  pub published : PublishesNone old new
+
+-- the trace's entry joined the journal, and the generation that shows it is published
+pub record HasEntered (who : ℕ) (old new : WordBook) : Type 0 where
+  pub target : Mfa
+  pub on : Bool
+  pub holds : old.plain.holder ≡ Held who
+  pub next : next_of (shown old.plain) who ≡ Some (Trace target on)
+  pub entered : entered_trace (shown old.plain) who target on ≡ Some (shown new.plain)
+
+-- the trace waits for a value of its patch, as it did or since its entry joined; the counter that was loaded in this call is below it
+pub record AwaitsPatch (who : ℕ) (old new : WordBook) (answer : told.NotYet) : Type 0 where
+  pub late : IsPatchLate new.tables answer
+  pub none : new.waiting ≡ None
+  pub since : StillSettles who old new ⊎ HasEntered who old new
+
 -- what each answer says; a purge alone lingers
 abbrev pub OpAnswers : ℕ → WordBook → WordBook → CommandStep → Type 0
 OpAnswers who old new (Done applied) = EndsPlain who old.plain new.plain applied
-OpAnswers who old new (NotYet answer) = HasWaited old new (IsLateStill old new answer)
+OpAnswers who old new (NotYet answer) = HasWaited old new (IsLateStill old new answer) ⊎ AwaitsPatch who old new answer
 OpAnswers who old new AwaitRelease = HasWaited old new (LacksBlock old new)
 OpAnswers who old new (Lingers process turn place word) = ⊥
 

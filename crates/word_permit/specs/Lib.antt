@@ -1,6 +1,7 @@
 pub mod Runs
 pub mod Waiting
 pub mod Settled
+pub mod Traced
 pub mod Notes
 pub mod Needs
 pub mod Looks

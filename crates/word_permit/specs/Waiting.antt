@@ -1,16 +1,19 @@
 -- A command of a loader that is decided and waits: what is known of it, and how far the words are with it.
 -- Source: Erlang/OTP erts internal documentation, CodeLoading (stage, wait for thread progress, commit), and the manual page of persistent_term.
-use Rattle.std.specs.Prelude.{◌≡◌, ℕ, List, [], Option, Some, None}
+use Rattle.std.specs.Prelude.{◌≡◌, ◌⊎◌, ℕ, ◌+◌, ◌<◌, ◌^◌, List, [], Option, Some, None}
 use Rattle.term_core.specs.declared.atom.Mfa.{Mfa}
 use Rattle.server_core.specs.declared.change.Change.{Change}
-use Rattle.server_core.specs.declared.change.Change.TheVariants.{Nothing, SetTrace, ClearTrace}
+use Rattle.server_core.specs.declared.change.Change.TheVariants.{Nothing}
 use Rattle.server_core.specs.CommandTable.{apply_of}
 use Rattle.server_core.specs.Decided.{Fits, made}
+use Rattle.server_core.specs.ServerState.{ServerState}
 use Rattle.script_core.specs.declared.script.ScriptCmd.{ScriptCmd}
 use Rattle.script_core.specs.declared.script.ScriptCmd.TheVariants.{Load, Delete, Put, Erase, Trace}
 use Rattle.staging.specs.declared.tables.Tables.{Tables}
-use Rattle.staging.specs.Stages.{AreAtRest, IsStaged, StageStands}
-use Rattle.write_permit.specs.declared.holder.Holder.TheVariants.{Held}
+use Rattle.staging.specs.Stages.{AreAtRest, AreSettling, IsStaged, StageStands}
+use Rattle.staging.specs.Traced.{IsTraceChange}
+use Rattle.write_permit.specs.declared.holder.Holder.{Holder}
+use Rattle.write_permit.specs.declared.holder.Holder.TheVariants.{Free, Held, Purging, Tracing}
 use Rattle.write_permit.specs.Permit.{PermitState, next_of, opening}
 use Rattle.word_permit.specs.declared.book.Decision.{Decision}
 use Rattle.word_permit.specs.declared.book.Waiting.{Waiting}
@@ -33,13 +36,7 @@ abbrev pub LeavesState : Change → Type 0
 LeavesState (Nothing reply) = Unit {0}
 LeavesState change = ⊥
 
--- a change of what is traced
-abbrev pub IsTraceChange : Change → Type 0
-IsTraceChange (SetTrace generation at traced) = Unit {0}
-IsTraceChange (ClearTrace generation at) = Unit {0}
-IsTraceChange change = ⊥
-
--- by what the words follow a change: by stages, by nothing, or, of what is traced, by a generation over the blocks of the newest one
+-- by what the words follow a change: by stages, by nothing, or, of what is traced, by the phases of a patch
 abbrev pub IsCourseOf : Change → Course → Type 0
 IsCourseOf change Staged = IsStaged change
 IsCourseOf change Unchanged = LeavesState change
@@ -63,10 +60,22 @@ pub record IsWaiting (names : List Mfa) (p : PermitState) (t : Tables) (w : Wait
   pub who : ℕ
   pub holder : p.holder ≡ Held who
   pub decided : IsDecided p who w.decision
-  pub staged : IsStaged w.decision.change
+  pub staged : IsStaged w.decision.change ⊎ IsTraceChange w.decision.change
   pub stands : StageStands names p.server w.decision.change t w.stage
+
+-- the words stand for the state, which the switch of a breakpoint has published; the switch is not over yet, and there is a number for one generation more
+pub record IsSwitching (names : List Mfa) (s : ServerState) (t : Tables) : Type 0 where
+  pub settling : AreSettling names s t
+  pub room : s.generation + 1 < 2 ^ 40
+
+-- the words stand for the server's state, and nothing is under way but the switch of a breakpoint that is published, while its command is not done
+abbrev pub RestsBy : List Mfa → Holder → ServerState → Tables → Type 0
+RestsBy names Free s t = AreAtRest names s t
+RestsBy names (Held by) s t = AreAtRest names s t
+RestsBy names (Purging by name) s t = AreAtRest names s t
+RestsBy names (Tracing by generation) s t = IsSwitching names s t
 
 -- the words stand for the server's state, and are as far as the command that waits, if one does
 abbrev pub WordsStand : List Mfa → PermitState → Tables → Option Waiting → Type 0
-WordsStand names p t None = AreAtRest names p.server t
+WordsStand names p t None = RestsBy names p.holder p.server t
 WordsStand names p t (Some w) = IsWaiting names p t w

@@ -1,8 +1,9 @@
 //! A command is decided before it changes a word, and has room for all that follows before the root is stored.
 
-ghost use Rattle.std.specs.Prelude.{◌≡◌, ◌+◌, ◌<◌, ◌≤◌, ◌^◌, [], ◌∷◌, ◌++◌, IfOk, IsSome, OnErr, OnOk, Some};
+ghost use Rattle.std.specs.Prelude.{◌≡◌, ◌+◌, ◌<◌, ◌≤◌, ◌^◌, [], ◌∷◌, ◌++◌, false, true, IfOk, IsSome, OnErr, OnOk, Some};
 ghost use Rattle.server_core.specs.CommandTable.{AreTexts, IsOfText, apply_of};
 ghost use Rattle.server_core.specs.Decided.{Fits, made};
+ghost use Rattle.staging.specs.Traced.{IsTraceChange};
 ghost use Rattle.write_permit.specs.Agreement.{new_modules};
 ghost use Rattle.word_permit.specs.Waiting.{IsCourseOf};
 
@@ -15,7 +16,8 @@ use write_permit::book::{Book, decided};
 use write_permit::following::make_room;
 use write_permit::foretold::foretold;
 
-/// Generations have numbers below this. A command that would publish more is refused as memory is.
+/// Generations have numbers below this. A command that would publish more is refused as memory is; the last number is left over, since behind the store of
+/// the root the switch of a breakpoint goes on only where there is one.
 const GENERATIONS_END: u64 = 1 << 40;
 
 /// By what the words follow a change.
@@ -25,7 +27,7 @@ pub enum Course {
     Staged,
     /// The words stay.
     Unchanged,
-    /// What is traced changes: the next generation is published over the blocks of the newest one.
+    /// What is traced changes, by the phases of a patch.
     Traced,
     /// No command that is asked for changes this.
     Unasked,
@@ -66,6 +68,26 @@ pub fn course_of(change: &Change) -> Course
     }
 }
 
+/// Whether the change is one of what is traced.
+pub fn changes_trace(change: &Change) -> bool
+    ensures trace { result ≡ true → IsTraceChange change.now }
+    ensures other { result ≡ false → IsTraceChange change.now → ⊥ }
+{
+    match change {
+        Change::SetTrace { .. } => true,
+        Change::ClearTrace { .. } => true,
+        Change::Nothing(_) => false,
+        Change::BringIn { .. } => false,
+        Change::MakeOld { .. } => false,
+        Change::DropOld { .. } => false,
+        Change::Condemn { .. } => false,
+        Change::HoldWord { .. } => false,
+        Change::HoldArea { .. } => false,
+        Change::Forget { .. } => false,
+        Change::GiveBack { .. } => false,
+    }
+}
+
 /// Room for the entry of a decided command and for what follows it. The entry joins the journal; it is taken back where nothing is published.
 pub fn take_room(
     journal: &mut EntryList,
@@ -77,9 +99,9 @@ pub fn take_room(
     ensures err { OnErr result (journal.new ≡ journal.old) }
     ensures table { modules.new.instances ≡ modules.old.instances }
     ensures room { OnOk result (new_modules entry.cmd ≤ modules.new.room) }
-    ensures numbers { OnOk result (generation + 1 < 2 ^ 40) }
+    ensures numbers { OnOk result (generation + 2 < 2 ^ 40) }
 {
-    if generation >= GENERATIONS_END - 1 {
+    if generation >= GENERATIONS_END - 2 {
         return Err(NoMemory);
     }
     make_room(modules, &entry.cmd)?;

@@ -121,7 +121,7 @@ pub fn finish_change(book: &mut Book, who: u32, change: Change, after: LoaderRun
 }
 
 /// Nothing was published: the newest entry is taken back, and its command waits at this stage.
-fn wait_on(book: &mut WordBook, change: Change, stage: Stage)
+pub fn wait_on(book: &mut WordBook, change: Change, stage: Stage)
     requires { 0 < length book.old.plain.journal }
     ensures { WaitsAt change stage book.old book.new }
 {
@@ -156,6 +156,7 @@ pub fn end_unchanged(book: &mut Book, who: u32, decision: Decision) -> Result<Ap
     requires decided { IsDecided (shown book.old) who decision }
     requires unchanged { LeavesState decision.change }
     ensures ok { IfOk result (EndsPlain who book.old book.new) }
+    ensures free { IfOk result (λ applied. book.new.holder ≡ holders.Free) }
     ensures server { IfOk result (λ applied. book.new.server ≡ book.old.server) }
     ensures journal { IfOk result (λ applied. JoinsUnpublished book.old.journal book.new.journal) }
     ensures err { OnErr result (shown book.new ≡ shown book.old) }

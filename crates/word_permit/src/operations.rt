@@ -1,26 +1,28 @@
 //! The loader that has the permission goes on with its next command.
 
-ghost use Rattle.std.specs.Prelude.{◌≡◌, IfOk, IsSomeAnd, None, OnErr, Some};
-ghost use Rattle.staging.specs.Stages.{AreAtRest};
+ghost use Rattle.std.specs.Prelude.{◌≡◌, ◌⊎◌, IfOk, IfSome, IsSomeAnd, None, OnErr, Some};
+ghost use Rattle.staging.specs.Stages.{AreAtRest, IsStaged, StageStands};
+ghost use Rattle.staging.specs.Traced.{IsTraceChange};
 ghost use Rattle.write_permit.specs.declared.holder.Holder.TheVariants as holders;
 ghost use Rattle.write_permit.specs.Book.{IsBook, shown};
 ghost use Rattle.write_permit.specs.Permit.{given_up, holder_of, next_of};
 ghost use Rattle.word_permit.specs.Books.{HasGivenUp, HasItsTables, HasTakenBack, IsWordBook, KeepsRun, OpAnswers, with_holder};
-ghost use Rattle.word_permit.specs.Purged.{CommandAnswers, HasGrown, Purges};
+ghost use Rattle.word_permit.specs.Purged.{CommandAnswers, HasGrown};
 ghost use Rattle.word_permit.specs.Runs.{IsOverWords};
 ghost use Rattle.word_permit.specs.Waiting.{GoesOverWords, IsDecided};
 
 use crate::answers::CommandStep;
 use crate::book::{Decision, Waiting, WordBook};
-use crate::deciding::{Course, course_of, decide};
+use crate::deciding::{Course, changes_trace, course_of, decide};
 use crate::going_on::{end_unchanged, go_on_decided};
 use crate::purging::{advance_purge, purged_next};
 use crate::run_name::RunName;
-use crate::tracing::end_traced;
+use crate::tracing::{go_on_traced, settle_traced};
 use code_law::{CodeLaw, Naming};
 use shared_words::Shared;
 use staging::Stage;
 use term_core::NoMemory;
+use write_permit::Holder;
 use write_permit::commands::opening;
 use write_permit::holder::given_up;
 use write_permit::steps::next_command;
@@ -36,7 +38,7 @@ pub fn advance_run<K: Naming, N: RunName>(
     requires holds { holder_of book.old.plain.holder ≡ Some who }
     ensures ok { IfOk result (CommandAnswers who book.old book.new) }
     ensures err { OnErr result (HasGivenUp book.old book.new) }
-    ensures grown { Purges (shown book.old.plain) who → HasGrown book.old.plain book.new.plain }
+    ensures grown { HasGrown book.old.plain book.new.plain }
     ensures kept { KeepsRun K.names N.run book.new }
 {
     match purged_next(&book.plain, who) {
@@ -53,7 +55,7 @@ fn advance<K: Naming>(
     who: u32,
 ) -> Result<CommandStep, NoMemory>
     requires book { IsWordBook K.names shared.now.table.shared.table_id shared.now.table.shared.key book.old }
-    requires holds { book.old.plain.holder ≡ holders.Held who }
+    requires holds { holder_of book.old.plain.holder ≡ Some who }
     requires goes { IsSomeAnd (next_of (shown book.old.plain) who) GoesOverWords }
     ensures ok { IfOk result (OpAnswers who book.old book.new) }
     ensures err { OnErr result (HasGivenUp book.old book.new) }
@@ -76,8 +78,30 @@ pub fn give_up(book: &mut WordBook)
     book.plain.holder = given_up(book.plain.holder);
 }
 
-/// The loader's next command begins, or goes on from where it waits.
+/// The loader's next command begins or goes on, or its trace is published and goes on behind that.
 fn go_on<K: Naming>(
+    book: &mut WordBook,
+    shared: &Shared<CodeLaw<K>>,
+    who: u32,
+) -> Result<CommandStep, NoMemory>
+    requires book { IsWordBook K.names shared.now.table.shared.table_id shared.now.table.shared.key book.old }
+    requires look { book.old.look ≡ None }
+    requires holds { holder_of book.old.plain.holder ≡ Some who }
+    requires goes { IsSomeAnd (next_of (shown book.old.plain) who) GoesOverWords }
+    ensures ok { IfOk result (OpAnswers who book.old book.new) }
+    ensures err { OnErr result (HasTakenBack book.old book.new) }
+    ensures book { IsWordBook K.names shared.now.table.shared.table_id shared.now.table.shared.key book.new }
+{
+    match book.plain.holder {
+        Holder::Free => unreachable!(),
+        Holder::Held(_) => go_on_held(book, shared, who),
+        Holder::Purging { .. } => unreachable!(),
+        Holder::Tracing { generation, .. } => Ok(settle_traced(book, shared, who, generation)),
+    }
+}
+
+/// The loader's next command begins, or goes on from where it waits.
+fn go_on_held<K: Naming>(
     book: &mut WordBook,
     shared: &Shared<CodeLaw<K>>,
     who: u32,
@@ -91,8 +115,35 @@ fn go_on<K: Naming>(
     ensures book { IsWordBook K.names shared.now.table.shared.table_id shared.now.table.shared.key book.new }
 {
     match book.waiting.take() {
-        Some(waiting) => go_on_decided(book, shared, who, waiting),
+        Some(waiting) => go_on_waiting(book, shared, who, waiting),
         None => begin(book, shared, who),
+    }
+}
+
+/// Goes on with the command that waits, by stages or by the phases of a patch.
+fn go_on_waiting<K: Naming>(
+    book: &mut WordBook,
+    shared: &Shared<CodeLaw<K>>,
+    who: u32,
+    waiting: Waiting,
+) -> Result<CommandStep, NoMemory>
+    requires tables { HasItsTables K.names shared.now.table.shared.table_id shared.now.table.shared.key book.old }
+    requires none { book.old.waiting ≡ None }
+    requires look { book.old.look ≡ None }
+    requires holds { book.old.plain.holder ≡ holders.Held who }
+    requires decided { IsDecided (shown book.old.plain) who waiting.decision }
+    requires staged { IsStaged waiting.decision.change ⊎ IsTraceChange waiting.decision.change }
+    requires stands { StageStands K.names book.old.plain.server waiting.decision.change book.old.tables waiting.stage }
+    ensures ok { IfOk result (OpAnswers who book.old book.new) }
+    // where it waits on, it does so as it was decided
+    ensures decision { IfOk result (λ step. IfSome book.new.waiting (λ w. w.decision ≡ waiting.decision)) }
+    ensures err { OnErr result (HasTakenBack book.old book.new) }
+    ensures book { IsWordBook K.names shared.now.table.shared.table_id shared.now.table.shared.key book.new }
+{
+    if changes_trace(&waiting.decision.change) {
+        go_on_traced(book, shared, who, waiting)
+    } else {
+        go_on_decided(book, shared, who, waiting)
     }
 }
 
@@ -160,8 +211,8 @@ fn follow<K: Naming>(
             Ok(CommandStep::Done(applied))
         }
         Course::Traced => {
-            let applied = end_traced(book, shared, who, decision)?;
-            Ok(CommandStep::Done(applied))
+            let stage = Stage::Untouched;
+            go_on_traced(book, shared, who, Waiting { decision, stage })
         }
         Course::Unasked => Err(NoMemory),
     }

@@ -13,7 +13,7 @@ ghost use Rattle.write_permit.specs.Permit.{at_once_of, holder_of, needs_permiss
 ghost use Rattle.word_permit.specs.Books.{HasGivenUp, IsBegun, KeepsRun};
 ghost use Rattle.word_permit.specs.Notes.{HandsOut, KeepsButNote, next_spawned};
 ghost use Rattle.word_permit.specs.Pumped.{PumpAnswers, ReleasesNone};
-ghost use Rattle.word_permit.specs.Purged.{CommandAnswers, HasGrown, Purges};
+ghost use Rattle.word_permit.specs.Purged.{CommandAnswers, HasGrown};
 ghost use Rattle.word_permit.specs.Runs.{IsBegunWith, IsOverWords};
 
 use crate::answers::{AtOnce, CommandStep, Finished, Pumped};
@@ -109,16 +109,21 @@ impl<K: Naming, N: RunName> Permit<K, N> {
         seize(&mut self.book, who)
     }
 
-    /// Goes on with the next command of the loader that has the permission, until an answer is due. A trace is done in one call.
+    /// Goes on with the next command of the loader that has the permission, until an answer is due.
+    ///
+    /// A trace goes by phases, each behind a wait: its decision is staged in the index that no thread reads, its entry word leads calls to the indices, the
+    /// root is stored and its entry joins, and the other index comes to say the same. `Done` comes after the last phase. A breakpoint that is cleared has its
+    /// entry word stored behind the root.
     ///
     /// A soft purge waits at the newest generation, and then looks through the slots of all processes. A purge dooms the old code first, and gives the
     /// permission up only once a look is clear of it: `Lingers` names the process for which it waits, and the next call looks again.
     ///
     /// `Done` gives the permission up. Its entry joined the journal in the call that stored the root. Until then nothing of the command is published but
-    /// the doom of a purge, and else `NotYet` and `AwaitRelease` leave all but the phase as it was. After `NoMemory` what was staged is taken back, the
-    /// active generation stays, and the loader gives the permission up unless its old code is doomed. The gate is passed once for each entry that published.
+    /// the doom of a purge and the generation of a trace, and else `NotYet` and `AwaitRelease` leave all but the phase as it was. After `NoMemory` what was
+    /// staged is taken back, the active generation stays, and the loader gives the permission up unless its old code is doomed; behind the root no phase of a
+    /// trace takes memory. The gate is passed once for each entry that published.
     ///
-    /// Rule: erts internal documentation, CodeLoading: stage, wait for thread progress, commit; and the manual page code (purge, soft_purge).
+    /// Rule: erts internal documentation, CodeLoading: stage, wait for thread progress, commit; and Tracing; and the manual page code (purge, soft_purge).
     pub fn advance_op<G: Gate>(
         &mut self,
         shared: &Shared<CodeLaw<K>>,
@@ -129,7 +134,7 @@ impl<K: Naming, N: RunName> Permit<K, N> {
         requires holds { holder_of self.old.plain.holder ≡ Some who }
         ensures ok { IfOk result (CommandAnswers who self.old self.new) }
         ensures err { OnErr result (HasGivenUp self.old self.new) }
-        ensures grown { Purges (shown self.old.plain) who → HasGrown self.old.plain self.new.plain }
+        ensures grown { HasGrown self.old.plain self.new.plain }
         ensures kept { KeepsRun K.names N.run self.new }
     {
         let before = self.book.plain.server.generation();

@@ -24,7 +24,7 @@ use progress_words::{NotYet, later, reached};
 use run_log::Who;
 use server_core::{Cmd, changes_wait_for_releases};
 use shared_words::Shared;
-use staging::{clear_areas_are_releasable, release};
+use staging::{clear_areas_are_releasable, clear_areas_are_releasable_while_settling, release};
 use term_core::{AreaRef, NoMemory};
 use term_table::counters_keep_tables;
 use write_permit::book::make;
@@ -226,6 +226,7 @@ fn release_area<K: Naming>(
     decided_commands_stay();
     changes_wait_for_releases();
     clear_areas_are_releasable::<K>();
+    clear_areas_are_releasable_while_settling::<K>();
     make(&mut book.plain, Who::Runtime, Cmd::Release(serial))?;
     release(&mut book.tables, shared, serial);
     book.look = None;

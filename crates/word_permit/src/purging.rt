@@ -87,6 +87,7 @@ fn go_on_purge<K: Naming>(
             };
             close_purge(book, shared, who, code)
         }
+        Holder::Tracing { .. } => unreachable!(),
     }
 }
 

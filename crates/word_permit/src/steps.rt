@@ -60,7 +60,9 @@ pub fn seize(book: &mut WordBook, who: u32) -> Seize
             book.plain.holder = Holder::Held(who);
             Seize::Seized
         }
-        Holder::Held(by) | Holder::Purging { loader: by, .. } => Seize::Held { by },
+        Holder::Held(by)
+        | Holder::Purging { loader: by, .. }
+        | Holder::Tracing { loader: by, .. } => Seize::Held { by },
     }
 }
 

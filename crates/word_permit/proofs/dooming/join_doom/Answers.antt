@@ -9,6 +9,7 @@ use Rattle.write_permit.specs.Permit.{PermitState}
 use Rattle.word_permit.proofs.Dropped.{doom_joined, doom_tells, dooms_clear, dooms_kept, dooms_publish, dooms_renew, may_follow, published_book}
 use Rattle.word_permit.proofs.Followed.{at_rest}
 use Rattle.word_permit.proofs.Kept.{numbers_left, rests}
+use Rattle.word_permit.proofs.Resting.{held_no_trace, purging_no_trace, rests_by}
 use Rattle.word_permit.proofs.dooming.join_doom.Goals as goal
 
 pub publish_same-requires-clause-tables : goal.publish_same-requires-clause-tables
@@ -18,7 +19,7 @@ pub publish_same-requires-clause-names : goal.publish_same-requires-clause-names
 publish_same-requires-clause-names g c = c.requires.book.has.exports
 
 pub publish_same-requires-clause-rest : goal.publish_same-requires-clause-rest
-publish_same-requires-clause-rest g c = at_rest g.K.Naming.names (shown c.args.book.now.plain) c.args.book.now.tables c.args.book.now.waiting c.requires.none c.requires.book.words
+publish_same-requires-clause-rest g c = at_rest g.K.Naming.names (shown c.args.book.now.plain) c.args.book.now.tables c.args.book.now.waiting c.requires.none (held_no_trace c.args.book.now.plain.holder c.args.who c.requires.holds) c.requires.book.words
 
 pub publish_same-requires-clause-fits : goal.publish_same-requires-clause-fits
 publish_same-requires-clause-fits g c = c.requires.made.fits
@@ -60,13 +61,15 @@ returns-in-Ok-clause-book g c =
     (subst (λ (e : Entry). new_modules e.cmd ≤ c.take_room.new.modules.room) c.entry_of-entry.ensures c.in-Ok.ensures.room) c.take_room.new.journal
     (c.in-Ok.ensures.ok ∙ ap (λ (e : Entry). c.args.book.now.plain.journal ++ e ∷ []) c.entry_of-entry.ensures)
     c.args.code c.requires.holds c.requires.next c.requires.code c.requires.cmd c.finish_doom.new.book c.finish_doom.ensures in
+    let p = c.publish_same.ensures.published in
     published_book g.K.Naming.names _ _ c.args.book.now c.requires.book.has c.args.who c.args.decision c.requires.made (dooms_publish c.args.book.now.plain.server c.args.decision.change c.requires.dooms)
-    c.publish_same.new.tables c.publish_same.ensures.tables (c.publish_same.ensures.exports ∙ c.requires.book.has.exports) c.publish_same.ensures.notes c.publish_same.ensures.waits keeps c.publish_same.result c.publish_same.ensures.published
+    c.publish_same.new.tables c.publish_same.ensures.tables (c.publish_same.ensures.exports ∙ c.requires.book.has.exports) c.publish_same.ensures.notes c.publish_same.ensures.waits keeps p.next p.shows p.published
     (record (c.args.book.now) { plain = c.finish_doom.new.book; tables = c.publish_same.new.tables; look = None }) d.book
     (ap (λ (x : PermitState). x.script) c.finish_doom.ensures.state)
     (ap (λ (x : PermitState). x.journal) c.finish_doom.ensures.state ∙ c.in-Ok.ensures.ok ∙ ap (λ (e : Entry). c.args.book.now.plain.journal ++ e ∷ []) c.entry_of-entry.ensures)
     (ap (λ (o : Outcome). o.state) (sym c.finish_doom.ensures.made_is))
     refl refl refl c.requires.none
+    (rests_by g.K.Naming.names c.finish_doom.new.book.holder _ c.publish_same.new.tables (purging_no_trace c.finish_doom.new.book.holder c.args.who c.args.code.«module» (ap (λ (x : PermitState). x.holder) c.finish_doom.ensures.state)) p.rest)
 
 pub returns-in-Err-clause-err : goal.returns-in-Err-clause-err
 returns-in-Err-clause-err g c = record { same = ap (λ js. record (shown c.args.book.now.plain) { journal = js }) c.in-Err.ensures.err; published = refl; none = c.requires.none }
@@ -75,5 +78,5 @@ pub returns-in-Err-clause-book : goal.returns-in-Err-clause-book
 returns-in-Err-clause-book g c =
     rests g.K.Naming.names _ _ c.args.book.now (record (c.args.book.now) { plain = record (c.args.book.now.plain) { journal = c.take_room.new.journal; modules = c.take_room.new.modules }; look = None }) c.requires.book.has
     (ap (λ js. record (shown c.args.book.now.plain) { journal = js }) c.in-Err.ensures.err)
-    c.take_room.ensures.table c.requires.book.has.tables c.requires.book.has.exports refl (record { notes = refl; looks = refl; waits = λ pair among. among }) refl c.requires.none refl
-    (at_rest g.K.Naming.names (shown c.args.book.now.plain) c.args.book.now.tables c.args.book.now.waiting c.requires.none c.requires.book.words)
+    c.take_room.ensures.table c.requires.book.has.tables c.requires.book.has.exports refl (record { notes = refl; looks = refl; waits = λ pair among. among }) refl c.requires.none refl (held_no_trace c.args.book.now.plain.holder c.args.who c.requires.holds)
+    (at_rest g.K.Naming.names (shown c.args.book.now.plain) c.args.book.now.tables c.args.book.now.waiting c.requires.none (held_no_trace c.args.book.now.plain.holder c.args.who c.requires.holds) c.requires.book.words)

@@ -12,7 +12,7 @@ returns-in-Ok-clause-ok g c = record { cmd = c.args.cmd; ends = c.requires.ends;
 
 pub returns-in-Ok-clause-book : goal.returns-in-Ok-clause-book
 returns-in-Ok-clause-book g c =
-    quiet_end g.K.Naming.names _ _ c.args.book.now c.end_with.new.book c.args.who c.args.cmd _ c.requires.book c.requires.none c.end_with.ensures.book c.in-Ok.ensures.ok c.requires.leaves c.requires.told
+    quiet_end g.K.Naming.names _ _ c.args.book.now c.end_with.new.book c.args.who c.args.cmd _ c.requires.book c.requires.none c.end_with.ensures.book c.requires.ends c.in-Ok.ensures.ok c.requires.leaves c.requires.told
 
 pub returns-in-Err-clause-err : goal.returns-in-Err-clause-err
 returns-in-Err-clause-err g c = record { same = c.in-Err.ensures.err; published = refl; none = c.requires.none }

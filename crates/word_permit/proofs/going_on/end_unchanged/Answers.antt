@@ -33,6 +33,9 @@ returns-clause-book c =
     (c.in_ok-take_room.ensures.ok ∙ ap (λ (e : Entry). c.args.book.now.journal ++ e ∷ []) c.entry_of-entry.ensures) c.finish_change.new.book c.after_next-after.result c.finish_change.result c.finish_change.ensures c.after_next-after.ensures.counted in
     d.book
 
+pub returns-clause-free : goal.returns-clause-free
+returns-clause-free c = ap (λ (x : PermitState). x.holder) c.finish_change.ensures.state
+
 pub returns-clause-server : goal.returns-clause-server
 returns-clause-server c =
     let l = leaves_state c.args.book.now.server c.args.decision.change c.requires.unchanged in

@@ -1,11 +1,11 @@
 -- What the words answered tells what is left of the book.
 use Rattle.std.proofs.Common.{◌+◌, ◌<◌, ◌≤◌, ◌^◌, ◌∷◌, [], ◌++◌, length, length-append, is_some, refl, ap, subst, ◌∙◌, arith}
 use Rattle.run_log.specs.declared.logs.Entry.{Entry}
-use Rattle.shared_words.specs.declared.view.WriterView.{WriterView}
 use Rattle.write_permit.specs.Agreement.{new_modules}
 use Rattle.write_permit.specs.Book.{shown}
 use Rattle.word_permit.proofs.Ended.{can_follow}
-use Rattle.word_permit.proofs.Kept.{known_same, made_numbered, numbers_left, rests}
+use Rattle.word_permit.proofs.Kept.{known_abandoned, made_numbered, numbers_left, rests}
+use Rattle.word_permit.proofs.Resting.{held_no_trace}
 use Rattle.word_permit.proofs.Went.{went_on}
 use Rattle.word_permit.proofs.going_on.go_on_decided.Goals as goal
 
@@ -64,21 +64,21 @@ returns-in-Ok-clause-book g c =
     w.book
 
 pub returns-in-Err-clause-err : goal.returns-in-Err-clause-err
-returns-in-Err-clause-err g c = record {
-  same = ap (λ js. record (shown c.args.book.now.plain) { journal = js }) c.in-Err.ensures.err;
-  published = ap (λ (w : WriterView). w.published) c.abandon.ensures.view;
-  none = c.requires.none;
-}
+returns-in-Err-clause-err g c =
+    let k = known_abandoned c.args.waiting.stage _ _ c.abandon.ensures.view in
+    record { same = ap (λ js. record (shown c.args.book.now.plain) { journal = js }) c.in-Err.ensures.err; published = k.published; none = c.requires.none }
 
 pub returns-in-Err-clause-book : goal.returns-in-Err-clause-book
 returns-in-Err-clause-book g c =
+    let k = known_abandoned c.args.waiting.stage _ _ c.abandon.ensures.view in
     rests g.K.Naming.names _ _ c.args.book.now (record (c.args.book.now) { plain = record (c.args.book.now.plain) { journal = c.take_room.new.journal; modules = c.take_room.new.modules }; tables = c.abandon.new.tables }) c.requires.tables
     (ap (λ js. record (shown c.args.book.now.plain) { journal = js }) c.in-Err.ensures.err)
     c.take_room.ensures.table c.abandon.ensures.tables
     (c.abandon.ensures.exports ∙ c.requires.tables.exports)
-    (ap (λ (w : WriterView). w.published) c.abandon.ensures.view)
-    (known_same _ _ c.abandon.ensures.view)
+    k.published
+    k.known
     refl
     c.requires.none
     c.requires.look
+    (held_no_trace c.args.book.now.plain.holder c.args.who c.requires.holds)
     c.abandon.ensures.rest

@@ -1,41 +1,26 @@
--- What waits is taken out of the book, and goes on; else the loader's next command begins.
-use Rattle.std.proofs.Common.{sym}
-use Rattle.write_permit.specs.Book.{shown}
-use Rattle.word_permit.proofs.Followed.{answers_begun, answers_waiting, at_rest, err_without, has_without, waits_for}
+-- The loader's command begins or waits, or its trace goes on behind its publication; a purge is no command over words.
+use Rattle.std.proofs.Common.{sym, ap, subst, ◌∙◌}
+use Rattle.std.proofs.lemmas.Option.{none-some, same_Some}
+use Rattle.write_permit.specs.Book.{HoldsJust, shown}
+use Rattle.write_permit.specs.Permit.{holder_of}
+use Rattle.write_permit.proofs.EndBooks.{held_by, tracing_by}
+use Rattle.word_permit.proofs.Followed.{purging_apart}
+use Rattle.word_permit.proofs.Switched.{settles_answer}
 use Rattle.word_permit.proofs.operations.go_on.Goals as goal
 
-pub go_on_decided-requires-clause-tables : goal.go_on_decided-requires-clause-tables
-go_on_decided-requires-clause-tables g c = has_without g.K.Naming.names _ _ c.args.book.now _ c.requires.book.has
+pub unreachable-requires : goal.unreachable-requires
+unreachable-requires g c = none-some c.args.who (sym (ap holder_of c.in-Free.is) ∙ c.requires.holds)
 
-pub go_on_decided-requires-clause-decided : goal.go_on_decided-requires-clause-decided
-go_on_decided-requires-clause-decided g c =
-    let w = waits_for g.K.Naming.names (shown c.args.book.now.plain) c.args.book.now.tables c.args.book.now.waiting c.args.who c.in-Some.waiting c.requires.holds (sym c.in-Some.ensures.value) c.requires.book.words in
-    w.decided
+pub unreachable-requires-in-Purging : goal.unreachable-requires-in-Purging
+unreachable-requires-in-Purging g c =
+    purging_apart (shown c.args.book.now.plain) c.in-Purging.loader c.args.who c.in-Purging.«module» (subst (HoldsJust (shown c.args.book.now.plain)) c.in-Purging.is c.requires.book.has.book.permit.holds)
+    (same_Some c.in-Purging.loader c.args.who (sym (ap holder_of c.in-Purging.is) ∙ c.requires.holds)) c.requires.goes
 
-pub go_on_decided-requires-clause-staged : goal.go_on_decided-requires-clause-staged
-go_on_decided-requires-clause-staged g c =
-    let w = waits_for g.K.Naming.names (shown c.args.book.now.plain) c.args.book.now.tables c.args.book.now.waiting c.args.who c.in-Some.waiting c.requires.holds (sym c.in-Some.ensures.value) c.requires.book.words in
-    w.staged
+pub go_on_held-requires-clause-holds : goal.go_on_held-requires-clause-holds
+go_on_held-requires-clause-holds g c = held_by c.args.book.now.plain.holder c.in-Held.field-0 c.args.who c.in-Held.is c.requires.holds
 
-pub go_on_decided-requires-clause-stands : goal.go_on_decided-requires-clause-stands
-go_on_decided-requires-clause-stands g c =
-    let w = waits_for g.K.Naming.names (shown c.args.book.now.plain) c.args.book.now.tables c.args.book.now.waiting c.args.who c.in-Some.waiting c.requires.holds (sym c.in-Some.ensures.value) c.requires.book.words in
-    w.stands
+pub settle_traced-requires-clause-traces : goal.settle_traced-requires-clause-traces
+settle_traced-requires-clause-traces g c = tracing_by c.args.book.now.plain.holder c.in-Tracing.loader c.args.who c.in-Tracing.generation c.in-Tracing.is c.requires.holds
 
-pub begin-requires-clause-tables : goal.begin-requires-clause-tables
-begin-requires-clause-tables g c = has_without g.K.Naming.names _ _ c.args.book.now _ c.requires.book.has
-
-pub begin-requires-clause-rest : goal.begin-requires-clause-rest
-begin-requires-clause-rest g c = at_rest g.K.Naming.names (shown c.args.book.now.plain) c.args.book.now.tables c.args.book.now.waiting (sym c.in-None.ensures.value) c.requires.book.words
-
-pub returns-in-Some-clause-ok : goal.returns-in-Some-clause-ok
-returns-in-Some-clause-ok g c = answers_waiting c.args.who c.args.book.now _ c.go_on_decided.new.book c.go_on_decided.result c.in-Some.waiting (sym c.in-Some.ensures.value) c.go_on_decided.ensures.decision c.go_on_decided.ensures.ok
-
-pub returns-in-Some-clause-err : goal.returns-in-Some-clause-err
-returns-in-Some-clause-err g c = err_without c.go_on_decided.result c.args.book.now _ c.go_on_decided.new.book c.go_on_decided.ensures.err
-
-pub returns-in-None-clause-ok : goal.returns-in-None-clause-ok
-returns-in-None-clause-ok g c = answers_begun c.args.who c.args.book.now _ c.begin.new.book c.begin.result (sym c.in-None.ensures.value) c.begin.ensures.ok
-
-pub returns-in-None-clause-err : goal.returns-in-None-clause-err
-returns-in-None-clause-err g c = err_without c.begin.result c.args.book.now _ c.begin.new.book c.begin.ensures.err
+pub returns-in-Tracing-clause-ok : goal.returns-in-Tracing-clause-ok
+returns-in-Tracing-clause-ok g c = settles_answer c.args.who c.args.book.now c.settle_traced.new.book c.settle_traced.result c.settle_traced.ensures.none c.settle_traced.ensures.answers

@@ -5,7 +5,7 @@ use Rattle.word_permit.proofs.PurgeCalls.{grown_by, grown_given}
 use Rattle.word_permit.proofs.purging.advance_purge.Goals as goal
 
 pub returns-in-Ok-clause-grown : goal.returns-in-Ok-clause-grown
-returns-in-Ok-clause-grown g c = grown_by c.args.who c.args.book.now c.go_on_purge.new.book c.in-Ok.step c.requires.book.has.book c.in-Ok.ensures.ok
+returns-in-Ok-clause-grown g c = grown_by c.args.who c.args.book.now c.go_on_purge.new.book c.in-Ok.step c.in-Ok.ensures.ok
 
 pub returns-in-Err-clause-err : goal.returns-in-Err-clause-err
 returns-in-Err-clause-err g c = given_up_by c.args.book.now c.go_on_purge.new.book c.give_up.new.book c.in-Err.ensures.err c.give_up.ensures

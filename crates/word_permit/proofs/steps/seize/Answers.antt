@@ -10,3 +10,6 @@ returns-in-Held-clause-kept c = kept_as_is c.args.book.now
 
 pub returns-in-Held-2-clause-kept : goal.returns-in-Held-2-clause-kept
 returns-in-Held-2-clause-kept c = kept_as_is c.args.book.now
+
+pub returns-in-Held-3-clause-kept : goal.returns-in-Held-3-clause-kept
+returns-in-Held-3-clause-kept c = kept_as_is c.args.book.now
