@@ -6,7 +6,6 @@ use Rattle.std.proofs.lemmas.Bool.{and_parts, both_ways, eq-eqb, false_from_ne_t
 use Rattle.std.proofs.lemmas.Option.{none-some}
 use Rattle.prgr_core.proofs.Parts.{slice_get-push_at, slice_get-slice_set}
 use Rattle.term_core.specs.declared.atom.Mfa.{Mfa}
-use Rattle.term_core.specs.declared.generation.FunctionRef.{FunctionRef}
 use Rattle.term_core.specs.declared.hold.Kind.{Kind}
 use Rattle.term_core.specs.declared.hold.Kind.TheVariants.{Frame, Literal}
 use Rattle.area_core.specs.declared.map.TheConstants.{PROCESSES}
@@ -38,7 +37,7 @@ use Rattle.word_view.specs.Laps.{NamesNothing}
 use Rattle.word_view.specs.Views.{shown_by}
 use Rattle.word_view.proofs.Anchoring.{named_any}
 use Rattle.run_law.specs.Newcomers.{Spawn}
-use Rattle.run_law.specs.Reading.{MarksTell, TracedBy}
+use Rattle.run_law.specs.Reading.{MarksTell}
 use Rattle.word_lap.specs.declared.process_run.ProcessRun.{ProcessRun}
 use Rattle.word_lap.specs.Reading.{stand_under}
 use Rattle.word_lap.specs.Schedulers.{IsAtHand, IsBetweenTurns, IsEmpty, IsHeld, IsHeldAt, KeepsProcesses, Rests, first_stand, rests_ended, rests_going}
@@ -83,7 +82,7 @@ note_here (m ∷ notes) n p is own = by_test (m.process == p) (λ later. note_he
 
 -- ---- the others
 
-module _ (functions : List Mfa) (traced : TracedBy) (opening : Opening) (m : MemberView) (n : NoteNumber) where
+module _ (functions : List Mfa) (opening : Opening) (m : MemberView) (n : NoteNumber) where
   abbrev now : MemberView
   now = record m { notes = m.notes ++ n ∷ [] }
 
@@ -112,7 +111,7 @@ module _ (functions : List Mfa) (traced : TracedBy) (opening : Opening) (m : Mem
   rests_noted p published run came (rests_going fin h) = rests_going fin (record { knows = at_hand_noted p published came h.knows; turn = h.turn; counted = h.counted; spans = h.spans })
   rests_noted p published run came (rests_ended h) = rests_ended (record { over = h.over; left = h.left; empty = h.empty; killed = h.killed })
 
-  held_noted : (p : ℕ) (spawn : Spawn) (run : ProcessRun) → IsHeld functions traced opening m p spawn run → IsHeld functions traced opening now p spawn run
+  held_noted : (p : ℕ) (spawn : Spawn) (run : ProcessRun) → IsHeld functions opening m p spawn run → IsHeld functions opening now p spawn run
   held_noted p spawn run h = record {
     number = h.number;
     target = h.target;
@@ -138,7 +137,7 @@ pub none_kills : (anchors : List ℕ) → NamesNothing anchors → IsUnkilled an
 none_kills anchors empty place word serial at told = zero_tells serial (subst (λ (w : ℕ). tells_kill w serial ≡ true) (empty place word at) told)
 
 -- a process before its first turn, whose note came in this state
-module _ (functions : List Mfa) (traced : TracedBy) (opening : Opening) (m : MemberView) (n : NoteNumber) (spawn : Spawn) (run : ProcessRun) where
+module _ (functions : List Mfa) (opening : Opening) (m : MemberView) (n : NoteNumber) (spawn : Spawn) (run : ProcessRun) where
   abbrev later : MemberView
   later = record m { notes = m.notes ++ n ∷ [] }
 
@@ -170,9 +169,9 @@ module _ (functions : List Mfa) (traced : TracedBy) (opening : Opening) (m : Mem
       phase = phase_of (fin i);
     }
 
-    may_turn : (list : List FunctionRef) → MayTurn (shown_by functions list (held_by_view m)) (holds_by (anchors_of m spawn.number)) run.process
-    may_turn list =
-        let shown : Shown = shown_by functions list (held_by_view m) in
+    may_turn : MayTurn (shown_by functions (held_by_view m)) (holds_by (anchors_of m spawn.number)) run.process
+    may_turn =
+        let shown : Shown = shown_by functions (held_by_view m) in
         let new : process_of shown.words run.process ≡ new_process run.process.number run.process.target run.process.args = λ i. record {
           number = run.process.number;
           target = run.process.target;
@@ -185,7 +184,7 @@ module _ (functions : List Mfa) (traced : TracedBy) (opening : Opening) (m : Mem
         let none : names_of (process_of shown.words run.process) ≡ holds_by (anchors_of m spawn.number) = ap names_of new ∙ sym (λ i. record { frames = serials_of (frame i); literals = serials_of (literal i) }) in
         subst (λ (held : HoldsOf). MayTurn shown held run.process) none (may_turn_new shown run.process run.process.number run.process.target run.process.args new)
 
-    pub newcomer_held : IsHeld functions traced opening later spawn.number spawn run
+    pub newcomer_held : IsHeld functions opening later spawn.number spawn run
     newcomer_held = record {
       number = number;
       target = target;
@@ -203,14 +202,14 @@ module _ (functions : List Mfa) (traced : TracedBy) (opening : Opening) (m : Mem
 -- ---- all places
 
 -- nothing but the list of what was taken is changed: what came does not belong here, or its place is taken
-module _ (functions : List Mfa) (traced : TracedBy) (opening : Opening) (m : MemberView) (taken : List Spawn) (spawn : Spawn) where
+module _ (functions : List Mfa) (opening : Opening) (m : MemberView) (taken : List Spawn) (spawn : Spawn) where
   abbrev more : List Spawn
   more = taken ++ spawn ∷ []
 
   among_more : (x : Spawn) → Among taken x → Among more x
   among_more x (i, at) = (i, get_front taken (spawn ∷ []) i x at)
 
-  at_more : (p : ℕ) (place : Option ProcessRun) → (place ≡ None → spawn.number ≡ p → p % opening.members ≢ m.member.number) → IsHeldAt functions traced opening m taken p place → IsHeldAt functions traced opening m more p place
+  at_more : (p : ℕ) (place : Option ProcessRun) → (place ≡ None → spawn.number ≡ p → p % opening.members ≢ m.member.number) → IsHeldAt functions opening m taken p place → IsHeldAt functions opening m more p place
   at_more p None apart h = (
     h.0,
     λ x among is own. elim (slice_get-push_at taken spawn among.0 x among.1) as (λ _. ⊥) [
@@ -220,7 +219,7 @@ module _ (functions : List Mfa) (traced : TracedBy) (opening : Opening) (m : Mem
   )
   at_more p (Some run) apart h = (h.0, (among_more h.0 h.1.0, h.1.1))
 
-  pub let_go : (processes : List (Option ProcessRun)) → ((p : ℕ) → slice_get processes p ≡ Some None → spawn.number ≡ p → p % opening.members ≢ m.member.number) → KeepsProcesses functions traced opening m taken processes → KeepsProcesses functions traced opening m more processes
+  pub let_go : (processes : List (Option ProcessRun)) → ((p : ℕ) → slice_get processes p ≡ Some None → spawn.number ≡ p → p % opening.members ≢ m.member.number) → KeepsProcesses functions opening m taken processes → KeepsProcesses functions opening m more processes
   let_go processes apart h = record { all = h.all; each = λ p place at. at_more p place (λ none is. apart p (at ∙ ap (λ (x : Option ProcessRun). Some x) none) is) (h.each p place at) }
 
   -- it comes to its place
@@ -228,23 +227,23 @@ module _ (functions : List Mfa) (traced : TracedBy) (opening : Opening) (m : Mem
     abbrev after : MemberView
     after = record m { notes = m.notes ++ n ∷ [] }
 
-    other_place : (p : ℕ) (place : Option ProcessRun) → (p ≡ spawn.number → ⊥) → IsHeldAt functions traced opening m taken p place → IsHeldAt functions traced opening after more p place
+    other_place : (p : ℕ) (place : Option ProcessRun) → (p ≡ spawn.number → ⊥) → IsHeldAt functions opening m taken p place → IsHeldAt functions opening after more p place
     other_place p None other h = (
-      empty_noted functions traced opening m n p (λ same. other (sym same ∙ noted)) h.0,
+      empty_noted functions opening m n p (λ same. other (sym same ∙ noted)) h.0,
       λ x among is own. elim (slice_get-push_at taken spawn among.0 x among.1) as (λ _. ⊥) [
         | inl before ↦ h.1 x (among.0, before) is own
         | inr last ↦ other (sym is ∙ ap (λ (y : Spawn). y.number) last.1)
       ],
     )
-    other_place p (Some held) other h = (h.0, (among_more h.0 h.1.0, (h.1.1.0, held_noted functions traced opening m n p h.0 held h.1.1.1)))
+    other_place p (Some held) other h = (h.0, (among_more h.0 h.1.0, (h.1.1.0, held_noted functions opening m n p h.0 held h.1.1.1)))
 
-    pub comes_here : (processes : List (Option ProcessRun)) → IsHeld functions traced opening after spawn.number spawn run → KeepsProcesses functions traced opening m taken processes
-        → KeepsProcesses functions traced opening after more (slice_set processes spawn.number (Some run))
+    pub comes_here : (processes : List (Option ProcessRun)) → IsHeld functions opening after spawn.number spawn run → KeepsProcesses functions opening m taken processes
+        → KeepsProcesses functions opening after more (slice_set processes spawn.number (Some run))
     comes_here processes own h = record {
       all = length-set processes spawn.number (Some run) ∙ h.all;
-      each = λ p place at. elim (slice_get-slice_set processes spawn.number (Some run) p place at) as (λ _. IsHeldAt functions traced opening after more p place) [
-        | inl here ↦ subst (λ (x : Option ProcessRun). IsHeldAt functions traced opening after more p x) (sym here.1)
-            (spawn, ((length taken, got_last taken spawn), (sym here.0, subst (λ (k : ℕ). IsHeld functions traced opening after k spawn run) (sym here.0) own)))
+      each = λ p place at. elim (slice_get-slice_set processes spawn.number (Some run) p place at) as (λ _. IsHeldAt functions opening after more p place) [
+        | inl here ↦ subst (λ (x : Option ProcessRun). IsHeldAt functions opening after more p x) (sym here.1)
+            (spawn, ((length taken, got_last taken spawn), (sym here.0, subst (λ (k : ℕ). IsHeld functions opening after k spawn run) (sym here.0) own)))
         | inr other ↦ other_place p place other.0 (h.each p place other.1)
       ];
     }

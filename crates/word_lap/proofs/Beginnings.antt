@@ -22,7 +22,6 @@ use Rattle.shared_words.proofs.OpeningRule.{opening_empty}
 use Rattle.shared_words.proofs.SlotFrames.{rests}
 use Rattle.anchors.specs.Holds.{view_of}
 use Rattle.word_view.specs.Laps.{NamesNothing}
-use Rattle.run_law.specs.Reading.{TracedBy}
 use Rattle.word_lap.specs.declared.process_run.ProcessRun.{ProcessRun}
 use Rattle.word_lap.specs.Laws.{AreAllFree}
 use Rattle.word_lap.specs.Schedulers.{IsBetweenTurns, IsEmpty, IsHeldAt, IsToken, KeepsProcesses}
@@ -68,9 +67,9 @@ module _ (table : TableId) (number : ℕ) (token : tokens.Member) (few : number 
   pub begun_is_between : IsBetweenTurns (view_of token)
   begun_is_between = subst IsBetweenTurns (sym view_is) (begun_between number)
 
-  pub begun_keeps : (functions : List Mfa) (traced : TracedBy) (opening : Opening) (processes : List (Option ProcessRun)) → AreAllFree processes → KeepsProcesses functions traced opening (view_of token) [] processes
-  begun_keeps functions traced opening processes free = record {
+  pub begun_keeps : (functions : List Mfa) (opening : Opening) (processes : List (Option ProcessRun)) → AreAllFree processes → KeepsProcesses functions opening (view_of token) [] processes
+  begun_keeps functions opening processes free = record {
     all = free.all;
-    each = λ p place at. subst (λ (x : Option ProcessRun). IsHeldAt functions traced opening (view_of token) [] p x) (sym (free.free p place at))
+    each = λ p place at. subst (λ (x : Option ProcessRun). IsHeldAt functions opening (view_of token) [] p x) (sym (free.free p place at))
         (subst (λ (m : MemberView). IsEmpty m p) (sym view_is) (begun_empty number p), λ spawn among is own. none-some spawn among.1);
   }

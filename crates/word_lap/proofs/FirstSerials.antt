@@ -22,7 +22,7 @@ use Rattle.run_steps.specs.MadeTurns.{TurnsMade, turned_by}
 use Rattle.run_steps.specs.Stands.{Stand, end_of, phase_after}
 use Rattle.run_law.specs.Laws.{AreLearnt}
 use Rattle.run_law.specs.Published.{IsJournal, states_of}
-use Rattle.run_law.specs.Reading.{TracedBy, reads_under}
+use Rattle.run_law.specs.Reading.{reads_under}
 use Rattle.run_law.proofs.States.{journal_good}
 use Rattle.run_law.proofs.Tied.{reads_tied}
 
@@ -62,14 +62,14 @@ not_killed : (reads : ℕ → Reads) (generations : List ℕ) (x y : Stand) → 
 not_killed reads [] x y each apart made = λ is. apart (ap (λ (z : Stand). z.phase) (sym made) ∙ is)
 not_killed reads (g ∷ generations) x y each apart made = not_killed reads generations (turned_by (reads g) g x) y each.1 (not_killed_by (reads g) g x each.0) made.1
 
-module _ (names : List Mfa) (texts : List Module) (journal : List Entry) (traced : TracedBy) (seen : List Published) (l : AreLearnt names texts journal traced seen) where
-  undoomed_over : (generations : List ℕ) → AllByRecursion (λ g. g < length seen) generations → AllByRecursion (λ g. (reads_under names traced seen g).doomed 0 ≡ false) generations
+module _ (names : List Mfa) (texts : List Module) (journal : List Entry) (seen : List Published) (l : AreLearnt names texts journal seen) where
+  undoomed_over : (generations : List ℕ) → AllByRecursion (λ g. g < length seen) generations → AllByRecursion (λ g. (reads_under names seen g).doomed 0 ≡ false) generations
   undoomed_over [] below = tt
   undoomed_over (g ∷ generations) below =
-      (ap (λ (r : Reads). r.doomed 0) (reads_tied names texts journal traced seen l g below.0) ∙ first_is_not_doomed names texts journal g l.replayed, undoomed_over generations below.1)
+      (ap (λ (r : Reads). r.doomed 0) (reads_tied names texts journal seen l g below.0) ∙ first_is_not_doomed names texts journal g l.replayed, undoomed_over generations below.1)
 
 -- so no process that had its turns under a journal's generations ended so
-pub no_first_kill : (names : List Mfa) (texts : List Module) (journal : List Entry) (traced : TracedBy) (seen : List Published) (generations : List ℕ) (x y : Stand) → AreLearnt names texts journal traced seen
-    → AllByRecursion (λ g. g < length seen) generations → x.phase ≢ Ended (Killed 0) → TurnsMade (reads_under names traced seen) generations x y → y.phase ≢ Ended (Killed 0)
-no_first_kill names texts journal traced seen generations x y l below apart made =
-    not_killed (reads_under names traced seen) generations x y (undoomed_over names texts journal traced seen l generations below) apart made
+pub no_first_kill : (names : List Mfa) (texts : List Module) (journal : List Entry) (seen : List Published) (generations : List ℕ) (x y : Stand) → AreLearnt names texts journal seen
+    → AllByRecursion (λ g. g < length seen) generations → x.phase ≢ Ended (Killed 0) → TurnsMade (reads_under names seen) generations x y → y.phase ≢ Ended (Killed 0)
+no_first_kill names texts journal seen generations x y l below apart made =
+    not_killed (reads_under names seen) generations x y (undoomed_over names texts journal seen l generations below) apart made

@@ -7,7 +7,6 @@ use Rattle.std.proofs.lemmas.List.{length-map, length-reverse}
 use Rattle.std.proofs.lemmas.Option.{none-some}
 use Rattle.atomic_table.specs.Seated.{TableId}
 use Rattle.term_core.specs.declared.atom.Mfa.{Mfa}
-use Rattle.term_core.specs.declared.generation.FunctionRef.{FunctionRef}
 use Rattle.term_core.specs.declared.hold.Kind.{Kind}
 use Rattle.term_core.specs.declared.hold.Kind.TheVariants.{Frame, Literal}
 use Rattle.term_core.specs.declared.no_memory.NoMemory.{NoMemory}
@@ -33,7 +32,7 @@ use Rattle.machine_core.specs.declared.process.TheConstants.{MOST_TURNS}
 use Rattle.machine_core.specs.declared.process.TurnEnd.{TurnEnd}
 use Rattle.machine_core.specs.declared.process.TurnEnd.TheVariants.{Again, Ended}
 use Rattle.machine_core.specs.GenerationReads.{words_in}
-use Rattle.machine_core.specs.Holds.{Holds as HoldsOf, serials_of}
+use Rattle.machine_core.specs.Holds.{serials_of}
 use Rattle.machine_core.specs.Process.{PlainProcess, Words, frame_names, frame_of, frames_of, names_of, process_of}
 use Rattle.machine_core.specs.Turn.{MayTurn, turn_by}
 use Rattle.machine_core.specs.View.{Shown}
@@ -47,7 +46,6 @@ use Rattle.run_steps.specs.Turns.{IsTaken, joined}
 use Rattle.word_view.specs.Anchored.{holds_by, named_for}
 use Rattle.word_view.specs.Turned.{IsTurn}
 use Rattle.word_view.specs.Views.{HasGoneOn, IsReader, IsView, Viewed, shown_by}
-use Rattle.word_view.proofs.GoingOn.{may_go_on}
 use Rattle.word_view.proofs.Lapping.{known_on}
 use Rattle.word_lap.specs.declared.process_run.ProcessRun.{ProcessRun}
 use Rattle.word_lap.specs.Reading.{stand_under}
@@ -104,16 +102,12 @@ at_hand_of functions opening p m h = record {
   named = h.named;
 }
 
--- whatever is traced
-retraced : (functions : List Mfa) (list other : List FunctionRef) (p : Published) (held : HoldsOf) (process : Process) → MayTurn (shown_by functions list p) held process → MayTurn (shown_by functions other p) held process
-retraced functions list other p held process h = may_go_on functions list other p p held process (λ serial named. record { words = refl; block = refl }) h
-
-module _ (functions : List Mfa) (opening : Opening) (traced : List FunctionRef) (table : TableId) (a b : tokens.Member) (mc : MemberView) (before : ProcessRun) (p : Process) (span : Span) (others : List Span) (lines : List Line) (end : TurnEnd) where
+module _ (functions : List Mfa) (opening : Opening) (table : TableId) (a b : tokens.Member) (mc : MemberView) (before : ProcessRun) (p : Process) (span : Span) (others : List Span) (lines : List Line) (end : TurnEnd) where
   abbrev number : ℕ
   number = before.process.number
 
   abbrev seen_by : tokens.Member → Viewed
-  seen_by token = record { table = table; opening = opening; token = token; names = functions; traced = traced; process = number }
+  seen_by token = record { table = table; opening = opening; token = token; names = functions; process = number }
 
   abbrev ma : MemberView
   ma = view_of a
@@ -122,7 +116,7 @@ module _ (functions : List Mfa) (opening : Opening) (traced : List FunctionRef) 
   mb = view_of b
 
   abbrev shown : Shown
-  shown = shown_by functions traced (held_by_view ma)
+  shown = shown_by functions (held_by_view ma)
 
   abbrev stood : PlainProcess
   stood = process_of shown.words before.process
@@ -130,7 +124,7 @@ module _ (functions : List Mfa) (opening : Opening) (traced : List FunctionRef) 
   abbrev after : ProcessRun
   after = record { process = p; spans = others ++ record { generation = span.generation; turns = span.turns + 1; lines = lines } ∷ []; fin = fin_after end }
 
-  module _ (ready : IsReady functions opening traced ma before) (viewed : IsView (seen_by b)) (gone : HasGoneOn (seen_by a) (seen_by b)) (turn : IsTurn shown (holds_by (anchors_of mb number)) before.process p span.lines lines end) (taken : IsTaken ma.member.generation before.spans others span) (h : HasMarkedEnd number p.turns end mb mc) where
+  module _ (ready : IsReady functions opening ma before) (viewed : IsView (seen_by b)) (gone : HasGoneOn (seen_by a) (seen_by b)) (turn : IsTurn shown (holds_by (anchors_of mb number)) before.process p span.lines lines end) (taken : IsTaken ma.member.generation before.spans others span) (h : HasMarkedEnd number p.turns end mb mc) where
     abbrev md : MemberView
     md = h.ended
 
@@ -187,7 +181,7 @@ module _ (functions : List Mfa) (opening : Opening) (traced : List FunctionRef) 
     stood_c : process_of (words_in (held_by_view mc).state) p ≡ (turn_by shown.reads stood).process
     stood_c = ap (λ (g : Published). process_of (words_in g.state) p) held_c ∙ sym turn.gives.process
 
-    turn_c : stand_under mc after ≡ turned_by (reads_held functions traced ma) ma.member.generation (stand_under ma before)
+    turn_c : stand_under mc after ≡ turned_by (reads_held functions ma) ma.member.generation (stand_under ma before)
     turn_c =
         let spans : after.spans ≡ joined ma.member.generation (turn_by shown.reads stood).made before.spans = joined_with ma.member.generation (turn_by shown.reads stood).made lines before.spans others span taken turn.gives.lines in
         let phase : phase_of (fin_after end) ≡ phase_after (turn_by shown.reads stood).end = phase_end end ∙ ap phase_after (sym turn.gives.end_is) in
@@ -224,10 +218,9 @@ module _ (functions : List Mfa) (opening : Opening) (traced : List FunctionRef) 
         let below : before.process.turns ≢ MOST_TURNS = λ limit. limit_again (sym (ended_at Again is) ∙ limit_ends_by shown.reads stood limit) in
         record {
           knows = at_hand_of functions opening number mc (reader_c is);
-          turn = λ list.
-              subst (λ (g : Published). MayTurn (shown_by functions list g) (holds_by (anchors_of mc number)) p) (sym held_c)
-              (subst (λ (xs : List ℕ). MayTurn (shown_by functions list (held_by_view ma)) (holds_by xs) p) (sym (anchors_c ∙ ap (λ (m : MemberView). anchors_of m number) (ends_at Again is)))
-              (retraced functions traced list (held_by_view ma) (holds_by (anchors_of mb number)) p ready_b));
+          turn =
+              subst (λ (g : Published). MayTurn (shown_by functions g) (holds_by (anchors_of mc number)) p) (sym held_c)
+              (subst (λ (xs : List ℕ). MayTurn (shown_by functions (held_by_view ma)) (holds_by xs) p) (sym (anchors_c ∙ ap (λ (m : MemberView). anchors_of m number) (ends_at Again is))) ready_b);
           counted = (let counted = ready.counted in let now = ap length marks_c in omega (arith, more, counted, now));
           spans = record {
             bound = (let most = ready.spans.bound in omega (arith, more, most, below));
@@ -262,7 +255,7 @@ module _ (functions : List Mfa) (opening : Opening) (traced : List FunctionRef) 
         same_end : (x y : End) → Some x ≡ Some y → x ≡ y
         same_end x y e = ap end_in e
 
-    pub had_its_turn : HadItsTurn functions opening traced ma mc before after
+    pub had_its_turn : HadItsTurn functions opening ma mc before after
     had_its_turn = record {
       number = sym (ap (λ (x : PlainProcess). x.number) turn.gives.process) ∙ number_kept shown.reads stood;
       placed = ready.turn.placed;
@@ -275,19 +268,19 @@ module _ (functions : List Mfa) (opening : Opening) (traced : List FunctionRef) 
     }
 
 -- the turn of a process whose span was taken out, has had its turn, and was put back
-pub had_taken : (functions : List Mfa) (opening : Opening) (traced : List FunctionRef) (table : TableId) (a c : tokens.Member) (before left : ProcessRun) (generation : ℕ) (span : Span) (others : List Span) → (view_of a).member.generation ≡ generation
-    → IsReady functions opening traced (view_of a) before → IsTaken generation before.spans others span → JoinsTurn functions opening traced table a c span (record { process = before.process; spans = others; fin = before.fin }) left
-    → HadItsTurn functions opening traced (view_of a) (view_of c) before left
-had_taken functions opening traced table a c before left generation span others held ready taken j =
-    subst (λ (x : ProcessRun). HadItsTurn functions opening traced (view_of a) (view_of c) before x) (sym j.joins)
-    (had_its_turn functions opening traced table a j.made.mid (view_of c) before j.process span others j.lines j.end ready j.made.viewed j.made.gone j.made.turn
+pub had_taken : (functions : List Mfa) (opening : Opening) (table : TableId) (a c : tokens.Member) (before left : ProcessRun) (generation : ℕ) (span : Span) (others : List Span) → (view_of a).member.generation ≡ generation
+    → IsReady functions opening (view_of a) before → IsTaken generation before.spans others span → JoinsTurn functions opening table a c span (record { process = before.process; spans = others; fin = before.fin }) left
+    → HadItsTurn functions opening (view_of a) (view_of c) before left
+had_taken functions opening table a c before left generation span others held ready taken j =
+    subst (λ (x : ProcessRun). HadItsTurn functions opening (view_of a) (view_of c) before x) (sym j.joins)
+    (had_its_turn functions opening table a j.made.mid (view_of c) before j.process span others j.lines j.end ready j.made.viewed j.made.gone j.made.turn
     (subst (λ (g : ℕ). IsTaken g before.spans others span) (sym held) taken) j.made.marked)
 
 -- where there is memory for it
-pub had_where_ok : (functions : List Mfa) (opening : Opening) (traced : List FunctionRef) (table : TableId) (a c : tokens.Member) (before left : ProcessRun) (generation : ℕ) (span : Span) (others : List Span) (r : Result (Unit {0}) NoMemory)
-    → (view_of a).member.generation ≡ generation → IsReady functions opening traced (view_of a) before → IsTaken generation before.spans others span
-    → IfOk r (λ _. JoinsTurn functions opening traced table a c span (record { process = before.process; spans = others; fin = before.fin }) left)
-    → IfOk r (λ _. HadItsTurn functions opening traced (view_of a) (view_of c) before left)
-had_where_ok functions opening traced table a c before left generation span others r held ready taken joins =
-    on_ok r (JoinsTurn functions opening traced table a c span (record { process = before.process; spans = others; fin = before.fin }) left) (HadItsTurn functions opening traced (view_of a) (view_of c) before left)
-    (had_taken functions opening traced table a c before left generation span others held ready taken) joins
+pub had_where_ok : (functions : List Mfa) (opening : Opening) (table : TableId) (a c : tokens.Member) (before left : ProcessRun) (generation : ℕ) (span : Span) (others : List Span) (r : Result (Unit {0}) NoMemory)
+    → (view_of a).member.generation ≡ generation → IsReady functions opening (view_of a) before → IsTaken generation before.spans others span
+    → IfOk r (λ _. JoinsTurn functions opening table a c span (record { process = before.process; spans = others; fin = before.fin }) left)
+    → IfOk r (λ _. HadItsTurn functions opening (view_of a) (view_of c) before left)
+had_where_ok functions opening table a c before left generation span others r held ready taken joins =
+    on_ok r (JoinsTurn functions opening table a c span (record { process = before.process; spans = others; fin = before.fin }) left) (HadItsTurn functions opening (view_of a) (view_of c) before left)
+    (had_taken functions opening table a c before left generation span others held ready taken) joins

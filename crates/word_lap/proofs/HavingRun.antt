@@ -26,7 +26,7 @@ use Rattle.run_steps.specs.Stands.{IsEnd, Stand, end_of, going_stand, phase_of}
 use Rattle.run_law.specs.Ended.{HasNotRun, HasRun, HasTurned}
 use Rattle.run_law.specs.Laws.{AreLearnt}
 use Rattle.run_law.specs.Newcomers.{IsTaken, Spawn, spawn_for}
-use Rattle.run_law.specs.Reading.{MarksTell, TracedBy, reads_under}
+use Rattle.run_law.specs.Reading.{MarksTell, reads_under}
 use Rattle.word_lap.specs.declared.process_run.ProcessRun.{ProcessRun}
 use Rattle.word_lap.specs.Laws.{HaveAllEnded, KnowsTheSame, log_of_run}
 use Rattle.word_lap.specs.Reading.{stand_under}
@@ -69,36 +69,36 @@ ended_there functions opening m p run over (rests_ended h) = h
 
 -- ---- what the member knows of it
 
-module _ (functions : List Mfa) (traced : TracedBy) (m last : MemberView) (same : KnowsTheSame m last) where
+module _ (functions : List Mfa) (m last : MemberView) (same : KnowsTheSame m last) where
   same_known : (p : ℕ) → (known_of last p).marks ≡ (known_of m p).marks
   same_known p = ap (λ (slots : List ProcessSlot). (slot_in slots p).marks) same.slots
 
   same_anchors : (p : ℕ) → anchors_of last p ≡ anchors_of m p
   same_anchors p = ap (λ (slots : List ProcessSlot). (slot_in slots p).slot.anchors) same.slots
 
-  turned_same : (p : ℕ) (first end : Stand) → HasTurned functions traced m p first end → HasTurned functions traced last p first end
+  turned_same : (p : ℕ) (first end : Stand) → HasTurned functions m p first end → HasTurned functions last p first end
   turned_same p first end h = record {
     generations = h.generations;
-    made = subst (λ (seen : List Published). TurnsMade (reads_under functions traced seen) h.generations first end) (sym same.seen) h.made;
-    placed = subst (λ (seen : List Published). ArePlacedOver (reads_under functions traced seen) h.generations first) (sym same.seen) h.placed;
+    made = subst (λ (seen : List Published). TurnsMade (reads_under functions seen) h.generations first end) (sym same.seen) h.made;
+    placed = subst (λ (seen : List Published). ArePlacedOver (reads_under functions seen) h.generations first) (sym same.seen) h.placed;
     learnt = subst (λ (seen : List Published). AllByRecursion (λ g. g < length seen) h.generations) (sym same.seen) h.learnt;
-    marks = subst (λ (seen : List Published). MarksTell (reverse (known_of last p).marks) (marks_made (reads_under functions traced seen) h.generations first)) (sym same.seen)
-        (subst (λ xs. MarksTell (reverse xs) (marks_made (reads_under functions traced m.seen) h.generations first)) (sym (same_known p)) h.marks);
+    marks = subst (λ (seen : List Published). MarksTell (reverse (known_of last p).marks) (marks_made (reads_under functions seen) h.generations first)) (sym same.seen)
+        (subst (λ xs. MarksTell (reverse xs) (marks_made (reads_under functions m.seen) h.generations first)) (sym (same_known p)) h.marks);
   }
 
-  has_run : (opening : Opening) (texts : List Module) (journal : List Entry) (number : ℕ) (line : SpawnLine) (spawn : Spawn) (run : ProcessRun) → AreLearnt functions texts journal traced m.seen → spawn ≡ spawn_for journal number line → IsSome run.fin
-      → IsHeld functions traced opening m number spawn run → HasRun functions traced journal last number line (log_of_run run)
+  has_run : (opening : Opening) (texts : List Module) (journal : List Entry) (number : ℕ) (line : SpawnLine) (spawn : Spawn) (run : ProcessRun) → AreLearnt functions texts journal m.seen → spawn ≡ spawn_for journal number line → IsSome run.fin
+      → IsHeld functions opening m number spawn run → HasRun functions journal last number line (log_of_run run)
   has_run opening texts journal number line spawn run learnt is over h =
       let target : run.process.target ≡ line.target = h.target ∙ ap (λ (x : Spawn). x.target) is in
       let args : run.process.args ≡ line.args = h.args ∙ ap (λ (x : Spawn). x.args) is in
       let first : first_stand run ≡ going_stand number line.target line.args = λ i. going_stand (h.number i) (target i) (args i) in
       let ended = ended_there functions opening m number run over h.rests in
       let other : run.fin ≢ Some (Killed 0) = λ fin.
-      no_first_kill functions texts journal traced m.seen h.turns.generations (first_stand run) (stand_under m run) learnt h.turns.learnt going_first h.turns.made (ap phase_of fin) in
+      no_first_kill functions texts journal m.seen h.turns.generations (first_stand run) (stand_under m run) learnt h.turns.learnt going_first h.turns.made (ap phase_of fin) in
       record {
         noted = ap (λ (notes : List NoteNumber). note_in notes number) same.notes ∙ h.noted ∙ ap (λ (x : Spawn). Some x.published) is;
         last = stand_under m run;
-        turned = turned_same number (going_stand number line.target line.args) (stand_under m run) (subst (λ (x : Stand). HasTurned functions traced m number x (stand_under m run)) first h.turns);
+        turned = turned_same number (going_stand number line.target line.args) (stand_under m run) (subst (λ (x : Stand). HasTurned functions m number x (stand_under m run)) first h.turns);
         over = is_over run.fin over;
         log_is = refl;
         killed = subst (λ (anchors : List ℕ). (serial : ℕ) → HasAnchor tells_kill anchors serial ↔ (end_of (phase_of run.fin) ≡ Killed serial)) (sym (same_anchors number))
@@ -114,26 +114,26 @@ module _ (functions : List Mfa) (traced : TracedBy) (m last : MemberView) (same 
 
 -- ---- all places
 
-module _ (functions : List Mfa) (traced : TracedBy) (opening : Opening) (m last : MemberView) (taken : List Spawn) (processes : List (Option ProcessRun)) (same : KnowsTheSame m last) (number : ℕ) where
-  module _ (texts : List Module) (journal : List Entry) (line : SpawnLine) (learnt : AreLearnt functions texts journal traced m.seen) (own : number % opening.members ≡ m.member.number) (here : IsTaken journal number line taken) (ended : HaveAllEnded processes) where
-    at_place : (place : Option ProcessRun) → slice_get processes number ≡ Some place → IsHeldAt functions traced opening m taken number place
-        → (run : ProcessRun) × ((slice_get processes number ≡ Some (Some run)) × HasRun functions traced journal last number line (log_of_run run))
+module _ (functions : List Mfa) (opening : Opening) (m last : MemberView) (taken : List Spawn) (processes : List (Option ProcessRun)) (same : KnowsTheSame m last) (number : ℕ) where
+  module _ (texts : List Module) (journal : List Entry) (line : SpawnLine) (learnt : AreLearnt functions texts journal m.seen) (own : number % opening.members ≡ m.member.number) (here : IsTaken journal number line taken) (ended : HaveAllEnded processes) where
+    at_place : (place : Option ProcessRun) → slice_get processes number ≡ Some place → IsHeldAt functions opening m taken number place
+        → (run : ProcessRun) × ((slice_get processes number ≡ Some (Some run)) × HasRun functions journal last number line (log_of_run run))
     at_place None at h = absurd (h.1 (spawn_for journal number line) here.among refl own)
     at_place (Some run) at h =
-        (run, (at, has_run functions traced m last same opening texts journal number line h.0 run learnt (here.one h.0 h.1.0 h.1.1.0) (ended number run at) h.1.1.1))
+        (run, (at, has_run functions m last same opening texts journal number line h.0 run learnt (here.one h.0 h.1.0 h.1.1.0) (ended number run at) h.1.1.1))
 
-    pub taken_has_run : KeepsProcesses functions traced opening m taken processes → number < PROCESSES → (run : ProcessRun) × ((slice_get processes number ≡ Some (Some run)) × HasRun functions traced journal last number line (log_of_run run))
+    pub taken_has_run : KeepsProcesses functions opening m taken processes → number < PROCESSES → (run : ProcessRun) × ((slice_get processes number ≡ Some (Some run)) × HasRun functions journal last number line (log_of_run run))
     taken_has_run h below =
         let all = h.all in
         let at = slice_get-get_or processes number None (omega (arith, all, below)) in
         at_place (get_or processes number None) at (h.each number (get_or processes number None) at)
 
   module _ (none : (spawn : Spawn) → Among taken spawn → spawn.number ≢ number) where
-    not_at_place : (place : Option ProcessRun) → IsHeldAt functions traced opening m taken number place → HasNotRun last number
-    not_at_place None h = has_not_run functions traced m last same number h.0
+    not_at_place : (place : Option ProcessRun) → IsHeldAt functions opening m taken number place → HasNotRun last number
+    not_at_place None h = has_not_run functions m last same number h.0
     not_at_place (Some run) h = absurd (none h.0 h.1.0 h.1.1.0)
 
-    pub other_has_not_run : KeepsProcesses functions traced opening m taken processes → number < PROCESSES → HasNotRun last number
+    pub other_has_not_run : KeepsProcesses functions opening m taken processes → number < PROCESSES → HasNotRun last number
     other_has_not_run h below =
         let all = h.all in
         let at = slice_get-get_or processes number None (omega (arith, all, below)) in

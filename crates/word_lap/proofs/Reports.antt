@@ -9,7 +9,6 @@ use Rattle.prgr_core.specs.declared.member.Role.TheVariants.{Follows, Leads}
 use Rattle.prgr_core.specs.declared.member.Loaded.TheVariants.{Nothing}
 use Rattle.prgr_core.specs.Members.{role_knowing}
 use Rattle.term_core.specs.declared.atom.Mfa.{Mfa}
-use Rattle.term_core.specs.declared.generation.FunctionRef.{FunctionRef}
 use Rattle.term_core.specs.declared.hold.Kind.TheVariants.{Frame, Literal}
 use Rattle.area_core.specs.declared.table.Published.{Published}
 use Rattle.area_core.specs.Generations as tests
@@ -38,7 +37,7 @@ use Rattle.machine_core.specs.Turn.{ArePlaced, MayTurn, turn_by}
 use Rattle.run_log.specs.Legal.{Mark}
 use Rattle.run_steps.specs.MadeTurns.{ArePlacedOver, TurnsMade, marks_made, turned_by}
 use Rattle.run_steps.specs.Stands.{Stand, phase_of}
-use Rattle.code_law.specs.Served.{IsServed, with_traced}
+use Rattle.code_law.specs.Served.{IsServed}
 use Rattle.code_law.proofs.ServedAreas.{image_same}
 use Rattle.word_view.specs.Anchored.{holds_by}
 use Rattle.word_view.specs.Laps.{NamesNothing}
@@ -48,7 +47,7 @@ use Rattle.word_view.proofs.Coming.{block_listed}
 use Rattle.word_view.proofs.GoingOn.{IsSame, frames_stay, may_go_on}
 use Rattle.run_law.specs.Ended.{HasTurned}
 use Rattle.run_law.specs.Newcomers.{Spawn}
-use Rattle.run_law.specs.Reading.{MarksTell, TracedBy, reads_under}
+use Rattle.run_law.specs.Reading.{MarksTell, reads_under}
 use Rattle.word_lap.specs.declared.process_run.ProcessRun.{ProcessRun}
 use Rattle.word_lap.specs.Reading.{stand_under}
 use Rattle.word_lap.specs.Schedulers.{IsAtHand, IsHeld, IsHeldAt, KeepsProcesses, Rests, first_stand, rests_ended, rests_going}
@@ -149,8 +148,8 @@ module _ (functions : List Mfa) (opening : Opening) (p : ℕ) (old new : MemberV
           | inr literal ↦ named_any Literal (anchors_of old p) serial (held_names Literal (anchors_of old p) serial literal)
         ]
 
-    same_area : (traced : List FunctionRef) (serial : ℕ) → is_area_held (holds_by (anchors_of old p)) serial ≡ true → IsSame functions traced traced (held_by_view old) (held_by_view new) serial
-    same_area traced serial held =
+    same_area : (serial : ℕ) → is_area_held (holds_by (anchors_of old p)) serial ≡ true → IsSame functions (held_by_view old) (held_by_view new) serial
+    same_area serial held =
         let anchor = names_held serial held in
         let s : StandsIn (held_by_view old) serial = h.named serial anchor in
         let there = same_in serial anchor in
@@ -161,13 +160,13 @@ module _ (functions : List Mfa) (opening : Opening) (p : ℕ) (old new : MemberV
               ∙ ap (block_among (held_by_view new).areas) s.is;
         }
 
-    pub turn_on : (process : Process) (traced : List FunctionRef) → MayTurn (shown_by functions traced (held_by_view old)) (holds_by (anchors_of old p)) process → MayTurn (shown_by functions traced (held_by_view new)) (holds_by (anchors_of new p)) process
-    turn_on process traced ready =
-        subst (λ (xs : List ℕ). MayTurn (shown_by functions traced (held_by_view new)) (holds_by xs) process) (sym same_anchors)
-        (may_go_on functions traced traced (held_by_view old) (held_by_view new) (holds_by (anchors_of old p)) process (same_area traced) ready)
+    pub turn_on : (process : Process) → MayTurn (shown_by functions (held_by_view old)) (holds_by (anchors_of old p)) process → MayTurn (shown_by functions (held_by_view new)) (holds_by (anchors_of new p)) process
+    turn_on process ready =
+        subst (λ (xs : List ℕ). MayTurn (shown_by functions (held_by_view new)) (holds_by xs) process) (sym same_anchors)
+        (may_go_on functions (held_by_view old) (held_by_view new) (holds_by (anchors_of old p)) process same_area ready)
 
-    pub frames_on : (process : Process) → MayTurn (shown_by functions [] (held_by_view old)) (holds_by (anchors_of old p)) process → frames_of (words_in (held_by_view old).state) process.frames ≡ frames_of (words_in (held_by_view new).state) process.frames
-    frames_on process ready = frames_stay functions [] [] (held_by_view old) (held_by_view new) (holds_by (anchors_of old p)) process (same_area []) ready
+    pub frames_on : (process : Process) → MayTurn (shown_by functions (held_by_view old)) (holds_by (anchors_of old p)) process → frames_of (words_in (held_by_view old).state) process.frames ≡ frames_of (words_in (held_by_view new).state) process.frames
+    frames_on process ready = frames_stay functions (held_by_view old) (held_by_view new) (holds_by (anchors_of old p)) process same_area ready
 
 -- ---- the turns so far
 
@@ -195,24 +194,24 @@ weaker P Q f [] h = tt
 weaker P Q f (g ∷ generations) h = (f g h.0, weaker P Q f generations h.1)
 
 -- they stay what they were where the member has learnt of more, the marks are the same, and the process stands for the same
-pub turned_on : (functions : List Mfa) (traced : TracedBy) (old new : MemberView) (p : ℕ) (run : ProcessRun) → IsBeginning old.seen new.seen → (known_of new p).marks ≡ (known_of old p).marks → stand_under new run ≡ stand_under old run
-    → HasTurned functions traced old p (first_stand run) (stand_under old run) → HasTurned functions traced new p (first_stand run) (stand_under new run)
-turned_on functions traced old new p run begins marks stands h =
-    let still = still_made (λ g. g < length old.seen) (reads_under functions traced old.seen) (reads_under functions traced new.seen)
-    (λ g below. ap (λ (x : Published). reads_in functions (with_traced (traced g) x.state)) (sym (published_begins old.seen new.seen g begins below)))
+pub turned_on : (functions : List Mfa) (old new : MemberView) (p : ℕ) (run : ProcessRun) → IsBeginning old.seen new.seen → (known_of new p).marks ≡ (known_of old p).marks → stand_under new run ≡ stand_under old run
+    → HasTurned functions old p (first_stand run) (stand_under old run) → HasTurned functions new p (first_stand run) (stand_under new run)
+turned_on functions old new p run begins marks stands h =
+    let still = still_made (λ g. g < length old.seen) (reads_under functions old.seen) (reads_under functions new.seen)
+    (λ g below. ap (λ (x : Published). reads_in functions x.state) (sym (published_begins old.seen new.seen g begins below)))
     h.generations (first_stand run) (stand_under old run) h.learnt h.made h.placed in
     record {
       generations = h.generations;
-      made = subst (TurnsMade (reads_under functions traced new.seen) h.generations (first_stand run)) (sym stands) still.made;
+      made = subst (TurnsMade (reads_under functions new.seen) h.generations (first_stand run)) (sym stands) still.made;
       placed = still.placed;
       learnt = weaker (λ g. g < length old.seen) (λ g. g < length new.seen) (λ g below. shorter old.seen new.seen begins g below) h.generations h.learnt;
-      marks = subst (λ xs. MarksTell (reverse xs) (marks_made (reads_under functions traced new.seen) h.generations (first_stand run))) (sym marks)
+      marks = subst (λ xs. MarksTell (reverse xs) (marks_made (reads_under functions new.seen) h.generations (first_stand run))) (sym marks)
           (subst (MarksTell (reverse (known_of old p).marks)) (sym still.marks_are) h.marks);
     }
 
 -- ---- all of them
 
-module _ (functions : List Mfa) (traced : TracedBy) (opening : Opening) (old new : MemberView) (generation : ℕ) (learnt : old.member.generation < length old.seen) (awake : IsAwake new) (r : Reported (IsServed functions) old new generation) where
+module _ (functions : List Mfa) (opening : Opening) (old new : MemberView) (generation : ℕ) (learnt : old.member.generation < length old.seen) (awake : IsAwake new) (r : Reported (IsServed functions) old new generation) where
   same_known : (p : ℕ) → known_of new p ≡ known_of old p
   same_known p = ap (λ (m : MemberView). known_of m p) r.view
 
@@ -220,13 +219,13 @@ module _ (functions : List Mfa) (traced : TracedBy) (opening : Opening) (old new
   same_named p = ap (λ (x : ProcessView). x.slot.anchors) (same_known p)
 
   same_frames : (p : ℕ) (run : ProcessRun) → Rests functions opening old p run → frames_of (words_in (held_by_view old).state) run.process.frames ≡ frames_of (words_in (held_by_view new).state) run.process.frames
-  same_frames p run (rests_going fin h) = frames_on functions opening p old new generation learnt awake r h.knows run.process (h.turn [])
+  same_frames p run (rests_going fin h) = frames_on functions opening p old new generation learnt awake r h.knows run.process h.turn
   same_frames p run (rests_ended h) = ap (frames_of (words_in (held_by_view old).state)) h.left ∙ sym (ap (frames_of (words_in (held_by_view new).state)) h.left)
 
   rests_on : (p : ℕ) (run : ProcessRun) → Rests functions opening old p run → Rests functions opening new p run
   rests_on p run (rests_going fin h) = rests_going fin (record {
     knows = at_hand_on functions opening p old new generation learnt awake r h.knows;
-    turn = λ list. turn_on functions opening p old new generation learnt awake r h.knows run.process list (h.turn list);
+    turn = turn_on functions opening p old new generation learnt awake r h.knows run.process h.turn;
     counted = h.counted ∙ ap (λ (x : ProcessView). length x.marks) (sym (same_known p));
     spans = h.spans;
   })
@@ -237,7 +236,7 @@ module _ (functions : List Mfa) (traced : TracedBy) (opening : Opening) (old new
     killed = λ serial some_serial. subst (λ (xs : List ℕ). HasAnchor tells_kill xs serial ↔ (run.fin ≡ Some (Killed serial))) (sym (same_named p)) (h.killed serial some_serial);
   })
 
-  held_on : (p : ℕ) (spawn : Spawn) (run : ProcessRun) → IsHeld functions traced opening old p spawn run → IsHeld functions traced opening new p spawn run
+  held_on : (p : ℕ) (spawn : Spawn) (run : ProcessRun) → IsHeld functions opening old p spawn run → IsHeld functions opening new p spawn run
   held_on p spawn run h =
       let process : Process = run.process in
       let stands : stand_under new run ≡ stand_under old run =
@@ -251,11 +250,11 @@ module _ (functions : List Mfa) (traced : TracedBy) (opening : Opening) (old new
         target = h.target;
         args = h.args;
         noted = ap (λ (m : MemberView). note_in m.notes p) r.view ∙ h.noted;
-        turns = turned_on functions traced old new p run r.learnt (ap (λ (x : ProcessView). x.marks) (same_known p)) stands h.turns;
+        turns = turned_on functions old new p run r.learnt (ap (λ (x : ProcessView). x.marks) (same_known p)) stands h.turns;
         rests = rests_on p run h.rests;
       }
 
-  place_on : (taken : List Spawn) (p : ℕ) (place : Option ProcessRun) → IsHeldAt functions traced opening old taken p place → IsHeldAt functions traced opening new taken p place
+  place_on : (taken : List Spawn) (p : ℕ) (place : Option ProcessRun) → IsHeldAt functions opening old taken p place → IsHeldAt functions opening new taken p place
   place_on taken p None h = (
     record {
       marks = ap (λ (x : ProcessView). x.marks) (same_known p) ∙ h.0.marks;
@@ -267,5 +266,5 @@ module _ (functions : List Mfa) (traced : TracedBy) (opening : Opening) (old new
   place_on taken p (Some run) h = (h.0, (h.1.0, (h.1.1.0, held_on p h.0 run h.1.1.1)))
 
   -- a report keeps what a scheduler knows of its processes
-  pub report_keeps : (taken : List Spawn) (processes : List (Option ProcessRun)) → KeepsProcesses functions traced opening old taken processes → KeepsProcesses functions traced opening new taken processes
+  pub report_keeps : (taken : List Spawn) (processes : List (Option ProcessRun)) → KeepsProcesses functions opening old taken processes → KeepsProcesses functions opening new taken processes
   report_keeps taken processes h = record { all = h.all; each = λ p place at. place_on taken p place (h.each p place at) }

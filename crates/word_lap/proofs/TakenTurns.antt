@@ -6,7 +6,6 @@ use Rattle.std.specs.Prelude.{◌==◌, IfOk, if◌then◌else◌}
 use Rattle.std.proofs.lemmas.Bool.{eq-eqb}
 use Rattle.atomic_table.specs.Seated.{TableId}
 use Rattle.term_core.specs.declared.atom.Mfa.{Mfa}
-use Rattle.term_core.specs.declared.generation.FunctionRef.{FunctionRef}
 use Rattle.term_core.specs.declared.no_memory.NoMemory.{NoMemory}
 use Rattle.term_core.specs.declared.hold.Kind.TheVariants.{Frame}
 use Rattle.area_core.specs.declared.table.Published.{Published}
@@ -62,7 +61,7 @@ number_kept r p = by_test (p.turns == MOST_TURNS)
 turns_kept : (r : Reads) (p : PlainProcess) → p.turns ≡ MOST_TURNS → (turn_by r p).process.turns ≡ p.turns
 turns_kept r p is = ap (λ (b : Bool). (turn_from (if b then p else record p { turns = p.turns + 1 }) (ran_of r p)).process.turns) (eq-eqb p.turns MOST_TURNS is)
 
-module _ (functions : List Mfa) (opening : Opening) (traced : List FunctionRef) (table : TableId) (b : tokens.Member) (number : ℕ) (viewed : IsView (record { table = table; opening = opening; token = b; names = functions; traced = traced; process = number })) where
+module _ (functions : List Mfa) (opening : Opening) (table : TableId) (b : tokens.Member) (number : ℕ) (viewed : IsView (record { table = table; opening = opening; token = b; names = functions; process = number })) where
   pub turned_token : IsToken table b
   turned_token = record { seat = viewed.token; copied = viewed.copied; rooted = viewed.reading.rooted }
 
@@ -72,12 +71,12 @@ module _ (functions : List Mfa) (opening : Opening) (traced : List FunctionRef) 
   pub turned_unkilled : IsUnkilled (anchors_of (view_of b) number)
   turned_unkilled = viewed.reader.unkilled
 
-module _ (functions : List Mfa) (opening : Opening) (traced : List FunctionRef) (table : TableId) (a b : tokens.Member) (before p : Process) (lines made : List Line) (end : TurnEnd) where
+module _ (functions : List Mfa) (opening : Opening) (table : TableId) (a b : tokens.Member) (before p : Process) (lines made : List Line) (end : TurnEnd) where
   abbrev seen_by : tokens.Member → Viewed
-  seen_by token = record { table = table; opening = opening; token = token; names = functions; traced = traced; process = before.number }
+  seen_by token = record { table = table; opening = opening; token = token; names = functions; process = before.number }
 
   abbrev shown : Shown
-  shown = shown_by functions traced (held_by_view (view_of a))
+  shown = shown_by functions (held_by_view (view_of a))
 
   abbrev stood : PlainProcess
   stood = process_of shown.words before
@@ -120,7 +119,7 @@ module _ (functions : List Mfa) (opening : Opening) (traced : List FunctionRef) 
 
   -- the turn and its mark
   pub made_turn : (c : tokens.Member) → IsView (seen_by b) → HasGoneOn (seen_by a) (seen_by b) → IsTurn shown (holds_by (anchors_of (view_of b) before.number)) before p lines made end → HasMarkedEnd before.number p.turns end (view_of b) (view_of c)
-      → MadeTurn functions opening traced table a c before p lines made end
+      → MadeTurn functions opening table a c before p lines made end
   made_turn c viewed gone turn marked = record { mid = b; viewed = viewed; gone = gone; turn = turn; marked = marked }
 
   -- the same of a turn of which it is told where there was memory for it
@@ -131,13 +130,13 @@ module _ (functions : List Mfa) (opening : Opening) (traced : List FunctionRef) 
     pub end_told : MayEndWith before.number (view_of b) end
     end_told = turned_end gone turn_told
 
-    pub made_told : (c : tokens.Member) → IsView (seen_by b) → HasMarkedEnd before.number p.turns end (view_of b) (view_of c) → MadeTurn functions opening traced table a c before p lines made end
+    pub made_told : (c : tokens.Member) → IsView (seen_by b) → HasMarkedEnd before.number p.turns end (view_of b) (view_of c) → MadeTurn functions opening table a c before p lines made end
     made_told c viewed marked = made_turn c viewed gone turn_told marked
 
 -- the span that was taken out has room for one turn more
-pub span_few : (functions : List Mfa) (opening : Opening) (traced : List FunctionRef) (m : MemberView) (before : ProcessRun) (generation : ℕ) (others : List Span) (span : Span) → IsReady functions opening traced m before → IsTaken generation before.spans others span
+pub span_few : (functions : List Mfa) (opening : Opening) (m : MemberView) (before : ProcessRun) (generation : ℕ) (others : List Span) (span : Span) → IsReady functions opening m before → IsTaken generation before.spans others span
     → span.turns ≤ LAST_TURN
-span_few functions opening traced m before generation others span ready taken =
+span_few functions opening m before generation others span ready taken =
     let few = (few_taken before.process.turns generation before.spans others span taken ready.spans.each).1 in
     let most = ready.spans.bound in
     omega (arith, few, most)
@@ -153,9 +152,9 @@ ok_any (Ok a) P h = h
 ok_any (Err e) P h = tt
 
 -- the turn has joined its span, where there is memory for it
-pub turn_joins : (functions : List Mfa) (opening : Opening) (traced : List FunctionRef) (table : TableId) (a c : tokens.Member) (before after : ProcessRun) (p : Process) (span : Span) (lines : List Line) (end : TurnEnd) (r : Result (Unit {0}) NoMemory)
-    → MadeTurn functions opening traced table a c before.process p span.lines lines end
+pub turn_joins : (functions : List Mfa) (opening : Opening) (table : TableId) (a c : tokens.Member) (before after : ProcessRun) (p : Process) (span : Span) (lines : List Line) (end : TurnEnd) (r : Result (Unit {0}) NoMemory)
+    → MadeTurn functions opening table a c before.process p span.lines lines end
     → IfOk r (λ _. after ≡ record { process = p; spans = before.spans ++ record { generation = span.generation; turns = span.turns + 1; lines = lines } ∷ []; fin = fin_after end })
-    → IfOk r (λ _. JoinsTurn functions opening traced table a c span before after)
-turn_joins functions opening traced table a c before after p span lines end (Ok u) made joins = record { process = p; lines = lines; end = end; made = made; joins = joins }
-turn_joins functions opening traced table a c before after p span lines end (Err e) made joins = tt
+    → IfOk r (λ _. JoinsTurn functions opening table a c span before after)
+turn_joins functions opening table a c before after p span lines end (Ok u) made joins = record { process = p; lines = lines; end = end; made = made; joins = joins }
+turn_joins functions opening table a c before after p span lines end (Err e) made joins = tt

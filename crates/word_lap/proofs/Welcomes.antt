@@ -20,7 +20,6 @@ use Rattle.area_core.specs.Readers.{is_of}
 use Rattle.area_core.specs.declared.readers.Slots.TheVariants.{OfMember}
 use Rattle.code_law.specs.Served.{IsServed}
 use Rattle.run_law.specs.Newcomers.{Spawn}
-use Rattle.run_law.specs.Reading.{TracedBy}
 use Rattle.word_lap.specs.declared.process_run.ProcessRun.{ProcessRun}
 use Rattle.word_lap.specs.Newcomers.{IsNoted, IsNotedIn}
 use Rattle.word_lap.specs.Schedulers.{IsBetweenTurns, IsToken, KeepsProcesses}
@@ -95,27 +94,27 @@ module _ (functions : List Mfa) (opening : Opening) (table : TableId) (old mid n
     welcome_token seat same root = token_moved table mid new reached seat same root slots_are (ap (λ (x : MemberView). x.member.generation) view_is) (ap (λ (x : MemberView). x.seen) view_is)
 
     -- what a scheduler keeps is kept, with one process more
-    pub welcome_keeps : (traced : TracedBy) (taken : List Spawn) → KeepsProcesses functions traced opening (view_of old) taken processes
-        → KeepsProcesses functions traced opening (view_of new) (taken ++ spawn ∷ []) (slice_set processes spawn.number (Some run))
-    welcome_keeps traced taken h =
-        let here = report_keeps functions traced opening (view_of old) m generation token.rooted.learnt between.awake r taken processes h in
+    pub welcome_keeps : (taken : List Spawn) → KeepsProcesses functions opening (view_of old) taken processes
+        → KeepsProcesses functions opening (view_of new) (taken ++ spawn ∷ []) (slice_set processes spawn.number (Some run))
+    welcome_keeps taken h =
+        let here = report_keeps functions opening (view_of old) m generation token.rooted.learnt between.awake r taken processes h in
         let empty = (here.each spawn.number None free.free).0 in
-        let held = newcomer_held functions traced opening m (noted_by note).note spawn run between served r.areas free.below own learnt process_is noted.told
+        let held = newcomer_held functions opening m (noted_by note).note spawn run between served r.areas free.below own learnt process_is noted.told
         fresh.number fresh.target fresh.args fresh.turns fresh.frames fresh.spans fresh.fin empty in
-        let all = comes_here functions traced opening m taken spawn (noted_by note).note run process_is processes held here in
-        subst (λ (x : MemberView). KeepsProcesses functions traced opening x (taken ++ spawn ∷ []) (slice_set processes spawn.number (Some run))) (sym view_is) all
+        let all = comes_here functions opening m taken spawn (noted_by note).note run process_is processes held here in
+        subst (λ (x : MemberView). KeepsProcesses functions opening x (taken ++ spawn ∷ []) (slice_set processes spawn.number (Some run))) (sym view_is) all
 
 -- ---- one after another
 
 -- what does not belong here is let go
 pub let_go_keeps : (functions : List Mfa) (table : TableId) (opening : Opening) (token : tokens.Member) (spawn : Spawn) (processes : List (Option ProcessRun)) → IsToken table token → BelongsNot spawn.number token.number opening.members processes
-    → (traced : TracedBy) (taken : List Spawn) → KeepsProcesses functions traced opening (view_of token) taken processes → KeepsProcesses functions traced opening (view_of token) (taken ++ spawn ∷ []) processes
-let_go_keeps functions table opening token spawn processes h apart traced taken kept =
-    let_go functions traced opening (view_of token) taken spawn processes (λ p at is. subst (λ (n : ℕ). p % opening.members ≢ n) (sym h.seat.numbered) (apart p at is)) kept
+    → (taken : List Spawn) → KeepsProcesses functions opening (view_of token) taken processes → KeepsProcesses functions opening (view_of token) (taken ++ spawn ∷ []) processes
+let_go_keeps functions table opening token spawn processes h apart taken kept =
+    let_go functions opening (view_of token) taken spawn processes (λ p at is. subst (λ (n : ℕ). p % opening.members ≢ n) (sym h.seat.numbered) (apart p at is)) kept
 
 -- the same where the code has these numbers otherwise
 pub let_go_here : (functions : List Mfa) (table : TableId) (opening : Opening) (token : tokens.Member) (spawn : Spawn) (number member members : ℕ) (processes : List (Option ProcessRun)) → spawn.number ≡ number → token.number ≡ member → members ≡ opening.members → IsToken table token
-    → BelongsNot number member members processes → (traced : TracedBy) (taken : List Spawn) → KeepsProcesses functions traced opening (view_of token) taken processes → KeepsProcesses functions traced opening (view_of token) (taken ++ spawn ∷ []) processes
+    → BelongsNot number member members processes → (taken : List Spawn) → KeepsProcesses functions opening (view_of token) taken processes → KeepsProcesses functions opening (view_of token) (taken ++ spawn ∷ []) processes
 let_go_here functions table opening token spawn number member members processes is own count h apart =
     let_go_keeps functions table opening token spawn processes h (λ p at same mine. apart p at (sym is ∙ same) (ap (λ (n : ℕ). p % n) count ∙ mine ∙ own))
 
@@ -126,15 +125,15 @@ pub record TakenSteps (functions : List Mfa) (table : TableId) (opening : Openin
   pub between : IsBetweenTurns (view_of new)
   pub all : length now ≡ PROCESSES
   pub inbox : after.number ≡ before.number
-  pub kept : (traced : TracedBy) → KeepsProcesses functions traced opening (view_of old) before.taken was → KeepsProcesses functions traced opening (view_of new) after.taken now
+  pub kept : KeepsProcesses functions opening (view_of old) before.taken was → KeepsProcesses functions opening (view_of new) after.taken now
 
 module _ (functions : List Mfa) (table : TableId) (opening : Opening) (old : tokens.Member) (before : Taking Spawn) (was : List (Option ProcessRun)) where
   pub taken_begins : IsToken table old → IsBetweenTurns (view_of old) → length was ≡ PROCESSES → TakenSteps functions table opening old old before before was was
-  taken_begins token between all = record { token = token; number = refl; between = between; all = all; inbox = refl; kept = λ traced h. h }
+  taken_begins token between all = record { token = token; number = refl; between = between; all = all; inbox = refl; kept = λ h. h }
 
   pub taken_goes_on : (mid new : tokens.Member) (at after : Taking Spawn) (now later : List (Option ProcessRun)) (spawn : Spawn) → TakenSteps functions table opening old mid before at was now → after ≡ took at spawn → IsToken table new
       → new.number ≡ mid.number → IsBetweenTurns (view_of new) → length later ≡ PROCESSES
-      → ((traced : TracedBy) (taken : List Spawn) → KeepsProcesses functions traced opening (view_of mid) taken now → KeepsProcesses functions traced opening (view_of new) (taken ++ spawn ∷ []) later)
+      → ((taken : List Spawn) → KeepsProcesses functions opening (view_of mid) taken now → KeepsProcesses functions opening (view_of new) (taken ++ spawn ∷ []) later)
       → TakenSteps functions table opening old new before after was later
   taken_goes_on mid new at after now later spawn h is token number between all kept = record {
     token = token;
@@ -142,5 +141,5 @@ module _ (functions : List Mfa) (table : TableId) (opening : Opening) (old : tok
     between = between;
     all = all;
     inbox = ap (λ (t : Taking Spawn). t.number) is ∙ h.inbox;
-    kept = λ traced first. subst (λ (t : Taking Spawn). KeepsProcesses functions traced opening (view_of new) t.taken later) (sym is) (kept traced at.taken (h.kept traced first));
+    kept = λ first. subst (λ (t : Taking Spawn). KeepsProcesses functions opening (view_of new) t.taken later) (sym is) (kept at.taken (h.kept first));
   }

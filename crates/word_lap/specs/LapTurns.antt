@@ -2,21 +2,19 @@
 -- Source: Erlang/OTP erts internal documentation, CodeLoading: a turn sees one state of the code. Laps are this project's own.
 use Rattle.std.specs.Prelude.{◌≡◌, ℕ, List, slice_get, Option, Some, None, IsSome}
 use Rattle.term_core.specs.declared.atom.Mfa.{Mfa}
-use Rattle.term_core.specs.declared.generation.FunctionRef.{FunctionRef}
 use Rattle.shared_words.specs.declared.opening.Opening.{Opening}
 use Rattle.shared_words.specs.declared.view.MemberView.{MemberView}
 use Rattle.run_steps.specs.MadeTurns.{turned_by}
 use Rattle.run_law.specs.Newcomers.{Spawn}
-use Rattle.run_law.specs.Reading.{TracedBy}
 use Rattle.word_lap.specs.declared.process_run.ProcessRun.{ProcessRun}
 use Rattle.word_lap.specs.Reading.{stand_under}
 use Rattle.word_lap.specs.Schedulers.{KeepsProcesses}
 use Rattle.word_lap.specs.Turning.{HadItsTurn, IsReady, reads_held}
 
 -- a process that goes on may have a turn, if one stands at this place
-abbrev pub IsReadyAt : List Mfa → Opening → List FunctionRef → MemberView → Option ProcessRun → Type 0
-IsReadyAt functions opening list m None = Unit {0}
-IsReadyAt functions opening list m (Some run) = run.fin ≡ None → IsReady functions opening list m run
+abbrev pub IsReadyAt : List Mfa → Opening → MemberView → Option ProcessRun → Type 0
+IsReadyAt functions opening m None = Unit {0}
+IsReadyAt functions opening m (Some run) = run.fin ≡ None → IsReady functions opening m run
 
 -- none stands at this place that goes on
 abbrev pub IsOverAt : Option ProcessRun → Type 0
@@ -24,37 +22,34 @@ IsOverAt None = Unit {0}
 IsOverAt (Some run) = IsSome run.fin
 
 -- what stands at a place goes on no more and is as it was, or it went on and had a turn
-pub data HadTurnAt (functions : List Mfa) (opening : Opening) (list : List FunctionRef) (old new : MemberView) (before after : Option ProcessRun) : Type 0 where
-  rested : IsOverAt before → new ≡ old → after ≡ before → HadTurnAt functions opening list old new before after
-  turned : (run left : ProcessRun) → before ≡ Some run → run.fin ≡ None → after ≡ Some left → HadItsTurn functions opening list old new run left
-      → HadTurnAt functions opening list old new before after
+pub data HadTurnAt (functions : List Mfa) (opening : Opening) (old new : MemberView) (before after : Option ProcessRun) : Type 0 where
+  rested : IsOverAt before → new ≡ old → after ≡ before → HadTurnAt functions opening old new before after
+  turned : (run left : ProcessRun) → before ≡ Some run → run.fin ≡ None → after ≡ Some left → HadItsTurn functions opening old new run left
+      → HadTurnAt functions opening old new before after
 
 -- the same over what the member holds throughout a lap: a process that went on stands where one turn under that generation has it
-pub data WentOnAt (functions : List Mfa) (list : List FunctionRef) (m : MemberView) (before after : Option ProcessRun) : Type 0 where
-  stayed : IsOverAt before → after ≡ before → WentOnAt functions list m before after
+pub data WentOnAt (functions : List Mfa) (m : MemberView) (before after : Option ProcessRun) : Type 0 where
+  stayed : IsOverAt before → after ≡ before → WentOnAt functions m before after
   went_on : (run left : ProcessRun) → before ≡ Some run → run.fin ≡ None → after ≡ Some left
-      → stand_under m left ≡ turned_by (reads_held functions list m) m.member.generation (stand_under m run) → WentOnAt functions list m before after
+      → stand_under m left ≡ turned_by (reads_held functions m) m.member.generation (stand_under m run) → WentOnAt functions m before after
 
 -- so it is at each place: no process that goes on is left out, and none has two turns
-abbrev pub HaveGoneOn : List Mfa → List FunctionRef → MemberView → List (Option ProcessRun) → List (Option ProcessRun) → Type 0
-HaveGoneOn functions list m before after =
+abbrev pub HaveGoneOn : List Mfa → MemberView → List (Option ProcessRun) → List (Option ProcessRun) → Type 0
+HaveGoneOn functions m before after =
     (p : ℕ) (place : Option ProcessRun) → slice_get before p ≡ Some place
-    → (left : Option ProcessRun) × ((slice_get after p ≡ Some left) × WentOnAt functions list m place left)
+    → (left : Option ProcessRun) × ((slice_get after p ≡ Some left) × WentOnAt functions m place left)
 
 -- the member has learnt of the same generations as before, and holds the same one
 pub record HoldsAsBefore (old new : MemberView) : Type 0 where
   pub seen : new.seen ≡ old.seen
   pub generation : new.member.generation ≡ old.member.generation
 
--- these functions are traced under the generation that the member holds, and a scheduler keeps its processes
-pub record SomeKept (functions : List Mfa) (opening : Opening) (list : List FunctionRef) (m : MemberView) (processes : List (Option ProcessRun)) : Type 0 where
-  pub traced : TracedBy
-  pub given : list ≡ traced m.member.generation
+-- a scheduler keeps its processes, for some list of what was taken
+pub record SomeKept (functions : List Mfa) (opening : Opening) (m : MemberView) (processes : List (Option ProcessRun)) : Type 0 where
   pub taken : List Spawn
-  pub kept : KeepsProcesses functions traced opening m taken processes
+  pub kept : KeepsProcesses functions opening m taken processes
 
--- turns keep what a scheduler knows of its processes, whatever is traced under other generations
-abbrev pub HadTurns : List Mfa → Opening → List FunctionRef → MemberView → MemberView → List (Option ProcessRun) → List (Option ProcessRun) → Type 0
-HadTurns functions opening list old new before after =
-    (traced : TracedBy) (taken : List Spawn) → list ≡ traced old.member.generation → KeepsProcesses functions traced opening old taken before
-    → KeepsProcesses functions traced opening new taken after
+-- turns keep what a scheduler knows of its processes
+abbrev pub HadTurns : List Mfa → Opening → MemberView → MemberView → List (Option ProcessRun) → List (Option ProcessRun) → Type 0
+HadTurns functions opening old new before after =
+    (taken : List Spawn) → KeepsProcesses functions opening old taken before → KeepsProcesses functions opening new taken after

@@ -21,7 +21,6 @@ use Rattle.code_law.specs.Served.{IsServed}
 use Rattle.run_law.specs.Ended.{HasNotRun, HasRun}
 use Rattle.run_law.specs.Laws.{AreLearnt}
 use Rattle.run_law.specs.Newcomers.{IsTaken, Spawn}
-use Rattle.run_law.specs.Reading.{TracedBy}
 use Rattle.word_lap.specs.declared.process_run.ProcessRun.{ProcessRun}
 use Rattle.word_lap.specs.Laps.{HasTried}
 use Rattle.word_lap.specs.Schedulers.{IsBetweenTurns, IsToken, KeepsProcesses}
@@ -36,24 +35,24 @@ pub record AreAllFree (processes : List (Option ProcessRun)) : Type 0 where
 -- with the token of a member that has just begun, a scheduler keeps its empty places
 abbrev pub SchedulersBegin : Type 0
 SchedulersBegin =
-    (functions : List Mfa) (traced : TracedBy) (opening : Opening) (table : TableId) (number : ℕ) (token : tokens.Member) (processes : List (Option ProcessRun))
+    (functions : List Mfa) (opening : Opening) (table : TableId) (number : ℕ) (token : tokens.Member) (processes : List (Option ProcessRun))
     → number < MOST_MEMBERS → IsMemberBegun table number token → AreAllFree processes
-    → IsToken table token × (IsBetweenTurns (view_of token) × KeepsProcesses functions traced opening (view_of token) [] processes)
+    → IsToken table token × (IsBetweenTurns (view_of token) × KeepsProcesses functions opening (view_of token) [] processes)
 
 -- ---- between the turns
 
 -- a report keeps what a scheduler knows of its processes
 abbrev pub ReportsKeepProcesses : Type 0
 ReportsKeepProcesses =
-    (functions : List Mfa) (traced : TracedBy) (opening : Opening) (old new : MemberView) (generation : ℕ) (taken : List Spawn) (processes : List (Option ProcessRun))
+    (functions : List Mfa) (opening : Opening) (old new : MemberView) (generation : ℕ) (taken : List Spawn) (processes : List (Option ProcessRun))
     → old.member.generation < length old.seen → IsAwake new → Reported (IsServed functions) old new generation
-    → KeepsProcesses functions traced opening old taken processes → KeepsProcesses functions traced opening new taken processes
+    → KeepsProcesses functions opening old taken processes → KeepsProcesses functions opening new taken processes
 
 -- so does an attempt to lead
 abbrev pub AttemptsKeepProcesses : Type 0
 AttemptsKeepProcesses =
-    (functions : List Mfa) (traced : TracedBy) (opening : Opening) (old new : MemberView) (taken : List Spawn) (processes : List (Option ProcessRun))
-    → HasTried old new → KeepsProcesses functions traced opening old taken processes → KeepsProcesses functions traced opening new taken processes
+    (functions : List Mfa) (opening : Opening) (old new : MemberView) (taken : List Spawn) (processes : List (Option ProcessRun))
+    → HasTried old new → KeepsProcesses functions opening old taken processes → KeepsProcesses functions opening new taken processes
 
 -- ---- the end
 
@@ -75,16 +74,16 @@ log_of_run run = record { target = run.process.target; args = run.process.args; 
 -- has run as its log tells
 abbrev pub TakenHaveRun : Type 0
 TakenHaveRun =
-    (functions : List Mfa) (traced : TracedBy) (opening : Opening) (m last : MemberView) (taken : List Spawn) (processes : List (Option ProcessRun))
+    (functions : List Mfa) (opening : Opening) (m last : MemberView) (taken : List Spawn) (processes : List (Option ProcessRun))
     (texts : List Module) (journal : List Entry) (number : ℕ) (line : SpawnLine)
-    → KeepsProcesses functions traced opening m taken processes → HaveAllEnded processes → KnowsTheSame m last → AreLearnt functions texts journal traced m.seen
+    → KeepsProcesses functions opening m taken processes → HaveAllEnded processes → KnowsTheSame m last → AreLearnt functions texts journal m.seen
     → number < PROCESSES → number % opening.members ≡ m.member.number → IsTaken journal number line taken
-    → (run : ProcessRun) × ((slice_get processes number ≡ Some (Some run)) × HasRun functions traced journal last number line (log_of_run run))
+    → (run : ProcessRun) × ((slice_get processes number ≡ Some (Some run)) × HasRun functions journal last number line (log_of_run run))
 
 -- where nothing was taken under a number, no process of it has run
 abbrev pub OthersHaveNotRun : Type 0
 OthersHaveNotRun =
-    (functions : List Mfa) (traced : TracedBy) (opening : Opening) (m last : MemberView) (taken : List Spawn) (processes : List (Option ProcessRun)) (number : ℕ)
-    → KeepsProcesses functions traced opening m taken processes → KnowsTheSame m last
+    (functions : List Mfa) (opening : Opening) (m last : MemberView) (taken : List Spawn) (processes : List (Option ProcessRun)) (number : ℕ)
+    → KeepsProcesses functions opening m taken processes → KnowsTheSame m last
     → number < PROCESSES → ((spawn : Spawn) → Among taken spawn → spawn.number ≢ number)
     → HasNotRun last number

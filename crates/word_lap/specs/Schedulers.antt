@@ -5,7 +5,6 @@ use Rattle.std.specs.List.{AllByRecursion}
 use Rattle.atomic_table.specs.Seated.{TableId}
 use Rattle.prgr_core.specs.declared.member.Role.TheVariants.{Follows}
 use Rattle.term_core.specs.declared.atom.Mfa.{Mfa}
-use Rattle.term_core.specs.declared.generation.FunctionRef.{FunctionRef}
 use Rattle.term_core.specs.declared.hold.Kind.{Kind}
 use Rattle.area_core.specs.declared.map.TheConstants.{PROCESSES}
 use Rattle.area_core.specs.Blocks.{Among}
@@ -28,7 +27,6 @@ use Rattle.word_view.specs.Laps.{NamesNothing}
 use Rattle.word_view.specs.Views.{MayBegin, StandsIn, shown_by}
 use Rattle.run_law.specs.Ended.{HasTurned}
 use Rattle.run_law.specs.Newcomers.{Spawn}
-use Rattle.run_law.specs.Reading.{TracedBy}
 use Rattle.word_lap.specs.declared.process_run.ProcessRun.{ProcessRun}
 use Rattle.word_lap.specs.Reading.{stand_under}
 
@@ -51,7 +49,7 @@ pub record IsAtHand (functions : List Mfa) (opening : Opening) (p : ℕ) (m : Me
 -- what it names is what its slot names, and it may have its next turn under the generation that the member holds
 pub record MayGoOn (functions : List Mfa) (opening : Opening) (m : MemberView) (p : ℕ) (run : ProcessRun) : Type 0 where
   pub knows : IsAtHand functions opening p m
-  pub turn : (traced : List FunctionRef) → MayTurn (shown_by functions traced (held_by_view m)) (holds_by (anchors_of m p)) run.process
+  pub turn : MayTurn (shown_by functions (held_by_view m)) (holds_by (anchors_of m p)) run.process
   pub counted : run.process.turns ≡ length (process_of m p).marks
   pub spans : HasCounted run
 
@@ -68,12 +66,12 @@ pub data Rests (functions : List Mfa) (opening : Opening) (m : MemberView) (p : 
   rests_ended : HasEnded m p run → Rests functions opening m p run
 
 -- what is known of the process at a place, which was spawned so
-pub record IsHeld (functions : List Mfa) (traced : TracedBy) (opening : Opening) (m : MemberView) (p : ℕ) (spawn : Spawn) (run : ProcessRun) : Type 0 where
+pub record IsHeld (functions : List Mfa) (opening : Opening) (m : MemberView) (p : ℕ) (spawn : Spawn) (run : ProcessRun) : Type 0 where
   pub number : run.process.number ≡ p
   pub target : run.process.target ≡ spawn.target
   pub args : run.process.args ≡ spawn.args
   pub noted : note_in m.notes p ≡ Some spawn.published
-  pub turns : HasTurned functions traced m p (first_stand run) (stand_under m run)
+  pub turns : HasTurned functions m p (first_stand run) (stand_under m run)
   pub rests : Rests functions opening m p run
 
 -- no process stands at the place: its slot names nothing, it has had no turn, and no note came
@@ -85,9 +83,9 @@ pub record IsEmpty (m : MemberView) (p : ℕ) : Type 0 where
 -- ---- a scheduler
 
 -- what was taken and belongs here stands at its place: the first that came for it
-abbrev pub IsHeldAt : List Mfa → TracedBy → Opening → MemberView → List Spawn → ℕ → Option ProcessRun → Type 0
-IsHeldAt functions traced opening m taken p None = IsEmpty m p × ((spawn : Spawn) → Among taken spawn → spawn.number ≡ p → p % opening.members ≢ m.member.number)
-IsHeldAt functions traced opening m taken p (Some run) = (spawn : Spawn) × (Among taken spawn × ((spawn.number ≡ p) × IsHeld functions traced opening m p spawn run))
+abbrev pub IsHeldAt : List Mfa → Opening → MemberView → List Spawn → ℕ → Option ProcessRun → Type 0
+IsHeldAt functions opening m taken p None = IsEmpty m p × ((spawn : Spawn) → Among taken spawn → spawn.number ≡ p → p % opening.members ≢ m.member.number)
+IsHeldAt functions opening m taken p (Some run) = (spawn : Spawn) × (Among taken spawn × ((spawn.number ≡ p) × IsHeld functions opening m p spawn run))
 
 -- the token is that of a member of this table, with a right copy of its anchors and the root of the generation that it holds
 pub record IsToken (table : TableId) (token : tokens.Member) : Type 0 where
@@ -102,6 +100,6 @@ pub record IsBetweenTurns (m : MemberView) : Type 0 where
   pub rest : AreAtRest m
 
 -- what a scheduler keeps of its processes
-pub record KeepsProcesses (functions : List Mfa) (traced : TracedBy) (opening : Opening) (m : MemberView) (taken : List Spawn) (processes : List (Option ProcessRun)) : Type 0 where
+pub record KeepsProcesses (functions : List Mfa) (opening : Opening) (m : MemberView) (taken : List Spawn) (processes : List (Option ProcessRun)) : Type 0 where
   pub all : length processes ≡ PROCESSES
-  pub each : (p : ℕ) (place : Option ProcessRun) → slice_get processes p ≡ Some place → IsHeldAt functions traced opening m taken p place
+  pub each : (p : ℕ) (place : Option ProcessRun) → slice_get processes p ≡ Some place → IsHeldAt functions opening m taken p place

@@ -6,7 +6,6 @@ use Rattle.area_core.specs.declared.map.TheConstants.{PROCESSES}
 use Rattle.shared_words.specs.declared.opening.Opening.{Opening}
 use Rattle.shared_words.specs.declared.view.MemberView.{MemberView}
 use Rattle.run_law.specs.Newcomers.{Spawn}
-use Rattle.run_law.specs.Reading.{TracedBy}
 use Rattle.word_lap.specs.declared.process_run.ProcessRun.{ProcessRun}
 use Rattle.word_lap.specs.Schedulers.{KeepsProcesses}
 
@@ -20,12 +19,12 @@ pub record IsFreeFor (number member members : ℕ) (processes : List (Option Pro
 abbrev pub BelongsNot : ℕ → ℕ → ℕ → List (Option ProcessRun) → Type 0
 BelongsNot number member members processes = (p : ℕ) → slice_get processes p ≡ Some None → number ≡ p → p % members ≢ member
 
--- what a scheduler keeps of its processes it keeps once one more was taken, whatever was traced and had been taken
+-- what a scheduler keeps of its processes it keeps once one more was taken, whatever had been taken
 abbrev pub KeepsOneMore : List Mfa → Opening → MemberView → MemberView → Spawn → List (Option ProcessRun) → List (Option ProcessRun) → Type 0
 KeepsOneMore functions opening old new spawn before after =
-    (traced : TracedBy) (taken : List Spawn) → KeepsProcesses functions traced opening old taken before → KeepsProcesses functions traced opening new (taken ++ spawn ∷ []) after
+    (taken : List Spawn) → KeepsProcesses functions opening old taken before → KeepsProcesses functions opening new (taken ++ spawn ∷ []) after
 
 -- so it does once all this was taken
 abbrev pub KeepsWhatCame : List Mfa → Opening → MemberView → MemberView → List Spawn → List Spawn → List (Option ProcessRun) → List (Option ProcessRun) → Type 0
 KeepsWhatCame functions opening old new had taken before after =
-    (traced : TracedBy) → KeepsProcesses functions traced opening old had before → KeepsProcesses functions traced opening new taken after
+    KeepsProcesses functions opening old had before → KeepsProcesses functions opening new taken after

@@ -3,7 +3,6 @@
 use Rattle.std.specs.Prelude.{◌≡◌, ◌≢◌, ℕ, ◌+◌, ◌≤◌, ◌⊎◌, List, [], ◌∷◌, ◌++◌, length, None, IsSome}
 use Rattle.atomic_table.specs.Seated.{TableId}
 use Rattle.term_core.specs.declared.atom.Mfa.{Mfa}
-use Rattle.term_core.specs.declared.generation.FunctionRef.{FunctionRef}
 use Rattle.shared_words.specs.declared.opening.Opening.{Opening}
 use Rattle.shared_words.specs.declared.seats.Member as tokens
 use Rattle.shared_words.specs.declared.view.MemberView.{MemberView}
@@ -22,7 +21,6 @@ use Rattle.machine_core.specs.Turn.{ArePlaced, MayTurn}
 use Rattle.run_log.specs.declared.logs.Span.{Span}
 use Rattle.run_log.specs.History.{fin_after}
 use Rattle.run_steps.specs.MadeTurns.{turned_by}
-use Rattle.code_law.specs.Served.{with_traced}
 use Rattle.word_view.specs.Anchored.{holds_by}
 use Rattle.word_view.specs.Turned.{IsTurn}
 use Rattle.word_view.specs.Views.{HasGoneOn, IsView, MayBegin, shown_by}
@@ -31,15 +29,15 @@ use Rattle.word_lap.specs.Laps.{HasEndedIn, MayEndBy}
 use Rattle.word_lap.specs.Reading.{stand_under}
 use Rattle.word_lap.specs.Schedulers.{HasCounted, HasEnded, MayGoOn}
 
--- what a turn reads of the generation that the member holds, with these functions traced
-abbrev pub reads_held : List Mfa → List FunctionRef → MemberView → Reads
-reads_held functions traced m = reads_in functions (with_traced traced (held_by_view m).state)
+-- what a turn reads of the generation that the member holds
+abbrev pub reads_held : List Mfa → MemberView → Reads
+reads_held functions m = reads_in functions (held_by_view m).state
 
 -- a process that goes on may have a turn under the generation that the member holds
-pub record IsReady (functions : List Mfa) (opening : Opening) (traced : List FunctionRef) (m : MemberView) (run : ProcessRun) : Type 0 where
+pub record IsReady (functions : List Mfa) (opening : Opening) (m : MemberView) (run : ProcessRun) : Type 0 where
   pub going : run.fin ≡ None
   pub begins : MayBegin functions opening run.process.number m
-  pub turn : MayTurn (shown_by functions traced (held_by_view m)) (holds_by (anchors_of m run.process.number)) run.process
+  pub turn : MayTurn (shown_by functions (held_by_view m)) (holds_by (anchors_of m run.process.number)) run.process
   pub counted : run.process.turns ≡ length (process_of m run.process.number).marks
   pub spans : HasCounted run
 
@@ -66,21 +64,21 @@ pub record HasMarkedEnd (process turns : ℕ) (end : TurnEnd) (old new : MemberV
   pub marked : new ≡ with_slot process 0 turns ended
 
 -- a process had a turn under the generation that the member held, which made these lines, and the mark of it has joined
-pub record MadeTurn (functions : List Mfa) (opening : Opening) (traced : List FunctionRef) (table : TableId) (old new : tokens.Member) (before after : Process) (lines made : List Line) (end : TurnEnd) : Type 0 where
+pub record MadeTurn (functions : List Mfa) (opening : Opening) (table : TableId) (old new : tokens.Member) (before after : Process) (lines made : List Line) (end : TurnEnd) : Type 0 where
   pub mid : tokens.Member
-  pub viewed : IsView (record { table = table; opening = opening; token = mid; names = functions; traced = traced; process = before.number })
+  pub viewed : IsView (record { table = table; opening = opening; token = mid; names = functions; process = before.number })
   pub gone : HasGoneOn
-      (record { table = table; opening = opening; token = old; names = functions; traced = traced; process = before.number })
-      (record { table = table; opening = opening; token = mid; names = functions; traced = traced; process = before.number })
-  pub turn : IsTurn (shown_by functions traced (held_by_view (view_of old))) (holds_by (anchors_of (view_of mid) before.number)) before after lines made end
+      (record { table = table; opening = opening; token = old; names = functions; process = before.number })
+      (record { table = table; opening = opening; token = mid; names = functions; process = before.number })
+  pub turn : IsTurn (shown_by functions (held_by_view (view_of old))) (holds_by (anchors_of (view_of mid) before.number)) before after lines made end
   pub marked : HasMarkedEnd before.number after.turns end (view_of mid) (view_of new)
 
 -- so it is, and the span has one turn more and stands behind the others
-pub record JoinsTurn (functions : List Mfa) (opening : Opening) (traced : List FunctionRef) (table : TableId) (old new : tokens.Member) (span : Span) (before after : ProcessRun) : Type 0 where
+pub record JoinsTurn (functions : List Mfa) (opening : Opening) (table : TableId) (old new : tokens.Member) (span : Span) (before after : ProcessRun) : Type 0 where
   pub process : Process
   pub lines : List Line
   pub end : TurnEnd
-  pub made : MadeTurn functions opening traced table old new before.process process span.lines lines end
+  pub made : MadeTurn functions opening table old new before.process process span.lines lines end
   pub joins : after
       ≡ record { process = process; spans = before.spans ++ record { generation = span.generation; turns = span.turns + 1; lines = lines } ∷ []; fin = fin_after end }
 
@@ -92,10 +90,10 @@ pub record ChangesOne (process : ℕ) (old new : MemberView) : Type 0 where
   pub others : (other : ℕ) → other ≢ process → process_of new other ≡ process_of old other
 
 -- a process had a turn under the generation that the member holds: its span has it, and its slot has the mark of it
-pub record HadItsTurn (functions : List Mfa) (opening : Opening) (traced : List FunctionRef) (old new : MemberView) (before after : ProcessRun) : Type 0 where
+pub record HadItsTurn (functions : List Mfa) (opening : Opening) (old new : MemberView) (before after : ProcessRun) : Type 0 where
   pub number : after.process.number ≡ before.process.number
-  pub placed : ArePlaced (reads_held functions traced old) (stand_under old before).process.frames
-  pub turn : stand_under new after ≡ turned_by (reads_held functions traced old) old.member.generation (stand_under old before)
+  pub placed : ArePlaced (reads_held functions old) (stand_under old before).process.frames
+  pub turn : stand_under new after ≡ turned_by (reads_held functions old) old.member.generation (stand_under old before)
   pub view : ChangesOne before.process.number old new
   pub marks : (process_of new before.process.number).marks
       ≡ record { generation = old.member.generation; anchors = anchors_of new before.process.number } ∷ (process_of old before.process.number).marks

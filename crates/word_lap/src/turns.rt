@@ -20,7 +20,7 @@ use machine_core::{End, LineList, Process, TurnEnd};
 use run_log::{Span, SpanList};
 use shared_words::{Member, Served, Shared};
 use std::alloc::Global;
-use term_core::{FunctionRef, NoMemory};
+use term_core::NoMemory;
 use word_view::turn_of;
 
 /// Takes out the span that a turn under this generation joins: the last one if it is of that generation, else a new one.
@@ -106,22 +106,19 @@ fn turn_and_mark<N: Served>(
     shared: &Shared<N>,
     member: Member,
     exports: &ExportTable,
-    traced: &[FunctionRef],
     process: &mut Process,
     lines: &mut LineList,
 ) -> (Member, Result<TurnEnd, NoMemory>)
     requires token { IsToken shared.now.table.shared.table_id member }
     requires begins { MayBegin exports.now shared.now.table.shared.key process.old.number (view_of member) }
-    requires turn { MayTurn (shown_by exports.now traced.now (held_by_view (view_of member))) (holds_by (anchors_of (view_of member) process.old.number)) process.old }
+    requires turn { MayTurn (shown_by exports.now (held_by_view (view_of member))) (holds_by (anchors_of (view_of member) process.old.number)) process.old }
     requires counted { process.old.turns ≡ length (process_of (view_of member) process.old.number).marks }
     ensures token { IfOk result.1 (λ _. IsToken shared.now.table.shared.table_id result.0) }
     ensures number { IfOk result.1 (λ _. result.0.number ≡ member.number) }
-    ensures turn { IfOk result.1 (MadeTurn exports.now shared.now.table.shared.key traced.now shared.now.table.shared.table_id member result.0 process.old process.new lines.old lines.new) }
+    ensures turn { IfOk result.1 (MadeTurn exports.now shared.now.table.shared.key shared.now.table.shared.table_id member result.0 process.old process.new lines.old lines.new) }
 {
     let number = process.number;
-    let (mut member, end) = turn_of(
-        alloc, shared, member, exports, traced, number, process, lines,
-    );
+    let (mut member, end) = turn_of(alloc, shared, member, exports, number, process, lines);
     match end {
         Ok(end) => {
             mark_end(shared, &mut member, number, process.turns, end);
@@ -138,25 +135,23 @@ fn turn_joined<N: Served>(
     shared: &Shared<N>,
     member: Member,
     exports: &ExportTable,
-    traced: &[FunctionRef],
     mut span: Span,
     run: &mut ProcessRun,
 ) -> (Member, Result<(), NoMemory>)
     requires token { IsToken shared.now.table.shared.table_id member }
     requires begins { MayBegin exports.now shared.now.table.shared.key run.old.process.number (view_of member) }
-    requires turn { MayTurn (shown_by exports.now traced.now (held_by_view (view_of member))) (holds_by (anchors_of (view_of member) run.old.process.number)) run.old.process }
+    requires turn { MayTurn (shown_by exports.now (held_by_view (view_of member))) (holds_by (anchors_of (view_of member) run.old.process.number)) run.old.process }
     requires counted { run.old.process.turns ≡ length (process_of (view_of member) run.old.process.number).marks }
     requires few { span.turns ≤ LAST_TURN }
     ensures token { IfOk result.1 (λ _. IsToken shared.now.table.shared.table_id result.0) }
     ensures number { IfOk result.1 (λ _. result.0.number ≡ member.number) }
-    ensures turn { IfOk result.1 (λ _. JoinsTurn exports.now shared.now.table.shared.key traced.now shared.now.table.shared.table_id member result.0 span run.old run.new) }
+    ensures turn { IfOk result.1 (λ _. JoinsTurn exports.now shared.now.table.shared.key shared.now.table.shared.table_id member result.0 span run.old run.new) }
 {
     let (member, end) = turn_and_mark(
         alloc,
         shared,
         member,
         exports,
-        traced,
         &mut run.process,
         &mut span.lines,
     );
@@ -175,19 +170,18 @@ pub fn take_turn<N: Served>(
     shared: &Shared<N>,
     member: Member,
     exports: &ExportTable,
-    traced: &[FunctionRef],
     generation: u64,
     run: &mut ProcessRun,
 ) -> (Member, Result<(), NoMemory>)
     requires token { IsToken shared.now.table.shared.table_id member }
     requires held { (view_of member).member.generation ≡ generation }
-    requires ready { IsReady exports.now shared.now.table.shared.key traced.now (view_of member) run.old }
+    requires ready { IsReady exports.now shared.now.table.shared.key (view_of member) run.old }
     ensures token { IfOk result.1 (λ _. IsToken shared.now.table.shared.table_id result.0) }
     ensures number { IfOk result.1 (λ _. result.0.number ≡ member.number) }
-    ensures turn { IfOk result.1 (λ _. HadItsTurn exports.now shared.now.table.shared.key traced.now (view_of member) (view_of result.0) run.old run.new) }
+    ensures turn { IfOk result.1 (λ _. HadItsTurn exports.now shared.now.table.shared.key (view_of member) (view_of result.0) run.old run.new) }
 {
     match take_span(alloc, generation, &mut run.spans) {
-        Ok(span) => turn_joined(alloc, shared, member, exports, traced, span, run),
+        Ok(span) => turn_joined(alloc, shared, member, exports, span, run),
         Err(NoMemory) => (member, Err(NoMemory)),
     }
 }

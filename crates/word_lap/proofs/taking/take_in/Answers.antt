@@ -16,5 +16,5 @@ loop-preserved g c =
 
 -- and nothing more at the end
 pub returns-in_default-clause-kept : goal.returns-in_default-clause-kept
-returns-in_default-clause-kept g c = λ traced kept.
-    subst (λ t. KeepsProcesses g.K.Naming.names traced c.args.shared.now.table.shared.key (view_of c.loop.member) t.taken c.loop.processes) (sym c.in_default.ensures.taken) (c.loop.invariant.kept traced kept)
+returns-in_default-clause-kept g c = λ kept.
+    subst (λ t. KeepsProcesses g.K.Naming.names c.args.shared.now.table.shared.key (view_of c.loop.member) t.taken c.loop.processes) (sym c.in_default.ensures.taken) (c.loop.invariant.kept kept)

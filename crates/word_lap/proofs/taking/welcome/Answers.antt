@@ -26,13 +26,13 @@ returns-clause-token g c =
 
 -- what was kept is kept, with one process more at its place
 pub returns-clause-kept : goal.returns-clause-kept
-returns-clause-kept g c = λ traced taken kept.
+returns-clause-kept g c = λ taken kept.
     let here = c.args.shared.now.table.shared in
     let began = c.begin-run.ensures in
     let caught = c.catch_up.ensures in
-    subst (λ n. KeepsProcesses g.K.Naming.names traced here.key (view_of c.learn.new.member) (taken ++ c.args.newcomer ∷ []) (slice_set c.args.processes.now n (Some c.begin-run.result.0)))
+    subst (λ n. KeepsProcesses g.K.Naming.names here.key (view_of c.learn.new.member) (taken ++ c.args.newcomer ∷ []) (slice_set c.args.processes.now n (Some c.begin-run.result.0)))
     (sym (ap (λ (x : Spawn). x.number) c.newcomer.view_is))
     (welcome_keeps g.K.Naming.names here.key here.table_id c.args.member.now c.catch_up.new.member c.learn.new.member c.begin-run.result.1 c.args.newcomer c.begin-run.result.0 c.catch_up.result c.args.processes.now
     c.requires.token caught.token caught.number caught.between caught.reported (subst (λ n. n ≤ c.catch_up.result) (ap (λ (x : Spawn). x.published) c.newcomer.view_is) caught.caught)
     (noted_in g.T.TableName.table here.table_id c.args.newcomer.number c.args.newcomer.published c.begin-run.result.1 c.requires.table began.note) c.learn.ensures.joined
-    (record { number = began.number; target = began.target; args = began.args; turns = began.turns; frames = began.frames; spans = began.spans; fin = began.fin }) c.requires.free traced taken kept)
+    (record { number = began.number; target = began.target; args = began.args; turns = began.turns; frames = began.frames; spans = began.spans; fin = began.fin }) c.requires.free taken kept)
