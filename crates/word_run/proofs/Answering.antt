@@ -8,7 +8,7 @@ use Rattle.run_law.specs.Newcomers.{Spawn}
 use Rattle.script_core.specs.declared.script.ScriptCmd.{ScriptCmd}
 use Rattle.word_lap.specs.declared.process_run.ProcessRun.{ProcessRun}
 use Rattle.word_run.specs.declared.slice_step.SliceStep.{SliceStep}
-use Rattle.word_run.specs.declared.slice_step.SliceStep.TheVariants.{Over, Purges, Traces, AtOnce, Operates}
+use Rattle.word_run.specs.declared.slice_step.SliceStep.TheVariants.{Over, AtOnce, Operates}
 use Rattle.word_run.specs.declared.scheduler.Scheduler.{Scheduler}
 use Rattle.word_run.specs.Desks.{DeskState}
 use Rattle.word_run.specs.Loaders.{HasCommands, IsLoaderOf, IsStepFor, TellsOfLoader, TellsOfLoaders}
@@ -22,16 +22,12 @@ some_next P next some = ((λ is. absurd (false≢true is)), (λ none. absurd (su
 -- whether all its commands are done
 abbrev pub is_over : SliceStep → Bool
 is_over Over = true
-is_over Purges = false
-is_over Traces = false
 is_over AtOnce = false
 is_over Operates = false
 
 -- its step tells it
 step_tells : (next : Option ScriptCmd) (step : SliceStep) → IsStepFor next step → (is_over step ≡ true) ↔ (next ≡ None)
 step_tells next Over is = ((λ _. is), (λ _. refl))
-step_tells next Purges is = some_next _ next is
-step_tells next Traces is = some_next _ next is
 step_tells next AtOnce is = some_next _ next is
 step_tells next Operates is = some_next _ next is
 

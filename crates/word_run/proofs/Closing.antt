@@ -22,7 +22,7 @@ use Rattle.run_steps.specs.declared.observers.ObserverRun.{ObserverRun}
 use Rattle.run_steps.specs.Observers.{EachBecame, HaveObserved, TakesAll, shots_of}
 use Rattle.run_law.specs.Ended.{AreBeginnings}
 use Rattle.run_law.specs.Ends.{IsHistory}
-use Rattle.run_law.specs.Laws.{JournalsAreSaid, RunsAreHistories, TablesTell, TracesAreThoseOfStates}
+use Rattle.run_law.specs.Laws.{JournalsAreSaid, RunsAreHistories, TablesTell}
 use Rattle.run_law.specs.Newcomers.{Spawn}
 use Rattle.inbox.specs.Ends.{Posting, Taking}
 use Rattle.write_permit.specs.Book.{shown}
@@ -67,20 +67,20 @@ module _ {T I : Type 0} (names : List Mfa) (s : Script) (table : TableId) (openi
 
     -- the log is a history
     pub finished : (members : List tokens.Member) (takers : List (Taking Spawn)) (places : List (Vec (Option ProcessRun) Global)) → AreParted seats members takers places
-        → JournalsAreSaid → TracesAreThoseOfStates → TablesTell → TakenHaveRun → OthersHaveNotRun → RunsAreHistories
+        → JournalsAreSaid → TablesTell → TakenHaveRun → OthersHaveNotRun → RunsAreHistories
         → IsDesk d → IsDone d → AreAllIdle seats → (ends : List (Posting Spawn)) → ends ≡ d.posted → AreSettled ends takers
         → (writer : writers.Writer) → writer ≡ d.book.tables.writer → (w : WriterView) → HasAllMembers members (written_by writer) w → HaveMarks members w → AreBeginnings members w
         → (logs : List ProcessLog) → AreLogged places (length (spawns_of 0 s.loaders)) logs
         → (observers : List ObserverRun) → HaveObserved s d.book.plain.journal observers → ((k : ℕ) (o : ObserverRun) → slice_get observers k ≡ Some o → o.left ≡ 0)
         → (journal : List Entry) → journal ≡ d.book.plain.journal → (shots : List (List Snapshot)) → shots ≡ map shots_of observers
         → IsHistory names s (record { journal = journal; processes = logs; observers = shots }) w
-    finished members takers places parted said traces tell taken others histories desk done idle ends ends_are settled writer writer_is w closed marked seen logs logged observers observed all_looked journal journal_is shots shots_are =
+    finished members takers places parted said tell taken others histories desk done idle ends ends_are settled writer writer_is w closed marked seen logs logged observers observed all_looked journal journal_is shots shots_are =
         let own_settled : AreSettled d.posted takers = subst (λ (xs : List (Posting Spawn)). AreSettled xs takers) ends_are settled in
         let own_closed : HasAllMembers members (written_by d.book.tables.writer) w = subst (λ (t : writers.Writer). HasAllMembers members (written_by t) w) writer_is closed in
         let own_logged : AreLogged places (length (spawns_of 0 d.book.plain.script.loaders)) logs = subst (λ (x : Script). AreLogged places (length (spawns_of 0 x.loaders)) logs) (sym run.script_is) logged in
         let own_observed : HaveObserved d.book.plain.script d.book.plain.journal observers = subst (λ (x : Script). HaveObserved x d.book.plain.journal observers) (sym run.script_is) observed in
         let own : IsHistory names d.book.plain.script (record { journal = d.book.plain.journal; processes = logs; observers = map shots_of observers }) w =
-        ended.is_history names table opening d inboxes seats sight own_run members takers places parted desk own_settled has done w own_closed marked seen said traces tell taken others idle logs own_logged observers own_observed all_looked histories in
+        ended.is_history names table opening d inboxes seats sight own_run members takers places parted desk own_settled has done w own_closed marked seen said tell taken others idle logs own_logged observers own_observed all_looked histories in
         subst (λ (x : Script). IsHistory names x (record { journal = journal; processes = logs; observers = shots }) w) run.script_is
         (subst (λ (j : List Entry). IsHistory names d.book.plain.script (record { journal = j; processes = logs; observers = shots }) w) (sym journal_is)
         (subst (λ (xs : List (List Snapshot)). IsHistory names d.book.plain.script (record { journal = d.book.plain.journal; processes = logs; observers = xs }) w) (sym shots_are) own))

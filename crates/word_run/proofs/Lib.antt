@@ -1,16 +1,13 @@
 pub mod Going
 pub mod Posted
 pub mod Asking
-pub mod Adding
 pub mod Spawning
 pub mod Making
-pub mod Dropping
 pub mod Noting
 pub mod Waiting
 pub mod Laps
 pub mod Slices
 pub mod Answering
-pub mod RoundTraces
 pub mod RoundSeats
 pub mod Rounding
 pub mod Crossing

@@ -1,5 +1,5 @@
 -- A run that has nothing left to do, once its table is closed: what the laws on the end of a run ask of it.
-use Rattle.std.proofs.Common.{◌≡◌, ℕ, zero, suc, ◌<◌, ◌≤◌, ◌%◌, Bool, true, false, List, [], ◌∷◌, length, length-append, map, Option, None, Some, IsSome, slice_get, refl, sym, ap, subst, ◌∙◌, arith}
+use Rattle.std.proofs.Common.{◌≡◌, ℕ, zero, suc, ◌<◌, ◌≤◌, ◌%◌, Bool, true, false, List, [], ◌∷◌, length, map, Option, None, Some, IsSome, slice_get, refl, sym, ap, subst, ◌∙◌, arith}
 use Rattle.std.specs.Prelude.{Vec}
 use Rattle.std.specs.declared.alloc.Global.{Global}
 use Rattle.std.proofs.lemmas.List.{length-map, take_all}
@@ -20,7 +20,6 @@ use Rattle.shared_words.specs.Processes.{AreAtRest}
 use Rattle.shared_words.specs.Rule.{IsBeginning}
 use Rattle.shared_words.specs.Seats.{IsMemberSeat}
 use Rattle.progress_words.specs.Tokens.{written_by}
-use Rattle.mod_core.specs.declared.code.Module.{Module}
 use Rattle.server_core.specs.ServerState.{ServerState, empty_state}
 use Rattle.machine_core.specs.declared.process.End.{End}
 use Rattle.script_core.specs.declared.script.Script.{Script}
@@ -41,15 +40,15 @@ use Rattle.run_steps.proofs.Observing.{all_observe, seen_published, seen_true}
 use Rattle.run_law.specs.Answers.{AreAnswersKept}
 use Rattle.run_law.specs.Ended.{AreBeginnings, HasNotRun, HasRun, HaveCome, HaveRun, IsMemberOf}
 use Rattle.run_law.specs.Ends.{HasItsRest, IsHistory, IsOver}
-use Rattle.run_law.specs.Laws.{AreLearnt, JournalsAreSaid, RunsAreHistories, TablesTell, TracesAreThoseOfStates}
+use Rattle.run_law.specs.Laws.{AreLearnt, JournalsAreSaid, RunsAreHistories, TablesTell}
 use Rattle.run_law.specs.Newcomers.{IsTaken, Spawn, spawn_for}
 use Rattle.run_law.specs.Published.{ArePublished, IsJournal}
-use Rattle.run_law.specs.Reading.{AreTraced, TracedBy, traced_by}
 use Rattle.inbox.specs.Ends.{Taking}
 use Rattle.write_permit.specs.declared.holder.Holder.{Holder}
-use Rattle.write_permit.specs.declared.holder.Holder.TheVariants.{Free, Held, Purging}
+use Rattle.write_permit.specs.declared.holder.Holder.TheVariants.{Free, Held, Purging, Tracing}
 use Rattle.write_permit.specs.Book.{HoldsJust, IsPermit, shown}
 use Rattle.write_permit.specs.Permit.{PermitState, done_of, half_of, next_of}
+use Rattle.write_permit.proofs.Entered.{log_over}
 use Rattle.word_permit.specs.Books.{HasItsTables}
 use Rattle.word_lap.specs.declared.process_run.ProcessRun.{ProcessRun}
 use Rattle.word_lap.specs.Laws.{HaveAllEnded, KnowsTheSame, OthersHaveNotRun, TakenHaveRun, log_of_run}
@@ -72,11 +71,14 @@ no_half : (p : PermitState) (h : Holder) → HoldsJust p h → ((who : ℕ) → 
 no_half p Free holds none = refl
 no_half p (Held by) holds none = refl
 no_half p (Purging by name) holds none = absurd (none-some (script.Purge name) (sym (none by) ∙ holds.next))
+no_half p (Tracing by generation) holds none = refl
 
 module _ (p : PermitState) (permit : IsPermit p) (none : (who : ℕ) → next_of p who ≡ None) where
   -- the entries of each loader are all its commands
   pub in_order : (loader : ℕ) → commands_in loader p.journal ≡ commands_of p.script loader
-  in_order loader = permit.log.in_order loader ∙ take_all (done_of p.loaders loader) (commands_of p.script loader) (none_past (commands_of p.script loader) (done_of p.loaders loader) (none loader))
+  in_order loader =
+      let log = log_over p permit none in
+      log.in_order loader ∙ take_all (done_of p.loaders loader) (commands_of p.script loader) (none_past (commands_of p.script loader) (done_of p.loaders loader) (none loader))
 
   -- and no purge waits
   pub loaders_done : LoadersInOrder p.script p.journal
@@ -125,21 +127,13 @@ same_run : (place : Option (Option ProcessRun)) (found stood : ProcessRun) → p
 same_run place found stood found_at stood_at = same_Some found stood (same_Some (Some found) (Some stood) (sym found_at ∙ stood_at))
 
 -- the process that stands at the place of its number has run as its log tells
-stood_ran : (names : List Mfa) (traced : TracedBy) (journal : List Entry) (known shown : MemberView) (number : ℕ) (line : SpawnLine) (process : ProcessLog) (processes : List (Option ProcessRun)) (stood : ProcessRun)
+stood_ran : (names : List Mfa) (journal : List Entry) (known shown : MemberView) (number : ℕ) (line : SpawnLine) (process : ProcessLog) (processes : List (Option ProcessRun)) (stood : ProcessRun)
     → slice_get processes number ≡ Some (Some stood) → process ≡ log_of_run stood → known ≡ shown
-    → (run : ProcessRun) × ((slice_get processes number ≡ Some (Some run)) × HasRun names traced journal known number line (log_of_run run))
-    → HasRun names traced journal shown number line process
-stood_ran names traced journal known shown number line process processes stood stands log same had =
-    subst (λ (v : MemberView). HasRun names traced journal v number line process) same
-    (subst (HasRun names traced journal known number line) (ap log_of_run (same_run (slice_get processes number) had.0 stood had.1.0 stands) ∙ sym log) had.1.1)
-
--- ---- what was learnt of
-
-traced_to : (texts : List Module) (journal : List Entry) (traced : TracedBy) (many few : ℕ) → few ≤ many → AreTraced texts journal many traced → AreTraced texts journal few traced
-traced_to texts journal traced many few low h g less = h g (omega (arith, less, low))
-
-beginning_short : (seen published : List Published) → IsBeginning seen published → length seen ≤ length published
-beginning_short seen published h = omega (arith, ap length h.1, length-append seen h.0)
+    → (run : ProcessRun) × ((slice_get processes number ≡ Some (Some run)) × HasRun names journal known number line (log_of_run run))
+    → HasRun names journal shown number line process
+stood_ran names journal known shown number line process processes stood stands log same had =
+    subst (λ (v : MemberView). HasRun names journal v number line process) same
+    (subst (HasRun names journal known number line) (ap log_of_run (same_run (slice_get processes number) had.0 stood had.1.0 stands) ∙ sym log) had.1.1)
 
 -- ---- a run
 
@@ -151,15 +145,12 @@ module _ {T I : Type 0} (names : List Mfa) (table : TableId) (opening : Opening)
   abbrev s : Script
   s = d.book.plain.script
 
-  abbrev traced : TracedBy
-  traced = traced_by d.book.plain.script.modules d.book.plain.journal
-
   -- a scheduler by its number
   record HasSeat (k : ℕ) : Type 0 where
     seat : Seat T I
     at : slice_get seats k ≡ Some seat
     number : seat.scheduler.number ≡ k
-    keeps : Keeps names traced table opening seat.scheduler
+    keeps : Keeps names table opening seat.scheduler
     member_at : slice_get members k ≡ Some keeps.token
     taker_at : slice_get takers k ≡ Some seat.scheduler.taker
     place_at : slice_get places k ≡ Some seat.scheduler.processes
@@ -220,7 +211,7 @@ module _ {T I : Type 0} (names : List Mfa) (table : TableId) (opening : Opening)
         record { among = (held.1.0.0, held.1.0.1 ∙ ap Some same); one = taken_one k x number line at }
 
     module _ (has : HasItsTables names table opening d.book) (done : IsDone d) (w : WriterView) (closed : HasAllMembers members (written_by d.book.tables.writer) w) (marked : HaveMarks members w) (seen : AreBeginnings members w)
-        (said : JournalsAreSaid) (traces : TracesAreThoseOfStates) (tell : TablesTell) where
+        (said : JournalsAreSaid) (tell : TablesTell) where
       permit : IsPermit p
       permit = has.book.permit
 
@@ -232,9 +223,6 @@ module _ {T I : Type 0} (names : List Mfa) (table : TableId) (opening : Opening)
 
       published : ArePublished names s.modules p.journal w.published
       published = subst (ArePublished names s.modules p.journal) (sym published_same) has.published
-
-      traced_all : AreTraced s.modules p.journal (length w.published) traced
-      traced_all = subst (λ (n : ℕ). AreTraced s.modules p.journal n traced) (sym published.many) (traces s.modules p.journal)
 
       members_made : length (written_by d.book.tables.writer).members ≡ opening.members
       members_made = has.tables.token.made
@@ -250,7 +238,7 @@ module _ {T I : Type 0} (names : List Mfa) (table : TableId) (opening : Opening)
       shown_member : (k : ℕ) (x : HasSeat k) (m : MemberView) → slice_get w.members k ≡ Some m → view_of x.keeps.token ≡ m
       shown_member k x m at = same_Some (view_of x.keeps.token) m (sym (closed.each k x.keeps.token x.member_at) ∙ at)
 
-      learnt : (k : ℕ) (x : HasSeat k) → AreLearnt names s.modules p.journal traced x.keeps.by.seated.before.seen
+      learnt : (k : ℕ) (x : HasSeat k) → AreLearnt names s.modules p.journal x.keeps.by.seated.before.seen
       learnt k x =
           let by = x.keeps.by.seated in
           let same = same_of_token table x.seat.scheduler.number x.seat.scheduler.generation x.keeps.token x.seat.scheduler.waits by.before by.stands in
@@ -260,7 +248,6 @@ module _ {T I : Type 0} (names : List Mfa) (table : TableId) (opening : Opening)
             published = w.published;
             beginning = begins;
             are = published;
-            traces = traced_to s.modules p.journal traced (length w.published) (length by.before.seen) (beginning_short by.before.seen w.published begins) traced_all;
           }
 
       module _ (taken : TakenHaveRun) (others : OthersHaveNotRun) (idle : AreAllIdle seats) (logs : List ProcessLog) (logged : AreLogged places (length (spawns_of 0 s.loaders)) logs) where
@@ -272,7 +259,7 @@ module _ {T I : Type 0} (names : List Mfa) (table : TableId) (opening : Opening)
 
         -- each process of the script has run
         each_run : (number : ℕ) (line : SpawnLine) (process : ProcessLog) (m : MemberView) → slice_get (spawns_of 0 s.loaders) number ≡ Some line → slice_get logs number ≡ Some process → IsMemberOf w number m
-            → HasRun names traced p.journal m number line process
+            → HasRun names p.journal m number line process
         each_run number line process m line_at log_at member_at =
             let k = number % length w.members in
             let x = seat_by k (home_low number) in
@@ -284,8 +271,8 @@ module _ {T I : Type 0} (names : List Mfa) (table : TableId) (opening : Opening)
             let own : by.before.member.number ≡ k =
             number_of_token table x.seat.scheduler.number x.seat.scheduler.generation x.keeps.token x.seat.scheduler.waits by.before by.stands ∙ (member_seat k x).numbered in
             let mine : number % opening.members ≡ by.before.member.number = ap (λ (n : ℕ). number % n) (run.members ∙ sym many_members) ∙ sym own in
-            stood_ran names traced p.journal (view_of x.keeps.token) m number line process x.seat.scheduler.processes.items log.run stands log.is (shown_member k x m member_at)
-            (taken names traced opening by.before (view_of x.keeps.token) x.seat.scheduler.taker.taken x.seat.scheduler.processes.items s.modules p.journal number line x.keeps.by.kept
+            stood_ran names p.journal (view_of x.keeps.token) m number line process x.seat.scheduler.processes.items log.run stands log.is (shown_member k x m member_at)
+            (taken names opening by.before (view_of x.keeps.token) x.seat.scheduler.taker.taken x.seat.scheduler.processes.items s.modules p.journal number line x.keeps.by.kept
             (all_ended x.seat.scheduler.processes.items (idle k x.seat x.at)) (same_of_token table x.seat.scheduler.number x.seat.scheduler.generation x.keeps.token x.seat.scheduler.waits by.before by.stands) (learnt k x)
             (omega (arith, slice_get_within logs number process log_at, few_logs)) mine (is_taken k x number line log.run line_at stands))
 
@@ -296,13 +283,13 @@ module _ {T I : Type 0} (names : List Mfa) (table : TableId) (opening : Opening)
             let x = seat_by k (home_low number) in
             let by = x.keeps.by.seated in
             subst (λ (v : MemberView). HasNotRun v number) (shown_member k x m member_at)
-            (others names traced opening by.before (view_of x.keeps.token) x.seat.scheduler.taker.taken x.seat.scheduler.processes.items number x.keeps.by.kept
+            (others names opening by.before (view_of x.keeps.token) x.seat.scheduler.taker.taken x.seat.scheduler.processes.items number x.keeps.by.kept
             (same_of_token table x.seat.scheduler.number x.seat.scheduler.generation x.keeps.token x.seat.scheduler.waits by.before by.stands) low
             (λ spawn among same.
             let from = taken_spawned k x spawn among in
             absurd (omega (arith, slice_get_within (spawns_of 0 s.loaders) spawn.number from.line from.at, same, high, logged.many))))
 
-        have_run : (shots : List (List Snapshot)) → HaveRun names traced s (record { journal = p.journal; processes = logs; observers = shots }) w
+        have_run : (shots : List (List Snapshot)) → HaveRun names s (record { journal = p.journal; processes = logs; observers = shots }) w
         have_run shots = record {
           many = logged.many;
           few = few_logs;
@@ -315,11 +302,10 @@ module _ {T I : Type 0} (names : List Mfa) (table : TableId) (opening : Opening)
         }
 
         -- the run is over
-        pub is_over : (shots : List (List Snapshot)) → IsOver names traced s (record { journal = p.journal; processes = logs; observers = shots }) w
+        pub is_over : (shots : List (List Snapshot)) → IsOver names s (record { journal = p.journal; processes = logs; observers = shots }) w
         is_over shots = record {
           journal = journal;
           published = published;
-          traces = traced_all;
           come = have_come;
           run = have_run shots;
         }
@@ -345,7 +331,7 @@ module _ {T I : Type 0} (names : List Mfa) (table : TableId) (opening : Opening)
 
           -- so its log is a history
           pub is_history : RunsAreHistories → IsHistory names s the_log w
-          is_history histories = histories names traced s the_log w (is_over (map shots_of observers)) answers has_rest
+          is_history histories = histories names s the_log w (is_over (map shots_of observers)) answers has_rest
 
 -- ---- the last look
 

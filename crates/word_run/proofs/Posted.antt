@@ -9,9 +9,10 @@ use Rattle.run_log.specs.Legal.{commands_in, commands_of}
 use Rattle.run_log.proofs.Journals.{before_kept, commands_more}
 use Rattle.run_law.specs.Newcomers.{Spawn}
 use Rattle.inbox.specs.Ends.{Posting}
-use Rattle.write_permit.specs.Book.{IsPermit, shown}
-use Rattle.write_permit.specs.Permit.{PermitState, done_of}
-use Rattle.word_run.specs.Desks.{ArePosted, DeskState, GoesOn, IsDesk, WasSpawned}
+use Rattle.write_permit.specs.Book.{IsPermit}
+use Rattle.write_permit.specs.Permit.{PermitState, done_of, entered_by}
+use Rattle.write_permit.proofs.Entered.{entered_grows}
+use Rattle.word_run.specs.Desks.{ArePosted, GoesOn, WasSpawned}
 
 abbrev spawn_with : ℕ → SpawnLine → ℕ → Spawn
 spawn_with number line published = record { number = number; target = line.target; args = line.args; published = published }
@@ -31,7 +32,8 @@ before_on loader place journal (e ∷ more) h =
 -- a command that is done has its entry
 done_within : (p : PermitState) (loader place : ℕ) → IsPermit p → place < done_of p.loaders loader → place < length (commands_in loader p.journal)
 done_within p loader place permit h =
-    omega (arith, h, permit.log.within loader, ap length (permit.log.in_order loader), length-take (done_of p.loaders loader) (commands_of p.script loader))
+    let entered = done_of (entered_by p.holder p.loaders) loader in
+    omega (arith, h, entered_grows p.holder p.loaders loader, permit.log.within loader, ap length (permit.log.in_order loader), length-take entered (commands_of p.script loader))
 
 spawned_on : (p q : PermitState) (spawn : Spawn) → IsPermit p → GoesOn p q → WasSpawned p spawn → WasSpawned q spawn
 spawned_on p q spawn permit goes h =
@@ -49,11 +51,4 @@ pub posted_on : (p q : PermitState) (posted : List (Posting Spawn)) → IsPermit
 posted_on p q posted permit goes h = record {
   number = h.number;
   each = λ home end at spawn among. spawned_on p q spawn permit goes (h.each home end at spawn among);
-}
-
--- so it is on a desk
-pub desk_on : (d e : DeskState) → IsPermit (shown d.book.plain) → GoesOn (shown d.book.plain) (shown e.book.plain) → e.posted ≡ d.posted → IsDesk d → IsDesk e
-desk_on d e permit goes same h = record {
-  some = subst (λ (xs : List (Posting Spawn)). 0 < length xs) (sym same) h.some;
-  posted = subst (ArePosted (shown e.book.plain)) (sym same) (posted_on (shown d.book.plain) (shown e.book.plain) d.posted permit goes h.posted);
 }

@@ -7,13 +7,11 @@ use Rattle.script_core.specs.declared.script.Script.{Script}
 use Rattle.run_log.specs.declared.logs.Entry.{Entry}
 use Rattle.run_steps.specs.declared.observers.ObserverRun.{ObserverRun}
 use Rattle.run_steps.specs.Observers.{HaveObserved, KeepsGenerations}
-use Rattle.run_law.specs.Reading.{traced_by}
 use Rattle.word_permit.specs.Runs.{IsOverWords, Run}
 use Rattle.word_run.specs.declared.seat.Seat.{Seat}
 use Rattle.word_run.specs.declared.sight.Sight.{Sight}
 use Rattle.word_run.specs.Desks.{DeskState}
 use Rattle.word_run.specs.Rounds.{IsRun}
-use Rattle.word_run.specs.Schedulers.{IsGiven}
 use Rattle.word_run.proofs.Rounding.{seen_later}
 
 -- what an answer tells where it came
@@ -23,10 +21,6 @@ on_at {X} {E} P r x is h = subst (λ (a : Result X E). OnOk a P) is h
 -- the words are those of the run
 pub words_as : (run : Option Run) (table fresh : TableId) (opening key : Opening) → fresh ≡ table → key ≡ opening → IsOverWords table opening run → IsOverWords fresh key run
 words_as run table fresh opening key t k h = subst (λ (x : Opening). IsOverWords fresh x run) (sym k) (subst (λ (x : TableId). IsOverWords x opening run) (sym t) h)
-
--- what a round is given is by the script
-pub given_as : (s other : Script) (journal : List Entry) (sight : Sight) → other ≡ s → IsGiven (traced_by s.modules journal) sight → IsGiven (traced_by other.modules journal) sight
-given_as s other journal sight is h = subst (λ (x : Script). IsGiven (traced_by x.modules journal) sight) (sym is) h
 
 -- what was seen stays true, by the script
 pub seen_as : (s other : Script) (journal later : List Entry) (observers : List ObserverRun) → other ≡ s → KeepsGenerations other.modules journal later → HaveObserved s journal observers → HaveObserved s later observers

@@ -1,41 +1,33 @@
--- A run over a round, and between two rounds.
-use Rattle.std.proofs.Common.{◌≡◌, ℕ, ◌<◌, All, List, [], append-nil, get_or, length, slice_get, Option, Some, IsOk, refl, sym, ap, subst, ◌∙◌, arith}
+-- A run over a round.
+use Rattle.std.proofs.Common.{◌≡◌, ℕ, ◌<◌, All, List, [], ◌∷◌, ◌++◌, append-nil, append_assoc, get_or, length, slice_get, Option, Some, IsOk, refl, sym, ap, subst, ◌∙◌, arith}
 use Rattle.std.proofs.lemmas.Option.{same_Some, slice_get-get_or, slice_get_within}
 use Rattle.std.specs.Prelude.{min}
 use Rattle.atomic_table.specs.Seated.{TableId}
 use Rattle.term_core.specs.declared.atom.Mfa.{Mfa}
+use Rattle.mod_core.specs.declared.code.Module.{Module}
 use Rattle.server_core.specs.ServerState.{ServerState, empty_state}
 use Rattle.shared_words.specs.declared.opening.Opening.{Opening}
 use Rattle.script_core.specs.declared.script.Script.{Script}
 use Rattle.run_log.specs.declared.logs.Entry.{Entry}
 use Rattle.run_log.specs.ExportedFunctions.{AreExportedFunctions}
 use Rattle.run_log.specs.Journal.{newest_state}
-use Rattle.run_log.specs.Legal.{Replays}
 use Rattle.run_steps.specs.declared.observers.ObserverRun.{ObserverRun}
 use Rattle.run_steps.specs.Observers.{EachBecame, HaveObserved, KeepsGenerations, TakesOne}
+use Rattle.run_steps.proofs.Generations.{generations_both, generations_more, generations_same}
 use Rattle.run_steps.proofs.Observing.{all_observe, still_observed}
-use Rattle.run_law.specs.Reading.{traced_by}
 use Rattle.write_permit.specs.Book.{IsPermit, shown}
 use Rattle.word_run.specs.declared.seat.Seat.{Seat}
 use Rattle.word_run.specs.declared.sight.Sight.{Sight}
-use Rattle.word_run.specs.Desks.{AddsInSlices, DeskState, GoesOn, HasHomes, IsSliceOf}
-use Rattle.word_run.specs.Rounds.{AreAllIdle, AreIdle, ArePublishedTo, CanGo, HadSlice, IsRun, TracesStay}
-use Rattle.word_run.specs.Schedulers.{IsGiven}
-use Rattle.word_run.proofs.RoundSeats.{idle_sliced, kept_go, kept_sliced, kept_stay}
-use Rattle.word_run.proofs.RoundTraces.{adds_traced, kept_by, traced_below}
+use Rattle.word_run.specs.Desks.{AddsInSlices, DeskState, HasHomes, IsSliceOf}
+use Rattle.word_run.specs.Rounds.{AreAllIdle, AreIdle, CanGo, HadSlice, IsRun}
+use Rattle.word_run.proofs.RoundSeats.{idle_sliced, kept_go, kept_sliced}
+use Rattle.word_run.proofs.Slices.{slices_none}
 
 -- ---- a round
 
 -- nothing was made yet
-pub begins_slice : (d : DeskState) → AddsInSlices d d
-begins_slice d = record {
-  adds = record { more = []; journal = sym (append-nil d.book.plain.journal); leaves = tt };
-  script = refl;
-  homes = refl;
-}
-
 pub named_begins : (began : Option DeskState) (d : DeskState) → began ≡ Some d → IsSliceOf began d
-named_begins began d is = subst (λ (o : Option DeskState). IsSliceOf o d) (sym is) (begins_slice d)
+named_begins began d is = subst (λ (o : Option DeskState). IsSliceOf o d) (sym is) (slices_none d)
 
 pub named_homes : (began : Option DeskState) (d : DeskState) (count : ℕ) → began ≡ Some d → count ≡ length d.posted → HasHomes began count
 named_homes began d count is homes = subst (λ (o : Option DeskState). HasHomes o count) (sym is) (sym homes)
@@ -49,85 +41,56 @@ named_adds began d e is h = subst (λ (o : Option DeskState). IsSliceOf o e) is 
 pub newest_is : (d : DeskState) (s : Script) → d.book.plain.script ≡ s → IsPermit (shown d.book.plain) → d.book.plain.server ≡ newest_state s.modules empty_state d.book.plain.journal
 newest_is d s is permit = permit.log.server_is ∙ ap (λ (x : Script). newest_state x.modules empty_state d.book.plain.journal) is
 
-replays_by : (d : DeskState) (s : Script) → d.book.plain.script ≡ s → IsPermit (shown d.book.plain) → Replays s.modules empty_state d.book.plain.journal
-replays_by d s is permit = subst (λ (x : Script). Replays x.modules empty_state d.book.plain.journal) is permit.log.replays
-
 -- one look of each observer
 pub looked_once : (s : Script) (d : DeskState) (server : ServerState) (functions : List Mfa) (before after : List ObserverRun) → d.book.plain.script ≡ s → IsPermit (shown d.book.plain) → server ≡ d.book.plain.server
     → AreExportedFunctions s.names s.modules functions → HaveObserved s d.book.plain.journal before → EachBecame (TakesOne server functions) before after → HaveObserved s d.book.plain.journal after
 looked_once s d server functions before after is permit server_is all observed looked =
     all_observe s d.book.plain.journal functions server (λ (b : ObserverRun). min 1 b.left) before after all (server_is ∙ newest_is d s is permit) observed looked
 
-module _ {T I : Type 0} where
-  -- ---- between two rounds
+-- ---- over a round
 
-  pub same_stay : (d : DeskState) (seats : List (Seat T I)) → TracesStay d d seats
-  same_stay d seats = λ k seat at g low. refl
+module _ {T I : Type 0} (functions : List Mfa) (table : TableId) (opening : Opening) where
+  -- a round may begin
+  pub round_go : (s : Script) (d : DeskState) (inboxes : List ℕ) (seats : List (Seat T I)) (sight : Sight) → IsRun functions s table opening d inboxes seats sight → All (CanGo functions table opening (length inboxes)) seats
+  round_go s d inboxes seats sight run = kept_go functions table opening (length inboxes) seats run.many run.kept
 
-  -- entries join where each scheduler holds a published generation
-  pub joined_stay : (d e : DeskState) (newest : ℕ) (seats : List (Seat T I)) → IsPermit (shown d.book.plain) → IsPermit (shown e.book.plain) → GoesOn (shown d.book.plain) (shown e.book.plain)
-      → newest ≡ d.book.plain.server.generation → ArePublishedTo newest seats → TracesStay d e seats
-  joined_stay d e newest seats first last goes newest_of published = λ k seat at g low.
-      let top : d.book.plain.server.generation ≡ (newest_state d.book.plain.script.modules empty_state d.book.plain.journal).generation = ap (λ (s : ServerState). s.generation) first.log.server_is in
-      traced_below d.book.plain.script.modules d.book.plain.journal e.book.plain.journal first.log.replays (replays_by e d.book.plain.script goes.script last)
-      (kept_by d.book.plain.script.modules d.book.plain.journal e.book.plain.journal goes.more goes.journal)
-      g (omega (arith, low, published k seat at, newest_of, top))
-
-  module _ (functions : List Mfa) (table : TableId) (opening : Opening) (d e : DeskState) (inboxes : List ℕ) (seats : List (Seat T I)) (sight given : Sight)
-      (run : IsRun functions d.book.plain.script table opening d inboxes seats sight) (goes : GoesOn (shown d.book.plain) (shown e.book.plain)) (posted : e.posted ≡ d.posted) (exports : given.exports ≡ sight.exports) where
-    -- the run stands as it did
-    pub between_run : (lent : List (Seat T I)) → lent ≡ seats → TracesStay d e lent → IsRun functions d.book.plain.script table opening e inboxes seats given
-    between_run lent lent_is stays = record {
-      some = run.some;
-      members = run.members;
+  module _ (d e : DeskState) (inboxes : List ℕ) (seats after : List (Seat T I)) (sight : Sight) (run : IsRun functions d.book.plain.script table opening d inboxes seats sight) (adds : AddsInSlices d e) (sliced : EachBecame (HadSlice functions table opening) seats after) where
+    sliced_run : ((k : ℕ) (seat : Seat T I) → slice_get after k ≡ Some seat → IsOk seat.answer) → IsRun functions d.book.plain.script table opening e inboxes after sight
+    sliced_run ok = record {
+      some = omega (arith, run.some, sliced.many);
+      members = run.members ∙ sym sliced.many;
       inboxes_are = run.inboxes_are;
-      many = run.many;
-      homes = ap length posted ∙ run.homes;
-      exports = exports ∙ run.exports;
-      script_is = goes.script;
-      kept = kept_stay functions table opening d e seats (subst (λ (xs : List (Seat T I)). TracesStay d e xs) lent_is stays) run.kept;
+      many = run.many ∙ sym sliced.many;
+      homes = adds.homes ∙ run.homes ∙ sym sliced.many;
+      exports = run.exports;
+      script_is = adds.goes.script;
+      kept = kept_sliced functions table opening seats after sliced ok run.kept;
     }
 
-  -- ---- over a round
+    -- the run stands as it did, where no slice met want of memory
+    pub round_run : (lent : List (Seat T I)) → lent ≡ after → ((k : ℕ) (seat : Seat T I) → slice_get lent k ≡ Some seat → IsOk seat.answer)
+        → (others : List ℕ) → others ≡ inboxes → (other : Sight) → other ≡ sight → IsRun functions d.book.plain.script table opening e others after other
+    round_run lent lent_is lent_ok others others_are other other_is =
+        let ok = subst (λ (xs : List (Seat T I)). (k : ℕ) (seat : Seat T I) → slice_get xs k ≡ Some seat → IsOk seat.answer) lent_is lent_ok in
+        subst (λ (xs : List ℕ). IsRun functions d.book.plain.script table opening e xs after other) (sym others_are)
+        (subst (λ (x : Sight). IsRun functions d.book.plain.script table opening e inboxes after x) (sym other_is) (sliced_run ok))
 
-  -- a round may begin
-  pub round_go : (functions : List Mfa) (table : TableId) (opening : Opening) (d : DeskState) (inboxes : List ℕ) (seats : List (Seat T I)) (sight : Sight)
-      → IsRun functions d.book.plain.script table opening d inboxes seats sight → IsGiven (traced_by d.book.plain.script.modules d.book.plain.journal) sight → All (CanGo functions table opening sight (length inboxes)) seats
-  round_go functions table opening d inboxes seats sight run given = kept_go functions table opening d.book.plain.script d.book.plain.journal sight (length inboxes) seats run.many given run.kept
+  -- a round that leaves no process
+  pub idle_round : (seats after lent : List (Seat T I)) → lent ≡ after → EachBecame (HadSlice functions table opening) seats after → AreIdle lent → AreAllIdle after
+  idle_round seats after lent is sliced idle = idle_sliced functions table opening seats after sliced (subst (λ (xs : List (Seat T I)). AreIdle xs) is idle)
 
-  module _ (functions : List Mfa) (table : TableId) (opening : Opening) (d e : DeskState) (inboxes : List ℕ) (seats after : List (Seat T I)) (sight : Sight)
-      (run : IsRun functions d.book.plain.script table opening d inboxes seats sight) where
-    module _ (adds : AddsInSlices d e) where
-      sliced_run : IsPermit (shown d.book.plain) → IsPermit (shown e.book.plain) → IsGiven (traced_by d.book.plain.script.modules d.book.plain.journal) sight
-          → EachBecame (HadSlice functions table opening sight) seats after → ((k : ℕ) (seat : Seat T I) → slice_get after k ≡ Some seat → IsOk seat.answer)
-          → IsRun functions d.book.plain.script table opening e inboxes after sight
-      sliced_run first last given sliced ok =
-          let same = adds_traced d.book.plain.script.modules d.book.plain.journal e.book.plain.journal first.log.replays (replays_by e d.book.plain.script adds.script last) adds.adds in
-          record {
-            some = omega (arith, run.some, sliced.many);
-            members = run.members ∙ sym sliced.many;
-            inboxes_are = run.inboxes_are;
-            many = run.many ∙ sym sliced.many;
-            homes = adds.homes ∙ run.homes ∙ sym sliced.many;
-            exports = run.exports;
-            script_is = adds.script;
-            kept = kept_sliced functions table opening d.book.plain.script d.book.plain.journal e.book.plain.journal sight seats after same given sliced ok run.kept;
-          }
+-- ---- journals
 
-      -- the run stands as it did, where no slice met want of memory
-      pub round_run : IsPermit (shown d.book.plain) → IsPermit (shown e.book.plain) → IsGiven (traced_by d.book.plain.script.modules d.book.plain.journal) sight
-          → EachBecame (HadSlice functions table opening sight) seats after
-          → (lent : List (Seat T I)) → lent ≡ after → ((k : ℕ) (seat : Seat T I) → slice_get lent k ≡ Some seat → IsOk seat.answer)
-          → (others : List ℕ) → others ≡ inboxes → (other : Sight) → other ≡ sight
-          → IsRun functions d.book.plain.script table opening e others after other
-      round_run first last given sliced lent lent_is lent_ok others others_are other other_is =
-          let ok = subst (λ (xs : List (Seat T I)). (k : ℕ) (seat : Seat T I) → slice_get xs k ≡ Some seat → IsOk seat.answer) lent_is lent_ok in
-          subst (λ (xs : List ℕ). IsRun functions d.book.plain.script table opening e xs after other) (sym others_are)
-          (subst (λ (x : Sight). IsRun functions d.book.plain.script table opening e inboxes after x) (sym other_is) (sliced_run first last given sliced ok))
+-- entries more keep the states of the generations before
+kept_more : (texts : List Module) (journal more : List Entry) → KeepsGenerations texts journal (journal ++ more)
+kept_more texts journal [] = subst (KeepsGenerations texts journal) (sym (append-nil journal)) (generations_same texts journal)
+kept_more texts journal (e ∷ more) =
+    let one = journal ++ e ∷ [] in
+    subst (KeepsGenerations texts journal) (append_assoc journal (e ∷ []) more)
+    (generations_both texts journal one (one ++ more) (generations_more texts journal journal one e (generations_same texts journal) refl) (kept_more texts one more))
 
--- a round that leaves no process
-pub idle_round : {T I : Type 0} (functions : List Mfa) (table : TableId) (opening : Opening) (sight : Sight) (seats after lent : List (Seat T I)) → lent ≡ after → EachBecame (HadSlice functions table opening sight) seats after → AreIdle lent → AreAllIdle after
-idle_round {T} {I} functions table opening sight seats after lent is sliced idle = idle_sliced functions table opening sight seats after sliced (subst (λ (xs : List (Seat T I)). AreIdle xs) is idle)
+pub kept_by : (texts : List Module) (journal now more : List Entry) → now ≡ journal ++ more → KeepsGenerations texts journal now
+kept_by texts journal now more is = subst (KeepsGenerations texts journal) (sym is) (kept_more texts journal more)
 
 -- what was seen stays true as the journal grows
 pub seen_later : (s : Script) (journal later : List Entry) (observers : List ObserverRun) → KeepsGenerations s.modules journal later → HaveObserved s journal observers → HaveObserved s later observers
@@ -150,7 +113,7 @@ pub became_lent : {X : Type 0} (R : X → X → Type 0) (before lent left after 
 became_lent {X} R before lent left after lent_is after_is h = subst (λ (xs : List X). EachBecame R before xs) (sym after_is) (subst (λ (xs : List X). EachBecame R xs left) lent_is h)
 
 -- a round may begin over what is lent
-pub go_lent : {T I : Type 0} (functions : List Mfa) (table : TableId) (opening : Opening) (sight : Sight) (inboxes others : List ℕ) (seats lent : List (Seat T I)) → others ≡ inboxes → lent ≡ seats
-    → All (CanGo functions table opening sight (length inboxes)) seats → All (CanGo functions table opening sight (length others)) lent
-go_lent {T} {I} functions table opening sight inboxes others seats lent others_are lent_is h =
-    subst (λ (xs : List (Seat T I)). All (CanGo functions table opening sight (length others)) xs) (sym lent_is) (subst (λ (ns : List ℕ). All (CanGo functions table opening sight (length ns)) seats) (sym others_are) h)
+pub go_lent : {T I : Type 0} (functions : List Mfa) (table : TableId) (opening : Opening) (inboxes others : List ℕ) (seats lent : List (Seat T I)) → others ≡ inboxes → lent ≡ seats
+    → All (CanGo functions table opening (length inboxes)) seats → All (CanGo functions table opening (length others)) lent
+go_lent {T} {I} functions table opening inboxes others seats lent others_are lent_is h =
+    subst (λ (xs : List (Seat T I)). All (CanGo functions table opening (length others)) xs) (sym lent_is) (subst (λ (ns : List ℕ). All (CanGo functions table opening (length ns)) seats) (sym others_are) h)

@@ -20,12 +20,13 @@ use Rattle.run_steps.proofs.Ends.{spawn_line}
 use Rattle.run_law.specs.Newcomers.{Spawn}
 use Rattle.inbox.specs.Ends.{Posting, posted}
 use Rattle.write_permit.specs.Book.{IsPermit}
-use Rattle.write_permit.specs.Permit.{PermitState, at_once_of, done_of, next_of, opening}
+use Rattle.write_permit.specs.Permit.{PermitState, at_once_of, done_of, entered_by, next_of, opening}
+use Rattle.write_permit.proofs.Entered.{entered_done}
+use Rattle.write_permit.proofs.Kept.{holder_apart}
 use Rattle.literal_areas.proofs.Uses.{set_here, set_there}
 use Rattle.word_run.specs.Desks.{ArePosted, WasSpawned}
 use Rattle.word_run.specs.Loaders.{posted_home}
-use Rattle.word_run.proofs.Adding.{done_journal, entry_for, loader_within}
-use Rattle.word_run.proofs.Asking.{WasDone, at_once_is, counts_one}
+use Rattle.word_run.proofs.Asking.{WasDone, at_once_is, done_journal, done_more, entry_for}
 
 own_count : (own one : Bool) (x : Entry) (xs : List Entry) → length (ended_by x.cmd) ≡ (if one then 1 else 0) → length (flat_map (λ (e : Entry). ended_by e.cmd) (cond own (x ∷ xs) xs)) ≡ (if own && one then 1 else 0) + length (flat_map (λ (e : Entry). ended_by e.cmd) xs)
 own_count true one x xs h = length-append (ended_by x.cmd) (flat_map (λ (e : Entry). ended_by e.cmd) xs) ∙ ap (λ n. n + length (flat_map (λ (e : Entry). ended_by e.cmd) xs)) h
@@ -59,11 +60,15 @@ before_here loader place (x ∷ journal) e ends at =
 abbrev line_of : PermitState → ℕ → Mfa → List PlainTerm → SpawnLine
 line_of p who target args = record { loader = who; place = done_of p.loaders who; target = target; args = args }
 
-counted_so : (p : PermitState) (loader : ℕ) → IsPermit p → done_of p.loaders loader ≡ length (commands_in loader p.journal)
-counted_so p loader permit = omega (arith, permit.log.within loader, ap length (permit.log.in_order loader), length-take (done_of p.loaders loader) (commands_of p.script loader))
+-- each of its loader's entries is of a command that is done
+counted_so : (p : PermitState) (who : ℕ) (target : Mfa) (args : List PlainTerm) → IsPermit p → next_of p who ≡ Some (script.Spawn target args) → done_of p.loaders who ≡ length (commands_in who p.journal)
+counted_so p who target args permit next =
+    let entered = done_of (entered_by p.holder p.loaders) who in
+    let apart = holder_apart p p.holder who (script.Spawn target args) permit.holds next refl in
+    omega (arith, entered_done p.holder p.loaders who apart, permit.log.within who, ap length (permit.log.in_order who), length-take entered (commands_of p.script who))
 
-own_entry : (who : ℕ) (command : ScriptCmd) (target : Mfa) (args : List PlainTerm) (p q : PermitState) (done : WasDone p who command (opening p.server [] command) p.holder q) → command ≡ script.Spawn target args
-    → ends_command who (entry_for p who command (opening p.server [] command) p.holder q done) ≡ true
+own_entry : (who : ℕ) (command : ScriptCmd) (target : Mfa) (args : List PlainTerm) (p q : PermitState) (done : WasDone p who command q) → command ≡ script.Spawn target args
+    → ends_command who (entry_for p who command q done) ≡ true
 own_entry who command target args p q done is = ap (λ c. (who == who) && ends_one (opening p.server [] c)) is ∙ ap (λ b. b && true) (eq-eqb who who refl)
 
 module _ (p q : PermitState) (who : ℕ) (target : Mfa) (args : List PlainTerm) (answer : Applied) (process published : ℕ) (permit : IsPermit p) (next : next_of p who ≡ Some (script.Spawn target args)) (made : at_once_of p who ≡ Some (record { state = q; answer = answer })) (number_is : process ≡ spawn_number p.script.loaders who (done_of p.loaders who)) (published_is : published ≡ published_count p.journal) where
@@ -75,14 +80,13 @@ module _ (p q : PermitState) (who : ℕ) (target : Mfa) (args : List PlainTerm) 
       let done = at_once_is p who q answer made in
       let is : done.0 ≡ script.Spawn target args = same_Some _ _ (sym done.1.next ∙ next) in
       let script_is : q.script ≡ p.script = ap (λ (x : PermitState). x.script) done.1.state in
-      let counts = counts_one p.loaders who done.0 (loader_within p who done.0 permit done.1.next) in
       let before : published_before who (done_of p.loaders who) q.journal ≡ published_count p.journal =
-      ap (published_before who (done_of p.loaders who)) (done_journal p who done.0 (opening p.server [] done.0) p.holder q done.1)
-      ∙ before_here who (done_of p.loaders who) p.journal (entry_for p who done.0 (opening p.server [] done.0) p.holder q done.1) (own_entry who done.0 target args p q done.1 is) (counted_so p who permit) in
+      ap (published_before who (done_of p.loaders who)) (done_journal p who done.0 q done.1)
+      ∙ before_here who (done_of p.loaders who) p.journal (entry_for p who done.0 q done.1) (own_entry who done.0 target args p q done.1 is) (counted_so p who target args permit next) in
       record {
         line = line_of p who target args;
         at = ap (λ x. slice_get (spawns_of 0 x.loaders) process) script_is ∙ ap (slice_get (spawns_of 0 p.script.loaders)) number_is ∙ spawn_line p.script who (done_of p.loaders who) target args next;
-        was_done = omega (arith, ap (λ ls. done_of ls who) (ap (λ (x : PermitState). x.loaders) done.1.state), counts.own);
+        was_done = omega (arith, done_more p who done.0 q done.1 permit);
         is = ap published_as (published_is ∙ sym before);
       }
     where

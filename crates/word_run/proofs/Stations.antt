@@ -12,7 +12,6 @@ use Rattle.anchors.specs.Holds.{view_of}
 use Rattle.script_core.specs.declared.script.Script.{Script}
 use Rattle.run_log.proofs.ListPlaces.{get_within}
 use Rattle.run_law.specs.Newcomers.{Spawn}
-use Rattle.run_law.specs.Reading.{TracedBy, traced_by}
 use Rattle.inbox.specs.Ends.{Posting, Taking}
 use Rattle.word_lap.specs.Laws.{SchedulersBegin}
 use Rattle.word_run.specs.declared.seat.Seat.{Seat}
@@ -62,14 +61,14 @@ module _ {T I : Type 0} where
       seat = λ k x seat x_at at. seat_from k x seat (joined_at members member x k x_at) (joined_at seats a.seat seat k (ap (λ (xs : List (Seat T I)). slice_get xs k) (sym a.seat_joins) ∙ at));
     }
 
-  module _ (functions : List Mfa) (traced : TracedBy) (table : TableId) (opening : Opening) (law : SchedulersBegin) (few : opening.members ≤ MOST_MEMBERS) (members : List tokens.Member) (begun : AreMembersBegun table opening.members members)
+  module _ (functions : List Mfa) (table : TableId) (opening : Opening) (law : SchedulersBegin) (few : opening.members ≤ MOST_MEMBERS) (members : List tokens.Member) (begun : AreMembersBegun table opening.members members)
       (inboxes : List ℕ) (ends : List (Posting Spawn)) (seats : List (Seat T I)) (opened : AreOpened members inboxes ends seats) where
     keeps_none : (k : ℕ) (member : tokens.Member) (seat : Seat T I) → slice_get members k ≡ Some member → IsOpened k member seat
-        → KeepsBy functions traced table opening k false 0 member [] seat.scheduler.processes.items
+        → KeepsBy functions table opening k false 0 member [] seat.scheduler.processes.items
     keeps_none k member seat at o =
         let b = begun.each k member at in
         let low = slice_get_within members k member at in
-        let l = law functions traced opening table k member seat.scheduler.processes.items (omega (arith, low, few, begun.all)) b o.free in
+        let l = law functions opening table k member seat.scheduler.processes.items (omega (arith, low, few, begun.all)) b o.free in
         record {
           seated = record {
             own = b.number_is;
@@ -81,7 +80,7 @@ module _ {T I : Type 0} where
           kept = l.1.1;
         }
 
-    pub kept_at : (k : ℕ) (seat : Seat T I) → slice_get seats k ≡ Some seat → (seat.scheduler.number ≡ k) × Keeps functions traced table opening seat.scheduler
+    pub kept_at : (k : ℕ) (seat : Seat T I) → slice_get seats k ≡ Some seat → (seat.scheduler.number ≡ k) × Keeps functions table opening seat.scheduler
     kept_at k seat at =
         let low = slice_get_within seats k seat at in
         let there = get_within members k (omega (arith, low, opened.seats_are)) in
@@ -95,10 +94,10 @@ module _ {T I : Type 0} where
             token = there.0;
             there = o.member_is;
             by =
-                subst (λ (n : ℕ). KeepsBy functions traced table opening n s.waits s.generation there.0 s.taker.taken s.processes.items) (sym o.number_is)
-                (subst (λ (b : Bool). KeepsBy functions traced table opening k b s.generation there.0 s.taker.taken s.processes.items) (sym o.awake)
-                (subst (λ (g : ℕ). KeepsBy functions traced table opening k false g there.0 s.taker.taken s.processes.items) (sym o.generation)
-                (subst (λ (ts : List Spawn). KeepsBy functions traced table opening k false 0 there.0 ts s.processes.items) (sym taken) (keeps_none k there.0 seat there.1 o))));
+                subst (λ (n : ℕ). KeepsBy functions table opening n s.waits s.generation there.0 s.taker.taken s.processes.items) (sym o.number_is)
+                (subst (λ (b : Bool). KeepsBy functions table opening k b s.generation there.0 s.taker.taken s.processes.items) (sym o.awake)
+                (subst (λ (g : ℕ). KeepsBy functions table opening k false g there.0 s.taker.taken s.processes.items) (sym o.generation)
+                (subst (λ (ts : List Spawn). KeepsBy functions table opening k false 0 there.0 ts s.processes.items) (sym taken) (keeps_none k there.0 seat there.1 o))));
           },
         )
 
@@ -127,5 +126,5 @@ module _ {T I : Type 0} where
       homes = omega (arith, opened.ends_are, opened.seats_are);
       exports = exports;
       script_is = script;
-      kept = kept_at functions (traced_by s.modules d.book.plain.journal) table opening law few members begun inboxes d.posted seats opened;
+      kept = kept_at functions table opening law few members begun inboxes d.posted seats opened;
     }

@@ -7,8 +7,8 @@ use Rattle.run_law.specs.Newcomers.{Spawn}
 use Rattle.write_permit.specs.Book.{shown}
 use Rattle.write_permit.specs.Permit.{needs_permission, next_of}
 use Rattle.word_run.specs.declared.slice_step.SliceStep.{SliceStep}
-use Rattle.word_run.specs.declared.slice_step.SliceStep.TheVariants.{Over, Purges, Traces, AtOnce, Operates}
-use Rattle.word_run.specs.Desks.{AsksToPurge, ChangesTraces, DeskState, GoesInSlices, IsSliceOf}
+use Rattle.word_run.specs.declared.slice_step.SliceStep.TheVariants.{Over, AtOnce, Operates}
+use Rattle.word_run.specs.Desks.{DeskState, IsSliceOf}
 
 -- each inbox has the number of its place
 abbrev pub AreInboxes : List ℕ → Type 0
@@ -22,13 +22,11 @@ AreEnds ends = (home : ℕ) (end : Posting Spawn) → slice_get ends home ≡ So
 abbrev pub AreTakers : List (Taking Spawn) → Type 0
 AreTakers takers = (home : ℕ) (taker : Taking Spawn) → slice_get takers home ≡ Some taker → taker.number ≡ home
 
--- what a loader does in a slice, by its next command
+-- what a loader does in a lap, by its next command: one that needs no permission is made at once
 abbrev pub IsStepFor : Option ScriptCmd → SliceStep → Type 0
 IsStepFor next Over = next ≡ None
-IsStepFor next Purges = IsSomeAnd next AsksToPurge
-IsStepFor next Traces = IsSomeAnd next ChangesTraces
 IsStepFor next AtOnce = IsSomeAnd next (λ command. needs_permission command ≡ false)
-IsStepFor next Operates = IsSomeAnd next GoesInSlices
+IsStepFor next Operates = IsSomeAnd next (λ command. needs_permission command ≡ true)
 
 -- a loader was asked in a slice: on the desk as it lay then, this is whether it had no next command
 pub record TellsOfLoader (began : Option DeskState) (who : ℕ) (over : Bool) : Type 0 where

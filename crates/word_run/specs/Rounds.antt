@@ -1,13 +1,11 @@
 -- What a run has between two of its rounds.
 -- Source: this project's profile.
-use Rattle.std.specs.Prelude.{◌≡◌, ◌↔◌, ℕ, ◌<◌, ◌≤◌, true, List, [], length, slice_get, Option, Some, None, Ok, IfOk}
+use Rattle.std.specs.Prelude.{◌≡◌, ◌↔◌, ℕ, ◌<◌, true, List, [], length, slice_get, Option, Some, None, Ok, IfOk}
 use mathlib.Core.List.{IsPrefix}
 use Rattle.atomic_table.specs.Seated.{TableId}
 use Rattle.term_core.specs.declared.atom.Mfa.{Mfa}
 use Rattle.shared_words.specs.declared.opening.Opening.{Opening}
 use Rattle.script_core.specs.declared.script.Script.{Script}
-use Rattle.run_log.specs.declared.logs.Entry.{Entry}
-use Rattle.run_law.specs.Reading.{traced_by}
 use Rattle.write_permit.specs.Permit.{next_of}
 use Rattle.write_permit.specs.Book.{shown}
 use Rattle.word_lap.specs.declared.process_run.ProcessRun.{ProcessRun}
@@ -17,7 +15,7 @@ use Rattle.word_run.specs.declared.seat.Seat.{Seat}
 use Rattle.word_run.specs.declared.sight.Sight.{Sight}
 use Rattle.word_run.specs.Desks.{DeskState}
 use Rattle.word_run.specs.Loaders.{AreInboxes, TellsOfLoaders}
-use Rattle.word_run.specs.Schedulers.{Keeps, KeepsGiven, KeepsOn}
+use Rattle.word_run.specs.Schedulers.{Keeps}
 
 -- a place without a process that goes on
 abbrev pub RestsAt : Option ProcessRun → Type 0
@@ -52,29 +50,24 @@ module _ {T : Type 0} {I : Type 0} where
     pub emptied : s.emptied ≡ true
     pub rest : NoneGoOn s.processes.items
 
-  -- a scheduler may have a slice: it is one of so many, and keeps what it knows of its processes with what the slice is given
-  pub record CanGo (functions : List Mfa) (table : TableId) (opening : Opening) (sight : Sight) (count : ℕ) (seat : Seat T I) : Type 0 where
+  -- a scheduler may have a slice: it is one of so many, and keeps what it knows of its processes
+  pub record CanGo (functions : List Mfa) (table : TableId) (opening : Opening) (count : ℕ) (seat : Seat T I) : Type 0 where
     pub below : seat.scheduler.number < count
-    pub kept : KeepsGiven functions table opening sight seat.scheduler
+    pub kept : Keeps functions table opening seat.scheduler
 
   -- a scheduler had a slice: it keeps what it knows of its processes, and the answer tells whether it is idle
-  pub record HadSlice (functions : List Mfa) (table : TableId) (opening : Opening) (sight : Sight) (before after : Seat T I) : Type 0 where
+  pub record HadSlice (functions : List Mfa) (table : TableId) (opening : Opening) (before after : Seat T I) : Type 0 where
     pub number : after.scheduler.number ≡ before.scheduler.number
-    pub kept : IfOk after.answer (λ _. KeepsOn functions table opening sight before.scheduler after.scheduler)
+    pub kept : IfOk after.answer (λ _. Keeps functions table opening after.scheduler)
     pub idle : IfOk after.answer (λ slice. (slice ≡ Idle) ↔ IsIdle after.scheduler)
 
   -- each scheduler has the end that takes of the inbox of its number
   abbrev pub HaveTakers : List (Seat T I) → Type 0
   HaveTakers seats = (k : ℕ) (seat : Seat T I) → slice_get seats k ≡ Some seat → seat.scheduler.taker.number ≡ k
 
-  -- each scheduler has its number, and keeps what it knows of its processes, by what a journal traces
-  abbrev pub AreKept : List Mfa → Script → List Entry → TableId → Opening → List (Seat T I) → Type 0
-  AreKept functions s journal table opening seats =
-      (k : ℕ) (seat : Seat T I) → slice_get seats k ≡ Some seat → (seat.scheduler.number ≡ k) × Keeps functions (traced_by s.modules journal) table opening seat.scheduler
-
-  -- each scheduler holds a generation that was published
-  abbrev pub ArePublishedTo : ℕ → List (Seat T I) → Type 0
-  ArePublishedTo newest seats = (k : ℕ) (seat : Seat T I) → slice_get seats k ≡ Some seat → seat.scheduler.generation ≤ newest
+  -- each scheduler has its number, and keeps what it knows of its processes
+  abbrev pub AreKept : List Mfa → TableId → Opening → List (Seat T I) → Type 0
+  AreKept functions table opening seats = (k : ℕ) (seat : Seat T I) → slice_get seats k ≡ Some seat → (seat.scheduler.number ≡ k) × Keeps functions table opening seat.scheduler
 
   -- no scheduler had anything left to do
   abbrev pub AreIdle : List (Seat T I) → Type 0
@@ -94,10 +87,4 @@ module _ {T : Type 0} {I : Type 0} where
     pub homes : length d.posted ≡ length seats
     pub exports : sight.exports ≡ functions
     pub script_is : d.book.plain.script ≡ s
-    pub kept : AreKept functions s d.book.plain.journal table opening seats
-
-  -- what is traced under the generations that the schedulers hold, and under older ones, is what was traced there
-  abbrev pub TracesStay : DeskState → DeskState → List (Seat T I) → Type 0
-  TracesStay d e seats =
-      (k : ℕ) (seat : Seat T I) → slice_get seats k ≡ Some seat → (g : ℕ) → g ≤ seat.scheduler.generation
-      → traced_by d.book.plain.script.modules d.book.plain.journal g ≡ traced_by d.book.plain.script.modules e.book.plain.journal g
+    pub kept : AreKept functions table opening seats

@@ -1,6 +1,6 @@
--- What a scheduler has between two of its calls, and what each call keeps.
+-- What a scheduler keeps between two of its calls.
 -- Source: this project's profile. What a scheduler knows of its processes is over what its member has learnt: nothing that another thread does changes it.
-use Rattle.std.specs.Prelude.{◌≡◌, ℕ, ◌+◌, ◌≤◌, Bool, true, false, List, length, Option, Some}
+use Rattle.std.specs.Prelude.{◌≡◌, ℕ, ◌+◌, Bool, true, false, List, length, Option, Some}
 use Rattle.atomic_table.specs.Seated.{TableId}
 use Rattle.term_core.specs.declared.atom.Mfa.{Mfa}
 use Rattle.shared_words.specs.declared.opening.Opening.{Opening}
@@ -8,16 +8,10 @@ use Rattle.shared_words.specs.declared.seats.Member as tokens
 use Rattle.shared_words.specs.declared.view.MemberView.{MemberView}
 use Rattle.anchors.specs.Holds.{view_of}
 use Rattle.run_law.specs.Newcomers.{Spawn}
-use Rattle.run_law.specs.Reading.{TracedBy}
 use Rattle.word_lap.specs.declared.process_run.ProcessRun.{ProcessRun}
 use Rattle.word_lap.specs.Schedulers.{IsBetweenTurns, IsToken, KeepsProcesses}
 use Rattle.word_lap.specs.Waiting.{WaitsAfter}
 use Rattle.word_run.specs.declared.scheduler.Scheduler.{Scheduler}
-use Rattle.word_run.specs.declared.sight.Sight.{Sight}
-
--- what a slice is given is what is traced under each generation from the newest one on, as the round began
-abbrev pub IsGiven : TracedBy → Sight → Type 0
-IsGiven traced sight = (g : ℕ) → sight.floor ≤ g → sight.traced ≡ traced g
 
 -- a member that waits knew this before; one that does not is between two turns, and knows this
 abbrev pub StandsBy : Bool → TableId → MemberView → tokens.Member → Type 0
@@ -33,31 +27,14 @@ pub record IsSeatedBy (table : TableId) (number : ℕ) (waits : Bool) (generatio
   pub learnt : length before.seen ≡ generation + 1
 
 -- and what it knew then keeps these processes
-pub record KeepsBy (functions : List Mfa) (traced : TracedBy) (table : TableId) (opening : Opening) (number : ℕ) (waits : Bool) (generation : ℕ) (token : tokens.Member) (taken : List Spawn) (processes : List (Option ProcessRun)) : Type 0 where
+pub record KeepsBy (functions : List Mfa) (table : TableId) (opening : Opening) (number : ℕ) (waits : Bool) (generation : ℕ) (token : tokens.Member) (taken : List Spawn) (processes : List (Option ProcessRun)) : Type 0 where
   pub seated : IsSeatedBy table number waits generation token
-  pub kept : KeepsProcesses functions traced opening seated.before taken processes
+  pub kept : KeepsProcesses functions opening seated.before taken processes
 
 module _ {T : Type 0} {I : Type 0} where
-  -- a scheduler between two of its calls: the token of its member is there
-  pub record IsSeated (table : TableId) (s : Scheduler T I) : Type 0 where
+  -- a scheduler between two of its calls: the token of its member is there, and it keeps what it knows of its processes
+  pub record Keeps (functions : List Mfa) (table : TableId) (opening : Opening) (s : Scheduler T I) : Type 0 where
     pub inbox : s.taker.number ≡ s.number
     pub token : tokens.Member
     pub there : s.member ≡ Some token
-    pub by : IsSeatedBy table s.number s.waits s.generation token
-
-  -- and it keeps what it knows of its processes
-  pub record Keeps (functions : List Mfa) (traced : TracedBy) (table : TableId) (opening : Opening) (s : Scheduler T I) : Type 0 where
-    pub inbox : s.taker.number ≡ s.number
-    pub token : tokens.Member
-    pub there : s.member ≡ Some token
-    pub by : KeepsBy functions traced table opening s.number s.waits s.generation token s.taker.taken s.processes.items
-
-  -- so it does with what a slice is given
-  pub record KeepsGiven (functions : List Mfa) (table : TableId) (opening : Opening) (sight : Sight) (s : Scheduler T I) : Type 0 where
-    pub traced : TracedBy
-    pub given : IsGiven traced sight
-    pub keeps : Keeps functions traced table opening s
-
-  -- a call keeps it, whatever is traced under older generations
-  abbrev pub KeepsOn : List Mfa → TableId → Opening → Sight → Scheduler T I → Scheduler T I → Type 0
-  KeepsOn functions table opening sight old new = (traced : TracedBy) → IsGiven traced sight → Keeps functions traced table opening old → Keeps functions traced table opening new
+    pub by : KeepsBy functions table opening s.number s.waits s.generation token s.taker.taken s.processes.items

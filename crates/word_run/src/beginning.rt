@@ -24,7 +24,7 @@ use script_core::Script;
 use shared_words::{Member, PROCESSES, Shared, Writer};
 use staging::Tables;
 use std::alloc::Global;
-use term_core::{FunctionRefList, Mfa, NoMemory};
+use term_core::{Mfa, NoMemory};
 use word_lap::{Newcomer, ProcessRun, TableName, schedulers_begin};
 use word_permit::{Permit, RunName};
 
@@ -112,8 +112,6 @@ pub fn begin_run<K: Naming, N: RunName, T: TableName, I: InboxNames>(
     } = stations;
     let sight = Sight {
         exports,
-        traced: FunctionRefList::new(alloc),
-        floor: 0,
         loaders: script.loaders.len() as u32,
     };
     let desk = Desk { permit, posters };

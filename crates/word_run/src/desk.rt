@@ -1,6 +1,7 @@
 //! What lies under the lock of a run: the permit, and the ends that post to the schedulers' inboxes.
 
 ghost use Rattle.std.specs.Prelude.{◌≡◌, true};
+ghost use Rattle.word_permit.specs.Books.{KeepsRun};
 ghost use Rattle.word_run.specs.Rounds.{IsDone};
 
 use code_law::Naming;
@@ -36,16 +37,10 @@ impl<K: Naming, N: RunName, T: TableName, I: InboxNames> Model for Desk<K, N, T,
 impl<K: Naming, N: RunName, T: TableName, I: InboxNames> Desk<K, N, T, I> {
     /// The server to which the journal leads.
     pub fn server(&self) -> &Server
-        ensures { result.now ≡ self.now.book.plain.server }
+        ensures value { result.now ≡ self.now.book.plain.server }
+        ensures kept { KeepsRun K.names N.run self.now.book }
     {
         self.permit.server()
-    }
-
-    /// The number of the newest generation.
-    pub fn generation(&self) -> u64
-        ensures { result ≡ self.now.book.plain.server.generation }
-    {
-        self.permit.generation()
     }
 
     /// Whether all commands are done, and no area waits for its release.

@@ -23,9 +23,7 @@ use crate::scheduler::Scheduler;
 use crate::seat::Seat;
 use code_law::Naming;
 use inbox::{Inbox, InboxNames, Poster, Taker};
-use run_law::{
-    closed_tables_tell, journals_are_sound, reads_are_those_of_states, runs_are_histories,
-};
+use run_law::{closed_tables_tell, journals_are_sound, runs_are_histories};
 use run_log::{EntryList, MfaList, RunLog};
 use run_steps::{ObserverRun, observe_rest, observer_logs};
 use script_core::Script;
@@ -82,7 +80,6 @@ pub fn finish<K: Naming, N: RunName, T: TableName, I: InboxNames, R: Wait>(
     ensures table { IfOk result (λ ran. ran.closed.writer.seat.table_id ≡ run.shared.table.shared.table_id) }
 {
     journals_are_sound();
-    reads_are_those_of_states();
     closed_tables_tell();
     kept_processes_have_run();
     runs_are_histories();

@@ -1,13 +1,13 @@
 //! A lap of a scheduler.
 
-ghost use Rattle.std.specs.Prelude.{◌≡◌, ◌<◌, ◌≤◌, true, false, length, OnOk, Some};
+ghost use Rattle.std.specs.Prelude.{◌≡◌, ◌<◌, true, false, length, OnOk, Some};
 ghost use mathlib.Core.List.{IsPrefix};
 ghost use Rattle.word_permit.specs.Runs.{IsOverWords};
 ghost use Rattle.word_run.specs.Desks.{HasHomes};
 ghost use Rattle.word_run.specs.Loaders.{AreInboxes};
 ghost use Rattle.word_run.specs.Names.{HasTable};
 ghost use Rattle.word_run.specs.Rounds.{HasAnswers, StaysAnswered};
-ghost use Rattle.word_run.specs.Schedulers.{KeepsGiven, KeepsOn};
+ghost use Rattle.word_run.specs.Schedulers.{Keeps};
 
 use crate::loaders::step_loaders;
 use crate::releasing::pump;
@@ -43,14 +43,14 @@ impl<T: TableName, I: InboxNames> Scheduler<T, I> {
         requires number { self.old.number < length inboxes.now }
         requires members { shared.now.table.shared.key.members ≡ length inboxes.now }
         requires exports { sight.now.exports ≡ K.names }
-        requires kept { KeepsGiven K.names shared.now.table.shared.table_id shared.now.table.shared.key sight.now self.old }
+        requires kept { Keeps K.names shared.now.table.shared.table_id shared.now.table.shared.key self.old }
         requires awake { self.old.waits ≡ false }
         ensures number { self.new.number ≡ self.old.number }
-        ensures kept { OnOk result (KeepsOn K.names shared.now.table.shared.table_id shared.now.table.shared.key sight.now self.old self.new) }
+        ensures kept { OnOk result (Keeps K.names shared.now.table.shared.table_id shared.now.table.shared.key self.new) }
         ensures answers { OnOk result (HasAnswers E.began (length inboxes.now) sight.now.loaders self.new) }
         ensures awake { OnOk result (self.new.waits ≡ false) }
     {
-        self.arrive(rt, shared, sight, inboxes);
+        self.arrive(rt, shared, inboxes);
         gate.at(Place::Reported, self.number);
         self.over = step_loaders(
             self.alloc,
@@ -71,19 +71,17 @@ impl<T: TableName, I: InboxNames> Scheduler<T, I> {
         &mut self,
         rt: &R,
         shared: &Shared<CodeLaw<K>>,
-        sight: &Sight,
         inboxes: &[Inbox<Newcomer<T>, I>],
     )
         requires table { T.table ≡ Some shared.now.table.shared.table_id }
         requires inboxes { AreInboxes inboxes.now }
         requires number { self.old.number < length inboxes.now }
         requires members { shared.now.table.shared.key.members ≡ length inboxes.now }
-        requires kept { KeepsGiven K.names shared.now.table.shared.table_id shared.now.table.shared.key sight.now self.old }
+        requires kept { Keeps K.names shared.now.table.shared.table_id shared.now.table.shared.key self.old }
         requires awake { self.old.waits ≡ false }
         ensures number { self.new.number ≡ self.old.number }
-        ensures kept { KeepsOn K.names shared.now.table.shared.table_id shared.now.table.shared.key sight.now self.old self.new }
+        ensures kept { Keeps K.names shared.now.table.shared.table_id shared.now.table.shared.key self.new }
         ensures awake { self.new.waits ≡ false }
-        ensures caught { sight.now.floor ≤ self.new.generation }
         ensures emptied { self.new.emptied ≡ true → IsPrefix self.new.taker.told self.new.taker.taken }
     {
         let Some(mut member) = self.member.take() else {
@@ -101,7 +99,7 @@ impl<T: TableName, I: InboxNames> Scheduler<T, I> {
             self.processes.as_mut_slice(),
         );
         self.emptied = true;
-        self.generation = catch_up(rt, shared, &mut member, sight.floor);
+        self.generation = catch_up(rt, shared, &mut member, self.generation);
         self.member = Some(member);
     }
 
@@ -113,12 +111,11 @@ impl<T: TableName, I: InboxNames> Scheduler<T, I> {
         gate: &G,
     ) -> Result<(), NoMemory>
         requires exports { sight.now.exports ≡ K.names }
-        requires kept { KeepsGiven K.names shared.now.table.shared.table_id shared.now.table.shared.key sight.now self.old }
+        requires kept { Keeps K.names shared.now.table.shared.table_id shared.now.table.shared.key self.old }
         requires awake { self.old.waits ≡ false }
-        requires caught { sight.now.floor ≤ self.old.generation }
         ensures number { self.new.number ≡ self.old.number }
         ensures answers { OnOk result (StaysAnswered self.old self.new) }
-        ensures kept { OnOk result (KeepsOn K.names shared.now.table.shared.table_id shared.now.table.shared.key sight.now self.old self.new) }
+        ensures kept { OnOk result (Keeps K.names shared.now.table.shared.table_id shared.now.table.shared.key self.new) }
         ensures awake { OnOk result (self.new.waits ≡ false) }
     {
         let Some(member) = self.member.take() else {
@@ -131,7 +128,6 @@ impl<T: TableName, I: InboxNames> Scheduler<T, I> {
             self.number,
             member,
             &sight.exports,
-            sight.traced.as_slice(),
             self.generation,
             &mut self.processes,
         );

@@ -4,14 +4,11 @@
 mod beginning;
 mod desk;
 mod finishing;
-mod joining;
 mod lap;
 mod loaders;
 mod loading;
-mod looking;
 mod posting;
 mod process_logs;
-mod purging;
 mod ran;
 mod releasing;
 mod round;

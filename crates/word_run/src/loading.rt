@@ -1,4 +1,4 @@
-//! A step of a loader in a slice, under the lock: one call of the permit.
+//! A step of a loader in a lap, under the lock: one call of the permit.
 
 ghost use Rattle.std.specs.Prelude.{◌≡◌, ◌↔◌, ◌<◌, false, true, List, length, IfOk, IsSomeAnd, None, Some};
 ghost use Rattle.inbox.specs.Ends.{Posting};
@@ -8,13 +8,12 @@ ghost use Rattle.write_permit.specs.Book.{shown};
 ghost use Rattle.write_permit.specs.Permit.{holder_of, needs_permission, next_of, seized_by};
 ghost use Rattle.word_permit.specs.Books.{KeepsRun};
 ghost use Rattle.word_permit.specs.Runs.{IsOverWords};
-ghost use Rattle.word_run.specs.Desks.{AddsInSlices, GoesInSlices, HasHomes, MakesOn};
+ghost use Rattle.word_run.specs.Desks.{AddsInSlices, HasHomes, MakesOn};
 ghost use Rattle.word_run.specs.Loaders.{AreEnds, AreInboxes};
 ghost use Rattle.word_run.specs.Names.{HasTable};
 
 use crate::desk::Desk;
 use crate::posting::post_home;
-use crate::purging::purge;
 use crate::slice_step::{SliceStep, slice_step};
 use crate::slicing::{RoundName, Slicing};
 use code_law::{CodeLaw, Naming};
@@ -29,7 +28,7 @@ use word_permit::{AtOnce, Permit, RunName};
 use write_permit::{Gate, Seize};
 
 impl<K: Naming, N: RunName, T: TableName, I: InboxNames, E: RoundName> Slicing<K, N, T, I, E> {
-    /// One step of a loader's next command, where it goes in slices. Answers whether there was none: all its commands are done.
+    /// One step of a loader's next command. Answers whether there was none: all its commands are done.
     #[tactic(auto, using(crate::proofs::Slices::slices_same, crate::proofs::Slices::slice_on))]
     pub fn step<R: Wait, G: Gate>(
         &mut self,
@@ -50,11 +49,6 @@ impl<K: Naming, N: RunName, T: TableName, I: InboxNames, E: RoundName> Slicing<K
         let desk = &mut self.desk;
         match slice_step(desk.permit.next_command(who)) {
             SliceStep::Over => Ok(true),
-            SliceStep::Traces => Ok(false),
-            SliceStep::Purges => {
-                purge(alloc, shared, gate, who, desk)?;
-                Ok(false)
-            }
             SliceStep::AtOnce => {
                 make_at_once(alloc, rt, shared, inboxes, who, desk)?;
                 Ok(false)
@@ -163,7 +157,7 @@ fn operate<K: Naming, N: RunName, T: TableName, I: InboxNames, G: Gate>(
     desk: &mut Desk<K, N, T, I>,
 ) -> Result<(), NoMemory>
     requires words { IsOverWords shared.now.table.shared.table_id shared.now.table.shared.key N.run }
-    requires next { IsSomeAnd (next_of (shown desk.old.book.plain) who) GoesInSlices }
+    requires next { IsSomeAnd (next_of (shown desk.old.book.plain) who) (λ command. needs_permission command ≡ true) }
     ensures { AddsInSlices desk.old desk.new }
 {
     desk.permit.journal();
@@ -179,7 +173,7 @@ fn operate_permit<K: Naming, N: RunName, G: Gate>(
     permit: &mut Permit<K, N>,
 ) -> Result<(), NoMemory>
     requires words { IsOverWords shared.now.table.shared.table_id shared.now.table.shared.key N.run }
-    requires next { IsSomeAnd (next_of (shown permit.old.plain) who) GoesInSlices }
+    requires next { IsSomeAnd (next_of (shown permit.old.plain) who) (λ command. needs_permission command ≡ true) }
     ensures made { (ends : List (Posting SpawnedSo)) → MakesOn (shown permit.old.plain) (shown permit.new.plain) ends ends }
     ensures kept { KeepsRun K.names N.run permit.new }
 {
@@ -199,7 +193,6 @@ fn go_on<K: Naming, N: RunName, G: Gate>(
 ) -> Result<(), NoMemory>
     requires words { IsOverWords shared.now.table.shared.table_id shared.now.table.shared.key N.run }
     requires holds { holder_of permit.old.plain.holder ≡ Some who }
-    requires next { IsSomeAnd (next_of (shown permit.old.plain) who) GoesInSlices }
     ensures made { (ends : List (Posting SpawnedSo)) → MakesOn (shown permit.old.plain) (shown permit.new.plain) ends ends }
     ensures kept { KeepsRun K.names N.run permit.new }
 {
@@ -209,7 +202,7 @@ fn go_on<K: Naming, N: RunName, G: Gate>(
 }
 
 /// Asks for the permission. Answers whether the loader has it now.
-pub fn has_permission<K: Naming, N: RunName>(permit: &mut Permit<K, N>, who: u32) -> bool
+fn has_permission<K: Naming, N: RunName>(permit: &mut Permit<K, N>, who: u32) -> bool
     requires { IsSomeAnd (next_of (shown permit.old.plain) who) (λ command. needs_permission command ≡ true) }
     ensures state { shown permit.new.plain ≡ record (shown permit.old.plain) { holder = seized_by who permit.old.plain.holder } }
     ensures held { result ≡ true → holder_of permit.new.plain.holder ≡ Some who }

@@ -1,7 +1,6 @@
 //! A round: a slice of each scheduler, in threads, over the desk as it lies when the round begins.
 
 ghost use Rattle.std.specs.Prelude.{◌≡◌, ◌<◌, ℕ, All, length, slice_index_or, Some};
-ghost use Rattle.run_law.specs.Reading.{traced_by};
 ghost use Rattle.run_steps.specs.Observers.{EachBecame};
 ghost use Rattle.word_permit.specs.Runs.{IsOverWords};
 ghost use Rattle.word_run.specs.declared.seat.Seat.{Seat};
@@ -9,7 +8,6 @@ ghost use Rattle.word_run.specs.Desks.{AddsInSlices, HasHomes, IsSliceOf};
 ghost use Rattle.word_run.specs.Loaders.{AreInboxes};
 ghost use Rattle.word_run.specs.Names.{HasTable};
 ghost use Rattle.word_run.specs.Rounds.{CanGo, HadSlice, IsRun};
-ghost use Rattle.word_run.specs.Schedulers.{IsGiven};
 
 use crate::desk::Desk;
 use crate::run::Run;
@@ -40,10 +38,9 @@ where
     requires words { IsOverWords run.shared.table.shared.table_id run.shared.table.shared.key N.run }
     requires table { HasTable N.run T.table }
     requires run { IsRun K.names run.desk.book.plain.script run.shared.table.shared.table_id run.shared.table.shared.key run.desk run.inboxes.items run.seats.items run.sight }
-    requires given { IsGiven (traced_by run.desk.book.plain.script.modules run.desk.book.plain.journal) run.sight }
-    // Commands that leave what is traced were made, and each scheduler had its slice.
+    // Commands were made, and each scheduler had its slice.
     ensures adds { AddsInSlices run.desk result.desk }
-    ensures seats { EachBecame (HadSlice K.names run.shared.table.shared.table_id run.shared.table.shared.key run.sight) run.seats.items result.seats.items }
+    ensures seats { EachBecame (HadSlice K.names run.shared.table.shared.table_id run.shared.table.shared.key) run.seats.items result.seats.items }
     // All else is as before.
     ensures shared { result.shared ≡ run.shared }
     ensures inboxes { result.inboxes ≡ run.inboxes }
@@ -92,9 +89,9 @@ where
     requires inboxes { AreInboxes inboxes.now }
     requires exports { sight.now.exports ≡ K.names }
     requires members { shared.now.table.shared.key.members ≡ length inboxes.now }
-    requires go { All (CanGo K.names shared.now.table.shared.table_id shared.now.table.shared.key sight.now (length inboxes.now)) seats.old }
+    requires go { All (CanGo K.names shared.now.table.shared.table_id shared.now.table.shared.key (length inboxes.now)) seats.old }
     ensures adds { AddsInSlices desk result }
-    ensures seats { EachBecame (HadSlice K.names shared.now.table.shared.table_id shared.now.table.shared.key sight.now) seats.old seats.new }
+    ensures seats { EachBecame (HadSlice K.names shared.now.table.shared.table_id shared.now.table.shared.key) seats.old seats.new }
 {
     let desk = Mutex::new(Slicing::<K, N, T, I, E>::of_round(desk));
     take_round(rt, shared, &desk, sight, inboxes, gate, seats);
@@ -145,8 +142,8 @@ where
     requires inboxes { AreInboxes inboxes.now }
     requires exports { sight.now.exports ≡ K.names }
     requires members { shared.now.table.shared.key.members ≡ length inboxes.now }
-    requires go { All (CanGo K.names shared.now.table.shared.table_id shared.now.table.shared.key sight.now (length inboxes.now)) seats.old }
-    ensures { (k : ℕ) (seat : Seat T I) → k < length seats.old → HadSlice K.names shared.now.table.shared.table_id shared.now.table.shared.key sight.now (slice_index_or seats.old k seat) (slice_index_or seats.new k seat) }
+    requires go { All (CanGo K.names shared.now.table.shared.table_id shared.now.table.shared.key (length inboxes.now)) seats.old }
+    ensures { (k : ℕ) (seat : Seat T I) → k < length seats.old → HadSlice K.names shared.now.table.shared.table_id shared.now.table.shared.key (slice_index_or seats.old k seat) (slice_index_or seats.new k seat) }
 {
     if seats.is_empty() {
         return;
@@ -162,7 +159,7 @@ where
             requires inboxes { AreInboxes inboxes.now }
             requires exports { sight.now.exports ≡ K.names }
             requires members { shared.now.table.shared.key.members ≡ length inboxes.now }
-            requires go { CanGo K.names shared.now.table.shared.table_id shared.now.table.shared.key sight.now (length inboxes.now) seat.now }
+            requires go { CanGo K.names shared.now.table.shared.table_id shared.now.table.shared.key (length inboxes.now) seat.now }
         { take_slice(rt, shared, desk, sight, inboxes, gate, seat) },
     );
 }
@@ -183,8 +180,8 @@ fn take_slice<K: Naming, N: RunName, T: TableName, I: InboxNames, E: RoundName, 
     requires inboxes { AreInboxes inboxes.now }
     requires exports { sight.now.exports ≡ K.names }
     requires members { shared.now.table.shared.key.members ≡ length inboxes.now }
-    requires go { CanGo K.names shared.now.table.shared.table_id shared.now.table.shared.key sight.now (length inboxes.now) seat.old }
-    ensures { HadSlice K.names shared.now.table.shared.table_id shared.now.table.shared.key sight.now seat.old seat.new }
+    requires go { CanGo K.names shared.now.table.shared.table_id shared.now.table.shared.key (length inboxes.now) seat.old }
+    ensures { HadSlice K.names shared.now.table.shared.table_id shared.now.table.shared.key seat.old seat.new }
 {
     seat.answer = seat.scheduler.slice(rt, shared, desk, sight, inboxes, gate);
 }

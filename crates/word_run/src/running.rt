@@ -36,9 +36,8 @@ use write_permit::Gate;
 
 /// Runs a script by so many schedulers over the words that they share, each in a thread of its own where one can be made, and answers what was done.
 ///
-/// It works in rounds. In a round each scheduler has a slice: its loaders load, purge, delete, put, erase and spawn, and areas that nobody has any more are
-/// released, while other threads run turns. Between two rounds no turn runs: traces and purges of traced code go on, and each observer that lacks
-/// snapshots takes one.
+/// It works in rounds. In a round each scheduler has a slice: its loaders load, purge, delete, put, erase, trace and spawn, and areas that nobody has any
+/// more are released, while other threads run turns. Between two rounds no turn runs, and each observer that lacks snapshots takes one.
 /// Process p and loader p are those of scheduler p modulo their number. The run ends when all commands are made, all processes have ended and no area
 /// waits for its release; a process that goes on for ever keeps it from ending. It takes memory for the words, the server, the processes and the log.
 ///

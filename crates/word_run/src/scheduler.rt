@@ -1,13 +1,12 @@
 //! A scheduler, and a slice of its work over the shared words.
 
 ghost use Rattle.std.specs.Prelude.{◌≡◌, ◌↔◌, ◌<◌, true, false, length, IfOk, OnOk, Some};
-ghost use Rattle.run_law.specs.Reading.{TracedBy};
 ghost use Rattle.word_permit.specs.Runs.{IsOverWords};
 ghost use Rattle.word_run.specs.Desks.{HasHomes};
 ghost use Rattle.word_run.specs.Loaders.{AreInboxes};
 ghost use Rattle.word_run.specs.Names.{HasTable};
 ghost use Rattle.word_run.specs.Rounds.{HasAnswers, IsIdle, NoneGoOn, RestsAt, StaysAnswered};
-ghost use Rattle.word_run.specs.Schedulers.{IsSeated, Keeps, KeepsGiven, KeepsOn};
+ghost use Rattle.word_run.specs.Schedulers.{Keeps};
 
 use crate::sight::Sight;
 use crate::slicing::{RoundName, Slicing};
@@ -128,9 +127,9 @@ impl<T: TableName, I: InboxNames> Scheduler<T, I> {
         requires number { self.old.number < length inboxes.now }
         requires members { shared.now.table.shared.key.members ≡ length inboxes.now }
         requires exports { sight.now.exports ≡ K.names }
-        requires kept { KeepsGiven K.names shared.now.table.shared.table_id shared.now.table.shared.key sight.now self.old }
+        requires kept { Keeps K.names shared.now.table.shared.table_id shared.now.table.shared.key self.old }
         ensures number { self.new.number ≡ self.old.number }
-        ensures kept { OnOk result (KeepsOn K.names shared.now.table.shared.table_id shared.now.table.shared.key sight.now self.old self.new) }
+        ensures kept { OnOk result (Keeps K.names shared.now.table.shared.table_id shared.now.table.shared.key self.new) }
         // What it was answered in its last lap, and that it is idle exactly where all three answers say so.
         ensures answers { OnOk result (HasAnswers E.began (length inboxes.now) sight.now.loaders self.new) }
         ensures idle { IfOk result (λ slice. (slice ≡ Slice.Idle) ↔ IsIdle self.new) }
@@ -168,9 +167,9 @@ impl<T: TableName, I: InboxNames> Scheduler<T, I> {
         requires number { self.old.number < length inboxes.now }
         requires members { shared.now.table.shared.key.members ≡ length inboxes.now }
         requires exports { sight.now.exports ≡ K.names }
-        requires kept { KeepsGiven K.names shared.now.table.shared.table_id shared.now.table.shared.key sight.now self.old }
+        requires kept { Keeps K.names shared.now.table.shared.table_id shared.now.table.shared.key self.old }
         ensures number { self.new.number ≡ self.old.number }
-        ensures kept { OnOk result (KeepsOn K.names shared.now.table.shared.table_id shared.now.table.shared.key sight.now self.old self.new) }
+        ensures kept { OnOk result (Keeps K.names shared.now.table.shared.table_id shared.now.table.shared.key self.new) }
         ensures answers { OnOk result (HasAnswers E.began (length inboxes.now) sight.now.loaders self.new) }
         ensures awake { OnOk result (self.new.waits ≡ false) }
     {
@@ -183,9 +182,9 @@ impl<T: TableName, I: InboxNames> Scheduler<T, I> {
 
     /// Ends the wait of the member, if it waits.
     fn wake_up<K: Naming>(&mut self, shared: &Shared<CodeLaw<K>>)
-        requires seated { IsSeated shared.now.table.shared.table_id self.old }
+        requires kept { Keeps K.names shared.now.table.shared.table_id shared.now.table.shared.key self.old }
         ensures number { self.new.number ≡ self.old.number }
-        ensures kept { (traced : TracedBy) → Keeps K.names traced shared.now.table.shared.table_id shared.now.table.shared.key self.old → Keeps K.names traced shared.now.table.shared.table_id shared.now.table.shared.key self.new }
+        ensures kept { Keeps K.names shared.now.table.shared.table_id shared.now.table.shared.key self.new }
         ensures awake { self.new.waits ≡ false }
     {
         if self.waits {
@@ -201,10 +200,10 @@ impl<T: TableName, I: InboxNames> Scheduler<T, I> {
 
     /// The member waits up to the next slice, and holds back no progress.
     fn go_to_wait<K: Naming>(&mut self, shared: &Shared<CodeLaw<K>>)
-        requires seated { IsSeated shared.now.table.shared.table_id self.old }
+        requires kept { Keeps K.names shared.now.table.shared.table_id shared.now.table.shared.key self.old }
         requires awake { self.old.waits ≡ false }
         ensures number { self.new.number ≡ self.old.number }
-        ensures kept { (traced : TracedBy) → Keeps K.names traced shared.now.table.shared.table_id shared.now.table.shared.key self.old → Keeps K.names traced shared.now.table.shared.table_id shared.now.table.shared.key self.new }
+        ensures kept { Keeps K.names shared.now.table.shared.table_id shared.now.table.shared.key self.new }
         ensures answers { StaysAnswered self.old self.new }
     {
         let Some(mut member) = self.member.take() else {

@@ -21,7 +21,7 @@ impl RoundName for Brand {
     ghost began = { None };
 }
 
-/// The desk of a run in a round: since the round began it made commands that leave what is traced.
+/// The desk of a run in a round: since the round began entries may have joined, and its homes are as many as then.
 #[derive(Drop)]
 pub struct Slicing<K: Naming, N: RunName, T: TableName, I: InboxNames, E: RoundName> {
     pub(crate) desk: Desk<K, N, T, I>,

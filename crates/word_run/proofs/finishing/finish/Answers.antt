@@ -55,12 +55,12 @@ returns-clause-history g c =
     let items = with_items_is c.args.observers c.observe_rest.new.observers (c.observe_rest.auto.observers ∙ c.deref_mut.ensures.len) in
     finished g.K.Naming.names c.args.script.now here.table_id here.key c.args.run.desk c.args.run.inboxes.items c.args.run.seats.items c.args.run.sight c.requires.run g.N.RunName.run c.requires.words is.kept
     had.members.items is.takers had.processes.items is.parted
-    c.journals_are_sound.ensures.said c.reads_are_those_of_states.ensures.traces c.closed_tables_tell.ensures c.kept_processes_have_run.ensures.taken c.kept_processes_have_run.ensures.others c.runs_are_histories.ensures
+    c.journals_are_sound.ensures.said c.closed_tables_tell.ensures c.kept_processes_have_run.ensures.taken c.kept_processes_have_run.ensures.others c.runs_are_histories.ensures
     is.desk c.requires.done c.requires.idle d.posted refl is.settled
     had.writer is.writer_is _ c.in_ok-closed.ensures.members c.in_ok-closed.ensures.marks c.in_ok-closed.ensures.seen
     log.processes c.in_ok-log.ensures.processes
     now
     (looked_last g.K.Naming.names c.args.script.now here.table_id here.key c.args.run.desk c.args.run.inboxes.items c.args.run.seats.items c.args.run.sight c.requires.run g.N.RunName.run c.requires.words is.kept
-    c.args.functions.now c.requires.functions c.server.result.now c.server.ensures c.args.observers.items c.deref_mut.result.now c.observe_rest.new.observers now c.deref_mut.ensures.value items c.requires.observed c.in_ok-observe_rest.ensures)
+    c.args.functions.now c.requires.functions c.server.result.now c.server.ensures.value c.args.observers.items c.deref_mut.result.now c.observe_rest.new.observers now c.deref_mut.ensures.value items c.requires.observed c.in_ok-observe_rest.ensures)
     (none_left c.server.result.now c.args.functions.now c.deref_mut.result.now c.observe_rest.new.observers now items c.in_ok-observe_rest.ensures)
     log.journal (c.in_ok-log.ensures.journal ∙ is.journal_is) log.observers c.in_ok-log.ensures.observers

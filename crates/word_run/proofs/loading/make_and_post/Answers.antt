@@ -6,4 +6,4 @@ use Rattle.word_run.proofs.loading.make_and_post.Goals as goal
 -- it looked for old code
 pub returns-clause-made : goal.returns-clause-made
 returns-clause-made g c =
-    makes_at_once (shown c.args.permit.now.plain) (shown c.at_once.new.self.plain) c.args.who _ c.args.posters.now (book_of_run g.K.Naming.names g.N.RunName.run _ c.journal.ensures.kept).permit c.requires.next c.in_ok-at_once.ensures.ok
+    makes_at_once (shown c.args.permit.now.plain) (shown c.at_once.new.self.plain) c.args.who _ c.args.posters.now (book_of_run g.K.Naming.names g.N.RunName.run _ c.journal.ensures.kept).permit c.in_ok-at_once.ensures.ok

@@ -3,4 +3,4 @@ use Rattle.word_run.proofs.round.take_slice.Goals as goal
 
 -- the answer tells of the slice
 pub returns : goal.returns
-returns g c = had_slice _ _ _ _ _ _ c.slice-seat.ensures.number c.slice-seat.ensures.kept c.slice-seat.ensures.idle
+returns g c = had_slice _ _ _ _ _ c.slice-seat.ensures.number c.slice-seat.ensures.kept c.slice-seat.ensures.idle

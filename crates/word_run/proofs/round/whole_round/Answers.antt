@@ -20,8 +20,8 @@ named_round-requires-clause-members g c = λ κs within. c.requires.run.members 
 
 pub named_round-requires-clause-go : goal.named_round-requires-clause-go
 named_round-requires-clause-go g c = λ κs within.
-    go_lent g.K.Naming.names c.args.run.shared.table.shared.table_id c.args.run.shared.table.shared.key c.args.run.sight c.args.run.inboxes.items c.deref.result.now c.args.run.seats.items c.deref_mut.result.now c.deref.ensures.value c.deref_mut.ensures.value
-    (round_go g.K.Naming.names _ _ c.args.run.desk c.args.run.inboxes.items c.args.run.seats.items c.args.run.sight c.requires.run c.requires.given)
+    go_lent g.K.Naming.names c.args.run.shared.table.shared.table_id c.args.run.shared.table.shared.key c.args.run.inboxes.items c.deref.result.now c.args.run.seats.items c.deref_mut.result.now c.deref.ensures.value c.deref_mut.ensures.value
+    (round_go g.K.Naming.names _ _ c.args.run.desk.book.plain.script c.args.run.desk c.args.run.inboxes.items c.args.run.seats.items c.args.run.sight c.requires.run)
 
 pub returns-clause-seats : goal.returns-clause-seats
 returns-clause-seats g c =

@@ -2,52 +2,51 @@ use Rattle.std.proofs.Common.{◌∙◌, sym, subst}
 use Rattle.std.proofs.lemmas.List.{with_items_is}
 use Rattle.std.proofs.lemmas.Result.{IfOk-weaker}
 use Rattle.run_steps.specs.Observers.{HaveObserved}
-use Rattle.word_run.proofs.RoundLoop.{given_as, on_at, own_run, run_as, seen_as, words_as}
+use Rattle.word_run.proofs.RoundLoop.{on_at, own_run, run_as, seen_as, words_as}
 use Rattle.word_run.proofs.RoundSeats.{if_at}
 use Rattle.word_run.proofs.rounds.run_rounds.Goals as goal
 
-pub make_ready-requires-clause-observed : goal.make_ready-requires-clause-observed
-make_ready-requires-clause-observed g c = λ κs within. subst (HaveObserved c.args.script.now c.loop.run.desk.book.plain.journal) (sym c.deref_mut.ensures.value) c.loop.invariant.observed
+pub look_once-requires-clause-script : goal.look_once-requires-clause-script
+look_once-requires-clause-script g c = c.loop.invariant.run.script_is
 
-pub turn_round-turned-requires-clause-words : goal.turn_round-turned-requires-clause-words
-turn_round-turned-requires-clause-words g c = λ κs within. words_as g.N.RunName.run _ _ _ _ (λ i. (c.make_ready.ensures.shared i).table.shared.table_id) (λ i. (c.make_ready.ensures.shared i).table.shared.key) c.loop.invariant.words
+pub look_once-requires-clause-observed : goal.look_once-requires-clause-observed
+look_once-requires-clause-observed g c = subst (HaveObserved c.args.script.now c.loop.run.desk.book.plain.journal) (sym c.deref_mut.ensures.value) c.loop.invariant.observed
 
 -- the script is the one on the desk
 pub turn_round-turned-requires-clause-run : goal.turn_round-turned-requires-clause-run
 turn_round-turned-requires-clause-run g c = λ κs within.
-    own_run g.K.Naming.names c.args.script.now _ _ c.make_ready.new.run.desk c.make_ready.new.run.inboxes.items c.make_ready.new.run.seats.items c.make_ready.new.run.sight c.in_ok-make_ready.ensures.run
-
-pub turn_round-turned-requires-clause-given : goal.turn_round-turned-requires-clause-given
-turn_round-turned-requires-clause-given g c = λ κs within.
-    given_as c.args.script.now c.make_ready.new.run.desk.book.plain.script c.make_ready.new.run.desk.book.plain.journal c.make_ready.new.run.sight c.in_ok-make_ready.ensures.run.script_is c.in_ok-make_ready.ensures.given
+    own_run g.K.Naming.names c.args.script.now _ _ c.loop.run.desk c.loop.run.inboxes.items c.loop.run.seats.items c.loop.run.sight c.loop.invariant.run
 
 -- the next round begins as this one did
 pub loop-preserved : goal.loop-preserved
 loop-preserved g c =
-    let words = c.turn_round-turned.ensures.shared ∙ c.make_ready.ensures.shared in
+    let words = c.turn_round-turned.ensures.shared in
+    let had = c.turn_round-turned.result in
     record {
       table = (λ i. (words i).table.shared.table_id) ∙ c.loop.invariant.table;
       words = words_as g.N.RunName.run _ _ _ _ (λ i. (words i).table.shared.table_id) (λ i. (words i).table.shared.key) c.loop.invariant.words;
       run =
-          run_as g.K.Naming.names c.make_ready.new.run.desk.book.plain.script c.args.script.now c.make_ready.new.run.shared.table.shared.table_id c.turn_round-turned.result.0.shared.table.shared.table_id c.make_ready.new.run.shared.table.shared.key c.turn_round-turned.result.0.shared.table.shared.key
-          c.turn_round-turned.result.0.desk c.turn_round-turned.result.0.inboxes.items c.turn_round-turned.result.0.seats.items c.turn_round-turned.result.0.sight (sym c.in_ok-make_ready.ensures.run.script_is)
-          (λ i. (c.turn_round-turned.ensures.shared i).table.shared.table_id) (λ i. (c.turn_round-turned.ensures.shared i).table.shared.key) (on_at _ c.turn_round-turned.result.1 c.in_ok-over.over c.in_ok-over.was c.turn_round-turned.ensures.run);
+          run_as g.K.Naming.names c.loop.run.desk.book.plain.script c.args.script.now c.loop.run.shared.table.shared.table_id had.0.shared.table.shared.table_id c.loop.run.shared.table.shared.key had.0.shared.table.shared.key
+          had.0.desk had.0.inboxes.items had.0.seats.items had.0.sight (sym c.loop.invariant.run.script_is)
+          (λ i. (words i).table.shared.table_id) (λ i. (words i).table.shared.key) (on_at _ had.1 c.in_ok-over.over c.in_ok-over.was c.turn_round-turned.ensures.run);
       observed =
-          subst (HaveObserved c.args.script.now c.turn_round-turned.result.0.desk.book.plain.journal) (sym (with_items_is c.loop.observers c.make_ready.new.observers (c.make_ready.auto.observers ∙ c.deref_mut.ensures.len)))
-          (seen_as c.args.script.now c.make_ready.new.run.desk.book.plain.script c.make_ready.new.run.desk.book.plain.journal c.turn_round-turned.result.0.desk.book.plain.journal c.make_ready.new.observers c.in_ok-make_ready.ensures.run.script_is c.turn_round-turned.ensures.kept c.in_ok-make_ready.ensures.observed);
+          subst (HaveObserved c.args.script.now had.0.desk.book.plain.journal) (sym (with_items_is c.loop.observers c.look_once.new.observers (c.look_once.auto.observers ∙ c.deref_mut.ensures.len)))
+          (seen_as c.args.script.now c.loop.run.desk.book.plain.script c.loop.run.desk.book.plain.journal had.0.desk.book.plain.journal c.look_once.new.observers c.loop.invariant.run.script_is c.turn_round-turned.ensures.kept c.in_ok-look_once.ensures);
     }
 
 -- so does the end
 pub finish-requires-clause-words : goal.finish-requires-clause-words
 finish-requires-clause-words g c =
-    let words = c.turn_round-turned.ensures.shared ∙ c.make_ready.ensures.shared in
+    let words = c.turn_round-turned.ensures.shared in
     words_as g.N.RunName.run _ _ _ _ (λ i. (words i).table.shared.table_id) (λ i. (words i).table.shared.key) c.loop.invariant.words
 
 pub finish-requires-clause-run : goal.finish-requires-clause-run
 finish-requires-clause-run g c =
-    run_as g.K.Naming.names c.make_ready.new.run.desk.book.plain.script c.args.script.now c.make_ready.new.run.shared.table.shared.table_id c.turn_round-turned.result.0.shared.table.shared.table_id c.make_ready.new.run.shared.table.shared.key c.turn_round-turned.result.0.shared.table.shared.key
-    c.turn_round-turned.result.0.desk c.turn_round-turned.result.0.inboxes.items c.turn_round-turned.result.0.seats.items c.turn_round-turned.result.0.sight (sym c.in_ok-make_ready.ensures.run.script_is)
-    (λ i. (c.turn_round-turned.ensures.shared i).table.shared.table_id) (λ i. (c.turn_round-turned.ensures.shared i).table.shared.key) (on_at _ c.turn_round-turned.result.1 c.in_ok-over.over c.in_ok-over.was c.turn_round-turned.ensures.run)
+    let words = c.turn_round-turned.ensures.shared in
+    let had = c.turn_round-turned.result in
+    run_as g.K.Naming.names c.loop.run.desk.book.plain.script c.args.script.now c.loop.run.shared.table.shared.table_id had.0.shared.table.shared.table_id c.loop.run.shared.table.shared.key had.0.shared.table.shared.key
+    had.0.desk had.0.inboxes.items had.0.seats.items had.0.sight (sym c.loop.invariant.run.script_is)
+    (λ i. (words i).table.shared.table_id) (λ i. (words i).table.shared.key) (on_at _ had.1 c.in_ok-over.over c.in_ok-over.was c.turn_round-turned.ensures.run)
 
 pub finish-requires-clause-done : goal.finish-requires-clause-done
 finish-requires-clause-done g c = (if_at _ c.turn_round-turned.result.1 c.in_ok-over.over c.in_ok-over.was c.turn_round-turned.ensures.over c.if-over.true).0
@@ -57,11 +56,10 @@ finish-requires-clause-idle g c = (if_at _ c.turn_round-turned.result.1 c.in_ok-
 
 pub finish-requires-clause-observed : goal.finish-requires-clause-observed
 finish-requires-clause-observed g c =
-    subst (HaveObserved c.args.script.now c.turn_round-turned.result.0.desk.book.plain.journal) (sym (with_items_is c.loop.observers c.make_ready.new.observers (c.make_ready.auto.observers ∙ c.deref_mut.ensures.len)))
-    (seen_as c.args.script.now c.make_ready.new.run.desk.book.plain.script c.make_ready.new.run.desk.book.plain.journal c.turn_round-turned.result.0.desk.book.plain.journal c.make_ready.new.observers c.in_ok-make_ready.ensures.run.script_is c.turn_round-turned.ensures.kept c.in_ok-make_ready.ensures.observed)
+    let had = c.turn_round-turned.result in
+    subst (HaveObserved c.args.script.now had.0.desk.book.plain.journal) (sym (with_items_is c.loop.observers c.look_once.new.observers (c.look_once.auto.observers ∙ c.deref_mut.ensures.len)))
+    (seen_as c.args.script.now c.loop.run.desk.book.plain.script c.loop.run.desk.book.plain.journal had.0.desk.book.plain.journal c.look_once.new.observers c.loop.invariant.run.script_is c.turn_round-turned.ensures.kept c.in_ok-look_once.ensures)
 
 -- the words at the end are those of the beginning
 pub returns-then-over-clause-table : goal.returns-then-over-clause-table
-returns-then-over-clause-table g c =
-    let words = c.turn_round-turned.ensures.shared ∙ c.make_ready.ensures.shared in
-    IfOk-weaker c.finish.result _ _ (λ ran is. is ∙ (λ i. (words i).table.shared.table_id) ∙ c.loop.invariant.table) c.finish.ensures.table
+returns-then-over-clause-table g c = IfOk-weaker c.finish.result _ _ (λ ran is. is ∙ (λ i. (c.turn_round-turned.ensures.shared i).table.shared.table_id) ∙ c.loop.invariant.table) c.finish.ensures.table

@@ -2,26 +2,23 @@ use Rattle.std.proofs.Common.{ℕ, ap}
 use Rattle.std.proofs.lemmas.Result.{IfOk-weaker, on_ok_weaker}
 use Rattle.std.specs.Prelude.{Vec}
 use Rattle.std.specs.declared.alloc.Global.{Global}
-use Rattle.word_permit.proofs.Runs.{book_of_run}
-use Rattle.word_run.proofs.RoundTraces.{kept_by}
-use Rattle.word_run.proofs.Rounding.{idle_round, round_run}
+use Rattle.word_run.proofs.Rounding.{idle_round, kept_by, round_run}
 use Rattle.word_run.proofs.rounds.turn_round.Goals as goal
 
 pub returns-clause-run : goal.returns-clause-run
 returns-clause-run g c =
     on_ok_weaker c.was_last-over.result
-    (λ ok. round_run g.K.Naming.names _ _ c.args.run.desk c.whole_round-after.result.desk c.args.run.inboxes.items c.args.run.seats.items c.whole_round-after.result.seats.items c.args.run.sight c.requires.run c.whole_round-after.ensures.adds
-    (book_of_run g.K.Naming.names g.N.RunName.run c.args.run.desk.book c.permit_stands.ensures).permit (book_of_run g.K.Naming.names g.N.RunName.run c.whole_round-after.result.desk.book c.permit_stands-2.ensures).permit c.requires.given c.whole_round-after.ensures.seats
+    (λ ok. round_run g.K.Naming.names _ _ c.args.run.desk c.whole_round-after.result.desk c.args.run.inboxes.items c.args.run.seats.items c.whole_round-after.result.seats.items c.args.run.sight c.requires.run c.whole_round-after.ensures.adds c.whole_round-after.ensures.seats
     c.deref.result.now c.deref.ensures.value ok _ (ap (λ (v : Vec ℕ Global). v.items) c.whole_round-after.ensures.inboxes) _ c.whole_round-after.ensures.sight)
     c.was_last-over.ensures.ok
 
 pub returns-clause-kept : goal.returns-clause-kept
-returns-clause-kept g c = kept_by _ _ _ _ c.whole_round-after.ensures.adds.adds.journal
+returns-clause-kept g c = kept_by _ _ _ _ c.whole_round-after.ensures.adds.goes.journal
 
 pub returns-clause-over : goal.returns-clause-over
 returns-clause-over g c =
     IfOk-weaker c.was_last-over.result _ _
     (λ over had last.
     let h = had last in
-    (h.0, idle_round g.K.Naming.names _ _ c.args.run.sight c.args.run.seats.items c.whole_round-after.result.seats.items c.deref.result.now c.deref.ensures.value c.whole_round-after.ensures.seats h.1))
+    (h.0, idle_round g.K.Naming.names _ _ c.args.run.seats.items c.whole_round-after.result.seats.items c.deref.result.now c.deref.ensures.value c.whole_round-after.ensures.seats h.1))
     c.was_last-over.ensures.over

@@ -4,5 +4,5 @@ use Rattle.word_run.proofs.scheduler.Scheduler.go_to_wait.Goals as goal
 
 -- its processes stay
 pub returns-clause-kept : goal.returns-clause-kept
-returns-clause-kept g c traced h =
-    goes_waiting g.K.Naming.names traced _ _ c.args.self.now c.in-Some.member c.begin_wait.new.member (sym c.take.ensures.value ∙ c.in-Some.is) c.requires.awake c.begin_wait.ensures.number c.begin_wait.ensures.waits h
+returns-clause-kept g c =
+    goes_waiting g.K.Naming.names _ _ c.args.self.now c.in-Some.member c.begin_wait.new.member (sym c.take.ensures.value ∙ c.in-Some.is) c.requires.awake c.begin_wait.ensures.number c.begin_wait.ensures.waits c.requires.kept

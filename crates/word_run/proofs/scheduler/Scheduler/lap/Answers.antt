@@ -1,7 +1,7 @@
 use Rattle.std.proofs.lemmas.Result.{on_ok_weaker}
 use Rattle.word_run.proofs.Answering.{answers_on}
 use Rattle.word_run.proofs.Noting.{named_table}
-use Rattle.word_run.proofs.Slices.{given_on, keeps_asked, keeps_both}
+use Rattle.word_run.proofs.Slices.{keeps_asked}
 use Rattle.word_run.proofs.scheduler.Scheduler.lap.Goals as goal
 
 pub arrive-requires-clause-table : goal.arrive-requires-clause-table
@@ -9,15 +9,7 @@ arrive-requires-clause-table g c = named_table g.N.RunName.run g.T.TableName.tab
 
 -- what arrived is kept
 pub turns_of_lap-requires-clause-kept : goal.turns_of_lap-requires-clause-kept
-turns_of_lap-requires-clause-kept g c κs within =
-    given_on g.K.Naming.names _ _ c.args.sight.now c.args.self.now _ c.requires.kept (keeps_asked g.K.Naming.names _ _ c.args.sight.now c.args.self.now c.arrive.new.self c.in_ok-self.field-0 c.arrive.ensures.kept)
-
--- and so it is behind the turns
-pub returns-clause-kept : goal.returns-clause-kept
-returns-clause-kept g c =
-    on_ok_weaker c.turns_of_lap.result
-    (keeps_both g.K.Naming.names _ _ c.args.sight.now c.args.self.now _ c.turns_of_lap.new.self (keeps_asked g.K.Naming.names _ _ c.args.sight.now c.args.self.now c.arrive.new.self c.in_ok-self.field-0 c.arrive.ensures.kept))
-    c.turns_of_lap.ensures.kept
+turns_of_lap-requires-clause-kept g c κs within = keeps_asked g.K.Naming.names _ _ c.arrive.new.self c.in_ok-self.field-0 c.arrive.ensures.kept
 
 -- the answers of this lap
 pub returns-clause-answers : goal.returns-clause-answers

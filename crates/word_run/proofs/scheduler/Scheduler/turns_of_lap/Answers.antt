@@ -4,9 +4,9 @@ use Rattle.word_run.proofs.scheduler.Scheduler.turns_of_lap.Goals as goal
 
 -- each process had its turn
 pub returns-clause-kept : goal.returns-clause-kept
-returns-clause-kept g c traced given h =
+returns-clause-kept g c =
     let had = c.take_turns-member.ensures in
     let led = c.try_lead.ensures in
-    keeps_turned g.K.Naming.names _ _ c.args.self.now c.in-Some.member (sym c.take.ensures.value ∙ c.in-Some.is) c.requires.awake c.args.sight.now c.requires.exports c.requires.caught
-    c.take_turns-member.result.1 c.in_ok-turned.field-0 c.as_slice.result.now c.take_turns-member.result.0 c.try_lead.new.member c.take_turns-member.new.processes c.in_ok-turned.was c.as_slice.ensures
-    c.other_calls_keep_processes.ensures.attempts had.number had.same had.kept led.token led.number led.between led.tried traced given h
+    keeps_turned g.K.Naming.names _ _ c.args.self.now c.in-Some.member (sym c.take.ensures.value ∙ c.in-Some.is) c.requires.awake c.args.sight.now.exports c.requires.exports
+    c.take_turns-member.result.1 c.in_ok-turned.field-0 c.take_turns-member.result.0 c.try_lead.new.member c.take_turns-member.new.processes c.in_ok-turned.was
+    c.other_calls_keep_processes.ensures.attempts had.number had.same had.kept led.token led.number led.between led.tried c.requires.kept

@@ -4,7 +4,7 @@ use Rattle.word_run.proofs.scheduler.Scheduler.wake_up.Goals as goal
 
 -- its processes stay
 pub returns-in-Some-clause-kept : goal.returns-in-Some-clause-kept
-returns-in-Some-clause-kept g c traced h =
+returns-in-Some-clause-kept g c =
     let woken = c.end_wait-self.ensures in
-    goes_awake g.K.Naming.names traced _ _ c.args.self.now c.in-Some.member c.end_wait-self.new.member c.end_wait-self.result c.other_calls_keep_processes.ensures.reports (sym c.take.ensures.value ∙ c.in-Some.is) c.if-self.true
-    woken.token woken.number woken.between woken.reported h
+    goes_awake g.K.Naming.names _ _ c.args.self.now c.in-Some.member c.end_wait-self.new.member c.end_wait-self.result c.other_calls_keep_processes.ensures.reports (sym c.take.ensures.value ∙ c.in-Some.is) c.if-self.true
+    woken.token woken.number woken.between woken.reported c.requires.kept

@@ -1,11 +1,11 @@
 use Rattle.std.proofs.Common.{length, ap, subst, ◌∙◌}
 use Rattle.write_permit.specs.Book.{shown}
 use Rattle.write_permit.specs.Permit.{next_of}
-use Rattle.word_run.specs.declared.slice_step.SliceStep.TheVariants.{Over, Purges, Traces, AtOnce, Operates}
+use Rattle.word_run.specs.declared.slice_step.SliceStep.TheVariants.{Over, AtOnce, Operates}
 use Rattle.word_run.specs.Desks.{AddsInSlices, DeskState}
 use Rattle.word_run.proofs.Answering.{step_answers}
 use Rattle.word_run.proofs.Slices.{slice_homes, slices_same}
-use Rattle.word_run.proofs.slicing.Slicing.step.Goals.{in-Over, in-Traces, in-Purges+in_ok-purge-in-Purges, in-AtOnce+in_ok-make_at_once-in-AtOnce, in-Operates+in_ok-operate-in-Operates}
+use Rattle.word_run.proofs.slicing.Slicing.step.Goals.{in-Over, in-AtOnce+in_ok-make_at_once-in-AtOnce, in-Operates+in_ok-operate-in-Operates}
 use Rattle.word_run.proofs.slicing.Slicing.step.Goals as goal
 
 -- a home for each inbox
@@ -17,8 +17,6 @@ pub returns-clause-adds : goal.returns-clause-adds
 returns-clause-adds g c =
     elim c.match-slice_step.branch [
       | in-Over w ↦ rw w.self-inside-is (slices_same c.args.self.now c.self.inside.desk c.self.view_is)
-      | in-Traces w ↦ rw w.self-inside-is (slices_same c.args.self.now c.self.inside.desk c.self.view_is)
-      | in-Purges+in_ok-purge-in-Purges w ↦ rw w.self-inside-is (subst (λ d. AddsInSlices d w.purge.new.desk) c.self.view_is w.purge.ensures)
       | in-AtOnce+in_ok-make_at_once-in-AtOnce w ↦ rw w.self-inside-is (subst (λ d. AddsInSlices d w.make_at_once.new.desk) c.self.view_is w.make_at_once.ensures)
       | in-Operates+in_ok-operate-in-Operates w ↦ rw w.self-inside-is (subst (λ d. AddsInSlices d w.operate.new.desk) c.self.view_is w.operate.ensures)
     ]
@@ -29,8 +27,6 @@ returns-clause-over g c =
     let next = c.next_command.ensures ∙ ap (λ (d : DeskState). next_of (shown d.book.plain) c.args.who) (c.desk.view_is ∙ c.self.view_is) in
     elim c.match-slice_step.branch [
       | in-Over w ↦ rw w.result-is (step_answers _ _ _ Over c.slice_step.ensures next w.in-Over.is)
-      | in-Traces w ↦ rw w.result-is (step_answers _ _ _ Traces c.slice_step.ensures next w.in-Traces.is)
-      | in-Purges+in_ok-purge-in-Purges w ↦ rw w.result-is (step_answers _ _ _ Purges c.slice_step.ensures next w.in-Purges.is)
       | in-AtOnce+in_ok-make_at_once-in-AtOnce w ↦ rw w.result-is (step_answers _ _ _ AtOnce c.slice_step.ensures next w.in-AtOnce.is)
       | in-Operates+in_ok-operate-in-Operates w ↦ rw w.result-is (step_answers _ _ _ Operates c.slice_step.ensures next w.in-Operates.is)
     ]
