@@ -1,3 +1,11 @@
 mod Begun
 mod Keyed
 mod Leading
+mod Asked
+mod MayTrace
+mod MayBegin
+mod MayWrite
+mod AtRest
+mod Calls
+mod Learning
+mod Settled

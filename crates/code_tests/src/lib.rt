@@ -1,4 +1,4 @@
-//! Tests of what is staged beneath running threads, and of the numbers that code indices go by.
+//! Tests of what is staged and switched beneath running threads, and of the numbers that code indices go by.
 #![tactic(auto)]
 
 #[cfg(test)]
@@ -6,4 +6,8 @@ mod exports;
 #[cfg(test)]
 mod keys;
 #[cfg(test)]
+mod patching;
+#[cfg(test)]
 mod staged;
+#[cfg(test)]
+mod switching;
