@@ -42,8 +42,8 @@ const MOST_MISSED: u64 = 3;
 /// were held for longer would hold back the progress for which a commit waits. Whoever waits does so for so many looks at most.
 #[derive(Drop)]
 struct Overlap {
-    /// How many commits come before the first hold.
-    first: u64,
+    /// How many commits come before the one that is awaited. Turns are held from then on.
+    before: u64,
     /// How many commits have come.
     commits: AtomicU64,
     /// How many laps scheduler 0 and scheduler 1 have begun.
@@ -57,7 +57,7 @@ struct Overlap {
     seen: AtomicU64,
     /// The lap in which scheduler 0 has made its commands.
     made: AtomicU64,
-    /// How many commits came of commands before and behind which the same turn was held.
+    /// Whether the commit that is awaited came of a command before and behind which the same turn was held: 1, else 0.
     overlaps: AtomicU64,
     /// How often a scheduler has waited in vain.
     missed: AtomicU64,
@@ -77,9 +77,9 @@ impl Gate for Overlap {
 }
 
 impl Overlap {
-    fn new(first: u64) -> Overlap {
+    fn new(before: u64) -> Overlap {
         Overlap {
-            first,
+            before,
             commits: AtomicU64::new(0),
             laps: AtomicU64::new(0),
             followed: AtomicU64::new(0),
@@ -93,14 +93,19 @@ impl Overlap {
         }
     }
 
-    /// Whether a commit has come during a hold.
+    /// Whether the commit has come during a hold.
     fn has_come(&self) -> bool {
         self.overlaps.load(Ordering::SeqCst) != 0
     }
 
     /// Whether no turn is held yet.
     fn is_early(&self) -> bool {
-        self.commits.load(Ordering::SeqCst) < self.first
+        self.commits.load(Ordering::SeqCst) < self.before
+    }
+
+    /// Whether the next commit is the one that is awaited.
+    fn is_awaited(&self) -> bool {
+        self.commits.load(Ordering::SeqCst) == self.before
     }
 
     /// Whether all is let go.
@@ -145,9 +150,10 @@ impl Overlap {
 
     /// Loader 0, which is on scheduler 0, has published.
     fn note_commit(&self) {
+        let awaited = self.is_awaited();
         self.commits.fetch_add(1, Ordering::SeqCst);
         let held = self.held.load(Ordering::SeqCst);
-        if held != 0 && held == self.seen.load(Ordering::SeqCst) {
+        if awaited && held != 0 && held == self.seen.load(Ordering::SeqCst) {
             self.overlaps.fetch_add(1, Ordering::SeqCst);
         }
     }
@@ -203,18 +209,19 @@ fn waiting_script(
 }
 
 /// A run on one thread, or one in which no turn runs while a command is published, would see no commit during a hold. Of the purge the commit that is
-/// awaited is that of the doom, behind two loads.
+/// awaited is that of the doom, behind two loads; of each other command it is its own, behind one load.
 #[test]
 fn held_turn_sees_commit(rt: HostRuntime) -> Result<(), Fail> {
     let alloc = rt.alloc();
-    for (command, purge, behind, first, published) in [
-        ("load m.2\n", "", "put flag 1\n", 0, 3),
-        ("put x 1\n", "", "put flag 1\n", 0, 3),
+    for (command, purge, behind, before, published) in [
+        ("load m.2\n", "", "put flag 1\n", 1, 3),
+        ("put x 1\n", "", "put flag 1\n", 1, 3),
         ("load m.2\n", "purge m\n", "", 2, 4),
+        ("trace m:main/0 on\n", "", "put flag 1\n", 1, 3),
     ] {
         let text = waiting_script(alloc, command, purge, behind)?;
         let script = read_script(alloc, text.as_bytes())?;
-        let overlap = Overlap::new(first);
+        let overlap = Overlap::new(before);
         let ran = run_script(&rt, alloc, &script, 2, &overlap)?;
         assert!(rt; overlap.has_come(), "{command}{purge}");
         assert_eq!(rt; ran.closed.published(), published, "{command}{purge}");
