@@ -51,13 +51,21 @@ class Times(unittest.TestCase):
         measure = bench.Measure("a call", "ns", bench.calls, bench.two_moves, 1, (10, 110), "120")
         seconds = {"call_ext": {10: 1.0, 110: 1.00003}, "move 1 $1\nmove 1 $1": {10: 0.5, 110: 0.50001}}
 
-        def least(_program, _schedulers, path, _rounds):
+        def run(program, _schedulers, path):
             text = path.read_text(encoding="ascii")
             times = next(times for mark, times in seconds.items() if mark in text)
-            return bench.Run(9.0, next(time for count, time in times.items() if f"less $0 {count} again" in text), 0)
+            time = next(time for count, time in times.items() if f"less $0 {count} again" in text)
+            return bench.Run(9.0, time * (2 if program == "b" else 1), 0)
 
-        with mock.patch.object(bench, "least", least):
-            self.assertEqual(bench.row("a", self.folder, measure, 1), "| a call | 200.0 ns | 120 |")
+        with mock.patch.object(bench, "run", run):
+            self.assertEqual(bench.row(["a"], self.folder, measure, 1), "| a call | 200.0 ns | 120 |")
+            self.assertEqual(bench.row(["a", "b"], self.folder, measure, 1), "| a call | 200.0 ns | 400.0 ns | 120 |")
+
+    def test_the_least_time_of_each_program_counts(self):
+        measure = bench.Measure("a turn", "us", bench.turns, None, 16, (0, 1))
+        times = {"a": [1.0, 1.5, 3.0, 2.0], "b": [1.0, 1.0, 5.0, 6.0]}
+        with mock.patch.object(bench, "run", lambda program, _schedulers, _path: bench.Run(times[program].pop(0), 9.0, 0)):
+            self.assertEqual(bench.one_more(["a", "b"], self.folder, bench.turns, measure, 2), [1.0, 4.0])
 
     def test_scripts_differ_in_what_is_timed(self):
         with_it, without = bench.calls(7).split("\n"), bench.two_moves(7).split("\n")
@@ -75,6 +83,7 @@ class Times(unittest.TestCase):
             (bench.puts_and_erases(2)(2), ["put limits {10,[20,30]}", "erase limits"] * 2),
             (bench.soft_purges(2)(2), ["load n.1", "soft_purge n"] * 2),
             (bench.lingering(2)(2), ["load m.2", "soft_purge m", "soft_purge m"]),
+            (bench.traces(2)(2), ["trace n:none/0 on", "trace n:none/0 off"] * 2),
         ]:
             lines = text.split("\n")
             self.assertEqual(lines[lines.index("spawn n:none()") :], ["spawn n:none()", "spawn m:main()", "spawn m:main()", *commands, "put stop 1", "go", ""])
