@@ -61,11 +61,12 @@ class Times(unittest.TestCase):
             self.assertEqual(bench.row(["a"], self.folder, measure, 1), "| a call | 200.0 ns | 120 |")
             self.assertEqual(bench.row(["a", "b"], self.folder, measure, 1), "| a call | 200.0 ns | 400.0 ns | 120 |")
 
-    def test_the_least_time_of_each_program_counts(self):
+    def test_the_least_time_of_one_program_and_the_median_of_two(self):
         measure = bench.Measure("a turn", "us", bench.turns, None, 16, (0, 1))
-        times = {"a": [1.0, 1.5, 3.0, 2.0], "b": [1.0, 1.0, 5.0, 6.0]}
-        with mock.patch.object(bench, "run", lambda program, _schedulers, _path: bench.Run(times[program].pop(0), 9.0, 0)):
-            self.assertEqual(bench.one_more(["a", "b"], self.folder, bench.turns, measure, 2), [1.0, 4.0])
+        for programs, taken in ((["a"], [1.0]), (["a", "b"], [1.5, 4.0])):
+            times = {"a": [1.0, 1.5, 1.5, 3.0, 2.0, 3.0], "b": [1.0, 1.0, 2.0, 5.0, 6.0, 1.0]}
+            with mock.patch.object(bench, "run", lambda program, _schedulers, _path: bench.Run(times[program].pop(0), 9.0, 0)):
+                self.assertEqual(bench.one_more(programs, self.folder, bench.turns, measure, 3), taken)
 
     def test_scripts_differ_in_what_is_timed(self):
         with_it, without = bench.calls(7).split("\n"), bench.two_moves(7).split("\n")
