@@ -83,7 +83,7 @@ class Times(unittest.TestCase):
         for text, commands in [
             (bench.puts_and_erases(2)(2), ["put limits {10,[20,30]}", "erase limits"] * 2),
             (bench.soft_purges(2)(2), ["load n.1", "soft_purge n"] * 2),
-            (bench.lingering(2)(2), ["load m.2", "soft_purge m", "soft_purge m"]),
+            (bench.lingering(2)(2), [*["check_old m"] * 16, "load m.2", "soft_purge m", "soft_purge m"]),
             (bench.traces(2)(2), ["trace n:none/0 on", "trace n:none/0 off"] * 2),
         ]:
             lines = text.split("\n")
