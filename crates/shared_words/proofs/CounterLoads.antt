@@ -1,5 +1,5 @@
 -- A load of the counter keeps the rule, whatever seat loads it.
-use Rattle.std.proofs.Common.{◌≡◌, ℕ, zero, suc, ◌≤◌, inl, inr, ne_eqb, Bool, false, cond, List, [], append-nil, set, refl, sym, ap, subst, ◌∙◌, arith}
+use Rattle.std.proofs.Common.{◌≡◌, ℕ, zero, suc, ◌≤◌, inl, inr, ne_eqb, Bool, true, false, cond, List, [], append-nil, set, refl, sym, ap, subst, ◌∙◌, arith}
 use mathlib.Core.Option.{none, some, some-injective}
 use lib.ListN.{get_elem?}
 use lib.Seq.{set-get_or}
@@ -8,10 +8,12 @@ use Rattle.std.specs.Option.{option_and_then}
 use Rattle.atomic_table.specs.Table.{State, keeps, step, Allows}
 use Rattle.atomic_table.proofs.Lists.{set_again}
 use Rattle.prgr_core.specs.declared.member.Member as machines
+use Rattle.prgr_core.specs.declared.watcher.Watcher as watching
 use Rattle.prgr_core.specs.declared.progress.Progress.{Progress}
 use Rattle.prgr_core.specs.declared.event.PrgrEvent.TheVariants as prgr
 use Rattle.prgr_core.specs.Members as members
-use Rattle.prgr_core.specs.Step.{after, with_member}
+use Rattle.prgr_core.specs.Watchers as watchers
+use Rattle.prgr_core.specs.Step.{after, with_member, with_watcher}
 use Rattle.prgr_core.proofs.Sound.{pair_sound}
 use Rattle.prgr_core.proofs.SoundParts.{is_member}
 use Rattle.prgr_core.specs.declared.member.TheConstants.{WAITING}
@@ -20,6 +22,7 @@ use Rattle.area_core.proofs.Fewer.{fewer_count}
 use Rattle.shared_words.specs.declared.table.TheConstants.{COUNTER}
 use Rattle.shared_words.specs.declared.opening.Opening.{Opening}
 use Rattle.shared_words.specs.declared.view.MemberView.{MemberView}
+use Rattle.shared_words.specs.declared.view.WatcherView.{WatcherView}
 use Rattle.shared_words.specs.declared.view.WriterView.{WriterView}
 use Rattle.shared_words.specs.declared.view.View.{View}
 use Rattle.shared_words.specs.declared.view.View.TheVariants.{Writer, Member, Watcher, Note, Spent}
@@ -30,6 +33,7 @@ use Rattle.shared_words.proofs.ShownMembers.{shown_at, there, still_at}
 use Rattle.shared_words.proofs.KeptWords.{kept_as}
 use Rattle.shared_words.proofs.SlotFrames.{goes_on, LooksStay, looks_same, looks_stay, marks_stay, ended_still}
 use Rattle.shared_words.proofs.Frames.{after_step, same_rest, progress_set, member_step}
+use Rattle.shared_words.proofs.WatcherFrames.{progress_watched, watcher_here, watcher_step}
 use Rattle.shared_words.proofs.WriterFrames.{writer_at}
 
 -- ---- by a member
@@ -43,6 +47,16 @@ loaded_event : (p : Progress) (k : ℕ) (a : machines.Member) → slice_get p.me
 loaded_event p k a at awake =
     ap (option_and_then (λ (member : machines.Member). cond (members.is_waiting member.word) None (Some (with_member p k (members.counter_loaded p.counter member))))) at
     ∙ ap (λ (t : Bool). cond t None (Some (with_member p k (members.counter_loaded p.counter a)))) awake
+
+-- the record of a watcher that has loaded the counter
+abbrev watcher_with_counter : ℕ → WatcherView → WatcherView
+watcher_with_counter c v = record v { watcher = watchers.counter_watched c v.watcher }
+
+-- the event that a watcher's load is
+watched_event : (p : Progress) (k : ℕ) (a : watching.Watcher) → slice_get p.watchers k ≡ Some a → watchers.may_look a.phase ≡ true → after p (prgr.WatchLoad k) ≡ Some (with_watcher p k (watchers.counter_watched p.counter a))
+watched_event p k a at may =
+    ap (option_and_then (λ (watcher : watching.Watcher). cond (watchers.may_look watcher.phase) (Some (with_watcher p k (watchers.counter_watched p.counter watcher))) None)) at
+    ∙ ap (λ (t : Bool). cond t (Some (with_watcher p k (watchers.counter_watched p.counter a))) None) may
 
 module _ {Served : Published → Type 0} {opening : Opening} (s : State (Unit {0}) View) (r : RunningRule Served opening s) where
   member_loads : (k : ℕ) (m : MemberView) → get_elem? r.seats k ≡ some (Member m) → members.is_waiting m.member.word ≡ false → RunningRule Served opening (after_step s s.words (suc k) (Member (with_counter (slice_index s.words COUNTER) m)))
@@ -72,6 +86,22 @@ module _ {Served : Published → Type 0} {opening : Opening} (s : State (Unit {0
             ne_eqb m.member.word WAITING (λ e. absurd (omega arith))
       ]
 
+  -- ---- by a watcher
+
+  watcher_loads : (k : ℕ) (v : WatcherView) → get_elem? r.seats k ≡ some (Watcher v) → watchers.may_look v.watcher.phase ≡ true → RunningRule Served opening (after_step s s.words (suc k) (Watcher (watcher_with_counter (slice_index s.words COUNTER) v)))
+  watcher_loads k v at may =
+      let knows = r.each_seat k (Watcher v) at in
+      let c : ℕ = slice_index s.words COUNTER in
+      let v' = watcher_with_counter c v in
+      let p = progress_of s.words r.writer r.seats in
+      watcher_step s r s.words k v' (record {
+        rest = same_rest s.words;
+        knows = record { numbered = knows.numbered; made = knows.made; seen = knows.seen; words = knows.words };
+        moves = inl (prgr.WatchLoad v.watcher.number, watched_event p v.watcher.number v.watcher (watcher_here s r k v at) may ∙ ap (λ (q : Progress). Some q) (sym (progress_watched s.words r.writer r.seats k v.watcher.number v' knows.numbered knows.made (there r.seats k (Watcher v) at))));
+        members = λ j. refl;
+        leader = refl;
+      })
+
   -- ---- by the writer
 
   -- one more pair leaves fewer generations that may be read
@@ -83,7 +113,7 @@ module _ {Served : Published → Type 0} {opening : Opening} (s : State (Unit {0
   same_knows : (c : ℕ) → r.writer.counter ≤ c → (place : ℕ) (v : View) → Knows r.writer place v → Knows (counter_kept c r.writer) place v
   same_knows c later place (Writer w) h = h
   same_knows c later place (Member m) h = record { numbered = h.numbered; made = h.made; seen = h.seen; holds = h.holds; noted = h.noted; own_slots = h.own_slots; words = λ f among. kept_as r.writer (counter_kept c r.writer) refl refl refl (fewer c later) f (h.words f among) }
-  same_knows c later place (Watcher w) h = record { numbered = h.numbered; made = h.made; seen = h.seen }
+  same_knows c later place (Watcher w) h = record { numbered = h.numbered; made = h.made; seen = h.seen; words = λ f among. kept_as r.writer (counter_kept c r.writer) refl refl refl (fewer c later) f (h.words f among) }
   same_knows c later place (Note n) h = record { behind = h.behind; seen = h.seen; noted = h.noted; learnt = h.learnt }
   same_knows c later place Spent h = h
 
@@ -114,6 +144,7 @@ module _ {Served : Published → Type 0} {opening : Opening} (s : State (Unit {0
         handed = r.handed;
         out = r.out;
         at_home = λ k m at. same_knows c r.words.reached k (Member m) (r.at_home k m at);
+        watchers_home = r.watchers_home;
         looks = looks_stay s.words s.words r.writer w' stay r.looks;
         marks = marks_stay s.words s.words r.writer w' r.seats r.seats stay refl refl r.marks;
         come = λ number among. record { made = (r.come number among).made; spent = (r.come number among).spent };
@@ -127,7 +158,7 @@ module _ {Served : Published → Type 0} {opening : Opening} (s : State (Unit {0
   behind_loads : (k : ℕ) (v : View) → get_elem? s.views (suc k) ≡ some v → get_elem? r.seats k ≡ some v → MayLoadCounter v → RunningRule Served opening (after_step s s.words (suc k) (counter_found (slice_index s.words COUNTER) v))
   behind_loads k (Writer w) at here may = absurd (r.each_seat k (Writer w) here)
   behind_loads k (Member m) at here may = member_loads k m here (may_load k m here may)
-  behind_loads k (Watcher w) at here may = absurd may
+  behind_loads k (Watcher w) at here may = watcher_loads k w here may
   behind_loads k (Note n) at here may = same_step (suc k) (Note n) at
   behind_loads k Spent at here may = absurd may
 

@@ -161,6 +161,7 @@ module _ {Served : Published → Type 0} {opening : Opening} (s : State (Unit {0
     handed = λ more. length-set r.seats k (Member m) ∙ r.handed more;
     out = omega (arith, r.out, length-set r.seats k (Member m));
     at_home = r.at_home;
+    watchers_home = r.watchers_home;
     looks = r.looks;
     marks = marks_after words' k old m at step;
     come = come_after k old (Member m) at;
@@ -197,6 +198,7 @@ module _ {Served : Published → Type 0} {opening : Opening} (s : State (Unit {0
         handed = λ more. length-set r.seats k v ∙ r.handed more;
         out = omega (arith, r.out, length-set r.seats k v);
         at_home = r.at_home;
+        watchers_home = r.watchers_home;
         looks = r.looks;
         marks = λ process j m below own at. r.marks process j m below own (ap (λ (xs : List MemberView). slice_get xs j) (sym (views_behind r.writer.members r.seats k v (omega (arith, behind)))) ∙ at);
         come = λ number among.

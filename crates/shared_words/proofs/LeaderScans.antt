@@ -40,7 +40,7 @@ use Rattle.shared_words.proofs.LeaderSteps.{still_knows, machine_store}
 -- ---- the events
 
 -- a leader's role has its scans
-leads_with : (role : Role) → IsLeading role → role ≡ Leads (scans_of role)
+pub leads_with : (role : Role) → IsLeading role → role ≡ Leads (scans_of role)
 leads_with Follows leads = absurd leads
 leads_with (Leads scans) leads = refl
 
@@ -71,7 +71,7 @@ module _ {Served : Published → Type 0} {opening : Opening} (s : State (Unit {0
     among = is_member p r.machine.progress k m.member shown
 
     -- what it knows is the counter
-    knows_counter : known_counter m ≡ slice_index s.words COUNTER
+    pub knows_counter : known_counter m ≡ slice_index s.words COUNTER
     knows_counter = r.machine.progress.invariant.leader_knows m.member among (known_counter m) leader.knows
 
     -- it does not wait

@@ -59,7 +59,7 @@ module _ {Served : Published → Type 0} {opening : Opening} (s : State (Unit {0
 
     keeps_answer : RunningRule Served opening (after_step s s.words 0 (Writer w'))
     keeps_answer =
-        writer_changes s r s.words w' (record { members = refl; watchers = refl; learnt = λ xs is. is; noted = λ note is. is; words = kept_as r.writer w' refl refl refl (λ g may. may) }) refl refl refl
+        writer_changes s r s.words w' (record { members = refl; watchers = refl; learnt = λ xs is. is; noted = λ note is. is; words = kept_as r.writer w' refl refl refl (λ g may. may) }) refl refl refl refl
         (record { made = r.published.made; staffed = r.published.staffed; watched = r.published.watched; some = r.published.some; served = r.published.served; old_stays = r.published.old_stays; retired_stays = r.published.retired_stays; areas_stay = r.published.areas_stay; notes_fit = r.published.notes_fit })
         (record { all = r.words.all; root = r.words.root; mirror = r.words.mirror; mirrored = r.words.mirrored; reached = r.words.reached; blocks = r.words.blocks })
         (record { progress = r.machine.progress; own_words = r.machine.own_words; others_wait = r.machine.others_wait; leader_made = r.machine.leader_made })

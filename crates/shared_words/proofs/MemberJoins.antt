@@ -93,11 +93,12 @@ module _ {Served : Published → Type 0} {about : Opening} (s : State (Unit {0})
       others_wait = λ j late few. r.machine.others_wait j (subst (λ (n : ℕ). n ≤ j) long late) few;
       leader_made = subst (λ (n : ℕ). slice_index s.words 2 ≤ n) (sym long) r.machine.leader_made;
     };
-    handed = λ few. length-set r.seats k Spent ∙ r.handed (subst (λ (n : ℕ). r.writer.handed < n) long few);
+    handed = λ few. length-set r.seats k Spent ∙ r.handed (omega (arith, few, long));
     out = omega (arith, r.out, length-set r.seats k Spent);
     at_home = λ j x here. ⊎_elim (λ (t : (j ≡ k) × (x ≡ m)). subst (λ (z : ℕ × MemberView). MemberKnows (taken k) z.0 z.1) (λ i. (sym t.0 i, sym t.1 i)) (knows_more r.writer (taken k) more k (Member m) knows))
         (λ t. knows_more r.writer (taken k) more j (Member x) (r.at_home j x t.1))
         (slice_get-slice_set r.writer.members k m j x here);
+    watchers_home = r.watchers_home;
     looks = looks_stay s.words s.words r.writer (taken k) stay r.looks;
     marks = marks_stay s.words s.words r.writer (taken k) r.seats (set r.seats k Spent) stay long (views_taken r.writer.members r.seats k m knows.made at) r.marks;
     come = have_come;

@@ -30,7 +30,7 @@ use Rattle.shared_words.proofs.WriterFrames.{WriterGrows, knows_more}
 
 -- ---- a seat more at the end
 
-members_more : (members : List MemberView) (seats : List View) (v : View) → length members ≤ length seats → members_shown members (seats ++ v ∷ []) ≡ members_shown members seats
+pub members_more : (members : List MemberView) (seats : List View) (v : View) → length members ≤ length seats → members_shown members (seats ++ v ∷ []) ≡ members_shown members seats
 members_more [] seats v few = refl
 members_more (kept ∷ members) [] v few = absurd (omega arith)
 members_more (kept ∷ members) (seat ∷ seats) v few = ap (λ (xs : List machines.Member). member_shown kept seat ∷ xs) (members_more members seats v (omega arith))
@@ -90,9 +90,10 @@ splits process s r may =
         others_wait = r.machine.others_wait;
         leader_made = r.machine.leader_made;
       };
-      handed = λ few. absurd (omega (arith, few, r.published.made, may.out));
+      handed = λ few. absurd (omega (arith, few, r.published.made, r.published.watched, may.out));
       out = omega (arith, r.out, length-append r.seats (Note n ∷ []));
       at_home = λ k x at. knows_more w w' more k (Member x) (r.at_home k x at);
+      watchers_home = r.watchers_home;
       looks = looks_stay s.words s.words w w' stay r.looks;
       marks = marks_stay s.words s.words w w' r.seats (r.seats ++ Note n ∷ []) stay refl (views_more w.members r.seats (Note n) (omega (arith, behind))) r.marks;
       come = λ number among. record { made = (r.come number among).made; spent = at_longer r.seats (Note n ∷ []) number Spent (r.come number among).spent };

@@ -10,7 +10,6 @@ use Rattle.atomic_table.proofs.Lists.{at_longer}
 use Rattle.std.proofs.lemmas.List.{length-replicate}
 use Rattle.prgr_core.specs.declared.member.TheConstants.{MOST_MEMBERS}
 use Rattle.prgr_core.specs.declared.member.Member as machines
-use Rattle.prgr_core.specs.declared.watcher.Watcher as watching
 use Rattle.prgr_core.specs.declared.watcher.TheConstants.{MOST_WATCHERS}
 use Rattle.prgr_core.specs.Step as starting
 use Rattle.prgr_core.proofs.Parts.{slice_get-push_at}
@@ -27,12 +26,11 @@ use Rattle.marks.specs.Steps.{nothing_kept}
 use Rattle.marks.proofs.Opening.{opens}
 use Rattle.shared_words.specs.declared.opening.Opening.{Opening}
 use Rattle.shared_words.specs.declared.view.MemberView.{MemberView}
-use Rattle.shared_words.specs.declared.view.WatcherView.{WatcherView}
 use Rattle.shared_words.specs.declared.view.WriterView.{WriterView}
 use Rattle.shared_words.specs.declared.view.View.{View}
 use Rattle.shared_words.specs.declared.view.View.TheVariants.{Writer, Member, Watcher, Note, Spent}
 use Rattle.shared_words.specs.Shown.{member_shown, members_shown, watchers_shown, leader_in, progress_of, block_words}
-use Rattle.shared_words.specs.Opening.{member_begun, members_begun, watcher_begun, watchers_begun, writer_begun, opening_view}
+use Rattle.shared_words.specs.Opening.{member_begun, members_begun, watchers_begun, writer_begun, opening_view}
 use Rattle.shared_words.specs.Making.{AreBegun, HasSeatsAtHome, handed_on, handed_out}
 use Rattle.shared_words.specs.Processes.{under_of}
 use Rattle.shared_words.specs.Rule.{AreasStay, Knows, MemberKnows, MayBeRead, SlotKnown, RunningRule}
@@ -40,6 +38,7 @@ use Rattle.shared_words.proofs.KeptWords.{kept_as}
 use Rattle.shared_words.proofs.ShownMembers.{there_is, still_at, drop_none}
 use Rattle.shared_words.proofs.ShownViews.{views_none, views_push}
 use Rattle.shared_words.proofs.SlotFrames.{LooksStay, looks_same, looks_stay, marks_stay, ended_as}
+use Rattle.shared_words.proofs.WatchersBegun.{watchers_opened, watched_length, watchers_begin}
 
 -- ---- lists
 
@@ -79,24 +78,10 @@ unfolding members_begun
 members_opened zero = refl
 members_opened (suc n) = shown_snoc (members_begun n) (member_begun n) ∙ ap (λ (xs : List machines.Member). xs ++ starting.opening_member n ∷ []) (members_opened n)
 
-watchers_snoc : (watchers : List WatcherView) (w : WatcherView) → watchers_shown (watchers ++ w ∷ []) [] ≡ watchers_shown watchers [] ++ w.watcher ∷ []
-watchers_snoc [] w = refl
-watchers_snoc (kept ∷ watchers) w = ap (λ (xs : List watching.Watcher). kept.watcher ∷ xs) (watchers_snoc watchers w)
-
-watchers_opened : (n : ℕ) → watchers_shown (watchers_begun n) [] ≡ starting.opening_watchers n
-unfolding watchers_begun
-watchers_opened zero = refl
-watchers_opened (suc n) = watchers_snoc (watchers_begun n) _ ∙ ap (λ (xs : List watching.Watcher). xs ++ starting.opening_watcher n ∷ []) (watchers_opened n)
-
 pub begun_length : (n : ℕ) → length (members_begun n) ≡ n
 unfolding members_begun
 begun_length zero = refl
 begun_length (suc n) = let before = begun_length n in omega (arith, length-append (members_begun n) (member_begun n ∷ []))
-
-watched_length : (n : ℕ) → length (watchers_begun n) ≡ n
-unfolding watchers_begun
-watched_length zero = refl
-watched_length (suc n) = let before = watched_length n in omega (arith, length-append (watchers_begun n) (watcher_begun n ∷ []))
 
 pub last_get : {A : Type 0} (xs : List A) (x : A) → slice_get (xs ++ x ∷ []) (length xs) ≡ Some x
 last_get [] x = refl
@@ -221,6 +206,7 @@ rule_begins Served about words first few few_watchers served begun =
       handed = λ more. refl;
       out = omega arith;
       at_home = member_knows about.members about.watchers;
+      watchers_home = watchers_begin about.watchers;
       looks = record { backed = none_backed; over = λ wait among. absurd (none_at among.0 wait among.1) };
       marks = λ process k m below own at.
           let here = ap (λ (xs : List MemberView). slice_get xs k) (sym (views_none (members_begun about.members))) ∙ at in
@@ -248,10 +234,10 @@ at_push (z ∷ zs) y zero x at = inl at
 at_push (z ∷ zs) y (suc k) x at = ⊎_elim (λ t. inl t) (λ (t : (k ≡ length zs) × (y ≡ x)). inr (ap suc t.0, t.1)) (at_push zs y k x at)
 
 -- what a seat knows says nothing of how many were handed out
-same_handed : (w : WriterView) (n place : ℕ) (v : View) → Knows w place v → Knows (record w { handed = n }) place v
+pub same_handed : (w : WriterView) (n place : ℕ) (v : View) → Knows w place v → Knows (record w { handed = n }) place v
 same_handed w n place (Writer other) h = h
 same_handed w n place (Member m) h = record { numbered = h.numbered; made = h.made; seen = h.seen; holds = h.holds; noted = h.noted; own_slots = h.own_slots; words = λ f among. kept_as w (record w { handed = n }) refl refl refl (λ g may. may) f (h.words f among) }
-same_handed w n place (Watcher v) h = record { numbered = h.numbered; made = h.made; seen = h.seen }
+same_handed w n place (Watcher v) h = record { numbered = h.numbered; made = h.made; seen = h.seen; words = λ f among. kept_as w (record w { handed = n }) refl refl refl (λ g may. may) f (h.words f among) }
 same_handed w n place (Note v) h = record { behind = h.behind; seen = h.seen; noted = h.noted; learnt = h.learnt }
 same_handed w n place Spent h = h
 
@@ -262,7 +248,7 @@ hands_out s r more =
     let m = unwrap_or (slice_get w.members w.handed) (member_begun 0) in
     let w' : WriterView = record w { handed = w.handed + 1 } in
     let there : slice_get w.members w.handed ≡ Some m = there_is w.members w.handed (member_begun 0) more in
-    let long = r.handed more in
+    let long = r.handed (omega (arith, more)) in
     let same = shown_push w.members r.seats m (ap (slice_get w.members) long ∙ there) in
     let behind = drop_short (length w.members) r.seats (omega arith) in
     let behind' = drop_short (length w.members) (r.seats ++ Member m ∷ []) (omega (arith, length-append r.seats (Member m ∷ []))) in
@@ -285,6 +271,7 @@ hands_out s r more =
       handed = λ still. length-append r.seats (Member m ∷ []) ∙ ap (λ (n : ℕ). n + 1) long;
       out = omega (arith, r.out, length-append r.seats (Member m ∷ []));
       at_home = λ k x at. same_handed w (w.handed + 1) k (Member x) (r.at_home k x at);
+      watchers_home = r.watchers_home;
       looks = looks_stay s.words s.words w w' stay r.looks;
       marks = marks_stay s.words s.words w w' r.seats (r.seats ++ Member m ∷ []) stay refl (views_push w.members r.seats m (ap (slice_get w.members) long ∙ there)) r.marks;
       come = λ number among. record { made = (r.come number among).made; spent = at_longer r.seats (Member m ∷ []) number Spent (r.come number among).spent };

@@ -13,11 +13,12 @@ use Rattle.area_core.specs.declared.event.SeatName.{SeatName}
 use Rattle.area_core.specs.declared.event.SeatName.TheVariants as names
 use Rattle.area_core.specs.declared.table.Published.{Published}
 use Rattle.area_core.specs.Map.{kind_at}
-use Rattle.area_core.specs.Readers.{held_by, held_by_member, is_read_under}
+use Rattle.area_core.specs.Readers.{held_by, held_by_member, held_by_watcher, is_read_under}
 use Rattle.area_core.proofs.Held.{held_readable}
 use Rattle.area_core.proofs.UnreadStores.{seat_held}
 use Rattle.shared_words.specs.declared.opening.Opening.{Opening}
 use Rattle.shared_words.specs.declared.view.MemberView.{MemberView}
+use Rattle.shared_words.specs.declared.view.WatcherView.{WatcherView}
 use Rattle.shared_words.specs.declared.view.View.{View}
 use Rattle.shared_words.specs.declared.view.View.TheVariants.{Writer, Member, Watcher, Note, Spent}
 use Rattle.shared_words.specs.Views.{newest}
@@ -28,6 +29,7 @@ use Rattle.shared_words.specs.Laws.{IsEntryLoad}
 use Rattle.shared_words.proofs.NamedAreas.{named_area}
 use Rattle.shared_words.proofs.ShownMembers.{shown_at, still_at}
 use Rattle.shared_words.proofs.SoundState.{counts}
+use Rattle.shared_words.proofs.WatcherFrames.{watcher_here}
 
 module _ {Served : Published → Type 0} {opening : Opening} (s : State (Unit {0}) View) (r : RunningRule Served opening s) (word value block at : ℕ) (is : kind_at word ≡ InBlock block at) (may : MayStoreWord r.writer word value) where
   fits : FitsInBlock r.writer block at value
@@ -55,6 +57,20 @@ module _ {Served : Published → Type 0} {opening : Opening} (s : State (Unit {0
   member_unread k m here None holds reads = reads
   member_unread k m here (Some g) holds reads = member_learnt k m here g (slice_get m.seen g) refl holds reads
 
+  -- nor under one that a watcher holds
+  watcher_learnt : (k : ℕ) (v : WatcherView) → get_elem? r.seats k ≡ some (Watcher v) → (g : ℕ) (o : Option Published) → slice_get v.seen g ≡ o → held_by_watcher v.watcher ≡ Some g → IsTrue (is_read_under (kind_at word) o) → ⊥
+  watcher_learnt k v here g None learnt holds reads = absurd (cc)
+  watcher_learnt k v here g (Some p) learnt holds reads =
+      let knows = r.each_seat k (Watcher v) here in
+      unread (names.Watcher v.watcher.number) g (Some p)
+      (ap (option_and_then held_by_watcher) (watcher_here s r k v here) ∙ holds)
+      (ap (λ (xs : List Published). slice_get xs g) knows.seen.1 ∙ still_at v.seen knows.seen.0 g p learnt)
+      reads
+
+  watcher_unread : (k : ℕ) (v : WatcherView) → get_elem? r.seats k ≡ some (Watcher v) → (o : Option ℕ) → held_by_watcher v.watcher ≡ o → ReadsHeld word v.seen o → ⊥
+  watcher_unread k v here None holds reads = reads
+  watcher_unread k v here (Some g) holds reads = watcher_learnt k v here g (slice_get v.seen g) refl holds reads
+
   -- by a slot, it is an entry word of an area that is kept in the block
   named_entry : (k : ℕ) (m : MemberView) → get_elem? r.seats k ≡ some (Member m) → ReadsNamed word m → IsEntryLoad r.writer.kept word block at (Member m)
   named_entry k m here reads =
@@ -66,7 +82,7 @@ module _ {Served : Published → Type 0} {opening : Opening} (s : State (Unit {0
   behind_unread k (Writer w) here loads = absurd (r.each_seat k (Writer w) here)
   behind_unread k (Member m) here (inl reads) = absurd (member_unread k m here (held_by_member m.member) refl reads)
   behind_unread k (Member m) here (inr reads) = named_entry k m here reads
-  behind_unread k (Watcher w) here loads = absurd loads
+  behind_unread k (Watcher w) here loads = absurd (watcher_unread k w here (held_by_watcher w.watcher) refl loads)
   behind_unread k (Note n) here loads = absurd loads
   behind_unread k Spent here loads = absurd loads
 

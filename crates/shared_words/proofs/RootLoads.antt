@@ -1,5 +1,5 @@
 -- A load of the root keeps the rule, whatever seat loads it, and tells of the generations so far.
-use Rattle.std.proofs.Common.{◌≡◌, ℕ, zero, suc, ◌<◌, ◌≤◌, inl, inr, Bool, true, false, cond, List, [], ◌∷◌, length, length-append, append-nil, refl, sym, ap, subst, ◌∙◌, arith}
+use Rattle.std.proofs.Common.{◌≡◌, ℕ, zero, suc, ◌+◌, ◌<◌, ◌≤◌, inl, inr, Bool, true, false, cond, List, [], ◌∷◌, length, length-append, append-nil, refl, sym, ap, subst, ◌∙◌, arith}
 use mathlib.Core.Option.{none, some, some-injective}
 use lib.ListN.{get_elem?}
 use lib.Seq.{set-get_or}
@@ -8,10 +8,12 @@ use Rattle.std.specs.Option.{option_and_then}
 use Rattle.std.proofs.lemmas.Bool.{cases_Bool, and_parts, eqb-true}
 use Rattle.atomic_table.specs.Table.{State, keeps, step, Allows}
 use Rattle.prgr_core.specs.declared.member.Member as machines
+use Rattle.prgr_core.specs.declared.watcher.Watcher as watching
 use Rattle.prgr_core.specs.declared.progress.Progress.{Progress}
 use Rattle.prgr_core.specs.declared.event.PrgrEvent.TheVariants as prgr
 use Rattle.prgr_core.specs.Members as members
-use Rattle.prgr_core.specs.Step.{with_member, has_loaded}
+use Rattle.prgr_core.specs.Watchers as watchers
+use Rattle.prgr_core.specs.Step.{with_member, with_watcher, has_loaded}
 use Rattle.term_core.specs.declared.area.AreaRef.{AreaRef}
 use Rattle.area_core.specs.Step.{opening_published}
 use Rattle.area_core.specs.declared.table.Published.{Published}
@@ -23,12 +25,13 @@ use Rattle.shared_words.specs.declared.opening.Opening.{Opening}
 use Rattle.shared_words.specs.declared.view.NoteNumber.{NoteNumber}
 use Rattle.shared_words.specs.declared.view.MemberView.{MemberView}
 use Rattle.shared_words.specs.declared.view.NoteView.{NoteView}
+use Rattle.shared_words.specs.declared.view.WatcherView.{WatcherView}
 use Rattle.shared_words.specs.declared.view.View.{View}
 use Rattle.shared_words.specs.declared.view.View.TheVariants.{Writer, Member, Watcher, Note, Spent}
 use Rattle.shared_words.specs.Views.{newest, newest_root, published_at, seen, notes_of}
 use Rattle.shared_words.specs.Shown.{progress_of}
 use Rattle.shared_words.specs.Seats.{member_of}
-use Rattle.shared_words.specs.Kinds.{Sat, IsSameIn, NamedStay, MayLoadRoot, member_with_root, root_found, RootLoaded, root_loaded}
+use Rattle.shared_words.specs.Kinds.{Sat, IsSameIn, NamedStay, MayLoadRoot, member_with_root, watcher_with_root, root_found, RootLoaded, root_loaded}
 use Rattle.shared_words.specs.Rule.{IsBeginning, HasItsAreas, MayBeRead, RunningRule}
 use Rattle.shared_words.proofs.ShownMembers.{shown_at, there, there_is, set_same}
 use Rattle.marks.specs.declared.kept.WriterKept.{WriterKept}
@@ -40,6 +43,7 @@ use Rattle.shared_words.specs.Processes.{process_of, under_of, held_by_view, Nam
 use Rattle.shared_words.proofs.NamedAreas.{same_later}
 use Rattle.shared_words.proofs.SlotFrames.{published_begins, rests}
 use Rattle.shared_words.proofs.Frames.{after_step, same_rest, progress_set, Moves, member_step, behind_step}
+use Rattle.shared_words.proofs.WatcherFrames.{progress_watched, watcher_here, watcher_step}
 use Rattle.shared_words.proofs.CounterLoads.{same_step}
 
 -- ---- the record of a member, by whether it has loaded the counter
@@ -78,6 +82,20 @@ root_moves p k a at true is = inl (
       ∙ ap (λ (t : Bool). cond t (Some (with_member p k (members.root_loaded p.generation a))) None) is,
 )
 root_moves p k a at false is = inr (λ i. record p { members = set_same p.members k a at i })
+
+-- ---- the record of a watcher, by whether it has a claim
+
+watched_number : (b : Bool) (g : ℕ) (a : watching.Watcher) → (cond b (watchers.root_watched g a) a).number ≡ a.number
+watched_number true g a = refl
+watched_number false g a = refl
+
+watched_moves : (p : Progress) (k : ℕ) (a : watching.Watcher) → slice_get p.watchers k ≡ Some a → (b : Bool) → watchers.is_claimed a.phase ≡ b → Moves p (with_watcher p k (cond b (watchers.root_watched p.generation a) a))
+watched_moves p k a at true is = inl (
+  prgr.WatchRoot k,
+  ap (option_and_then (λ (watcher : watching.Watcher). cond (watchers.is_claimed watcher.phase) (Some (with_watcher p k (watchers.root_watched p.generation watcher))) None)) at
+      ∙ ap (λ (t : Bool). cond t (Some (with_watcher p k (watchers.root_watched p.generation a))) None) is,
+)
+watched_moves p k a at false is = inr (λ i. record p { watchers = set_same p.watchers k a at i })
 
 -- ---- the generations
 
@@ -191,6 +209,29 @@ module _ {Served : Published → Type 0} {opening : Opening} (s : State (Unit {0
           let knows = r.each_seat k (Member m) at in
           subst (λ (q : Published). IsSameIn (held_by_view m) q a) (sym (published_begins m.seen all m.member.generation knows.seen knows.holds)) (record { listed = here; image = refl })
 
+  -- a watcher
+  watcher_loads : (k : ℕ) (v : WatcherView) → get_elem? r.seats k ≡ some (Watcher v) → RunningRule Served opening (after_step s s.words (suc k) (root_found all (Watcher v)))
+  watcher_loads k v at =
+      let knows = r.each_seat k (Watcher v) at in
+      let p = progress_of s.words r.writer r.seats in
+      let b = watchers.is_claimed v.watcher.phase in
+      let g = newest all in
+      let v' : WatcherView = record v { watcher = watcher_with_root g v.watcher; seen = all } in
+      let number : v'.watcher.number ≡ v.watcher.number = watched_number b g v.watcher in
+      let same = progress_watched s.words r.writer r.seats k v.watcher.number v' knows.numbered knows.made (there r.seats k (Watcher v) at) in
+      watcher_step s r s.words k v' (record {
+        rest = same_rest s.words;
+        knows = record {
+          numbered = subst (λ (n : ℕ). length r.writer.members + n ≡ k) (sym number) knows.numbered;
+          made = subst (λ (n : ℕ). n < length r.writer.watchers) (sym number) knows.made;
+          seen = whole all;
+          words = knows.words;
+        };
+        moves = subst (Moves p) (sym same) (watched_moves p v.watcher.number v.watcher (watcher_here s r k v at) b refl);
+        members = λ j. refl;
+        leader = refl;
+      })
+
   -- a note
   note_loads : (k : ℕ) (n : NoteView) → get_elem? r.seats k ≡ some (Note n) → RunningRule Served opening (after_step s s.words (suc k) (root_found all (Note n)))
   note_loads k n at =
@@ -204,7 +245,7 @@ module _ {Served : Published → Type 0} {opening : Opening} (s : State (Unit {0
   behind_loads : (k : ℕ) (v : View) → get_elem? r.seats k ≡ some v → MayLoadRoot v → Goes (suc k) v
   behind_loads k (Writer w) here may = absurd (r.each_seat k (Writer w) here)
   behind_loads k (Member m) here may = (member_loads k m here may, told (Member m) (root_found all (Member m)) refl (member_named k m here) (r.each_seat k (Member m) here).seen (r.each_seat k (Member m) here).noted refl)
-  behind_loads k (Watcher w) here may = absurd may
+  behind_loads k (Watcher w) here may = (watcher_loads k w here, told (Watcher w) (root_found all (Watcher w)) refl (λ m x is. absurd (cc)) (r.each_seat k (Watcher w) here).seen (λ note among. absurd (cc)) refl)
   behind_loads k (Note n) here may = (note_loads k n here, told (Note n) (root_found all (Note n)) refl (λ m x is. absurd (cc)) (r.each_seat k (Note n) here).seen (λ note among. subst (Among r.writer.notes) (only_note n.note note among.0 among.1) (r.each_seat k (Note n) here).noted) refl)
   behind_loads k Spent here may = absurd may
 

@@ -191,7 +191,7 @@ module _ {Served : Published → Type 0} {opening : Opening} (s : State (Unit {0
       (get_or-set_other s.words ROOT LEAD x 0 (λ e. absurd (omega arith)))
       (get_or-set_other s.words ROOT DELAYS x 0 (λ e. absurd (omega arith)))
       (get_or-set_other s.words ROOT (DELAYS + 1) x 0 (λ e. absurd (omega arith))) in
-      writer_step s r words' w' (record { members = refl; watchers = refl; learnt = λ xs is. begins_longer xs w.published p is; noted = λ note is. is; words = kept_with w p }) refl refl refl
+      writer_step s r words' w' (record { members = refl; watchers = refl; learnt = λ xs is. begins_longer xs w.published p is; noted = λ note is. is; words = kept_with w p }) refl refl refl refl
       (record {
         looks = refl;
         ended = ended_still w w' [] (p ∷ []) (sym (append-nil w.pairs)) refl (omega arith);

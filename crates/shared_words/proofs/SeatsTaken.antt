@@ -34,7 +34,7 @@ set_there (y ∷ ys) (suc k) (suc j) x apart = set_there ys k j x (λ e. apart (
 pub record HasTaken (members left : List tokens.Member) (old new : Place) : Type 0 where
   pub seat : IsSameSeat old new
   pub view : new.me.0 ≡ Writer (writer_of new.me.0)
-  pub same : writer_of new.me.0 ≡ record (writer_of old.me.0) { members = (writer_of new.me.0).members; taken = (writer_of new.me.0).taken }
+  pub same : writer_of new.me.0 ≡ record (writer_of old.me.0) { members = (writer_of new.me.0).members; taken = (writer_of new.me.0).taken; watchers = (writer_of new.me.0).watchers }
   pub long : length (writer_of new.me.0).members ≡ length (writer_of old.me.0).members
   pub rest : List tokens.Member
   pub split : members ≡ left ++ rest
@@ -77,7 +77,7 @@ taken_next table members left few member old new newer all h is same taken =
     record {
       seat = record { same_table = same.same_table ∙ h.seat.same_table; same_number = same.same_number ∙ h.seat.same_number; same_slots = same.same_slots ∙ h.seat.same_slots };
       view = view ∙ ap Writer (sym here);
-      same = here ∙ ap (λ (x : WriterView). with_member m x) h.same ∙ ap (λ (x : WriterView). record (writer_of old.me.0) { members = x.members; taken = x.taken }) (sym here);
+      same = here ∙ ap (λ (x : WriterView). with_member m x) h.same ∙ ap (λ (x : WriterView). record (writer_of old.me.0) { members = x.members; taken = x.taken; watchers = x.watchers }) (sym here);
       long = ap (λ (x : WriterView). length x.members) here ∙ length-set w.members m.member.number m ∙ h.long;
       rest = member ∷ h.rest;
       split = h.split ∙ ap (λ (xs : List tokens.Member). xs ++ h.rest) is ∙ append_assoc few (member ∷ []) h.rest;
@@ -95,6 +95,15 @@ taken_next table members left few member old new newer all h is same taken =
     }
 
 -- ---- the end
+
+-- where watchers came in before them, the writer has the same of all that it knew first
+pub all_since : (members : List tokens.Member) (old mid new : WriterView) → mid ≡ record old { watchers = mid.watchers } → HasAllMembers members mid new → HasAllMembers members old new
+all_since members old mid new first h = record {
+  same = h.same ∙ ap (λ (x : WriterView). record x { members = new.members; taken = new.taken; watchers = new.watchers }) first;
+  long = h.long ∙ ap (λ (x : WriterView). length x.members) first;
+  each = h.each;
+  come = h.come;
+}
 
 -- what is known of the processes of each member
 pub each_marked : (members : List tokens.Member) (old new : WriterView) → HasAllMembers members old new → length members ≡ length old.members → AreMarked new → HaveMarks members new

@@ -1,12 +1,14 @@
 -- A load of a word of a block tells of blocks that stand for the generation that is held.
-use Rattle.std.proofs.Common.{◌≡◌, ℕ, zero, suc, ◌<◌, ◌≤◌, inl, inr, List, refl, sym, ap, subst, ◌∙◌, arith}
+use Rattle.std.proofs.Common.{◌≡◌, ℕ, zero, suc, ◌<◌, ◌≤◌, inl, inr, Bool, true, false, cond, List, refl, sym, ap, subst, ◌∙◌, arith}
 use mathlib.Core.Option.{none, some, some-injective}
 use lib.ListN.{get_elem?}
 use lib.Seq.{set-get_or}
-use Rattle.std.specs.Prelude.{Some, None, Option, slice_get, slice_index, IsTrue}
+use Rattle.std.specs.Prelude.{Some, None, Option, slice_get, slice_index, unwrap_or, IsTrue}
 use Rattle.std.specs.Option.{option_and_then}
 use Rattle.std.proofs.lemmas.Bool.Decides.{nat_tests}
 use Rattle.atomic_table.specs.Table.{State, keeps, step, Allows}
+use Rattle.prgr_core.specs.declared.watcher.Phase.{Phase}
+use Rattle.prgr_core.specs.Watchers.{is_claimed}
 use Rattle.area_core.specs.declared.map.TheConstants.{RETIRE_START, TABLE_WORDS}
 use Rattle.area_core.specs.declared.map.WordKind.{WordKind}
 use Rattle.area_core.specs.declared.map.WordKind.TheVariants.{Machine, Slot, Retire, Doom, InBlock, Nowhere}
@@ -15,7 +17,7 @@ use Rattle.area_core.specs.declared.event.SeatName.TheVariants as names
 use Rattle.area_core.specs.declared.table.Published.{Published}
 use Rattle.area_core.specs.Map.{kind_at, word_at}
 use Rattle.area_core.specs.Blocks.{Among}
-use Rattle.area_core.specs.Readers.{held_by, held_by_member, reads_word, is_read_under}
+use Rattle.area_core.specs.Readers.{held_by, held_by_member, held_by_watcher, reads_word, is_read_under}
 use Rattle.area_core.proofs.Fewer.{fewer_count}
 use Rattle.area_core.proofs.Held.{held_readable}
 use Rattle.area_core.proofs.UnreadStores.{seat_held}
@@ -24,6 +26,7 @@ use Rattle.area_core.proofs.Places.{kind_retire_place, kind_doom_place}
 use Rattle.shared_words.specs.declared.opening.Opening.{Opening}
 use Rattle.shared_words.specs.declared.view.BlockWord.{BlockWord}
 use Rattle.shared_words.specs.declared.view.MemberView.{MemberView}
+use Rattle.shared_words.specs.declared.view.WatcherView.{WatcherView}
 use Rattle.shared_words.specs.declared.view.WriterView.{WriterView}
 use Rattle.shared_words.specs.declared.view.View.{View}
 use Rattle.shared_words.specs.declared.view.View.TheVariants.{Writer, Member, Watcher, Note, Spent}
@@ -33,16 +36,17 @@ use Rattle.atomic_table.specs.Seated.{TableId}
 use Rattle.shared_words.specs.Seats.{Place}
 use Rattle.shared_words.specs.Kinds.{Sat}
 use Rattle.shared_words.specs.Passes.{MayLoad}
-use Rattle.shared_words.specs.Seats.{member_of}
+use Rattle.shared_words.specs.Seats.{member_of, generation_held}
 use Rattle.shared_words.specs.Views.{blocks_found}
 use Rattle.shared_words.specs.Processes.{held_by_view, NamesArea}
 use Rattle.shared_words.specs.Rule.{IsKeptIn, MayBeRead, blocks_shown, WordKept, RunningRule}
-use Rattle.shared_words.specs.Publishing.{ReadsHeld, is_of_block, MayLoadWord, NamedStand, IsWordUnder, IsOwnWord, WordTells, with_block_word, word_found, word_loaded}
+use Rattle.shared_words.specs.Publishing.{ReadsHeld, is_of_block, MayLoadWord, NamedStand, IsWordUnder, IsOwnWord, WordTells, with_block_word, with_watched_word, word_found, word_loaded}
 use Rattle.shared_words.proofs.ShownMembers.{shown_at, still_at, there, set_same}
 use Rattle.shared_words.proofs.ShownWords.{shown_word}
 use Rattle.shared_words.proofs.SoundState.{counts}
 use Rattle.shared_words.proofs.Frames.{after_step, same_rest, progress_set, member_step}
 use Rattle.shared_words.proofs.NamedAreas.{held_at, named_area}
+use Rattle.shared_words.proofs.WatcherFrames.{progress_watched, watcher_here, watcher_step}
 use Rattle.shared_words.proofs.WriterFrames.{writer_at}
 use Rattle.shared_words.proofs.CounterLoads.{same_step}
 
@@ -81,9 +85,22 @@ pub may_behind : (word : ℕ) (v : View) → MayLoadWord word v → (RETIRE_STAR
 may_behind word (Writer w) may = held_behind word w.published (Some (newest w.published)) may
 may_behind word (Member m) (inl reads) = held_behind word m.seen (held_by_member m.member) reads
 may_behind word (Member m) (inr named) = area_behind word named.area.block (kind_at word) refl named.of
-may_behind word (Watcher w) may = absurd may
+may_behind word (Watcher w) may = held_behind word w.seen (held_by_watcher w.watcher) may
 may_behind word (Note n) may = absurd may
 may_behind word Spent may = absurd may
+
+-- a generation that reads a word is one that there is
+reads_some : (kind : WordKind) (o : Option Published) → IsTrue (is_read_under kind o) → (p : Published) × (o ≡ Some p)
+reads_some kind None reads = absurd (cc)
+reads_some kind (Some p) reads = (p, refl)
+
+-- a watcher that may read holds the generation in its record
+holds_it : (phase : Phase) (o : Option ℕ) (g : ℕ) → cond (is_claimed phase) o None ≡ Some g → unwrap_or o 0 ≡ g
+holds_it phase o g holds = by_claim (is_claimed phase) holds
+  where
+    by_claim : (b : Bool) → cond b o None ≡ Some g → unwrap_or o 0 ≡ g
+    by_claim true is = ap (λ (x : Option ℕ). unwrap_or x 0) is
+    by_claim false is = absurd (cc)
 
 -- what was published under a number is one
 one_only : (o : Option Published) (p q : Published) → o ≡ Some p → o ≡ Some q → p ≡ q
@@ -131,10 +148,36 @@ module _ {Served : Published → Type 0} {opening : Opening} (s : State (Unit {0
       (ap (option_and_then held_by_member) (shown_at r.writer.members r.seats k m knows.made at) ∙ holds)
       (ap (λ (xs : List Published). slice_get xs g) knows.seen.1 ∙ still_at m.seen knows.seen.0 g p here)
 
+  -- what a watcher holds was published, where it reads the word
+  watcher_holds : (k : ℕ) (v : WatcherView) → get_elem? r.seats k ≡ some (Watcher v) → (o : Option ℕ) → held_by_watcher v.watcher ≡ o → ReadsHeld word v.seen o → (p : Published) × (slice_get r.writer.published (generation_held v) ≡ Some p)
+  watcher_holds k v at None holds reads = absurd reads
+  watcher_holds k v at (Some g) holds reads =
+      let knows = r.each_seat k (Watcher v) at in
+      let learnt = reads_some (kind_at word) (slice_get v.seen g) reads in
+      let same : generation_held v ≡ g = holds_it v.watcher.phase v.watcher.generation g holds in
+      (learnt.0, ap (slice_get r.writer.published) same ∙ ap (λ (xs : List Published). slice_get xs g) knows.seen.1 ∙ still_at v.seen knows.seen.0 g learnt.0 learnt.1)
+
+  -- what a watcher finds stands
+  watcher_finds : (k : ℕ) (v : WatcherView) → get_elem? r.seats k ≡ some (Watcher v) → ReadsHeld word v.seen (held_by_watcher v.watcher) → (f : BlockWord) → Among (with_watched_word word (slice_index s.words word) v).blocks f → WordKept r.writer f
+  watcher_finds k v at may f (zero, is) =
+      let held = watcher_holds k v at (held_by_watcher v.watcher) refl may in
+      subst (WordKept r.writer) (the_same f is) (record { published = held.0; at = held.1; stands = λ reads counted block place in_block plain. sym (r.words.mirrored word late) })
+    where
+      the_same : (f : BlockWord) → Some (record { generation = generation_held v; word = word; value = slice_index s.words word }) ≡ Some f → record { generation = generation_held v; word = word; value = slice_index s.words word } ≡ f
+      the_same f is = cc
+  watcher_finds k v at may f (suc i, is) = (r.each_seat k (Watcher v) at).words f (i, is)
+
+  watcher_told : (k : ℕ) (v : WatcherView) → get_elem? r.seats k ≡ some (Watcher v) → ReadsHeld word v.seen (held_by_watcher v.watcher) → WordTells (Watcher v) word (slice_index s.words word)
+  watcher_told k v at may g p holds here =
+      let knows = r.each_seat k (Watcher v) at in
+      told (Watcher v) (names.Watcher v.watcher.number) g p (λ m same. absurd (cc)) (watcher_finds k v at may)
+      (ap (option_and_then held_by_watcher) (watcher_here s r k v at) ∙ holds)
+      (ap (λ (xs : List Published). slice_get xs g) knows.seen.1 ∙ still_at v.seen knows.seen.0 g p here)
+
   behind_told : (k : ℕ) (v : View) → get_elem? r.seats k ≡ some v → MayLoadWord word v → WordTells v word (slice_index s.words word)
   behind_told k (Writer w) at may = absurd (r.each_seat k (Writer w) at)
   behind_told k (Member m) at may = member_told k m at
-  behind_told k (Watcher w) at may = absurd may
+  behind_told k (Watcher w) at may = watcher_told k w at may
   behind_told k (Note n) at may = absurd may
   behind_told k Spent at may = absurd may
 
@@ -167,10 +210,24 @@ module _ {Served : Published → Type 0} {opening : Opening} (s : State (Unit {0
         slots = record { slots = refl; known = λ process h. h };
       })
 
+  -- so does a watcher
+  watcher_loads : (k : ℕ) (v : WatcherView) → get_elem? r.seats k ≡ some (Watcher v) → ReadsHeld word v.seen (held_by_watcher v.watcher) → RunningRule Served opening (after_step s s.words (suc k) (Watcher (with_watched_word word (slice_index s.words word) v)))
+  watcher_loads k v at may =
+      let knows = r.each_seat k (Watcher v) at in
+      let p = progress_of s.words r.writer r.seats in
+      let v' = with_watched_word word (slice_index s.words word) v in
+      watcher_step s r s.words k v' (record {
+        rest = same_rest s.words;
+        knows = record { numbered = knows.numbered; made = knows.made; seen = knows.seen; words = watcher_finds k v at may };
+        moves = inr (progress_watched s.words r.writer r.seats k v.watcher.number v' knows.numbered knows.made (there r.seats k (Watcher v) at) ∙ (λ i. record p { watchers = set_same p.watchers v.watcher.number v.watcher (watcher_here s r k v at) i }));
+        members = λ j. refl;
+        leader = refl;
+      })
+
   behind_loads : (k : ℕ) (v : View) → get_elem? r.seats k ≡ some v → MayLoadWord word v → RunningRule Served opening (after_step s s.words (suc k) (word_found word (slice_index s.words word) v))
   behind_loads k (Writer w) at may = absurd (r.each_seat k (Writer w) at)
   behind_loads k (Member m) at may = member_loads k m at
-  behind_loads k (Watcher w) at may = absurd may
+  behind_loads k (Watcher w) at may = watcher_loads k w at may
   behind_loads k (Note n) at may = absurd may
   behind_loads k Spent at may = absurd may
 

@@ -242,7 +242,7 @@ module _ {Served : Published → Type 0} {opening : Opening} (s : State (Unit {0
       let size = r.words.all in
       let shown = shown_stored s.words word value (omega (arith, late)) (omega (arith, size)) in
       let w' : WriterView = with_word word value w in
-      writer_step s r (set s.words word value) w' (record { members = refl; watchers = refl; learnt = λ xs is. is; noted = λ note is. is; words = found }) refl refl refl
+      writer_step s r (set s.words word value) w' (record { members = refl; watchers = refl; learnt = λ xs is. is; noted = λ note is. is; words = found }) refl refl refl refl
       (record {
         looks = refl;
         ended = ended_as w w' refl refl (omega arith);

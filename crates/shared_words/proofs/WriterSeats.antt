@@ -18,19 +18,23 @@ writer_seat_next table opening n m old new w h same view number members handed =
       view = view ∙ ap Writer (sym here);
       published = ap (λ (x : WriterView). length x.published) here ∙ number;
       made = ap (λ (x : WriterView). length x.members) here ∙ members ∙ h.made;
-      out = subst (λ (x : WriterView). opening.members ≤ x.handed) (sym here) (omega (arith, h.out, handed));
+      out = subst (λ (x : WriterView). opening.members + opening.watchers ≤ x.handed) (sym here) (omega (arith, h.out, handed));
     }
 
--- once all seats of members are handed out
-pub writer_seat_begins : (table : TableId) (opening : Opening) (members : ℕ) (seat : Place) → opening.members ≡ members → IsHanding table opening members seat → IsWriterSeat table opening 0 seat
-writer_seat_begins table opening members seat all h =
+-- once all seats of members and watchers are handed out
+pub writer_seat_begins : (table : TableId) (opening : Opening) (watchers : ℕ) (seat : Place) → opening.watchers ≡ watchers → IsHanding table opening (opening.members + watchers) seat → IsWriterSeat table opening 0 seat
+writer_seat_begins table opening watchers seat watched h =
     let here = ap writer_of h.view in record {
       of_table = h.of_table;
       view = h.view ∙ ap Writer (sym here);
       published = ap (λ (x : WriterView). length x.published) here;
       made = ap (λ (x : WriterView). length x.members) here ∙ begun_length opening.members;
-      out = subst (λ (x : WriterView). opening.members ≤ x.handed) (sym here) (omega (arith, all));
+      out = subst (λ (x : WriterView). opening.members + opening.watchers ≤ x.handed) (sym here) (omega (arith, watched));
     }
+
+-- the same, by the number of members that the call was given
+pub handing_all : (table : TableId) (opening : Opening) (members watchers : ℕ) (seat : Place) → opening.members ≡ members → IsHanding table opening (opening.members + watchers) seat → IsHanding table opening (members + watchers) seat
+handing_all table opening members watchers seat same h = subst (λ (n : ℕ). IsHanding table opening (n + watchers) seat) same h
 
 -- after a load of a word, which leaves what the writer knows
 pub writer_loads_word : (word found : ℕ) (old new : View) → old ≡ Writer (writer_of old) → new ≡ word_found word found old → new ≡ old

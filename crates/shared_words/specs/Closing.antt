@@ -1,5 +1,5 @@
--- The end of a table: the seats of all members come in to the writer's, which then knows what each of them knew.
-use Rattle.std.specs.Prelude.{◌≡◌, ℕ, ◌+◌, ◌%◌, ◌<◌, ◌≤◌, List, ◌∷◌, length, slice_get, slice_set, Some}
+-- The end of a table: the seats of all members and watchers come in to the writer's, which then knows what each of them knew.
+use Rattle.std.specs.Prelude.{◌≡◌, ℕ, zero, suc, ◌+◌, ◌%◌, ◌<◌, ◌≤◌, List, [], ◌∷◌, length, slice_get, slice_set, Some}
 use Rattle.atomic_table.specs.Table.{Step}
 use Rattle.atomic_table.specs.Seated.{TableId}
 use Rattle.area_core.specs.declared.map.TheConstants.{RETIRE_START, TABLE_WORDS, PROCESSES}
@@ -9,15 +9,17 @@ use Rattle.marks.specs.declared.mark.ProcessView.{ProcessView}
 use Rattle.marks.specs.Kept.{IsKnown}
 use Rattle.shared_words.specs.declared.table.TheConstants.{ROOT}
 use Rattle.shared_words.specs.declared.seats.Member as tokens
+use Rattle.shared_words.specs.declared.seats.Watcher as watching
 use Rattle.shared_words.specs.declared.view.MemberView.{MemberView}
+use Rattle.shared_words.specs.declared.view.WatcherView.{WatcherView}
 use Rattle.shared_words.specs.declared.view.WriterView.{WriterView}
 use Rattle.shared_words.specs.declared.view.View.{View}
-use Rattle.shared_words.specs.declared.view.View.TheVariants.{Writer, Member}
+use Rattle.shared_words.specs.declared.view.View.TheVariants.{Writer, Member, Watcher}
 use Rattle.shared_words.specs.Views.{newest_root}
-use Rattle.shared_words.specs.Seats.{IsMemberSeat, member_of}
+use Rattle.shared_words.specs.Seats.{IsMemberSeat, IsWatcherSeat, member_of, watcher_of}
 use Rattle.shared_words.specs.Kinds.{Sat}
 use Rattle.shared_words.specs.Processes.{process_of, under_of}
-use Rattle.shared_words.specs.Rule.{MemberKnows}
+use Rattle.shared_words.specs.Rule.{IsBeginning, MemberKnows}
 
 -- the tokens are those of all members, in the order of their numbers
 pub record AreAllMembers (table : TableId) (count : ℕ) (members : List tokens.Member) : Type 0 where
@@ -39,7 +41,7 @@ member_taken v other = taken_with other v
 
 -- the writer knows what it knew, and of each member what its token knew
 pub record HasAllMembers (members : List tokens.Member) (old new : WriterView) : Type 0 where
-  pub same : new ≡ record old { members = new.members; taken = new.taken }
+  pub same : new ≡ record old { members = new.members; taken = new.taken; watchers = new.watchers }
   pub long : length new.members ≡ length old.members
   pub each : (k : ℕ) (token : tokens.Member) → slice_get members k ≡ Some token → slice_get new.members k ≡ Some (member_of token.seat.me.0)
   pub come : (k : ℕ) (token : tokens.Member) → slice_get members k ≡ Some token → Among new.taken k
@@ -68,6 +70,48 @@ pub record members_seen (st : Step (Unit {0})) (me : Sat) (found : ℕ) (me' : S
   pub same : me' ≡ me
   pub known : (w : WriterView) → me.0 ≡ Writer w → AreKnown w
   pub marked : (w : WriterView) → me.0 ≡ Writer w → AreMarked w
+
+-- ---- watchers
+
+-- each token is that of a watcher of the table
+abbrev pub AreWatchers : TableId → List watching.Watcher → Type 0
+AreWatchers table watchers = (k : ℕ) (token : watching.Watcher) → slice_get watchers k ≡ Some token → IsWatcherSeat table token.holds token.seat
+
+-- the list with this watcher at this place; a list that ends in front of the place is filled up with it
+abbrev pub watcher_put : ℕ → WatcherView → List WatcherView → List WatcherView
+watcher_put zero v [] = v ∷ []
+watcher_put zero v (kept ∷ watchers) = v ∷ watchers
+watcher_put (suc k) v [] = v ∷ watcher_put k v []
+watcher_put (suc k) v (kept ∷ watchers) = kept ∷ watcher_put k v watchers
+
+-- the writer with what this watcher knows
+abbrev pub with_watcher : WatcherView → WriterView → WriterView
+with_watcher v w = record w { watchers = watcher_put v.watcher.number v w.watchers }
+
+-- what is known once a watcher's seat is joined to the writer's
+abbrev pub taken_with_watcher : View → View → View
+taken_with_watcher (Watcher v) (Writer w) = Writer (with_watcher v w)
+taken_with_watcher other v = v
+
+-- the same, as the join of two seats asks for it
+abbrev pub watcher_taken : View → View → View
+watcher_taken v other = taken_with_watcher other v
+
+-- what a load tells: of each watcher that came in, what it had learnt of are the first generations
+abbrev pub HaveLearnt : WriterView → Type 0
+HaveLearnt w = (k : ℕ) (v : WatcherView) → slice_get w.watchers k ≡ Some v → IsBeginning v.seen w.published
+
+-- what that load tells the writer, who knows the same behind it
+pub record watchers_seen (st : Step (Unit {0})) (me : Sat) (found : ℕ) (me' : Sat) : Type 0 where
+  pub same : me' ≡ me
+  pub learnt : (w : WriterView) → me.0 ≡ Writer w → HaveLearnt w
+
+-- the writer knows what it knew, and what each of these watchers had learnt of are the first generations
+pub record HasAllWatchers (watchers : List watching.Watcher) (old new : WriterView) : Type 0 where
+  pub same : new ≡ record old { watchers = new.watchers }
+  pub learnt : (k : ℕ) (token : watching.Watcher) → slice_get watchers k ≡ Some token → IsBeginning (watcher_of token.seat.me.0).seen new.published
+
+-- ---- words
 
 -- a word of the slot of a process is the one that is known, by its place
 pub record IsSlotWord (p : ProcessView) (process place word : ℕ) : Type 0 where

@@ -1,8 +1,10 @@
 -- The kinds of steps: which view may make each, and what it makes of the view.
 -- Each is an event of the progress machine or of blocks and slots, and says so by the function of that event.
-use Rattle.std.specs.Prelude.{◌≡◌, ℕ, ◌+◌, ◌-◌, ◌<◌, ◌≤◌, ◌⊎◌, ◌==◌, ◌||◌, if◌then◌else◌, List, [], ◌∷◌, ◌++◌, length, false, IsTrue, Some, None, unwrap_or}
+use Rattle.std.specs.Prelude.{◌≡◌, ℕ, ◌+◌, ◌-◌, ◌%◌, ◌<◌, ◌≤◌, ◌⊎◌, ◌==◌, ◌||◌, if◌then◌else◌, List, [], ◌∷◌, ◌++◌, length, false, IsTrue, Some, None, unwrap_or}
 use Rattle.atomic_table.specs.Table.{Me, Step}
 use Rattle.prgr_core.specs.declared.member.Member as machines
+use Rattle.prgr_core.specs.declared.watcher.Watcher as watching
+use Rattle.prgr_core.specs.declared.watcher.TheConstants.{DELAY_COUNTS}
 use Rattle.prgr_core.specs.declared.member.Loaded.TheVariants.{Nothing}
 use Rattle.prgr_core.specs.declared.member.TheConstants.{LAST_VALUE, MOST_MEMBERS}
 use Rattle.prgr_core.specs.declared.member.Scans.{Scans}
@@ -11,25 +13,26 @@ use Rattle.prgr_core.specs.declared.member.Role.TheVariants.{Follows, Leads}
 use Rattle.prgr_core.specs.Members.{IsLeading, no_scans}
 use Rattle.prgr_core.specs.Members as members
 use Rattle.prgr_core.specs.Watchers as watchers
-use Rattle.prgr_core.specs.Step.{has_loaded, follows, scan_of}
+use Rattle.prgr_core.specs.Step.{has_loaded, follows, scan_of, delay_scan_of}
 use Rattle.prgr_core.specs.Invariant.{CounterInRange}
 use Rattle.term_core.specs.declared.area.AreaRef.{AreaRef}
 use Rattle.area_core.specs.declared.table.Published.{Published}
 use Rattle.area_core.specs.Step.{confirms}
 use Rattle.area_core.specs.Blocks.{RootFits, Among}
 use Rattle.area_core.specs.Roots.{image_of}
-use Rattle.shared_words.specs.declared.table.TheConstants.{CONFIRMED}
+use Rattle.shared_words.specs.declared.table.TheConstants.{DELAYS, CONFIRMED}
 use Rattle.shared_words.specs.declared.opening.Opening.{Opening}
-use Rattle.shared_words.specs.declared.view.FoundWord.TheVariants.{MemberWord, LeaderWord}
+use Rattle.shared_words.specs.declared.view.FoundWord.TheVariants.{MemberWord, LeaderWord, DelayCount}
 use Rattle.shared_words.specs.declared.view.NoteNumber.{NoteNumber}
 use Rattle.shared_words.specs.declared.view.MemberView.{MemberView}
+use Rattle.shared_words.specs.declared.view.WatcherView.{WatcherView}
 use Rattle.shared_words.specs.declared.view.WriterView.{WriterView}
 use Rattle.shared_words.specs.declared.view.View.{View}
 use Rattle.shared_words.specs.declared.view.View.TheVariants.{Writer, Member, Watcher, Note, Spent}
 use Rattle.shared_words.specs.Views.{newest, newest_root, published_at, seen, notes_of}
 use Rattle.shared_words.specs.Processes.{held_by_view, NamesArea, AreAtRest}
 use Rattle.shared_words.specs.Rule.{IsBeginning, HasItsAreas}
-use Rattle.shared_words.specs.Seats.{member_of}
+use Rattle.shared_words.specs.Seats.{member_of, watcher_of}
 
 -- a seat of the table, which has no slots
 abbrev pub Sat : Type 0
@@ -37,12 +40,12 @@ Sat = Me (Unit {0}) View
 
 -- ---- the load of the counter
 
--- who may load the counter: a member that does not wait, as none that leads does, the writer and a note. A watcher
--- makes no step yet
+-- who may load the counter: a member that does not wait, as none that leads does, the writer and a note; and a watcher that
+-- holds no delay count, that has raised the count of the counter that it loaded, or that holds both counts
 abbrev pub MayLoadCounter : View → Type 0
 MayLoadCounter (Writer w) = Unit {0}
 MayLoadCounter (Member m) = (members.is_waiting m.member.word ≡ false) ⊎ IsLeading m.member.role
-MayLoadCounter (Watcher w) = ⊥
+MayLoadCounter (Watcher w) = IsTrue (watchers.may_look w.watcher.phase)
 MayLoadCounter (Note n) = Unit {0}
 MayLoadCounter Spent = ⊥
 
@@ -73,12 +76,11 @@ pub record counter_loaded (st : Step (Unit {0})) (me : Sat) (counter : ℕ) (me'
 
 -- ---- the load of the root
 
--- who may load the root: a member that is awake and has loaded the counter only while no turn of its processes is under way.
--- A watcher makes no step yet
+-- who may load the root: a member that is awake and has loaded the counter only while no turn of its processes is under way
 abbrev pub MayLoadRoot : View → Type 0
 MayLoadRoot (Writer w) = Unit {0}
 MayLoadRoot (Member m) = IsTrue (has_loaded m.member.loaded) → IsTrue (members.is_value m.member.word) → AreAtRest m
-MayLoadRoot (Watcher w) = ⊥
+MayLoadRoot (Watcher w) = Unit {0}
 MayLoadRoot (Note n) = Unit {0}
 MayLoadRoot Spent = ⊥
 
@@ -86,11 +88,15 @@ MayLoadRoot Spent = ⊥
 abbrev pub member_with_root : ℕ → machines.Member → machines.Member
 member_with_root g member = if has_loaded member.loaded then members.root_loaded g member else member
 
+-- a watcher with a claim holds the newest generation from now on; another goes on as it was
+abbrev pub watcher_with_root : ℕ → watching.Watcher → watching.Watcher
+watcher_with_root g watcher = if watchers.is_claimed watcher.phase then watchers.root_watched g watcher else watcher
+
 -- what a seat knows once it has found the root of the last of these generations
 abbrev pub root_found : List Published → View → View
 root_found published (Writer w) = Writer w
 root_found published (Member m) = Member (record m { member = member_with_root (newest published) m.member; seen = published })
-root_found published (Watcher w) = Watcher (record w { seen = published })
+root_found published (Watcher w) = Watcher (record w { watcher = watcher_with_root (newest published) w.watcher; seen = published })
 root_found published (Note n) = Note (record n { seen = published })
 root_found published Spent = Spent
 
@@ -198,6 +204,23 @@ pub record scanned (st : Step (Unit {0})) (me : Sat) (word : ℕ) (me' : Sat) : 
   pub near : members.is_waiting word ≡ false → word ≤ known_counter (member_of me.0) + 1
   pub view : me' ≡ (Member (word_scanned (st.word - CONFIRMED) word (member_of me.0)), me.1)
 
+-- it may look at this delay count: that of the value after the counter
+pub record MayScanDelay (which : ℕ) (m : MemberView) : Type 0 where
+  pub leader : KnowsAsLeader m
+  pub is : which ≡ (known_counter m + 1) % 2
+
+-- it has found so many watchers there, and the delay is scanned where there are none
+abbrev pub delay_looked : ℕ → ℕ → MemberView → MemberView
+delay_looked which count m = record m {
+  member = members.leading_with (delay_scan_of (scans_of m.member.role) count) m.member;
+  found = DelayCount which count ∷ m.found;
+}
+
+-- there are no more than watchers were made
+pub record delay_scanned (made : ℕ) (st : Step (Unit {0})) (me : Sat) (count : ℕ) (me' : Sat) : Type 0 where
+  pub few : count ≤ made
+  pub view : me' ≡ (Member (delay_looked (st.word - DELAYS) count (member_of me.0)), me.1)
+
 -- it has scanned each member, and the delay where there are watchers, and the counter is below its last value
 pub record MayRaise (opening : Opening) (m : MemberView) : Type 0 where
   pub leader : KnowsAsLeader m
@@ -241,3 +264,32 @@ lead_given m = record m { member = members.following m.member }
 -- by the store it no longer leads, and nothing else of it changes
 abbrev pub lead_dropped : Step (Unit {0}) → Sat → ℕ → Sat → Type 0
 lead_dropped st me stored me' = me' ≡ (Member (lead_given (member_of me.0)), me.1)
+
+-- ---- the steps of a watcher on the delay counts
+
+-- it may raise this count: that of the counter that it has loaded, or, where the counter went on since, the other one
+pub record MayAddDelay (which : ℕ) (v : WatcherView) : Type 0 where
+  pub there : which < DELAY_COUNTS
+  pub may : IsTrue (watchers.may_add v.watcher.phase (watchers.delay_of which))
+
+-- it holds the count
+abbrev pub with_delay : ℕ → WatcherView → WatcherView
+with_delay which v = record v { watcher = watchers.delay_added (watchers.delay_of which) v.watcher }
+
+-- by the step it holds the count, and nothing else of it changes
+abbrev pub delay_raised : Step (Unit {0}) → Sat → ℕ → Sat → Type 0
+delay_raised st me found me' = me' ≡ (Watcher (with_delay (st.word - DELAYS) (watcher_of me.0)), me.1)
+
+-- it may lower this count: it holds it, and has a claim, or has lowered the other one since it had
+pub record MayDropDelay (which : ℕ) (v : WatcherView) : Type 0 where
+  pub there : which < DELAY_COUNTS
+  pub leaves : IsTrue (watchers.may_leave v.watcher.phase)
+  pub holds : IsTrue (watchers.holds (watchers.delay_of which) v.watcher)
+
+-- it no longer holds the count, and no longer a generation
+abbrev pub without_delay : ℕ → WatcherView → WatcherView
+without_delay which v = record v { watcher = watchers.delay_dropped (watchers.delay_of which) v.watcher }
+
+-- by the step it no longer holds the count, and nothing else of it changes
+abbrev pub delay_lowered : Step (Unit {0}) → Sat → ℕ → Sat → Type 0
+delay_lowered st me found me' = me' ≡ (Watcher (without_delay (st.word - DELAYS) (watcher_of me.0)), me.1)

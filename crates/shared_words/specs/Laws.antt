@@ -21,6 +21,7 @@ use Rattle.shared_words.specs.declared.view.WriterView.{WriterView}
 use Rattle.shared_words.specs.declared.view.MemberView.{MemberView}
 use Rattle.shared_words.specs.declared.view.View.{View}
 use Rattle.shared_words.specs.declared.view.View.TheVariants.{Member}
+use Rattle.shared_words.specs.Views.{held}
 use Rattle.shared_words.specs.Shown.{state_of}
 use Rattle.shared_words.specs.Rule.{RunningRule}
 use Rattle.shared_words.specs.Publishing.{MayStoreWord, MayStoreEntry, ReadsHeld, MayLoadWord}
@@ -29,6 +30,10 @@ use Rattle.shared_words.specs.Slots.{IsClear}
 -- the state that words and views show meets the progress invariant and the block invariant
 abbrev pub ShowsSound : (Published → Type 0) → Type 0
 ShowsSound Served = (opening : Opening) (s : State (Unit {0}) View) (r : RunningRule Served opening s) → IsSound (state_of s.words r.writer r.seats)
+
+-- the generation that a seat holds is one that some thread may read
+abbrev pub HeldIsReadable : (Published → Type 0) → Type 0
+HeldIsReadable Served = (opening : Opening) (s : State (Unit {0}) View) (r : RunningRule Served opening s) (id g : ℕ) (v : View) → get_elem? s.views id ≡ some v → held v ≡ Some g → IsReadable (state_of s.words r.writer r.seats) g
 
 -- the load is one by a slot, of an entry word of an area that is kept in the block
 pub record IsEntryLoad (kept : List KeptArea) (word block at : ℕ) (v : View) : Type 0 where

@@ -1,15 +1,16 @@
 -- How a table is made: its words at first, and the seats that are taken from the writer's.
-use Rattle.std.specs.Prelude.{◌≡◌, ℕ, ◌+◌, ◌<◌, ◌≤◌, List, length, slice_get, slice_index, Some, unwrap_or}
+use Rattle.std.specs.Prelude.{◌≡◌, ℕ, ◌+◌, ◌-◌, ◌<◌, ◌≤◌, List, [], length, slice_get, slice_index, Some, unwrap_or}
 use Rattle.prgr_core.specs.declared.member.TheConstants.{WAITING, OPENING_COUNTER, OPENING_WORD, MOST_MEMBERS}
 use Rattle.area_core.specs.declared.map.TheConstants.{TABLE_WORDS, SLOTS_START}
 use Rattle.shared_words.specs.declared.table.TheConstants.{ROOT, OPENING_ROOT, COUNTER, LEAD, DELAYS, CONFIRMED}
 use Rattle.shared_words.specs.declared.opening.Opening.{Opening}
 use Rattle.shared_words.specs.declared.view.View.{View}
-use Rattle.shared_words.specs.declared.view.View.TheVariants.{Writer, Member}
+use Rattle.shared_words.specs.declared.view.View.TheVariants.{Writer, Member, Watcher}
 use Rattle.atomic_table.specs.Seated.{TableId}
 use Rattle.shared_words.specs.declared.seats.Member as tokens
+use Rattle.shared_words.specs.declared.seats.Watcher as watching
 use Rattle.shared_words.specs.declared.view.WriterView.{WriterView}
-use Rattle.shared_words.specs.Opening.{member_begun, writer_begun}
+use Rattle.shared_words.specs.Opening.{member_begun, watcher_begun, writer_begun}
 use Rattle.shared_words.specs.Processes.{AreCopied}
 use Rattle.shared_words.specs.Seats.{Place, IsSeatOf}
 
@@ -56,7 +57,21 @@ abbrev pub handed_out : View → View
 handed_out (Writer w) = Member (unwrap_or (slice_get w.members w.handed) (member_begun 0))
 handed_out v = v
 
--- what the writer knows once so many seats of members are handed out
+-- the view is the writer's, and all seats of members are handed out, and not all of watchers
+abbrev pub HasWatchersAtHome : Opening → View → Type 0
+HasWatchersAtHome opening (Writer w) = (opening.members ≤ w.handed) × (w.handed < opening.members + opening.watchers)
+HasWatchersAtHome opening v = ⊥
+
+-- the watcher whose seat is the next; it has learnt of all that is published
+abbrev pub watcher_handed_out : View → View
+watcher_handed_out (Writer w) = Watcher (record {
+  watcher = (unwrap_or (slice_get w.watchers (w.handed - length w.members)) (watcher_begun 0)).watcher;
+  seen = w.published;
+  blocks = [];
+})
+watcher_handed_out v = v
+
+-- what the writer knows once so many seats of members and watchers are handed out
 abbrev pub writer_handing : Opening → ℕ → WriterView
 writer_handing opening handed = record (writer_begun opening.members opening.watchers) { handed = handed }
 
@@ -77,3 +92,14 @@ pub record IsMemberBegun (table : TableId) (number : ℕ) (token : tokens.Member
 pub record AreMembersBegun (table : TableId) (count : ℕ) (members : List tokens.Member) : Type 0 where
   pub all : length members ≡ count
   pub each : (k : ℕ) (token : tokens.Member) → slice_get members k ≡ Some token → IsMemberBegun table k token
+
+-- the token of a watcher as it begins: it holds no delay count
+pub record IsWatcherBegun (table : TableId) (number : ℕ) (token : watching.Watcher) : Type 0 where
+  pub of_table : IsSeatOf table token.seat
+  pub view : token.seat.me.0 ≡ Watcher (watcher_begun number)
+  pub holds_is : token.holds ≡ 0
+
+-- the tokens of the first watchers, in the order of their numbers
+pub record AreWatchersBegun (table : TableId) (count : ℕ) (watchers : List watching.Watcher) : Type 0 where
+  pub all : length watchers ≡ count
+  pub each : (k : ℕ) (token : watching.Watcher) → slice_get watchers k ≡ Some token → IsWatcherBegun table k token

@@ -20,9 +20,9 @@ unfoldable pub members_begun : ℕ → List MemberView
 members_begun zero = []
 members_begun (suc n) = members_begun n ++ member_begun n ∷ []
 
--- a watcher as it begins
+-- a watcher as it begins: it has learnt of generation 0, and holds none
 abbrev pub watcher_begun : ℕ → WatcherView
-watcher_begun k = record { watcher = opening_watcher k; seen = opening_published ∷ [] }
+watcher_begun k = record { watcher = opening_watcher k; seen = opening_published ∷ []; blocks = [] }
 
 -- as many watchers, numbered from 0
 unfoldable pub watchers_begun : ℕ → List WatcherView

@@ -18,16 +18,17 @@ use Rattle.area_core.specs.Generations.{is_used, is_retired, is_doomed, is_trace
 use Rattle.area_core.specs.Stores.{is_released_at}
 use Rattle.area_core.specs.Blocks.{Blocks, BlockInvariant, EachCounted, Among, RootFits, InstancesPlaced, CodeStands, BreakpointsStand, term_words, UsedAreKept, FitsBlock, ImageStands, AreaStands, KeptApart}
 use Rattle.area_core.specs.Terms.{TermsStand}
-use Rattle.area_core.specs.Readers.{reads_in_block, held_by_member, reads_word, is_read_under}
+use Rattle.area_core.specs.Readers.{reads_in_block, held_by_member, held_by_watcher, reads_word, is_read_under}
 use Rattle.area_core.specs.Roots.{fresh_areas}
 use Rattle.marks.specs.declared.kept.LookKind.TheVariants.{Both}
 use Rattle.shared_words.specs.declared.view.BlockWord.{BlockWord}
 use Rattle.shared_words.specs.declared.view.MemberView.{MemberView}
+use Rattle.shared_words.specs.declared.view.WatcherView.{WatcherView}
 use Rattle.shared_words.specs.declared.view.WriterView.{WriterView}
 use Rattle.shared_words.specs.declared.view.View.{View}
 use Rattle.shared_words.specs.declared.view.View.TheVariants.{Writer, Member, Watcher, Note, Spent}
 use Rattle.shared_words.specs.Views.{newest, seen, held, blocks_found}
-use Rattle.shared_words.specs.Seats.{writer_of}
+use Rattle.shared_words.specs.Seats.{writer_of, generation_held}
 use Rattle.shared_words.specs.Processes.{held_by_view, NamesArea}
 use Rattle.shared_words.specs.Rule.{MayBeRead, OldStays, RetiredStays, HasArea, IsKeptIn, AreApart, IsPlain}
 use Rattle.shared_words.specs.Kinds.{Sat}
@@ -177,12 +178,12 @@ pub record ReadsNamed (word : ℕ) (m : MemberView) : Type 0 where
   pub listed : Among (held_by_view m).areas area
   pub of : IsTrue (is_of_block (kind_at word) area.block)
 
--- who may load the word: the writer and a member where the generation that it holds reads it, and a member where one of its
--- slots names the area. A watcher makes no step yet
+-- who may load the word: the writer, a member and a watcher where the generation that it holds reads it, and a member where
+-- one of its slots names the area
 abbrev pub MayLoadWord : ℕ → View → Type 0
 MayLoadWord word (Writer w) = ReadsHeld word w.published (Some (newest w.published))
 MayLoadWord word (Member m) = ReadsHeld word m.seen (held_by_member m.member) ⊎ ReadsNamed word m
-MayLoadWord word (Watcher w) = ⊥
+MayLoadWord word (Watcher w) = ReadsHeld word w.seen (held_by_watcher w.watcher)
 MayLoadWord word (Note n) = ⊥
 MayLoadWord word Spent = ⊥
 
@@ -201,9 +202,14 @@ pub record IsSteady (b : Blocks) (word : ℕ) : Type 0 where
 abbrev pub with_block_word : ℕ → ℕ → MemberView → MemberView
 with_block_word word found m = record m { blocks = record { generation = m.member.generation; word = word; value = found } ∷ m.blocks }
 
+-- the same of a watcher
+abbrev pub with_watched_word : ℕ → ℕ → WatcherView → WatcherView
+with_watched_word word found v = record v { blocks = record { generation = generation_held v; word = word; value = found } ∷ v.blocks }
+
 -- what a seat knows once it has found this word
 abbrev pub word_found : ℕ → ℕ → View → View
 word_found word found (Member m) = Member (with_block_word word found m)
+word_found word found (Watcher w) = Watcher (with_watched_word word found w)
 word_found word found v = v
 
 -- the word is one of blocks that stand for this generation, in which the areas stand that slots name, and so is each word of
@@ -224,7 +230,7 @@ WordTells v word found = (g : ℕ) (p : Published) → held v ≡ Some g → sli
 abbrev pub IsOwnWord : View → ℕ → ℕ → Type 0
 IsOwnWord v word found = (w : WriterView) → v ≡ Writer w → found ≡ word_at w.words word
 
--- what the load of a word tells and leaves: a member keeps what it found
+-- what the load of a word tells and leaves: a member or a watcher keeps what it found
 pub record word_loaded (st : Step (Unit {0})) (me : Sat) (found : ℕ) (me' : Sat) : Type 0 where
   pub view : me' ≡ (word_found st.word found me.0, me.1)
   pub own : IsOwnWord me.0 st.word found

@@ -169,7 +169,7 @@ pub record IsOwn (members number process : ℕ) : Type 0 where
 abbrev pub IsPlain : List KeptArea → ℕ → ℕ → Type 0
 IsPlain kept block at = (k : KeptArea) → Among kept k → k.area.block ≡ block → is_entry_word k at ≡ false
 
--- a word of blocks that a member found under a generation: where that reads it, and a thread may read that, a word of a block
+-- a word of blocks that was found under a generation: where that reads it, and a thread may read that, a word of a block
 -- stands as it was found, but for entry words
 pub record WordKept (w : WriterView) (f : BlockWord) : Type 0 where
   pub published : Published
@@ -192,11 +192,14 @@ pub record MemberKnows (w : WriterView) (place : ℕ) (m : MemberView) : Type 0 
   -- the words of blocks that it found stand while their generations may be read
   pub words : (f : BlockWord) → Among m.blocks f → WordKept w f
 
--- what a watcher knows
+-- what a watcher in the seat at this place knows
 pub record WatcherKnows (w : WriterView) (place : ℕ) (v : WatcherView) : Type 0 where
+  -- its seat stands behind those of the members, in the order of the numbers
   pub numbered : length w.members + v.watcher.number ≡ place
   pub made : v.watcher.number < length w.watchers
   pub seen : IsBeginning v.seen w.published
+  -- the words of blocks that it found stand while their generations may be read
+  pub words : (f : BlockWord) → Among v.blocks f → WordKept w f
 
 -- what a note knows
 pub record NoteKnows (w : WriterView) (place : ℕ) (n : NoteView) : Type 0 where
@@ -265,12 +268,14 @@ pub record RunningRule (Served : Published → Type 0) (opening : Opening) (s : 
   pub words : WordsAgree s.words writer
   pub each_seat : (place : ℕ) (v : View) → get_elem? seats place ≡ some v → Knows writer place v
   pub machine : MachineHolds s.words writer seats
-  -- while seats of members are at home, there are just those that were handed out
-  pub handed : writer.handed < length writer.members → length seats ≡ writer.handed
+  -- while seats of members or watchers are at home, there are just those that were handed out
+  pub handed : writer.handed < length writer.members + length writer.watchers → length seats ≡ writer.handed
   -- there are at least those that were handed out
   pub out : writer.handed ≤ length seats
   -- a member knows what it must also while its seat is at home
   pub at_home : (k : ℕ) (m : MemberView) → slice_get writer.members k ≡ Some m → MemberKnows writer k m
+  -- what a watcher had learnt of while its seat is at home, and once it came in, are the first generations
+  pub watchers_home : (k : ℕ) (v : WatcherView) → slice_get writer.watchers k ≡ Some v → IsBeginning v.seen writer.published
   pub looks : LooksKept writer
   pub marks : MarksKept s.words writer seats
   -- who came in has no seat of its own

@@ -58,4 +58,5 @@ held Spent = None
 -- the words of blocks that a seat keeps to have found
 abbrev pub blocks_found : View → List BlockWord
 blocks_found (Member m) = m.blocks
+blocks_found (Watcher w) = w.blocks
 blocks_found _ = []

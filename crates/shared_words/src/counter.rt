@@ -12,7 +12,9 @@ use crate::table::{COUNTER, Shared};
 
 impl<N: Served> Shared<N> {
     /// Loads the counter. A member has then loaded it and confirmed nothing since; the writer keeps
-    /// that its newest generation needs two more values, and finds no counter below the one before.
+    /// that its newest generation needs two more values, and finds no counter below the one before. A
+    /// watcher may claim to read where it finds the counter whose delay count it has raised, or holds
+    /// both counts.
     pub fn load_counter<P: Pass>(&self, pass: &mut P) -> u64
         requires token { IsSeatOf self.now.table.shared.table_id (P.seat pass.old) }
         requires may { MayLoadCounter (P.seat pass.old).me.0 }

@@ -1,6 +1,6 @@
 //! What holds of every state that meets the rule, not only of those that a run reaches.
 
-ghost use Rattle.shared_words.specs.Laws.{ShowsSound, KeepsWhatIsRead, StoresEntriesAlone, ClearHolds};
+ghost use Rattle.shared_words.specs.Laws.{ShowsSound, HeldIsReadable, KeepsWhatIsRead, StoresEntriesAlone, ClearHolds};
 
 use crate::law::Served;
 
@@ -8,6 +8,12 @@ use crate::law::Served;
 /// generations that some thread may read.
 pub fn rule_shows_a_sound_state<N: Served>()
     ensures { ShowsSound N.served }
+{}
+
+/// The generation that a token holds is one that some thread may read: of the writer the newest, of a
+/// member that of its last report, of a watcher that of its delay, until it resumes.
+pub fn what_is_held_is_readable<N: Served>()
+    ensures { HeldIsReadable N.served }
 {}
 
 /// No word of a block that some token may load is one that the writer may store by `store_word`, but for an

@@ -4,6 +4,7 @@
 
 mod closing;
 mod counter;
+mod delays;
 mod drops;
 mod entries;
 mod law;
@@ -28,11 +29,11 @@ pub use closing::{Closed, close};
 pub use law::Served;
 pub use laws::{
     clear_areas_are_out_of_use, entry_words_alone_change, rule_shows_a_sound_state,
-    what_is_loaded_is_not_stored,
+    what_is_held_is_readable, what_is_loaded_is_not_stored,
 };
 pub use opening::Opening;
 pub use pass::Pass;
-pub use seats::{Member, Note, Parts, Writer};
+pub use seats::{Member, Note, Parts, Watcher, Writer};
 pub use table::{ANCHORS, COUNTER, LEAD, PROCESSES, ROOT, Shared};
 pub use view::{
     BlockWord, BlockWordList, FoundWord, FoundWordList, MemberView, NamedAnchor, NamedAnchorList,

@@ -1,18 +1,19 @@
 //! How a table is made.
 
-ghost use Rattle.std.specs.Prelude.{◌≡◌, ◌≤◌, ◌<◌, ◌*◌, IfOk, OnOk};
+ghost use Rattle.std.specs.Prelude.{◌≡◌, ◌≤◌, ◌<◌, ◌+◌, ◌*◌, IfOk, OnOk};
 ghost use Rattle.prgr_core.specs.declared.member.TheConstants.{MOST_MEMBERS, OPENING_WORD, WAITING};
 ghost use Rattle.area_core.specs.declared.map.TheConstants.{TABLE_WORDS};
 ghost use Rattle.area_core.specs.Step.{opening_published};
 ghost use Rattle.shared_words.specs.declared.table.TheConstants.{OPENING_ROOT, PROCESSES, ANCHORS};
-ghost use Rattle.shared_words.specs.Making.{AreBegun, HasSeatsAtHome, IsHanding, AreMembersBegun, handed_on, handed_out};
+ghost use Rattle.prgr_core.specs.declared.watcher.TheConstants.{MOST_WATCHERS};
+ghost use Rattle.shared_words.specs.Making.{AreBegun, HasSeatsAtHome, HasWatchersAtHome, IsHanding, AreMembersBegun, AreWatchersBegun, handed_on, handed_out, watcher_handed_out};
 ghost use Rattle.shared_words.specs.Seats.{IsSeatOf, IsSameSeat, IsWriterSeat};
 
 use crate::law::Served;
 use crate::opening::Opening;
 use crate::pass::Words;
-use crate::plays::HandOut;
-use crate::seats::{Member, Parts, Writer};
+use crate::plays::{HandOut, HandOutWatcher};
+use crate::seats::{Member, Parts, Watcher, Writer};
 use crate::table::{ANCHORS, CONFIRMED, COUNTER, OPENING_ROOT, PROCESSES, Shared};
 use crate::view::View;
 use area_core::TABLE_WORDS;
@@ -97,23 +98,64 @@ fn hand_out_all<N: Served>(
     Ok(tokens)
 }
 
+/// The token of the watcher whose seat is the next that the writer hands out.
+fn hand_out_watcher<N: Served>(table: &Words<N>, writer: &mut Seat<(), View>) -> Watcher
+    requires token { IsSeatOf table.now.table_id writer.old }
+    requires home { HasWatchersAtHome table.now.key writer.old.me.0 }
+    requires words { 0 < table.now.table_id.words }
+    ensures token { IsSameSeat writer.old writer.new }
+    ensures view { writer.new.me.0 ≡ handed_on writer.old.me.0 }
+    ensures seat { IsSeatOf table.now.table_id result.seat }
+    ensures watcher { result.seat.me.0 ≡ watcher_handed_out writer.old.me.0 }
+    ensures holds { result.holds ≡ 0 }
+{
+    let seat = table.split_seat::<HandOutWatcher>(writer);
+    Watcher {
+        seat,
+        root: OPENING_ROOT,
+        holds: 0,
+    }
+}
+
+/// The tokens of all watchers, once those of the members are handed out.
+fn hand_out_watchers<N: Served>(
+    alloc: Global,
+    table: &Words<N>,
+    writer: &mut Seat<(), View>,
+    watchers: u32,
+) -> Result<Vec<Watcher>, AllocError>
+    requires token { IsHanding table.now.table_id table.now.key table.now.key.members writer.old }
+    requires watchers { watchers ≡ table.now.key.watchers }
+    requires words { 0 < table.now.table_id.words }
+    ensures writer { OnOk result (IsHanding table.now.table_id table.now.key (table.now.key.members + watchers) writer.new) }
+    ensures tokens { IfOk result (λ tokens. AreWatchersBegun table.now.table_id watchers tokens.items) }
+{
+    let mut tokens = Vec::with_capacity(alloc, watchers as usize)?;
+    for _number in 0..watchers {
+        tokens.push_reserved(hand_out_watcher(table, writer));
+    }
+    Ok(tokens)
+}
+
 impl<N: Served> Shared<N> {
-    /// A table for 1 to 16 members, all awake and holding generation 0, which is empty. There are no
-    /// watchers yet.
+    /// A table for 1 to 16 members, all awake and holding generation 0, which is empty, and for up to 4
+    /// watchers, who hold nothing.
     pub fn new(alloc: Global, members: u32, watchers: u32) -> Result<(Shared<N>, Parts), NoMemory>
         requires members { (1 ≤ members) × (members ≤ MOST_MEMBERS) }
-        requires watchers { watchers ≡ 0 }
+        requires watchers { watchers ≤ MOST_WATCHERS }
         requires served { N.served opening_published }
         ensures opening { IfOk result (λ made. (made.0.table.shared.key.members ≡ members) × (made.0.table.shared.key.watchers ≡ watchers)) }
         ensures token { IfOk result (λ made. IsWriterSeat made.0.table.shared.table_id made.0.table.shared.key made.1.writer.generation made.1.writer.seat) }
-        ensures writer { IfOk result (λ made. IsHanding made.0.table.shared.table_id made.0.table.shared.key members made.1.writer.seat) }
+        ensures writer { IfOk result (λ made. IsHanding made.0.table.shared.table_id made.0.table.shared.key (members + watchers) made.1.writer.seat) }
         ensures members { IfOk result (λ made. AreMembersBegun made.0.table.shared.table_id members made.1.members.items) }
+        ensures watchers { IfOk result (λ made. AreWatchersBegun made.0.table.shared.table_id watchers made.1.watchers.items) }
     {
         let words = opening_words(alloc, members, TABLE_WORDS as usize)?;
         let opening = Opening { members, watchers };
         let (table, mut seat) = Table::of_words(alloc, words.as_slice(), &opening)?;
         let anchors = PROCESSES as usize * ANCHORS as usize;
         let tokens = hand_out_all(alloc, &table.shared, &mut seat, members, anchors)?;
+        let observers = hand_out_watchers(alloc, &table.shared, &mut seat, watchers)?;
         let writer = Writer {
             seat,
             generation: 0,
@@ -121,6 +163,7 @@ impl<N: Served> Shared<N> {
         let parts = Parts {
             writer,
             members: tokens,
+            watchers: observers,
         };
         Ok((Shared { table, members }, parts))
     }

@@ -6,7 +6,7 @@ ghost use Rattle.shared_words.specs.Passes.{MayLoad, HasLoaded};
 
 use crate::law::{Law, Served};
 use crate::opening::Opening;
-use crate::seats::{Member, Note, Writer};
+use crate::seats::{Member, Note, Watcher, Writer};
 use crate::view::View;
 use atomic_table::{Play, Shared};
 
@@ -22,10 +22,10 @@ pub trait Pass {
     ghost seat: { Self → Place };
 
     /// The number that the token keeps: of a member its own, of the writer that of the newest
-    /// generation, of a note that of its process.
+    /// generation, of a note that of its process, of a watcher that of the delay counts that it holds.
     ghost number: { Self → ℕ };
 
-    /// The root word that a member keeps; none of another token.
+    /// The root word that a member or a watcher keeps; none of another token.
     ghost root: { Self → Option ℕ };
 
     /// The anchors of processes that a member keeps; none of another token.
@@ -57,6 +57,26 @@ impl Pass for Member {
     ghost root = { λ member. Some member.root };
 
     ghost anchors = { λ member. member.anchors.items };
+
+    fn load<M: Play<(), View>, N: Served>(&mut self, table: &Words<N>, word: usize) -> u64 {
+        table.load::<M>(&mut self.seat, word)
+    }
+
+    fn keep_root(&mut self, found: u64) {
+        self.root = found;
+    }
+}
+
+impl Pass for Watcher {
+    ghost use Rattle.std.specs.Prelude.{Some, []};
+
+    ghost seat = { λ watcher. watcher.seat };
+
+    ghost number = { λ watcher. watcher.holds };
+
+    ghost root = { λ watcher. Some watcher.root };
+
+    ghost anchors = { λ _. [] };
 
     fn load<M: Play<(), View>, N: Served>(&mut self, table: &Words<N>, word: usize) -> u64 {
         table.load::<M>(&mut self.seat, word)

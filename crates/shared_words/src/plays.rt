@@ -1,14 +1,15 @@
 //! What each kind of step tells. These types are for the proofs alone.
 
-ghost use Rattle.shared_words.specs.Kinds.{counter_loaded, root_loaded, confirmed, scanned, raised, lead_taken, lead_dropped, waiting_stored, entering_stored};
+ghost use Rattle.shared_words.specs.Kinds.{counter_loaded, root_loaded, confirmed, scanned, delay_scanned, raised, lead_taken, lead_dropped, waiting_stored, entering_stored, delay_raised, delay_lowered};
 ghost use Rattle.shared_words.specs.Publishing.{word_stored, root_stored, word_loaded};
 ghost use Rattle.shared_words.specs.Drops.{release_stored, root_dropped};
 ghost use Rattle.shared_words.specs.Notes.{note_left, note_right, note_join};
-ghost use Rattle.shared_words.specs.Making.{handed_on, handed_out};
+ghost use Rattle.shared_words.specs.Making.{handed_on, handed_out, watcher_handed_out};
 ghost use Rattle.shared_words.specs.Slots.{slot_stored, slot_loaded};
 ghost use Rattle.shared_words.specs.Lingering.{lingering_loaded};
-ghost use Rattle.shared_words.specs.Closing.{member_taken, members_seen, word_seen};
+ghost use Rattle.shared_words.specs.Closing.{member_taken, members_seen, watcher_taken, watchers_seen, word_seen};
 
+use crate::delays::Watched;
 use crate::drops::Dropped;
 use crate::law::Served;
 use crate::lingering::Lingered;
@@ -49,6 +50,29 @@ impl Play<(), View> for LoadConfirmed {
     ghost then = { scanned };
 }
 
+/// A leader's load of a delay count.
+pub struct LoadDelay<K> {
+    marker: PhantomData<K>,
+}
+
+impl<K: Watched> Play<(), View> for LoadDelay<K> {
+    ghost then = { delay_scanned K.made };
+}
+
+/// A watcher raises a delay count.
+pub struct AddDelay;
+
+impl Play<(), View> for AddDelay {
+    ghost then = { delay_raised };
+}
+
+/// A watcher lowers a delay count.
+pub struct SubDelay;
+
+impl Play<(), View> for SubDelay {
+    ghost then = { delay_lowered };
+}
+
 /// The raise of the counter by its leader.
 pub struct StoreCounter;
 
@@ -77,6 +101,15 @@ impl Split<View> for HandOut {
     ghost left = { handed_on };
 
     ghost right = { handed_out };
+}
+
+/// The seat of the next watcher is taken from that of the writer.
+pub struct HandOutWatcher;
+
+impl Split<View> for HandOutWatcher {
+    ghost left = { handed_on };
+
+    ghost right = { watcher_handed_out };
 }
 
 /// The store by which a member begins to wait.
@@ -182,6 +215,24 @@ impl Join<View> for TakeIn {
     ghost both = { member_taken };
 
     ghost spent = { Spent };
+}
+
+/// A watcher's seat is joined to the writer's.
+pub struct TakeInWatcher;
+
+impl Join<View> for TakeInWatcher {
+    ghost use Rattle.shared_words.specs.declared.view.View.TheVariants.{Spent};
+
+    ghost both = { watcher_taken };
+
+    ghost spent = { Spent };
+}
+
+/// A load of the root, which tells what the watchers had learnt of that came in.
+pub struct SeeWatchers;
+
+impl Play<(), View> for SeeWatchers {
+    ghost then = { watchers_seen };
 }
 
 /// The last load of the root, which tells what the writer knows of all members.

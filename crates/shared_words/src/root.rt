@@ -14,7 +14,7 @@ impl<N: Served> Shared<N> {
     /// Loads the root. The token has then learnt of all generations up to that of the root; a member
     /// that has loaded the counter holds that generation from now on, and none of its processes has a
     /// turn under way. What its slots name, of the areas of the generation that it held, stands in the new
-    /// one too. A member keeps the root word.
+    /// one too. So does a watcher that has a claim. A member and a watcher keep the root word.
     pub fn load_root<P: Pass>(&self, pass: &mut P) -> u64
         requires token { IsSeatOf self.now.table.shared.table_id (P.seat pass.old) }
         requires may { MayLoadRoot (P.seat pass.old).me.0 }

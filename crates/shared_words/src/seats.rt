@@ -4,7 +4,9 @@ ghost use Rattle.std.specs.Prelude.{◌≡◌, ◌-◌, ◌<◌, ◌≤◌};
 ghost use Rattle.shared_words.specs.declared.table.TheConstants.{PROCESSES, ANCHORS};
 ghost use Rattle.area_core.specs.Map.{word_at};
 ghost use Rattle.shared_words.specs.Processes.{AreCopied, process_of};
-ghost use Rattle.shared_words.specs.Seats.{IsRooted, member_of, root_held};
+ghost use Rattle.prgr_core.specs.declared.watcher.TheConstants.{DELAY_COUNTS};
+ghost use Rattle.prgr_core.specs.Watchers.{delay_of, holds};
+ghost use Rattle.shared_words.specs.Seats.{IsRooted, HoldsRoot, member_of, watcher_of, root_held, root_watched, counts_held};
 
 use crate::table::ANCHORS;
 use crate::view::View;
@@ -56,10 +58,45 @@ pub struct Note {
     pub(crate) process: u32,
 }
 
+/// A watcher: a thread that is no member, and delays progress while it reads.
+#[derive(Drop)]
+pub struct Watcher {
+    pub(crate) seat: Seat<(), View>,
+    /// The root word that it has loaded last.
+    pub(crate) root: u64,
+    /// The delay counts that it holds: 1 for that of even values and 2 for that of odd values, added up.
+    pub(crate) holds: u32,
+}
+
+impl Watcher {
+    /// The root word of the generation that the watcher holds.
+    pub fn root(&self) -> u64
+        requires rooted { HoldsRoot self.now.root (watcher_of self.now.seat.me.0) }
+        ensures { result ≡ root_watched (watcher_of self.now.seat.me.0) }
+    {
+        self.root
+    }
+
+    /// Whether the watcher holds this delay count.
+    pub fn holds(&self, which: u32) -> bool
+        requires which { which < DELAY_COUNTS }
+        requires counted { self.now.holds ≡ counts_held (watcher_of self.now.seat.me.0) }
+        ensures { result ≡ holds (delay_of which) (watcher_of self.now.seat.me.0).watcher }
+    {
+        if which == 0 {
+            self.holds % 2 == 1
+        } else {
+            self.holds >= 2
+        }
+    }
+}
+
 /// The tokens of a table.
 #[derive(Drop)]
 pub struct Parts {
     pub writer: Writer,
     /// The members in the order of their numbers.
     pub members: Vec<Member>,
+    /// The watchers in the order of their numbers.
+    pub watchers: Vec<Watcher>,
 }

@@ -48,8 +48,6 @@ pub struct Shared<N: Served> {
     pub ghost sized: { table.shared.table_id.words ≡ TABLE_WORDS },
     pub ghost few: { table.shared.key.members ≤ MOST_MEMBERS },
     pub ghost counted: { members ≡ table.shared.key.members },
-    // There are no watchers yet.
-    pub ghost unwatched: { table.shared.key.watchers ≡ 0 },
 }
 
 impl<N: Served> Shared<N> {
@@ -57,7 +55,6 @@ impl<N: Served> Shared<N> {
     pub fn members(&self) -> u32
         ensures members { result ≡ self.now.table.shared.key.members }
         ensures few { result ≤ MOST_MEMBERS }
-        ensures unwatched { self.now.table.shared.key.watchers ≡ 0 }
     {
         self.members
     }

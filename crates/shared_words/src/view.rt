@@ -32,19 +32,21 @@ pub enum FoundWord {
     MemberWord { number: u32, word: u64 },
     /// The word of the leader: 0, or the number of the member that leads plus 1.
     LeaderWord { word: u64 },
+    /// The delay count of this number.
+    DelayCount { which: u32, count: u64 },
 }
 
 /// Words that a member found in a row.
 pub type FoundWordList = Items<FoundWord>;
 
-/// A word of blocks that a member found, and the generation that it held then.
+/// A word of blocks that a member or a watcher found, and the generation that it held then.
 pub struct BlockWord {
     pub generation: u64,
     pub word: u32,
     pub value: u64,
 }
 
-/// Words of blocks that a member found in a row.
+/// Words of blocks that were found in a row.
 pub type BlockWordList = Items<BlockWord>;
 
 /// What a member keeps of one of its processes: the words of its slot, and the marks of its turns.
@@ -68,7 +70,7 @@ pub struct MemberView {
     /// The slots of its processes, the newest store first. A process without one names nothing, and has
     /// done no turn.
     pub slots: ProcessSlotList,
-    /// The words of members and of the leader that it has loaded, the newest first.
+    /// The words of members and of the leader, and the delay counts, that it has loaded, the newest first.
     pub found: FoundWordList,
     /// The words of blocks that it has loaded, the newest first.
     pub blocks: BlockWordList,
@@ -76,8 +78,13 @@ pub struct MemberView {
 
 /// What a watcher knows.
 pub struct WatcherView {
+    /// Its record in the progress machine: the counter that it has loaded, the delay counts that it
+    /// holds, and the generation that it holds since it loaded the root in its claim.
     pub watcher: Watcher,
+    /// The generations that it has learnt of, from 0 on.
     pub seen: PublishedList,
+    /// The words of blocks that it has loaded, the newest first.
+    pub blocks: BlockWordList,
 }
 
 /// What a note knows.
@@ -107,9 +114,9 @@ pub struct WriterView {
     pub words: WordList,
     /// Each member, as it is while its seat is not handed out.
     pub members: MemberViewList,
-    /// How many seats of members were handed out.
+    /// How many seats were handed out, first those of members, then those of watchers.
     pub handed: u32,
-    /// Each watcher, as it is while its seat is not handed out. There are none yet.
+    /// Each watcher, as it is while its seat is not handed out, and once it came in.
     pub watchers: WatcherViewList,
     /// For each process that a note was split for, the newest generation then.
     pub notes: NoteNumberList,

@@ -12,7 +12,7 @@ use crate::table::Shared;
 impl<N: Served> Shared<N> {
     /// Loads a word of a block, or its retire or doom word, that the generation reads which the token
     /// holds, or that is of an area which a slot of a member names and which stands in that generation.
-    /// What the writer loads is what it has stored; a member keeps what it finds.
+    /// What the writer loads is what it has stored; a member and a watcher keep what they find.
     pub fn load_word<P: Pass>(&self, pass: &mut P, word: u32) -> u64
         requires token { IsSeatOf self.now.table.shared.table_id (P.seat pass.old) }
         requires may { MayLoadWord word (P.seat pass.old).me.0 }
