@@ -1,15 +1,15 @@
 -- What a leader finds that tries to raise the counter: each member's word is loaded in turn, and the first that is
--- behind is told.
+-- behind is told; then the delay count of the value after the counter.
 -- Source: Erlang/OTP erts internal documentation, ThreadProgress: the leader raises the global progress once all others
--- have confirmed the present one. There are no unmanaged threads yet.
-use Rattle.std.specs.Prelude.{◌≡◌, ℕ, ◌+◌, ◌<◌, false, List, [], ◌∷◌, ◌++◌, length, Option, None, Some, IsTrue}
+-- have confirmed the present one. Unmanaged threads delay it; the delay counts are this project's own.
+use Rattle.std.specs.Prelude.{◌≡◌, ℕ, ◌+◌, ◌%◌, ◌<◌, ◌≤◌, false, List, [], ◌∷◌, ◌++◌, length, Option, None, Some, IsTrue}
 use Rattle.prgr_core.specs.declared.member.TheConstants.{LAST_VALUE}
 use Rattle.prgr_core.specs.Members as members
 use Rattle.prgr_core.specs.Invariant.{CounterInRange}
 use Rattle.shared_words.specs.declared.view.FoundWord.{FoundWord}
-use Rattle.shared_words.specs.declared.view.FoundWord.TheVariants.{MemberWord}
+use Rattle.shared_words.specs.declared.view.FoundWord.TheVariants.{MemberWord, DelayCount}
 use Rattle.shared_words.specs.declared.view.MemberView.{MemberView}
-use Rattle.shared_words.specs.Kinds.{counter_raised, word_scanned}
+use Rattle.shared_words.specs.Kinds.{known_counter, counter_raised, word_scanned, delay_looked}
 use Rattle.progress_words.specs.declared.advances.Lag.{Lag}
 use Rattle.progress_words.specs.declared.answers.Advance.{Advance}
 use Rattle.progress_words.specs.declared.answers.Advance.TheVariants.{Advanced, Behind, Delayed, AtEnd}
@@ -38,6 +38,10 @@ AreLoaded words old new = new.found ≡ with_numbers words ++ old.found
 abbrev pub AreDone : ℕ → List ℕ → Type 0
 AreDone counter [] = Unit {0}
 AreDone counter (word ∷ words) = IsTrue (members.is_done counter word) × AreDone counter words
+
+-- what a leader knows that has found this delay count of the value after the counter that it knows
+abbrev pub delay_found : ℕ → MemberView → MemberView
+delay_found count m = delay_looked ((known_counter m + 1) % 2) count m
 
 -- ---- the answers
 
@@ -81,17 +85,30 @@ pub record IsAtEnd (counter : ℕ) (words : List ℕ) : Type 0 where
   pub last : counter ≡ LAST_VALUE
   pub none : words ≡ []
 
--- why each answer comes, by the counter that was loaded and the words that were found; no delay is found yet
+-- all members are done, and watchers delay the counter: so many, and at least one
+pub record IsDelayed (count counter : ℕ) (words : List ℕ) (delays : ℕ) : Type 0 where
+  pub below : counter < LAST_VALUE
+  pub done : AreAllDone count counter words
+  pub some : 1 ≤ delays
+
+-- why each answer comes, by the counter that was loaded and the words that were found
 abbrev pub CauseOf : ℕ → ℕ → List ℕ → Advance → Type 0
 CauseOf count counter words (Advanced value) = IsRaised count counter words value
 CauseOf count counter words (Behind number confirmed) = (counter < LAST_VALUE) × IsBehind count counter words number confirmed
-CauseOf count counter words (Delayed delays) = ⊥
+CauseOf count counter words (Delayed delays) = IsDelayed count counter words delays
 CauseOf count counter words AtEnd = IsAtEnd counter words
 
--- only an advance raises the counter
+-- what the leader then knows: an advance raises the counter, where it has found that no watcher delays it
 abbrev pub view_after : Advance → MemberView → MemberView
-view_after (Advanced value) m = counter_raised m
+view_after (Advanced value) m = counter_raised (delay_found 0 m)
+view_after (Delayed delays) m = delay_found delays m
 view_after _ m = m
+
+-- the delay count that was loaded in front of these words, if one was
+abbrev pub with_delays : Advance → ℕ → List FoundWord → List FoundWord
+with_delays (Advanced value) counter found = DelayCount ((counter + 1) % 2) 0 ∷ found
+with_delays (Delayed delays) counter found = DelayCount ((counter + 1) % 2) delays ∷ found
+with_delays _ counter found = found
 
 -- a leader of a table of so many members has tried to raise the counter
 pub record HasLooked (count : ℕ) (old new : MemberView) (answer : Advance) : Type 0 where
@@ -102,5 +119,5 @@ pub record HasLooked (count : ℕ) (old new : MemberView) (answer : Advance) : T
   pub words : List ℕ
   pub cause : CauseOf count counter words answer
   pub view : new ≡ view_after answer (words_found words (with_counter counter old))
-  -- the words were loaded in this call
-  pub loaded : AreLoaded words old new
+  -- the words, and the delay count that it tells of, were loaded in this call
+  pub loaded : new.found ≡ with_delays answer counter (with_numbers words ++ old.found)

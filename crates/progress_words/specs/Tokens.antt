@@ -1,15 +1,17 @@
--- The tokens of members, of the writer and of notes as the calls of thread progress see them: each is of the table, and has a
+-- The tokens of members, of watchers, of the writer and of notes as the calls of thread progress see them: each is of the table, and has a
 -- view of its own sort.
 use Rattle.std.specs.Prelude.{◌≡◌, ℕ}
 use Rattle.atomic_table.specs.Seated.{TableId}
 use Rattle.shared_words.specs.declared.seats.Member as members
 use Rattle.shared_words.specs.declared.seats.Writer as writers
 use Rattle.shared_words.specs.declared.seats.Note as notes
+use Rattle.shared_words.specs.declared.seats.Watcher as watching
 use Rattle.shared_words.specs.declared.view.MemberView.{MemberView}
 use Rattle.shared_words.specs.declared.view.WriterView.{WriterView}
 use Rattle.shared_words.specs.declared.view.NoteView.{NoteView}
+use Rattle.shared_words.specs.declared.view.WatcherView.{WatcherView}
 use Rattle.shared_words.specs.declared.opening.Opening.{Opening}
-use Rattle.shared_words.specs.Seats.{IsSameSeat, IsMemberSeat, IsWriterSeat, IsNoteSeat, member_of, writer_of, note_of}
+use Rattle.shared_words.specs.Seats.{IsSameSeat, IsMemberSeat, IsWatcherSeat, IsWriterSeat, IsNoteSeat, member_of, watcher_of, writer_of, note_of}
 
 -- what a member knows
 abbrev pub view_of : members.Member → MemberView
@@ -25,11 +27,19 @@ pub record IsSameMember (old new : members.Member) : Type 0 where
   pub number : new.number ≡ old.number
   pub anchors : new.anchors.items ≡ old.anchors.items
 
+-- what a watcher knows
+abbrev pub watched_by : watching.Watcher → WatcherView
+watched_by token = watcher_of token.seat.me.0
+
+-- the token is that of a watcher of this table
+abbrev pub IsWatcherOf : TableId → watching.Watcher → Type 0
+IsWatcherOf table token = IsWatcherSeat table token.holds token.seat
+
 -- what the writer knows
 abbrev pub written_by : writers.Writer → WriterView
 written_by token = writer_of token.seat.me.0
 
--- the token is that of the writer of this table, all of whose members have their tokens
+-- the token is that of the writer of this table, all of whose members and watchers have their tokens
 abbrev pub IsWriterOf : TableId → Opening → writers.Writer → Type 0
 IsWriterOf table opening token = IsWriterSeat table opening token.generation token.seat
 

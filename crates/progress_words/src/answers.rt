@@ -16,8 +16,7 @@ pub enum Advance {
     /// This member, the first in the order of their numbers, has not confirmed the value after the
     /// counter: its word is `confirmed`, which is 0 while it enters.
     Behind { member: u32, confirmed: u64 },
-    /// So many unmanaged threads delay the counter. It comes with watchers, of which there are none
-    /// yet.
+    /// So many watchers delay the counter, at least one.
     Delayed { count: u64 },
     /// The counter is at its last value, and stays.
     AtEnd,

@@ -4,6 +4,7 @@
 
 mod advances;
 mod answers;
+mod delays;
 mod leads;
 mod needs;
 mod notes;
@@ -12,6 +13,7 @@ mod roots;
 
 pub use advances::advance;
 pub use answers::{Advance, Lead, NotYet};
+pub use delays::{delay, resume};
 pub use leads::{give_up, lead};
 pub use needs::{later, reached};
 pub use notes::{learn, note};

@@ -12,7 +12,7 @@ ghost use Rattle.progress_words.specs.Leads.{IsLeader};
 use shared_words::{Member, Served, Shared};
 
 /// A root word is the number of its generation times this, and then the numbers of blocks.
-const GENERATION_UNIT: u64 = 32;
+pub(crate) const GENERATION_UNIT: u64 = 32;
 
 /// Loads the counter and then the root, and confirms the value after that counter.
 #[tactic(auto, using(crate::proofs::Confirming::rooted_now, crate::proofs::Confirming::may_load_root))]
