@@ -71,6 +71,7 @@ pub record TracesStand (w : WriterView) (p : Published) : Type 0 where
   pub entries : (k : KeptArea) → Among (kept_next w p) k → EntriesStand (word_at w.words) k p
   pub settled : BreakpointsRest (with_next p w)
 
+-- so it is of each such generation that is published while the indices are at rest
 abbrev pub RootsKeepBreakpoints : Type 0
 RootsKeepBreakpoints = (w : WriterView) (p : Published) → KeepsTraces w p → BreakpointsRest w → TracesStand w p
 
