@@ -52,6 +52,8 @@ mod Releases
 mod ReleasedTables
 mod ClearedBlocks
 mod ReleasedWhole
+pub mod PatchNeeds
+mod PatchPhases
 mod PatchStores
 mod Traced
 mod TraceSteps

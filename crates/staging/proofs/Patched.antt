@@ -12,7 +12,7 @@ use Rattle.shared_words.specs.Kinds.{counter_kept}
 use Rattle.progress_words.specs.Needs.{HasLoadedCounter}
 use Rattle.breakpoints.specs.declared.patch.Patch.{Patch}
 use Rattle.breakpoints.specs.declared.patch.Phase.{Phase}
-use Rattle.breakpoints.specs.declared.patch.Phase.TheVariants.{Begun, Staged, Entered, Published as IsSwitched, Restored, Finished}
+use Rattle.breakpoints.specs.declared.patch.Phase.TheVariants.{Finished}
 use Rattle.breakpoints.specs.Indices.{BreakpointsRest}
 use Rattle.breakpoints.specs.Laws.{LeavesDecisions}
 use Rattle.breakpoints.specs.Patches.{PhaseStands}
@@ -84,12 +84,8 @@ exports_beside old new long areas stores = record {
 
 -- the areas that are kept fit their blocks
 fits_at : (at : CodeRef) (on : Bool) (phase : Phase) (w : WriterView) → PhaseStands at on phase w → (k : KeptArea) → Among w.kept k → FitsBlock k
-fits_at at on Begun w h = h.0.indices.areas
-fits_at at on (Staged need) w h = h.0.indices.areas
-fits_at at on (Entered need) w h = h.0.indices.areas
-fits_at at on (IsSwitched need) w h = h.0.indices.areas
-fits_at at on (Restored need) w h = h.0.indices.areas
 fits_at at on Finished w h = h.indices.areas
+fits_at at on phase w h = h.0.indices.areas
 
 pub patch_fits : (o : Option Patch) (w : WriterView) → PatchStands o w → (k : KeptArea) → Among w.kept k → FitsBlock k
 patch_fits None w h = h.indices.areas

@@ -16,19 +16,20 @@ use Rattle.breakpoints.specs.declared.patch.PatchStep.TheVariants as patch_steps
 use Rattle.breakpoints.specs.declared.patch.Phase.{Phase}
 use Rattle.breakpoints.specs.declared.patch.Phase.TheVariants.{Begun, Staged, Entered, Published as IsSwitched, Restored, Finished}
 use Rattle.breakpoints.specs.Indices.{BreakpointsRest}
-use Rattle.breakpoints.specs.Patches.{HasPatched, IsLastPhase, IsPatchOf, IsSettling, MovesTo, PhaseStands, Switches, phase_need}
+use Rattle.breakpoints.specs.Patches.{HasPatched, IsLastPhase, IsPatchOf, IsSettling, MovesTo, PhaseStands, Switches}
 use Rattle.breakpoints.specs.Switched.{PatchAnswers, PatchEnds, PatchMoves, PatchWaits}
 use Rattle.code_index.specs.Laws as index_laws
 use Rattle.code_index.specs.Staging.{IsIndexOf}
 use Rattle.literal_areas.specs.declared.areas.Areas.{Areas}
 use Rattle.term_table.specs.Laws as table_laws
 use Rattle.staging.specs.declared.tables.Tables.{Tables}
-use Rattle.staging.specs.Stages.{AreAtRest, AreSettling, patch_need}
+use Rattle.staging.specs.Stages.{AreAtRest, AreSettling}
 use Rattle.staging.specs.Standing.{StandFor}
-use Rattle.staging.specs.Traced.{IsAtLast, SettleAnswers, Settles, patch_left}
+use Rattle.staging.specs.Traced.{IsAtLast, NeedGoesOn, SettleAnswers, Settles, patch_left}
 use Rattle.staging.specs.Whose.{AreTablesOf, KeepsKnown, PatchStands}
+use Rattle.staging.proofs.PatchNeeds.{late_from, need_kept, need_passed, patch_late}
+use Rattle.staging.proofs.PatchPhases.{HasStepped, phase_for, stepped, tables_idle}
 use Rattle.staging.proofs.PatchStores.{AreIdle}
-use Rattle.staging.proofs.TraceSteps.{HasStepped, phase_for, phase_taken, stepped, tables_idle}
 
 -- ---- phases
 
@@ -121,7 +122,8 @@ module _ (names : List Mfa) (table : TableId) (opening : Opening) (t : Tables) (
   pub record HasGone (new : Tables) (r : Result PatchStep NotYet) : Type 0 where
     pub tables : AreTablesOf table opening new
     pub answers : IfOk r (SettleAnswers names t new)
-    pub waits : IfErr r (λ answer. (s : ServerState) → AreSettling names s t → Settles names s new answer)
+    pub waits : IfErr r (λ answer. (s : ServerState) → AreSettling names s t → Settles names s t new answer)
+    pub need : NeedGoesOn t new
     pub published : (written_by new.writer).published ≡ w.published
     pub known : KeepsKnown w (written_by new.writer)
 
@@ -141,6 +143,7 @@ module _ (names : List Mfa) (table : TableId) (opening : Opening) (t : Tables) (
           λ last. next.2 (subst (λ (x : Patch). IsLastPhase x.on x.phase) (some_same last.patch z (sym last.is ∙ is)) last.last),
         );
         waits = tt;
+        need = need_passed t new z is moves.patched moves.reached;
         published = step_one.published;
         known = step_one.known;
       }
@@ -153,24 +156,21 @@ module _ (names : List Mfa) (table : TableId) (opening : Opening) (t : Tables) (
             (subst (λ (o : Option Patch). PatchStands o (written_by new.writer)) (sym said.patch) (at_end y (written_by new.writer) ends.phase said.stands));
         answers = rests_now new said.index said.terms said.pools said.by_index said.by_terms ends.patched said.patch;
         waits = tt;
+        need = need_passed t new z is ends.patched ends.reached;
         published = step_one.published;
         known = step_one.known;
       }
   gone_on new p y (Err answer) said =
       let waits : PatchWaits z y w (written_by new.writer) answer = said.waits in
-      let need : phase_need y.phase ≡ Some answer.need = ap (λ (x : Patch). phase_need x.phase) waits.same ∙ waits.need in
       let step_one = one new said.index said.terms said.pools said.by_index said.by_terms waits.patched in
       record {
         tables = tables_new new said.index said.terms said.pools said.by_index said.by_terms waits.patched said.token (some_patch new y said.patch said.stands);
         answers = tt;
         waits = λ s was. record {
           settling = settles_on new said.index said.terms said.pools said.by_index said.by_terms waits.patched y said.patch (subst (λ (x : Patch). IsSettling x.phase) (sym waits.same) behind) s was;
-          why = record {
-            late = record { loaded = waits.loaded; below = waits.below };
-            awaited = subst (λ (o : Option Patch). patch_need o ≡ Some answer.need) (sym said.patch) need;
-            taken = phase_taken y.at y.on y.phase (written_by new.writer) answer.need said.stands need;
-          };
+          why = patch_late t new y z answer is said.patch said.stands waits;
         };
+        need = need_kept t new y z is said.patch waits.same waits.patched.rising;
         published = step_one.published;
         known = step_one.known;
       }
@@ -183,10 +183,13 @@ module _ (names : List Mfa) (old mid new : Tables) where
   rest_from (Ok done) goes rest = λ s had. rest s (goes s had)
   rest_from (Err answer) goes rest = rest
 
-  pub waiting_from : (r : Result (Unit {0}) NotYet) → ((s : ServerState) → AreSettling names s old → AreSettling names s mid) → IfErr r (λ answer. (s : ServerState) → AreSettling names s mid → Settles names s new answer)
-      → IfErr r (λ answer. (s : ServerState) → AreSettling names s old → Settles names s new answer)
-  waiting_from (Ok done) goes waits = waits
-  waiting_from (Err answer) goes waits = λ s had. waits s (goes s had)
+  waits_still : (answer : NotYet) → NeedGoesOn old new → (s : ServerState) → Settles names s mid new answer → Settles names s old new answer
+  waits_still answer need s waits = record { settling = waits.settling; why = late_from old mid new answer need waits.why }
+
+  pub waiting_from : (r : Result (Unit {0}) NotYet) → ((s : ServerState) → AreSettling names s old → AreSettling names s mid) → NeedGoesOn old new → IfErr r (λ answer. (s : ServerState) → AreSettling names s mid → Settles names s mid new answer)
+      → IfErr r (λ answer. (s : ServerState) → AreSettling names s old → Settles names s old new answer)
+  waiting_from (Ok done) goes need waits = waits
+  waiting_from (Err answer) goes need waits = λ s had. waits_still answer need s (waits s (goes s had))
 
 -- at the last phase the step is the last one
 pub at_last : (names : List Mfa) (old new : Tables) (step : PatchStep) → IsAtLast old → SettleAnswers names old new step → (step ≡ patch_steps.Finished → ⊥) → ⊥

@@ -22,7 +22,7 @@ use Rattle.staging.specs.Standing.{StandFor}
 use Rattle.staging.specs.Whose.{AreTablesOf, PatchStands}
 use Rattle.staging.proofs.Patched.{rests}
 use Rattle.staging.proofs.PatchStores.{AreIdle}
-use Rattle.staging.proofs.TraceSteps.{HasStepped, phase_for, stepped, tables_idle, unpublished_unfinished}
+use Rattle.staging.proofs.PatchPhases.{HasStepped, phase_for, stepped, tables_idle, unpublished_unfinished}
 
 pub at_patch : (table : TableId) (opening : Opening) (t : Tables) → AreTablesOf table opening t → (z : Patch) → t.patch ≡ Some z → IsPatchOf z (written_by t.writer)
 at_patch table opening t own z is = subst (λ (o : Option Patch). PatchStands o (written_by t.writer)) is own.patch

@@ -1,9 +1,8 @@
 -- A step of the patch of a change of what is traced, up to the store of the root: what each answer leaves.
-use Rattle.std.proofs.Common.{◌≡◌, ℕ, ◌<◌, ◌≤◌, inl, inr, Bool, true, false, List, [], ◌∷◌, ◌++◌, length, Option, Some, None, Result, Ok, Err, IfOk, IfErr, refl, sym, ap, subst, ◌∙◌, arith}
+use Rattle.std.proofs.Common.{◌≡◌, ℕ, ◌<◌, ◌≤◌, inl, inr, true, List, [], ◌∷◌, ◌++◌, length, Option, Some, Result, Ok, Err, IfOk, IfErr, refl, sym, ap, subst, ◌∙◌, arith}
 use Rattle.prgr_core.proofs.Parts.{some_same}
 use Rattle.atomic_table.specs.Seated.{TableId}
 use Rattle.term_core.specs.declared.area.AreaRef.{AreaRef}
-use Rattle.term_core.specs.declared.area.CodeRef.{CodeRef}
 use Rattle.term_core.specs.declared.atom.Mfa.{Mfa}
 use Rattle.area_core.specs.declared.table.KeptArea.{KeptArea}
 use Rattle.area_core.specs.declared.table.Published.{Published}
@@ -14,160 +13,55 @@ use Rattle.area_core.specs.Terms.{TermsStand}
 use Rattle.shared_words.specs.declared.opening.Opening.{Opening}
 use Rattle.shared_words.specs.declared.view.WriterView.{WriterView}
 use Rattle.shared_words.specs.Publishing.{with_next}
-use Rattle.shared_words.specs.Views.{newest}
 use Rattle.progress_words.specs.declared.answers.NotYet.{NotYet}
-use Rattle.progress_words.specs.Needs.{HasTaken}
 use Rattle.progress_words.specs.Roots.{newest_of}
 use Rattle.progress_words.specs.Tokens.{IsWriterOf, written_by}
 use Rattle.server_core.specs.declared.change.Change.{Change}
-use Rattle.server_core.specs.declared.change.Change.TheVariants.{SetTrace, ClearTrace}
 use Rattle.server_core.specs.Decided.{Fits}
 use Rattle.server_core.specs.Generations.{AreNumbered, generation_of}
-use Rattle.server_core.specs.ServerState.{IsSound, ServerState, dispatch_of}
+use Rattle.server_core.specs.ServerState.{IsSound, ServerState}
 use Rattle.code_law.specs.Served.{IsServed}
 use Rattle.breakpoints.specs.declared.patch.Patch.{Patch}
 use Rattle.breakpoints.specs.declared.patch.PatchStep.{PatchStep}
 use Rattle.breakpoints.specs.declared.patch.PatchStep.TheVariants as patch_steps
-use Rattle.breakpoints.specs.declared.patch.Phase.{Phase}
-use Rattle.breakpoints.specs.declared.patch.Phase.TheVariants.{Begun, Staged, Entered, Published as IsSwitched, Restored, Finished}
-use Rattle.breakpoints.specs.Patches.{HasPatched, IsLastPhase, IsPatchOf, IsSettling, IsUnpublished, MovesTo, PhaseStands, phase_need}
+use Rattle.breakpoints.specs.declared.patch.Phase.TheVariants.{Finished}
+use Rattle.breakpoints.specs.Patches.{IsPatchOf, IsUnpublished}
 use Rattle.breakpoints.specs.Switched.{MaySwitch, PatchAnswers, PatchMoves, PatchSwitches, PatchWaits, switched_over}
 use Rattle.breakpoints.proofs.Spots.{behind_fits}
-use Rattle.breakpoints.proofs.Standing.{patch_for}
 use Rattle.change_laws.specs.Breakpoints.{TracesInCode}
 use Rattle.change_laws.specs.Changes.{state_after}
 use Rattle.change_laws.specs.Uses.{IsUsed}
-use Rattle.code_index.specs.declared.index.Staging.TheVariants as indices
 use Rattle.code_index.specs.Exports.{LeadTo}
 use Rattle.code_index.specs.Laws as index_laws
 use Rattle.code_index.specs.Staging.{IsIndexOf, active_index}
 use Rattle.literal_areas.specs.declared.areas.Areas.{Areas}
 use Rattle.literal_areas.specs.declared.blocks.BlockUse.TheVariants.{Live}
-use Rattle.literal_areas.specs.Owned.{AreOf}
 use Rattle.literal_areas.proofs.Listed.{owned_next}
 use Rattle.literal_areas.proofs.Serials.{serial_here}
 use Rattle.term_table.specs.Laws as table_laws
-use Rattle.term_table.specs.Tables.{IsTableOf, active_table, words_in}
+use Rattle.term_table.specs.Tables.{active_table, words_in}
 use Rattle.staging.specs.declared.tables.Tables.{Tables}
 use Rattle.staging.specs.declared.stage.Stage.TheVariants.{Patching}
-use Rattle.staging.specs.Stages.{IsPatchFor, IsPatched, Waits, patch_need}
+use Rattle.staging.specs.Stages.{IsPatchFor, IsPatched, Waits}
 use Rattle.staging.specs.Standing.{StandFor}
-use Rattle.staging.specs.Traced.{AdvanceAnswers, IsPatchLate, phases_left, phases_to}
+use Rattle.staging.specs.Traced.{AdvanceAnswers, IsPatchLate, NeedGoesOn, phases_left}
 use Rattle.staging.specs.Upcoming.{IsUpcoming, areas_in}
 use Rattle.staging.specs.Whose.{AreTablesOf, KeepsKnown, PatchStands}
 use Rattle.staging.proofs.Coming.{ComesNext, IsFresh}
 use Rattle.staging.proofs.Counted.{comes_counted, with_waits}
 use Rattle.staging.proofs.Follows.{lives_in}
 use Rattle.staging.proofs.KeptExports.{leads}
-use Rattle.staging.proofs.Known.{known_next, known_on, known_words}
+use Rattle.staging.proofs.Known.{known_next, known_on}
 use Rattle.staging.proofs.NextAreas.{fresh_comes, go_on, listed_next, next_listed, used_kept}
 use Rattle.staging.proofs.NextStands.{is_listed, stands_next}
 use Rattle.staging.proofs.NextStays.{old_stays_next, retired_stays_next, served_next}
 use Rattle.staging.proofs.NextTraces.{instance_next}
 use Rattle.staging.proofs.NextWords.{instances_next, told_next}
-use Rattle.staging.proofs.PatchStores.{AreIdle, IsLater, idle_later, idle_stored, known_later, patch_later, patch_stores, stands_later, stands_stored}
+use Rattle.staging.proofs.PatchNeeds.{need_kept, need_passed, need_reached, patch_late}
+use Rattle.staging.proofs.PatchPhases.{HasStepped, append_none, calls_stay, keys_same, moves_before, none_is, not_last, patch_for_too, phase_for, settling_switched, stepped, tables_idle, unpublished_unfinished}
+use Rattle.staging.proofs.PatchStores.{AreIdle, IsLater, idle_later, known_later, stands_later}
 use Rattle.staging.proofs.SameKeys.{keys_stay, terms_stay}
 use Rattle.staging.proofs.Traced.{function_of, trace_comes, trace_current, traces_with}
-
--- ---- phases
-
--- the function of a patch that is not finished stands in a block for instances
-pub phase_for : (at : CodeRef) (on : Bool) (phase : Phase) (w : WriterView) → (phase ≡ Finished → ⊥) → PhaseStands at on phase w → IsForInstances at.area.block × (at.function < 16)
-phase_for at on Begun w unfinished h = patch_for None w at h.0.indices h.1
-phase_for at on (Staged need) w unfinished h = patch_for (Some at) w at h.0.indices h.0.patchable
-phase_for at on (Entered need) w unfinished h = patch_for (Some at) w at h.0.indices h.0.patchable
-phase_for at on (IsSwitched need) w unfinished h = patch_for (Some at) w at h.0.indices h.0.patchable
-phase_for at on (Restored need) w unfinished h = patch_for (Some at) w at h.0.indices h.0.patchable
-phase_for at on Finished w unfinished h = absurd (unfinished refl)
-
--- the value of its phase was taken while the newest generation was this one
-pub phase_taken : (at : CodeRef) (on : Bool) (phase : Phase) (w : WriterView) (need : ℕ) → PhaseStands at on phase w → phase_need phase ≡ Some need → HasTaken w (newest w.published) need
-phase_taken at on Begun w need h is = absurd (cc)
-phase_taken at on (Staged n) w need h is = subst (HasTaken w (newest w.published)) (some_same n need is) h.0.taken
-phase_taken at on (Entered n) w need h is = subst (HasTaken w (newest w.published)) (some_same n need is) h.0.taken
-phase_taken at on (IsSwitched n) w need h is = subst (HasTaken w (newest w.published)) (some_same n need is) h.0.taken
-phase_taken at on (Restored n) w need h is = subst (HasTaken w (newest w.published)) (some_same n need is) h.0.taken
-phase_taken at on Finished w need h is = absurd (cc)
-
-pub unpublished_unfinished : (phase : Phase) → IsUnpublished phase → phase ≡ Finished → ⊥
-unpublished_unfinished phase is same = subst IsUnpublished same is
-
-moves_before : (on : Bool) (before after : Phase) → IsUnpublished before → MovesTo on before after → IsUnpublished after × (phases_to after < phases_to before)
-moves_before true Begun (Staged need) is moves = (tt, omega (arith))
-moves_before false Begun (Staged need) is moves = (tt, omega (arith))
-moves_before true (Staged n) (Entered need) is moves = (tt, omega (arith))
-moves_before false (IsSwitched n) (Restored need) is moves = absurd is
-moves_before on before after is moves = absurd moves
-
-not_last : (on : Bool) (phase : Phase) → IsUnpublished phase → IsLastPhase on phase → ⊥
-not_last true (IsSwitched need) is last = is
-not_last false (Restored need) is last = is
-not_last on phase is last = last
-
-pub settling_switched : (phase : Phase) (need : ℕ) → phase ≡ IsSwitched need → IsSettling phase
-settling_switched phase need is = subst IsSettling (sym is) tt
-
--- ---- lists
-
-none_is : {X : Type 0} (xs : List X) → ((x : X) → Among xs x → ⊥) → xs ≡ []
-none_is [] none = refl
-none_is (x ∷ xs) none = absurd (none x (0, refl))
-
-append_none : {X : Type 0} (xs : List X) → xs ++ [] ≡ xs
-append_none [] = refl
-append_none (x ∷ xs) = ap (λ ys. x ∷ ys) (append_none xs)
-
--- ---- what a change of what is traced leaves of calls and keys
-
-calls_stay : (s : ServerState) (change : Change) (x : Patch) → IsPatchFor change x → (to : Mfa) → dispatch_of (state_after s change) to ≡ dispatch_of s to
-calls_stay s (SetTrace generation at traced) x of to = refl
-calls_stay s (ClearTrace generation at) x of to = refl
-calls_stay s change x of to = absurd of
-
-keys_same : (s : ServerState) (change : Change) (x : Patch) → IsPatchFor change x → (state_after s change).keys ≡ s.keys
-keys_same s (SetTrace generation at traced) x of = refl
-keys_same s (ClearTrace generation at) x of = refl
-keys_same s change x of = absurd of
-
--- a patch with the same function, on or off as well, is that of the change too
-patch_for_too : (change : Change) (x y : Patch) → y.at ≡ x.at → y.on ≡ x.on → IsPatchFor change x → IsPatchFor change y
-patch_for_too change x y at on of = subst (IsPatchFor change) (λ i. record { at = sym at i; on = sym on i; phase = y.phase }) (by change of)
-  where
-    by : (c : Change) → IsPatchFor c x → IsPatchFor c (record { at = x.at; on = x.on; phase = y.phase })
-    by (SetTrace generation f traced) of = of
-    by (ClearTrace generation f) of = of
-    by c of = absurd of
-
--- ---- the tables
-
-pub tables_idle : (table : TableId) (opening : Opening) (t new : Tables) → t.index ≡ indices.Nothing → new.index ≡ t.index → new.terms ≡ t.terms → new.pools ≡ t.pools → IsWriterOf table opening new.writer → AreIdle t.terms t.pools (written_by new.writer) → PatchStands new.patch (written_by new.writer) → AreTablesOf table opening new
-tables_idle table opening t new nothing index terms pools token idle patch = record {
-  token = token;
-  index = subst (λ i. IsIndexOf i (written_by new.writer)) (sym (index ∙ nothing)) idle.index;
-  terms = subst (λ x. IsTableOf x (written_by new.writer)) (sym terms) idle.terms;
-  pools = subst (λ (x : Areas). AreOf x (written_by new.writer)) (sym pools) idle.pools;
-  patch = patch;
-}
-
--- what a step leaves that publishes nothing
-pub record HasStepped (names : List Mfa) (s : ServerState) (t : Tables) (v : WriterView) : Type 0 where
-  pub idle : AreIdle t.terms t.pools v
-  pub stands : StandFor names s t.pools v
-  pub known : KeepsKnown (written_by t.writer) v
-  pub published : v.published ≡ (written_by t.writer).published
-
-pub stepped : (names : List Mfa) (s : ServerState) (t : Tables) (at : CodeRef) (v : WriterView) → index_laws.KeptByWrites → table_laws.KeptByWrites → IsForInstances at.area.block → at.function < 16 → AreIdle t.terms t.pools (written_by t.writer) → StandFor names s t.pools (written_by t.writer) → HasPatched at (written_by t.writer) v → HasStepped names s t v
-stepped names s t at v by_index by_terms for few idle stands patched =
-    let w = written_by t.writer in
-    let m : WriterView = record w { words = v.words } in
-    let stores = patch_stores at w v for few patched in
-    let later = patch_later at w v for few patched in
-    record {
-      idle = idle_later t.terms t.pools m v later (idle_stored by_index by_terms t.terms t.pools w m stores idle);
-      stands = stands_later names s t.pools m v later (stands_stored names s t.pools w m stores stands);
-      known = known_on w m v (known_words w m refl) (known_later m v later);
-      published = ap (λ (u : WriterView). u.published) patched.view;
-    }
 
 -- ---- before the store of the root
 
@@ -342,7 +236,8 @@ module _ (names : List Mfa) (s : ServerState) (change : Change) (table : TableId
   pub record IsAdvanced (new : Tables) (r : Result PatchStep NotYet) : Type 0 where
     pub tables : AreTablesOf table opening new
     pub answers : IfOk r (AdvanceAnswers names s change t new)
-    pub waits : IfErr r (λ answer. Waits names s change t new Patching (IsPatchLate new answer))
+    pub waits : IfErr r (λ answer. Waits names s change t new Patching (IsPatchLate t new answer))
+    pub need : NeedGoesOn t new
     pub known : KeepsKnown w (written_by new.writer)
 
   stands_patch : (exports : List Mfa) (new : Tables) (y : Patch) (r : Result PatchStep NotYet) → Advanced exports new y r → PatchStands new.patch (written_by new.writer)
@@ -361,6 +256,7 @@ module _ (names : List Mfa) (s : ServerState) (change : Change) (table : TableId
           fewer = subst (λ (o : Option Patch × Option Patch). phases_left o.0 < phases_left o.1) (λ i. (sym said.patch i, sym is i)) next.1;
         };
         waits = tt;
+        need = need_passed t new z is moves.patched moves.reached;
         known = step.known;
       }
   advanced exports new y (Ok (patch_steps.Published generation)) said =
@@ -383,24 +279,21 @@ module _ (names : List Mfa) (s : ServerState) (change : Change) (table : TableId
           };
         };
         waits = tt;
+        need = need_reached t new z done.waited is (let first = done.counted.rising in let second = done.rising in omega (arith, first, second)) done.rising done.reached;
         known = all.known;
       }
   advanced exports new y (Ok patch_steps.Finished) said = absurd (not_last z.on z.phase before said.answers.last)
   advanced exports new y (Err answer) said =
       let waits : PatchWaits z y w (written_by new.writer) answer = said.waits in
       let step = stepped names s t z.at (written_by new.writer) said.by_index said.by_terms for.0 for.1 idle had.stands waits.patched in
-      let need : phase_need y.phase ≡ Some answer.need = ap (λ (x : Patch). phase_need x.phase) waits.same ∙ waits.need in
       record {
         tables = tables_idle table opening t new had.index said.index said.terms said.pools said.token step.idle (stands_patch exports new y (Err answer) said);
         answers = tt;
         waits = record {
           published = step.published;
           stands = patched_still new y said.index said.terms said.pools said.patch said.at said.on (subst (λ (x : Patch). IsUnpublished x.phase) (sym waits.same) before) step;
-          why = record {
-            late = record { loaded = waits.loaded; below = waits.below };
-            awaited = subst (λ (o : Option Patch). patch_need o ≡ Some answer.need) (sym said.patch) need;
-            taken = phase_taken y.at y.on y.phase (written_by new.writer) answer.need said.stands need;
-          };
+          why = patch_late t new y z answer is said.patch said.stands waits;
         };
+        need = need_kept t new y z is said.patch waits.same waits.patched.rising;
         known = step.known;
       }

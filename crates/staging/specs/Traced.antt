@@ -1,6 +1,6 @@
 -- A change of what is traced goes by the phases of a patch: what its steps leave, before and behind the store of the root.
 -- Source: Erlang/OTP erts internal documentation, Tracing: a breakpoint is set and cleared in phases, with thread progress between them.
-use Rattle.std.specs.Prelude.{◌≡◌, ℕ, ◌<◌, List, [], ◌∷◌, ◌++◌, length, Option, Some, None, Result, Ok, Err}
+use Rattle.std.specs.Prelude.{◌≡◌, ◌⊎◌, ℕ, ◌<◌, ◌≤◌, List, [], ◌∷◌, ◌++◌, length, Option, Some, None, Result, Ok, Err}
 use Rattle.term_core.specs.declared.atom.Mfa.{Mfa}
 use Rattle.area_core.specs.declared.table.Published.{Published}
 use Rattle.shared_words.specs.Views.{newest}
@@ -33,11 +33,23 @@ IsTraceChange (SetTrace generation at traced) = Unit {0}
 IsTraceChange (ClearTrace generation at) = Unit {0}
 IsTraceChange change = ⊥
 
+-- the value that the patch waited for is awaited still, or the counter that was loaded in this call has reached it
+abbrev pub KeepsNeed : Tables → NotYet → Type 0
+KeepsNeed old answer = (need : ℕ) → patch_need old.patch ≡ Some need → (answer.need ≡ need) ⊎ (need ≤ answer.current)
+
 -- the counter that was loaded in this call is below the value that the next phase waits for, which was taken while the newest generation was this one
-pub record IsPatchLate (new : Tables) (answer : NotYet) : Type 0 where
+pub record IsPatchLate (old new : Tables) (answer : NotYet) : Type 0 where
   pub late : IsLate new answer
   pub awaited : patch_need new.patch ≡ Some answer.need
   pub taken : HasTaken (written_by new.writer) (newest (written_by new.writer).published) answer.need
+  -- it is the one that the patch waited for before this call, unless the counter has reached that one
+  pub kept : KeepsNeed old answer
+
+-- whatever the answer is: the value that the patch waited for is awaited still, or the newest counter that the writer loaded has reached it
+pub record NeedGoesOn (old new : Tables) : Type 0 where
+  -- that counter never falls
+  pub rising : (written_by old.writer).counter ≤ (written_by new.writer).counter
+  pub kept : (need : ℕ) → patch_need old.patch ≡ Some need → (patch_need new.patch ≡ Some need) ⊎ (need ≤ (written_by new.writer).counter)
 
 -- one generation more is published, which is that of the state, and the switch is not over
 pub record HasSwitched (names : List Mfa) (s : ServerState) (old new : Tables) (generation : ℕ) : Type 0 where
@@ -50,7 +62,7 @@ pub record HasSwitched (names : List Mfa) (s : ServerState) (old new : Tables) (
 -- what each answer of a step of such a change says
 abbrev pub TraceAnswers : List Mfa → ServerState → Change → Tables → Tables → Stage → Step → Type 0
 TraceAnswers names s change old new stage (steps.Published generation) = HasSwitched names (made s change).state old new generation
-TraceAnswers names s change old new stage (steps.NotYet answer) = Waits names s change old new stage (IsPatchLate new answer)
+TraceAnswers names s change old new stage (steps.NotYet answer) = Waits names s change old new stage (IsPatchLate old new answer)
 TraceAnswers names s change old new stage steps.AwaitRelease = ⊥
 
 -- ---- phases before the store of the root
@@ -88,9 +100,9 @@ AdvanceAnswers names s change old new patch_steps.Finished = ⊥
 -- ---- phases behind it
 
 -- the switch waits
-pub record Settles (names : List Mfa) (s : ServerState) (new : Tables) (answer : NotYet) : Type 0 where
+pub record Settles (names : List Mfa) (s : ServerState) (old new : Tables) (answer : NotYet) : Type 0 where
   pub settling : AreSettling names s new
-  pub why : IsPatchLate new answer
+  pub why : IsPatchLate old new answer
 
 -- what is left of a patch behind a step
 abbrev pub patch_left : Result PatchStep NotYet → Patch → Option Patch

@@ -1,37 +1,35 @@
 //! Changes of keys: what a put or an erase does to the words, step by step.
 
-ghost use Rattle.std.specs.Prelude.{◌≡◌, ◌≢◌, ◌<◌, ◌^◌, ℕ, length, IfErr, IfOk, MatchOption, None, OnErr, Some};
+ghost use Rattle.std.specs.Prelude.{◌≡◌, ◌≢◌, ◌<◌, ◌^◌, length, IfErr, IfOk, OnErr};
 ghost use Rattle.progress_words.specs.Tokens.{written_by};
 ghost use Rattle.server_core.specs.Decided.{Fits, made};
 ghost use Rattle.server_core.specs.ServerState.{key_area};
 ghost use Rattle.code_index.specs.declared.index.Staging.TheVariants as indices;
-ghost use Rattle.literal_areas.specs.declared.blocks.BlockUse.TheVariants.{Live};
-ghost use Rattle.literal_areas.specs.Blocks.{IsSound, use_of};
 ghost use Rattle.term_table.specs.declared.answers.StageFault.TheVariants as faults;
 ghost use Rattle.term_table.specs.Keys.{key_of};
 ghost use Rattle.staging.specs.Keyed.{HasKeyWord, area_word, key_change};
 ghost use Rattle.change_laws.specs.Changes.{incoming};
-ghost use Rattle.staging.specs.Replaced.{FormerRetired, HaveKeyed, HaveReplaced, IsFormerArea, IsLiveThere, former_of};
+ghost use Rattle.staging.specs.Replaced.{HaveKeyed, HaveReplaced, former_of};
 ghost use Rattle.staging.specs.Stages.{GoesOn, HasPublished, HavePlaced, IsKeyChange, IsLateFor, StageStands, StepAnswers, stage_number};
 ghost use Rattle.staging.specs.Whose.{AreTablesOf, KeepsKnown};
 ghost use Rattle.staging.specs.declared.stage.Stage.TheVariants as stages;
 
+use crate::former::retire_former;
 use crate::placing::{Placing, give_back, place_incoming};
 use crate::stage::{Stage, Step};
 use crate::tables::Tables;
 use crate::upcoming::Upcoming;
 use code_index::{
-    counters_keep_index, exports_that_stay_are_staged, roots_keep_index, stores_keep_index,
-    writes_keep_index,
+    counters_keep_index, exports_that_stay_are_staged, roots_keep_index, writes_keep_index,
 };
 use code_law::{CodeLaw, Naming};
-use literal_areas::{Pools, counters_keep_pools};
+use literal_areas::counters_keep_pools;
 use progress_words::NotYet;
-use server_core::{Change, Found, Server};
+use server_core::{Change, Server};
 use shared_words::Shared;
 use std::alloc::Global;
 use term_core::{AreaRef, AtomId, NoMemory};
-use term_table::{Change as KeyChange, StageFault, stores_keep_tables};
+use term_table::{Change as KeyChange, StageFault};
 
 /// The word of a term table that leads to an area.
 fn area_word(area: AreaRef) -> u64
@@ -239,41 +237,6 @@ fn stage_key<K: Naming>(
     match tables.terms.stage_copy(shared, &mut tables.writer, staged) {
         Ok(()) => Ok(changed_key(staged)),
         Err(fault) => Err(awaited(fault)),
-    }
-}
-
-/// The area of what the key holds now, if that has one.
-fn former_area(pools: &Pools, server: &Server, key: AtomId) -> Option<AreaRef>
-    requires sound { IsSound pools.now }
-    requires stand { (serial : ℕ) → key_area server.now key.0 ≡ Some serial → (block : ℕ) × (use_of pools.now block ≡ Some (Live serial)) }
-    ensures { MatchOption result (key_area server.now key.0 ≡ None) (IsFormerArea server.now key.0 pools.now) }
-{
-    match server.term(key) {
-        Found::Area(held) => pools.find(held.serial),
-        _ => None,
-    }
-}
-
-/// Retires the area of what the key holds now, if that has one.
-fn retire_former<K: Naming>(
-    tables: &mut Tables,
-    shared: &Shared<CodeLaw<K>>,
-    server: &Server,
-    key: AtomId,
-)
-    requires tables { AreTablesOf shared.now.table.shared.table_id shared.now.table.shared.key tables.old }
-    requires live { (serial : ℕ) → key_area server.now key.0 ≡ Some serial → IsLiveThere serial tables.old.pools (written_by tables.old.writer) }
-    ensures tables { AreTablesOf shared.now.table.shared.table_id shared.now.table.shared.key tables.new }
-    ensures exports { tables.new.exports ≡ tables.old.exports }
-    ensures index { tables.new.index ≡ tables.old.index }
-    ensures terms { tables.new.terms ≡ tables.old.terms }
-    ensures patch { tables.new.patch ≡ tables.old.patch }
-    ensures retired { FormerRetired (key_area server.now key.0) tables.old.pools (written_by tables.old.writer) tables.new.pools (written_by tables.new.writer) }
-{
-    stores_keep_index();
-    stores_keep_tables();
-    if let Some(former) = former_area(&tables.pools, server, key) {
-        tables.pools.retire(shared, &mut tables.writer, former);
     }
 }
 

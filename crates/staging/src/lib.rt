@@ -5,6 +5,7 @@
 mod coding;
 mod committing;
 mod exporting;
+mod former;
 mod keying;
 mod placing;
 mod releasing;

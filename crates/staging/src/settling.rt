@@ -4,7 +4,7 @@ ghost use Rattle.std.specs.Prelude.{◌≡◌, ◌<◌, ◌^◌, length, IfErr, 
 ghost use Rattle.progress_words.specs.Tokens.{written_by};
 ghost use Rattle.server_core.specs.ServerState.{ServerState};
 ghost use Rattle.staging.specs.Stages.{AreAtRest, AreSettling};
-ghost use Rattle.staging.specs.Traced.{IsAtLast, SettleAnswers, Settles, patch_left};
+ghost use Rattle.staging.specs.Traced.{IsAtLast, NeedGoesOn, SettleAnswers, Settles, patch_left};
 ghost use Rattle.staging.specs.Whose.{AreTablesOf, KeepsKnown};
 
 use crate::tables::Tables;
@@ -54,7 +54,8 @@ fn settle_once<K: Naming>(
     ensures tables { AreTablesOf shared.now.table.shared.table_id shared.now.table.shared.key tables.new }
     ensures exports { tables.new.exports ≡ tables.old.exports }
     ensures answers { IfOk result (SettleAnswers K.names tables.old tables.new) }
-    ensures waits { IfErr result (λ answer. (s : ServerState) → AreSettling K.names s tables.old → Settles K.names s tables.new answer) }
+    ensures waits { IfErr result (λ answer. (s : ServerState) → AreSettling K.names s tables.old → Settles K.names s tables.old tables.new answer) }
+    ensures need { NeedGoesOn tables.old tables.new }
     ensures published { (written_by tables.new.writer).published ≡ (written_by tables.old.writer).published }
     ensures known { KeepsKnown (written_by tables.old.writer) (written_by tables.new.writer) }
 {
@@ -77,7 +78,8 @@ fn settle_last<K: Naming>(tables: &mut Tables, shared: &Shared<CodeLaw<K>>) -> R
     ensures tables { AreTablesOf shared.now.table.shared.table_id shared.now.table.shared.key tables.new }
     ensures exports { tables.new.exports ≡ tables.old.exports }
     ensures rest { IfOk result (λ _. (s : ServerState) → AreSettling K.names s tables.old → AreAtRest K.names s tables.new) }
-    ensures waits { IfErr result (λ answer. (s : ServerState) → AreSettling K.names s tables.old → Settles K.names s tables.new answer) }
+    ensures waits { IfErr result (λ answer. (s : ServerState) → AreSettling K.names s tables.old → Settles K.names s tables.old tables.new answer) }
+    ensures need { NeedGoesOn tables.old tables.new }
     ensures published { (written_by tables.new.writer).published ≡ (written_by tables.old.writer).published }
     ensures known { KeepsKnown (written_by tables.old.writer) (written_by tables.new.writer) }
 {
@@ -103,8 +105,9 @@ pub fn settle<K: Naming>(tables: &mut Tables, shared: &Shared<CodeLaw<K>>) -> Re
     ensures exports { tables.new.exports ≡ tables.old.exports }
     // the switch is over: what the words stand for they stand for still, with nothing under way
     ensures rest { IfOk result (λ _. (s : ServerState) → AreSettling K.names s tables.old → AreAtRest K.names s tables.new) }
-    // or a thread is waited for
-    ensures waits { IfErr result (λ answer. (s : ServerState) → AreSettling K.names s tables.old → Settles K.names s tables.new answer) }
+    // or a thread is waited for; the value that the patch waited for is awaited still, or the counter has reached it
+    ensures waits { IfErr result (λ answer. (s : ServerState) → AreSettling K.names s tables.old → Settles K.names s tables.old tables.new answer) }
+    ensures need { NeedGoesOn tables.old tables.new }
     // nothing is published, and the writer keeps what it knew
     ensures published { (written_by tables.new.writer).published ≡ (written_by tables.old.writer).published }
     ensures known { KeepsKnown (written_by tables.old.writer) (written_by tables.new.writer) }

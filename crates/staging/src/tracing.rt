@@ -10,7 +10,7 @@ ghost use Rattle.breakpoints.specs.declared.patch.Phase.TheVariants as phases;
 ghost use Rattle.literal_areas.specs.declared.blocks.BlockUse.TheVariants.{Live};
 ghost use Rattle.literal_areas.specs.Blocks.{IsLive, IsSound, use_of};
 ghost use Rattle.staging.specs.Stages.{AreAtRest, IsPatchFor, IsPatched, StageStands, Waits};
-ghost use Rattle.staging.specs.Traced.{AdvanceAnswers, IsPatchLate, IsTraceChange, TraceAnswers, TraceLives};
+ghost use Rattle.staging.specs.Traced.{AdvanceAnswers, IsPatchLate, IsTraceChange, NeedGoesOn, TraceAnswers, TraceLives};
 ghost use Rattle.staging.specs.Whose.{AreTablesOf, KeepsKnown};
 ghost use Rattle.staging.specs.declared.stage.Stage.TheVariants as stages;
 
@@ -104,7 +104,8 @@ fn advance_patch<K: Naming>(
     ensures tables { AreTablesOf shared.now.table.shared.table_id shared.now.table.shared.key tables.new }
     ensures exports { tables.new.exports ≡ tables.old.exports }
     ensures answers { IfOk result (AdvanceAnswers K.names server.now change.now tables.old tables.new) }
-    ensures waits { IfErr result (λ answer. Waits K.names server.now change.now tables.old tables.new stages.Patching (IsPatchLate tables.new answer)) }
+    ensures waits { IfErr result (λ answer. Waits K.names server.now change.now tables.old tables.new stages.Patching (IsPatchLate tables.old tables.new answer)) }
+    ensures need { NeedGoesOn tables.old tables.new }
     ensures known { KeepsKnown (written_by tables.old.writer) (written_by tables.new.writer) }
 {
     exports_that_stay_are_staged();
@@ -147,6 +148,7 @@ fn go_on<K: Naming>(
     ensures tables { AreTablesOf shared.now.table.shared.table_id shared.now.table.shared.key tables.new }
     ensures exports { tables.new.exports ≡ tables.old.exports }
     ensures answers { TraceAnswers K.names server.now change.now tables.old tables.new result.0 result.1 }
+    ensures need { NeedGoesOn tables.old tables.new }
     ensures known { KeepsKnown (written_by tables.old.writer) (written_by tables.new.writer) }
 {
     for round in 0..MOST_PHASES {
@@ -185,6 +187,7 @@ fn begin_trace<K: Naming>(
     ensures tables { AreTablesOf shared.now.table.shared.table_id shared.now.table.shared.key tables.new }
     ensures exports { tables.new.exports ≡ tables.old.exports }
     ensures answers { TraceAnswers K.names server.now change.now tables.old tables.new result.0 result.1 }
+    ensures need { NeedGoesOn tables.old tables.new }
     ensures known { KeepsKnown (written_by tables.old.writer) (written_by tables.new.writer) }
 {
     begin_patch(tables, shared, server, change);
@@ -219,6 +222,8 @@ pub fn step_trace<K: Naming>(
     // the state that it leaves is published, or a thread is waited for; the writer keeps what it knew
     ensures answers { TraceAnswers K.names server.now change.now tables.old tables.new result.0 result.1 }
     ensures known { KeepsKnown (written_by tables.old.writer) (written_by tables.new.writer) }
+    // and the value that the patch waited for is awaited still, or the counter has reached it
+    ensures need { NeedGoesOn tables.old tables.new }
 {
     match stage {
         Stage::Untouched => begin_trace(tables, shared, server, change),

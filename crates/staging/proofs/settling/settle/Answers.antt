@@ -4,6 +4,7 @@ use Rattle.progress_words.specs.Tokens.{written_by}
 use Rattle.breakpoints.specs.declared.patch.PatchStep.{PatchStep}
 use Rattle.staging.specs.Traced.{SettleAnswers}
 use Rattle.staging.proofs.Known.{known_on}
+use Rattle.staging.proofs.PatchNeeds.{need_on}
 use Rattle.staging.proofs.Settled.{rest_from, waiting_from}
 use Rattle.staging.proofs.settling.settle.Goals as goal
 
@@ -34,7 +35,10 @@ returns-in-Moved-clause-rest g c =
 pub returns-in-Moved-clause-waits : goal.returns-in-Moved-clause-waits
 returns-in-Moved-clause-waits g c =
     let said = subst (λ (step : PatchStep). SettleAnswers g.K.Naming.names c.args.tables.now c.settle_once.new.tables step) c.in-Moved.is c.in-Ok.ensures.answers in
-    waiting_from g.K.Naming.names c.args.tables.now c.settle_once.new.tables c.settle_last.new.tables c.settle_last.result said.0 c.settle_last.ensures.waits
+    waiting_from g.K.Naming.names c.args.tables.now c.settle_once.new.tables c.settle_last.new.tables c.settle_last.result said.0 (need_on c.args.tables.now c.settle_once.new.tables c.settle_last.new.tables c.settle_once.ensures.need c.settle_last.ensures.need) c.settle_last.ensures.waits
+
+pub returns-in-Moved-clause-need : goal.returns-in-Moved-clause-need
+returns-in-Moved-clause-need g c = need_on c.args.tables.now c.settle_once.new.tables c.settle_last.new.tables c.settle_once.ensures.need c.settle_last.ensures.need
 
 pub returns-in-Moved-clause-published : goal.returns-in-Moved-clause-published
 returns-in-Moved-clause-published g c = c.settle_last.ensures.published ∙ c.settle_once.ensures.published

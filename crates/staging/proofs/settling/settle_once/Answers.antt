@@ -76,6 +76,25 @@ returns-clause-waits g c =
       waits = c.advance-answer.ensures.waits;
     })).waits
 
+pub returns-clause-need : goal.returns-clause-need
+returns-clause-need g c =
+    let y = c.advance-answer.new.self in
+    (gone_on g.K.Naming.names _ _ c.args.tables.now c.requires.tables c.requires.settling c.in-Some.patch c.in-Some.is
+    (record c.args.tables.now { writer = c.advance-answer.new.writer; patch = c.patch_left-tables.result }) (switched_over (written_by c.args.tables.now.writer) empty_generation []) y c.advance-answer.result
+    (record {
+      by_index = c.writes_keep_index.ensures;
+      by_terms = c.writes_keep_tables.ensures;
+      index = refl;
+      terms = refl;
+      pools = refl;
+      patch = c.patch_left-tables.ensures;
+      token = c.advance-answer.ensures.token;
+      on = c.advance-answer.ensures.on;
+      stands = c.advance-answer.ensures.patch;
+      answers = c.advance-answer.ensures.answers;
+      waits = c.advance-answer.ensures.waits;
+    })).need
+
 pub returns-clause-published : goal.returns-clause-published
 returns-clause-published g c =
     let y = c.advance-answer.new.self in

@@ -1,6 +1,6 @@
 -- The area that is found is that of the key.
 use Rattle.staging.proofs.FormerAreas.{former_found, found_area, found_none}
-use Rattle.staging.proofs.keying.former_area.Goals as goal
+use Rattle.staging.proofs.former.former_area.Goals as goal
 
 pub returns-in-Area : goal.returns-in-Area
 returns-in-Area c =

@@ -7,7 +7,7 @@ use Rattle.server_core.specs.ServerState.{key_area}
 use Rattle.literal_areas.specs.declared.blocks.BlockUse.TheVariants.{Live}
 use Rattle.literal_areas.specs.Blocks.{use_of}
 use Rattle.staging.proofs.FormerAreas.{former_published, none_retired, tables_retired, was_retired}
-use Rattle.staging.proofs.keying.retire_former.Goals as goal
+use Rattle.staging.proofs.former.retire_former.Goals as goal
 
 pub former_area-requires : goal.former_area-requires
 former_area-requires g c = record {
