@@ -1,16 +1,12 @@
--- An entry that ends a loader's command keeps what holds of a run: one more command is made, and the process that it spawns goes on from now.
+-- The spawn line of a process, and the command of a loader that it is.
 use Rattle.std.proofs.Common.{◌≡◌, ℕ, ◌+◌, List, slice_get, Some, ap, subst, ◌∙◌, arith}
 use Rattle.term_core.specs.declared.atom.Mfa.{Mfa}
 use Rattle.term_core.specs.PlainTerm.{PlainTerm}
-use Rattle.server_core.specs.declared.command.Cmd.{Cmd}
 use Rattle.script_core.specs.declared.script.Script.{Script}
-use Rattle.script_core.specs.declared.script.ScriptCmd.{ScriptCmd}
 use Rattle.script_core.specs.declared.script.ScriptCmd.TheVariants.{Spawn}
 use Rattle.script_core.specs.Processes.{SpawnLine, spawn_number, spawns_of}
 use Rattle.script_core.proofs.SpawnLines.{line_at, spawn_at}
 use Rattle.run_log.specs.Legal.{commands_of}
-use Rattle.run_steps.specs.Runs.{JournalStands, RunState}
-use Rattle.run_steps.specs.Steps.{EndsOne}
 
 -- the command at which a loader spawns a process
 pub line_text : (s : Script) (number : ℕ) (line : SpawnLine) → slice_get (spawns_of 0 s.loaders) number ≡ Some line → (slice_get (commands_of s line.loader) line.place ≡ Some (Spawn line.target line.args)) × (number ≡ spawn_number s.loaders line.loader line.place)
@@ -25,8 +21,3 @@ pub spawn_line : (s : Script) (loader place : ℕ) (target : Mfa) (args : List P
 spawn_line s loader place target args next =
     let e : 0 + loader ≡ loader = omega arith in
     spawn_at 0 s.loaders loader place target args next ∙ ap (λ k. Some (record { loader = k; place = place; target = target; args = args })) e
-
-module _ (s : Script) (loader : ℕ) (command : ScriptCmd) (cmd : Cmd) (r after : RunState) (known : JournalStands s r) (ends : EndsOne s loader command cmd r after) where
-  abbrev place : ℕ
-  place = r.done loader
-  -- ---- the processes

@@ -1,23 +1,16 @@
--- An entry that joins the journal keeps what is known of the journal, of the server and of the processes.
-use Rattle.std.proofs.Common.{◌≡◌, ℕ, ◌<◌, ◌≤◌, List, [], ◌∷◌, ◌++◌, slice_get, Some, ap, arith}
-use Rattle.std.proofs.lemmas.Option.{slice_get_within}
-use Rattle.server_core.specs.declared.command.Cmd.{Cmd}
-use Rattle.server_core.specs.ServerState.{ServerState, empty_state}
+-- A longer journal keeps what is known of a process.
+use Rattle.std.proofs.Common.{◌≡◌, ℕ, ◌<◌, ◌≤◌, List, arith}
+use Rattle.server_core.specs.ServerState.{ServerState}
 use Rattle.machine_core.specs.Process.{new_process}
-use Rattle.script_core.specs.declared.script.Script.{Script}
-use Rattle.script_core.specs.Processes.{SpawnLine, spawns_of}
-use Rattle.run_log.specs.declared.logs.Who.{Who}
+use Rattle.script_core.specs.Processes.{SpawnLine}
 use Rattle.run_log.specs.declared.logs.Entry.{Entry}
-use Rattle.run_log.specs.Journal.{newest_state, published_before, published_count}
-use Rattle.run_log.proofs.Journals.{counted}
-use Rattle.run_log.proofs.ListPlaces.{all_weaker, get_within}
+use Rattle.run_log.specs.Journal.{published_before}
+use Rattle.run_log.proofs.ListPlaces.{all_weaker}
 use Rattle.run_log.proofs.SpanRuns.{follow_under, go_under}
 use Rattle.run_steps.specs.declared.phase.Phase.{Phase}
 use Rattle.run_steps.specs.declared.phase.Phase.TheVariants.{Waiting, Going, Ended}
 use Rattle.run_steps.specs.Stands.{Stand}
 use Rattle.run_steps.specs.Standing.{StandsIn, WasSpawned}
-use Rattle.run_steps.specs.Runs.{AreAsMany, JournalStands, RunState}
-use Rattle.run_steps.specs.Steps.{HasJoined}
 
 -- what a longer journal keeps of a process
 pub record IsLonger (journal longer : List Entry) (states others : ℕ → ServerState) (top higher done more : ℕ) (line : SpawnLine) : Type 0 where
@@ -43,24 +36,3 @@ module _ (journal longer : List Entry) (states others : ℕ → ServerState) (to
   stands_kept Waiting still w = record { process = w.process; spans = w.spans; still = still w.still }
   stands_kept Going still g = record { was = was_kept g.was; follow = go_under states others top l.same (new_process number line.target line.args) x.spans x.process g.was.known g.follow }
   stands_kept (Ended fin) still o = record { was = was_kept o.was; follow = follow_under states others top l.same (new_process number line.target line.args) x.spans fin o.was.known o.follow }
-
--- ---- a run
-
--- a process of a run has its line
-pub line_for : (s : Script) (r : RunState) → AreAsMany s r → (number : ℕ) (x : Stand) → slice_get r.stands number ≡ Some x
-    → (line : SpawnLine) × (slice_get (spawns_of 0 s.loaders) number ≡ Some line)
-line_for s r many number x h = get_within (spawns_of 0 s.loaders) number (omega (arith, slice_get_within r.stands number x h, many))
-
-module _ (s : Script) (r : RunState) (known : JournalStands s r) where
-  -- the journal has published as many generations as the server has
-  pub generations_counted : published_count r.journal ≡ r.server.generation
-  generations_counted =
-      let n = counted s.modules empty_state r.journal known.replays in
-      let g : r.server.generation ≡ (newest_state s.modules empty_state r.journal).generation = ap (λ x. x.generation) known.server in
-      omega (arith, n, g)
-
-  -- ---- an entry joins
-
-  module _ (who : Who) (cmd : Cmd) (after : RunState) (joined : HasJoined s.modules who cmd r.server after.server r.journal after.journal) where
-    abbrev longer : List Entry
-    longer = r.journal ++ joined.entry ∷ []

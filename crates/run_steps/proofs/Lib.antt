@@ -1,8 +1,6 @@
-pub mod Generations
 pub mod TurnDefinition
 pub mod Turning
 pub mod Joining
 pub mod Ends
 pub mod MadeTurns
-pub mod Observing
 pub mod Finished

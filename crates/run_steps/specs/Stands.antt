@@ -33,12 +33,6 @@ abbrev pub phase_of : Option End → Phase
 phase_of None = Going
 phase_of (Some end) = Ended end
 
--- a process that does not go on now
-abbrev pub Rests : Phase → Type 0
-Rests Waiting = Unit {0}
-Rests Going = ⊥
-Rests (Ended end) = Unit {0}
-
 -- a phase that is an end
 abbrev pub IsEnd : Phase → Type 0
 IsEnd Waiting = ⊥

@@ -1,6 +1,5 @@
 //! What holds of every run of a script, whatever program makes it.
 
-ghost use Rattle.run_steps.specs.Laws.{TrueLogsAreLawful};
 ghost use Rattle.run_steps.specs.MadeTurns.{MadeAlike, MadeTurnsFollow, OneMoreMade};
 
 /// A process whose turns were made one by one, each under the state of a generation of the journal, none older than the one before, stands
@@ -16,12 +15,4 @@ pub fn made_turns_follow()
 pub fn turns_are_made()
     ensures more { OneMoreMade }
     ensures alike { MadeAlike }
-{}
-
-/// The log of a run that has no work left, after the last look of its observers, is a history of one code server, where it is known of the whole log that what
-/// the journal tells of processes is so; turns of a process in a row under one generation are one span.
-///
-/// Rule: the manual page `erlang`, on `purge_module`, and `persistent_term`; how a run knows it is its own.
-pub fn true_logs_are_lawful()
-    ensures { TrueLogsAreLawful }
 {}
