@@ -17,5 +17,6 @@ pub use laws::{
     stores_leave_other_processes, turns_go_on_after_reports, turns_leave_other_processes,
     wakes_are_reports,
 };
+pub use places::{CODE_UNIT, FUNCTIONS, block_word, index_word};
 pub use turns::turn_of;
 pub use view::WordView;
