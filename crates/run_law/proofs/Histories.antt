@@ -8,8 +8,10 @@ use Rattle.run_log.specs.Legal.{SpawnBeforeTurns, TurnsFollow}
 use Rattle.run_law.specs.Answers.{AreAnswersKept}
 use Rattle.run_law.specs.Ends.{Closes, HasItsRest, IsHistory, IsOver}
 use Rattle.run_law.specs.Laws.{HasAllTurns}
+use Rattle.run_law.specs.Observing.{HaveWatched}
 use Rattle.run_law.proofs.Clauses.{lingering_told, purged_unnamed, released_unnamed}
 use Rattle.run_law.proofs.Processes.{all_match, all_published, all_turned, all_whole, line_of_process, member_of_process, told}
+use Rattle.run_law.proofs.Snapshots.{has_snapshots}
 
 module _ (names : List Mfa) (s : Script) (log : RunLog) (w : WriterView) (over : IsOver names s log w) where
   pub spawn_first : SpawnBeforeTurns s log
@@ -41,26 +43,28 @@ module _ (names : List Mfa) (s : Script) (log : RunLog) (w : WriterView) (over :
         (told names s log w over number line.0 process m line.1 at own).marks;
   }
 
-  pub run_history : AreAnswersKept s.modules log.journal w.looks → HasItsRest s log → IsHistory names s log w
-  run_history answered rest = record {
-    legal = record {
-      replays = over.journal.replays;
-      loaders_in_order = rest.loaders_in_order;
-      spawn_before_turns = spawn_first;
-      turns_follow = turns_follow;
-      released_unnamed = released_unnamed names s log w over answered;
-      lingers_told = lingering_told names s log w over answered;
-      purged_unnamed = purged_unnamed names s log w over answered;
-      snapshots_true = rest.snapshots_true;
-      nothing_retired = rest.nothing_retired;
-      complete = record {
-        processes = all_turns.processes;
-        turns = all_turns.turns;
-        generations = all_turns.generations;
-        observers = rest.observers;
-        snapshots = rest.snapshots;
-      };
-    };
-    whole = all_turns.whole;
-    closes = table_closes;
-  }
+  pub run_history : AreAnswersKept s.modules log.journal w.looks → HaveWatched names s log w.published → HasItsRest s log → IsHistory names s log w
+  run_history answered watched rest =
+      let shots = has_snapshots names s log w over watched in
+      record {
+        legal = record {
+          replays = over.journal.replays;
+          loaders_in_order = rest.loaders_in_order;
+          spawn_before_turns = spawn_first;
+          turns_follow = turns_follow;
+          released_unnamed = released_unnamed names s log w over answered;
+          lingers_told = lingering_told names s log w over answered;
+          purged_unnamed = purged_unnamed names s log w over answered;
+          snapshots_true = shots.snapshots_true;
+          nothing_retired = rest.nothing_retired;
+          complete = record {
+            processes = all_turns.processes;
+            turns = all_turns.turns;
+            generations = all_turns.generations;
+            observers = shots.observers;
+            snapshots = shots.snapshots;
+          };
+        };
+        whole = all_turns.whole;
+        closes = table_closes;
+      }

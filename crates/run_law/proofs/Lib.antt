@@ -6,4 +6,5 @@ pub mod Clauses
 pub mod Closing
 pub mod Newcomers
 pub mod Said
+pub mod Snapshots
 pub mod Histories

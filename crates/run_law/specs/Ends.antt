@@ -33,11 +33,15 @@ pub record Closes (names : List Mfa) (s : Script) (log : RunLog) (w : WriterView
   pub marks : (number : ℕ) (process : ProcessLog) (m : MemberView) → slice_get log.processes number ≡ Some process → IsMemberOf w number m
       → MarksTell (reverse (process_of m number).marks) (turns_in_log s log number process)
 
--- what a log has beside its processes: each loader made its commands, the observers had their looks, and no area waits for its release
+-- what a log has beside its processes and observers: each loader made its commands, and no area waits for its release
 pub record HasItsRest (s : Script) (log : RunLog) : Type 0 where
   pub loaders_in_order : LoadersInOrder s log.journal
-  pub snapshots_true : SnapshotsTrue s log
   pub nothing_retired : NothingRetired s log
+
+-- what a log tells of its observers is true, and it can be shown: there is one for each line of the script, and each snapshot is of a generation that was
+-- published
+pub record HasItsSnapshots (s : Script) (log : RunLog) : Type 0 where
+  pub snapshots_true : SnapshotsTrue s log
   pub observers : length log.observers ≡ length s.observers
   pub snapshots : AllByRecursion (λ shots. AllByRecursion (λ shot. shot.generation ≤ published_count log.journal) shots) log.observers
 

@@ -27,8 +27,9 @@ use Rattle.run_steps.specs.MadeTurns.{AreAlsoMade, ArePlacedOver, TurnsAlike, Tu
 use Rattle.run_steps.specs.Stands.{Stand}
 use Rattle.run_law.specs.Answers.{AreAnswersKept}
 use Rattle.run_law.specs.Ended.{AreBeginnings, HaveCome}
-use Rattle.run_law.specs.Ends.{Closes, HasItsRest, IsHistory, IsOver}
+use Rattle.run_law.specs.Ends.{Closes, HasItsRest, HasItsSnapshots, IsHistory, IsOver}
 use Rattle.run_law.specs.Newcomers.{AreAllDone, ArePosted, AreTaken, IsTaken, Spawn}
+use Rattle.run_law.specs.Observing.{HaveWatched}
 use Rattle.run_law.specs.Published.{ArePublished, IsJournal, states_of}
 use Rattle.run_law.specs.Reading.{reads_under}
 
@@ -142,6 +143,10 @@ TurnsAreAll = OfEachRun (λ names s log w. HasAllTurns s log)
 abbrev pub TablesClose : Type 0
 TablesClose = OfEachRun Closes
 
+-- the snapshots of the log are of generations that were published, and true of the journal's states
+abbrev pub SnapshotsAreTrue : Type 0
+SnapshotsAreTrue = OfEachRun (λ names s log w. HaveWatched names s log w.published → HasItsSnapshots s log)
+
 -- with what the journal and the observers tell, the log is a history of one code server, and can be shown as it is
 abbrev pub RunsAreHistories : Type 0
-RunsAreHistories = OfEachRun (λ names s log w. AreAnswersKept s.modules log.journal w.looks → HasItsRest s log → IsHistory names s log w)
+RunsAreHistories = OfEachRun (λ names s log w. AreAnswersKept s.modules log.journal w.looks → HaveWatched names s log w.published → HasItsRest s log → IsHistory names s log w)

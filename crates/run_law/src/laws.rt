@@ -1,6 +1,6 @@
 //! What holds of every run over shared words, once its threads have ended.
 
-ghost use Rattle.run_law.specs.Laws.{JournalsAreSaid, JournalsAreSound, LingeringIsTold, MadeByStates, PurgesAreUnnamed, ReadsAreThoseOfStates, ReleasesAreUnnamed, RunsAreHistories, SpawnsAreTaken, SpawnsComeFirst, TablesClose, TablesTell, TurnsAreAll, TurnsAreFollowed, TurnsAreThoseOfStates};
+ghost use Rattle.run_law.specs.Laws.{JournalsAreSaid, JournalsAreSound, LingeringIsTold, MadeByStates, PurgesAreUnnamed, ReadsAreThoseOfStates, ReleasesAreUnnamed, RunsAreHistories, SnapshotsAreTrue, SpawnsAreTaken, SpawnsComeFirst, TablesClose, TablesTell, TurnsAreAll, TurnsAreFollowed, TurnsAreThoseOfStates};
 
 /// Each state of a journal of texts that can be loaded is sound, and each name that it exports has a number; so is the journal in which the
 /// commands of a script were made.
@@ -53,6 +53,14 @@ pub fn answers_are_those_of_the_log()
 /// The closed table has published the generations of the journal, and has a mark for each turn of the log.
 pub fn closed_tables_have_the_turns()
     ensures { TablesClose }
+{}
+
+/// What the observers of a run saw is so: each of their snapshots is of a generation that was published, has the exports of the journal's state then,
+/// and is of none older than the one before.
+///
+/// Rule: Erlang/OTP erts internal documentation, CodeLoading.
+pub fn snapshots_are_those_of_the_log()
+    ensures { SnapshotsAreTrue }
 {}
 
 /// The log of a run over shared words is a history of one code server, once its threads have ended, its table is closed, and the journal and
