@@ -1,14 +1,13 @@
 -- The loaders as the journal has them: where a trace waits, its loader has one entry more there than commands that are done.
-use Rattle.std.proofs.Common.{◌≡◌, ℕ, zero, suc, ◌+◌, ◌≤◌, Bool, List, [], ◌∷◌, length, length-set, slice_get, slice_set, take, Option, Some, None, unwrap_or, option_map, ◌⊎◌, inl, inr, refl, sym, ap, subst, ◌∙◌, arith}
+use Rattle.std.proofs.Common.{◌≡◌, ℕ, zero, suc, ◌+◌, ◌≤◌, Bool, List, [], ◌∷◌, length, length-set, slice_get, slice_set, Option, Some, None, unwrap_or, option_map, ◌⊎◌, inl, inr, refl, sym, ap, subst, ◌∙◌, arith}
 use Rattle.std.proofs.lemmas.Bool.{cases_eq}
-use Rattle.std.proofs.lemmas.List.{length-take-le}
 use Rattle.std.proofs.lemmas.Option.{none-some}
 use Rattle.term_core.specs.declared.atom.Mfa.{Mfa}
 use Rattle.script_core.specs.declared.script.ScriptCmd.{ScriptCmd}
 use Rattle.script_core.specs.declared.script.ScriptCmd.TheVariants.{Trace}
 use Rattle.script_core.specs.Processes.{spawn_number}
 use Rattle.script_core.proofs.SpawnLines.{number_next}
-use Rattle.run_log.specs.Legal.{commands_in, commands_of}
+use Rattle.run_log.specs.Legal.{commands_of}
 use Rattle.run_log.proofs.ListPlaces.{set_here, set_there}
 use Rattle.write_permit.specs.declared.holder.Holder.{Holder}
 use Rattle.write_permit.specs.declared.holder.Holder.TheVariants.{Free, Held, Purging, Tracing}
@@ -146,26 +145,6 @@ module _ (p : PermitState) (known : IsPermit p) where
   -- there is one for each loader of the script
   pub many_loaders : length p.loaders ≡ length p.script.loaders
   many_loaders = sym (entered_many p.holder p.loaders) ∙ known.log.many
-
-  -- so many entries of a loader end a command
-  entries_are : (loader : ℕ) → length (commands_in loader p.journal) ≡ done_of (entered_by p.holder p.loaders) loader
-  entries_are loader = ap length (known.log.in_order loader) ∙ length-take-le (done_of (entered_by p.holder p.loaders) loader) (commands_of p.script loader) (known.log.within loader)
-
-  -- none has done more commands than it has
-  pub done_within : (loader : ℕ) → done_of p.loaders loader ≤ length (commands_of p.script loader)
-  done_within loader = omega (arith, entered_grows p.holder p.loaders loader, known.log.within loader)
-
-  -- each of them has its entry
-  pub done_entered : (loader : ℕ) → done_of p.loaders loader ≤ length (commands_in loader p.journal)
-  done_entered loader = omega (arith, entered_grows p.holder p.loaders loader, entries_are loader)
-
-  -- and of each loader but the holder just these have
-  module _ (loader : ℕ) (apart : (by : ℕ) → holder_of p.holder ≡ Some by → by ≡ loader → ⊥) where
-    pub in_order_apart : commands_in loader p.journal ≡ take (done_of p.loaders loader) (commands_of p.script loader)
-    in_order_apart = known.log.in_order loader ∙ ap (λ n. take n (commands_of p.script loader)) (entered_done p.holder p.loaders loader apart)
-
-    pub entries_apart : done_of p.loaders loader ≡ length (commands_in loader p.journal)
-    entries_apart = sym (entered_done p.holder p.loaders loader apart) ∙ sym (entries_are loader)
 
   -- where no loader has a next command, no trace waits
   pub entered_none : ((loader : ℕ) → next_of p loader ≡ None) → entered_by p.holder p.loaders ≡ p.loaders
