@@ -18,7 +18,7 @@ use Rattle.script_core.specs.declared.script.ScriptCmd.{ScriptCmd}
 use Rattle.script_core.specs.declared.script.ScriptCmd.TheVariants.{Purge}
 use Rattle.staging.specs.declared.tables.Tables.{Tables}
 use Rattle.staging.specs.Stages.{AreAtRest, IsStaged, StageStands}
-use Rattle.staging.specs.Traced.{IsTraceChange}
+use Rattle.staging.specs.Traced.{IsPatchLate, IsTraceChange}
 use Rattle.write_permit.specs.declared.book.Book.{Book}
 use Rattle.write_permit.specs.declared.holder.Holder.TheVariants.{Free, Held}
 use Rattle.write_permit.specs.Book.{IsBook, PurgeWaits, shown}
@@ -66,7 +66,7 @@ waits_for names p t o who w held is h =
 
 -- that a trace waits for its patch speaks of no command that waited before
 patch_waits : (who : ℕ) (a b c : WordBook) (answer : late.NotYet) → b.plain ≡ a.plain → b.tables ≡ a.tables → AwaitsPatch who a c answer → AwaitsPatch who b c answer
-patch_waits who a b c answer plain tables h = record { late = h.late; none = h.none; since = by h.since }
+patch_waits who a b c answer plain tables h = record { late = subst (λ (x : Tables). IsPatchLate x c.tables answer) (sym tables) h.late; none = h.none; since = by h.since }
   where
     by : StillSettles who a c ⊎ HasEntered who a c → StillSettles who b c ⊎ HasEntered who b c
     by (inl still) = inl (record {

@@ -26,8 +26,9 @@ use Rattle.staging.specs.declared.stage.Step.{Step}
 use Rattle.staging.specs.declared.stage.Step.TheVariants as steps
 use Rattle.staging.specs.declared.tables.Tables.{Tables}
 use Rattle.staging.specs.Stages.{AreAtRest, AreSettling, StageStands}
-use Rattle.staging.specs.Traced.{HasSwitched, IsPatchLate, IsTraceChange, Settles, TraceAnswers}
+use Rattle.staging.specs.Traced.{HasSwitched, IsPatchLate, IsTraceChange, NeedGoesOn, Settles, TraceAnswers}
 use Rattle.staging.specs.Whose.{AreTablesOf, KeepsKnown}
+use Rattle.staging.proofs.PatchNeeds.{late_from, need_on}
 use Rattle.write_permit.specs.declared.book.Book.{Book}
 use Rattle.write_permit.specs.declared.loader_run.LoaderRun.{LoaderRun}
 use Rattle.write_permit.specs.declared.holder.Holder.TheVariants.{Free, Held, Tracing}
@@ -68,7 +69,7 @@ pub record Switched (names : List Mfa) (table : TableId) (opening : Opening) (wh
   pub book : IsWordBook names table opening c
 
 -- a trace waits for the value of its patch
-late_patch : (change : Change) (old new : Tables) (answer : late.NotYet) → IsTraceChange change → IsPatchLate new answer → IsLateBy change old new answer
+late_patch : (change : Change) (old new : Tables) (answer : late.NotYet) → IsTraceChange change → IsPatchLate old new answer → IsLateBy change old new answer
 late_patch (SetTrace generation at traced) old new answer h late_is = late_is
 late_patch (ClearTrace generation at) old new answer h late_is = late_is
 late_patch change old new answer h late_is = absurd h
@@ -105,7 +106,7 @@ module _ (names : List Mfa) (table : TableId) (opening : Opening) (b : WordBook)
 
     -- it waits
     module _ (stage : Stage) (published : PublishesNone b stepped) (stands : StageStands names b.plain.server d.change t stage) where
-      switch_waits : (c : WordBook) (answer : late.NotYet) → IsPatchLate t answer → c ≡ record (without_newest stepped b.plain.journal) { waiting = Some (record { decision = d; stage = stage }) } → Switched names table opening who d b c (steps.NotYet answer)
+      switch_waits : (c : WordBook) (answer : late.NotYet) → IsPatchLate b.tables t answer → c ≡ record (without_newest stepped b.plain.journal) { waiting = Some (record { decision = d; stage = stage }) } → Switched names table opening who d b c (steps.NotYet answer)
       switch_waits c answer why left =
           subst (λ x. Switched names table opening who d b x (steps.NotYet answer)) (sym left)
           (record {
@@ -124,7 +125,7 @@ module _ (names : List Mfa) (table : TableId) (opening : Opening) (b : WordBook)
       is_made : IsMadeBy (shown b.plain) d
       is_made = record { fits = known.fits; given = known.given; answer = known.answer }
 
-      module _ (generation : ℕ) (switched : HasSwitched names (made b.plain.server d.change).state b.tables t generation) (c : WordBook) (trace : IsTraceMade who generation d.change stepped.plain c.plain) (left : c ≡ record stepped { plain = c.plain }) where
+      module _ (generation : ℕ) (switched : HasSwitched names (made b.plain.server d.change).state b.tables t generation) (need : NeedGoesOn b.tables t) (c : WordBook) (trace : IsTraceMade who generation d.change stepped.plain c.plain) (left : c ≡ record stepped { plain = c.plain }) where
         abbrev mid : Book
         mid = between b.plain had.book who d is_made modules same room journal more c.plain.server trace.applied trace.made_is c.plain.modules trace.table
 
@@ -170,6 +171,7 @@ module _ (names : List Mfa) (table : TableId) (opening : Opening) (b : WordBook)
             record {
               ok = record {
                 entered = record { target = k.target; on = k.on; holds = held; next = k.next; entered = m.ok };
+                need = subst (NeedGoesOn b.tables) (sym tables_are) need;
                 holder = holder_is;
                 none = waiting;
               };
@@ -182,23 +184,23 @@ module _ (names : List Mfa) (table : TableId) (opening : Opening) (b : WordBook)
             }
 
       -- whatever the words answered
-      pub switched_on : (c : WordBook) (stage : Stage) (step : Step) → IsEntered who d.change stage stepped c step → TraceAnswers names b.plain.server d.change b.tables t stage step → Switched names table opening who d b c step
-      switched_on c stage (steps.Published generation) entered ok = is_published generation ok c entered.0 entered.1
-      switched_on c stage (steps.NotYet answer) entered ok = switch_waits stage ok.published ok.stands c answer ok.why (entered b.plain.journal (entry_for who d) more)
-      switched_on c stage steps.AwaitRelease entered ok = absurd ok
+      pub switched_on : (c : WordBook) (stage : Stage) (step : Step) → IsEntered who d.change stage stepped c step → NeedGoesOn b.tables t → TraceAnswers names b.plain.server d.change b.tables t stage step → Switched names table opening who d b c step
+      switched_on c stage (steps.Published generation) entered need ok = is_published generation ok need c entered.0 entered.1
+      switched_on c stage (steps.NotYet answer) entered need ok = switch_waits stage ok.published ok.stands c answer ok.why (entered b.plain.journal (entry_for who d) more)
+      switched_on c stage steps.AwaitRelease entered need ok = absurd ok
 
 -- ---- behind it
 
 -- a trace that is published and done in one call is a command that is done at once
-pub entered_ends : (who generation : ℕ) (b m c : WordBook) (step : CommandStep) → IsBook b.plain → HasEntered who b m → m.plain.holder ≡ Tracing who generation → c.waiting ≡ None → SettleAnswers who m c step → OpAnswers who b c step
-entered_ends who generation b m c (told.Done applied) known entered tracing none ends = both_ends who generation b.plain m.plain c.plain applied entered.target entered.on known entered.holds entered.next entered.entered tracing ends
-entered_ends who generation b m c (told.NotYet answer) known entered tracing none ends = inr (record {
-  late = ends.late;
+pub entered_ends : (who generation : ℕ) (b m c : WordBook) (step : CommandStep) → IsBook b.plain → HasEntered who b m → NeedGoesOn b.tables m.tables → m.plain.holder ≡ Tracing who generation → c.waiting ≡ None → SettleAnswers who m c step → OpAnswers who b c step
+entered_ends who generation b m c (told.Done applied) known entered need tracing none ends = both_ends who generation b.plain m.plain c.plain applied entered.target entered.on known entered.holds entered.next entered.entered tracing ends
+entered_ends who generation b m c (told.NotYet answer) known entered need tracing none ends = inr (record {
+  late = late_from b.tables m.tables c.tables answer (need_on b.tables m.tables c.tables need ends.need) ends.late;
   none = none;
   since = inr (record { target = entered.target; on = entered.on; holds = entered.holds; next = entered.next; entered = entered.entered ∙ ap Some (sym ends.still.same) });
 })
-entered_ends who generation b m c told.AwaitRelease known entered tracing none ends = absurd ends
-entered_ends who generation b m c (told.Lingers process turn place word) known entered tracing none ends = absurd ends
+entered_ends who generation b m c told.AwaitRelease known entered need tracing none ends = absurd ends
+entered_ends who generation b m c (told.Lingers process turn place word) known entered need tracing none ends = absurd ends
 
 -- one that waits to be published
 pub answers_switched : (who : ℕ) (d : Decision) (b c : WordBook) (answer : late.NotYet) → SwitchWaits d b c answer → OpAnswers who b c (told.NotYet answer)
@@ -251,12 +253,12 @@ module _ (names : List Mfa) (table : TableId) (opening : Opening) (b : WordBook)
         }
 
     -- the switch waits
-    pub settle_waits : (answer : late.NotYet) → ((s : ServerState) → AreSettling names s b.tables → Settles names s t answer) → SettleAnswers who b (record b { tables = t }) (told.NotYet answer)
-    settle_waits answer waits =
+    pub settle_waits : (answer : late.NotYet) → NeedGoesOn b.tables t → ((s : ServerState) → AreSettling names s b.tables → Settles names s b.tables t answer) → SettleAnswers who b (record b { tables = t }) (told.NotYet answer)
+    settle_waits answer need waits =
         let w = waits b.plain.server is_switching.settling in
-        record { late = w.why; still = record { generation = generation; holds = holds; same = refl; published = published } }
+        record { late = w.why; need = need; still = record { generation = generation; holds = holds; same = refl; published = published } }
 
-    pub book_waits : (answer : late.NotYet) → ((s : ServerState) → AreSettling names s b.tables → Settles names s t answer) → IsWordBook names table opening (record b { tables = t })
+    pub book_waits : (answer : late.NotYet) → ((s : ServerState) → AreSettling names s b.tables → Settles names s b.tables t answer) → IsWordBook names table opening (record b { tables = t })
     book_waits answer waits =
         let w = waits b.plain.server is_switching.settling in
         let k = is_switching in

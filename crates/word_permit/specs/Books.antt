@@ -111,11 +111,11 @@ pub record HasWaited (old new : WordBook) (Why : Type 0) : Type 0 where
   pub waits : (w : Waiting) × (new.waiting ≡ Some w)
   pub why : Why
 
--- what a change waits for: one of what is traced for the value of the next phase of its patch, each other one for the same value as before this call, if it
--- waited then
+-- what a change waits for: the same value as before this call, if it waited then; one of what is traced for that of its patch, whose next phase has another
+-- one once the counter has reached it
 abbrev pub IsLateBy : Change → Tables → Tables → told.NotYet → Type 0
-IsLateBy (SetTrace generation at traced) old new answer = IsPatchLate new answer
-IsLateBy (ClearTrace generation at) old new answer = IsPatchLate new answer
+IsLateBy (SetTrace generation at traced) old new answer = IsPatchLate old new answer
+IsLateBy (ClearTrace generation at) old new answer = IsPatchLate old new answer
 IsLateBy change old new answer = IsLateFor change old new answer
 
 -- the command waits on as it was decided, for the value that its change waits for, and the newest counter that the writer loaded is below it
@@ -147,9 +147,10 @@ pub record HasEntered (who : ℕ) (old new : WordBook) : Type 0 where
   pub next : next_of (shown old.plain) who ≡ Some (Trace target on)
   pub entered : entered_trace (shown old.plain) who target on ≡ Some (shown new.plain)
 
--- the trace waits for a value of its patch, as it did or since its entry joined; the counter that was loaded in this call is below it
+-- the trace waits for a value of its patch, as it did or since its entry joined; the counter that was loaded in this call is below it. It is the value that
+-- the patch waited for before this call, unless that counter has reached that one
 pub record AwaitsPatch (who : ℕ) (old new : WordBook) (answer : told.NotYet) : Type 0 where
-  pub late : IsPatchLate new.tables answer
+  pub late : IsPatchLate old.tables new.tables answer
   pub none : new.waiting ≡ None
   pub since : StillSettles who old new ⊎ HasEntered who old new
 

@@ -9,7 +9,7 @@ use Rattle.server_core.specs.ServerState.{IsSound}
 use Rattle.staging.specs.declared.stage.Stage.{Stage}
 use Rattle.staging.specs.declared.stage.Step.{Step}
 use Rattle.staging.specs.declared.stage.Step.TheVariants as steps
-use Rattle.staging.specs.Traced.{IsPatchLate}
+use Rattle.staging.specs.Traced.{IsPatchLate, NeedGoesOn}
 use Rattle.write_permit.specs.declared.book.Book.{Book}
 use Rattle.write_permit.specs.declared.holder.Holder.TheVariants.{Tracing}
 use Rattle.write_permit.specs.Agreement.{newest_followed, newest_of}
@@ -47,9 +47,10 @@ pub record SwitchWaits (d : Decision) (old new : WordBook) (answer : NotYet) : T
   pub is : new.waiting ≡ Some waiting
   pub decision : waiting.decision ≡ d
 
--- the trace is published by this generation, and no command waits to be published
+-- the trace is published by this generation, no command waits to be published, and the counter has reached what the patch waited for
 pub record IsSwitched (who generation : ℕ) (old new : WordBook) : Type 0 where
   pub entered : HasEntered who old new
+  pub need : NeedGoesOn old.tables new.tables
   pub holder : new.plain.holder ≡ Tracing who generation
   pub none : new.waiting ≡ None
 
@@ -63,7 +64,8 @@ SwitchAnswers who d old new steps.AwaitRelease = ⊥
 
 -- the switch waits for a value of its patch
 pub record SettleWaits (who : ℕ) (old new : WordBook) (answer : NotYet) : Type 0 where
-  pub late : IsPatchLate new.tables answer
+  pub late : IsPatchLate old.tables new.tables answer
+  pub need : NeedGoesOn old.tables new.tables
   pub still : StillSettles who old new
 
 -- the command is done, or the switch waits

@@ -16,7 +16,7 @@ settle_traced-requires-clause-traces g c =
 pub returns-in-Published-clause-ok : goal.returns-in-Published-clause-ok
 returns-in-Published-clause-ok g c =
     let s = subst (λ (step : Step). SwitchAnswers c.args.who c.args.waiting.decision c.args.book.now c.switch.new.book step) c.in-Published.is c.in-Ok.ensures.ok in
-    entered_ends c.args.who c.in-Published.generation c.args.book.now c.switch.new.book c.settle_traced.new.book c.settle_traced.result c.requires.tables.book s.entered s.holder c.settle_traced.ensures.none c.settle_traced.ensures.answers
+    entered_ends c.args.who c.in-Published.generation c.args.book.now c.switch.new.book c.settle_traced.new.book c.settle_traced.result c.requires.tables.book s.entered s.need s.holder c.settle_traced.ensures.none c.settle_traced.ensures.answers
 
 pub returns-in-Published-clause-decision : goal.returns-in-Published-clause-decision
 returns-in-Published-clause-decision g c = none_decided c.settle_traced.new.book c.args.waiting.decision c.settle_traced.ensures.none

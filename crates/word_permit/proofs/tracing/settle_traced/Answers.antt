@@ -29,7 +29,7 @@ returns-in-Ok-clause-book g c =
 pub returns-in-Err-clause-answers : goal.returns-in-Err-clause-answers
 returns-in-Err-clause-answers g c =
     settle_waits g.K.Naming.names _ _ c.args.book.now c.requires.book c.requires.look c.args.who c.args.generation c.requires.traces c.settle.new.tables c.settle.ensures.tables c.settle.ensures.exports c.settle.ensures.published c.settle.ensures.known
-    c.in-Err.answer c.in-Err.ensures.waits
+    c.in-Err.answer c.settle.ensures.need c.in-Err.ensures.waits
 
 pub returns-in-Err-clause-none : goal.returns-in-Err-clause-none
 returns-in-Err-clause-none g c = none_else g.K.Naming.names _ _ c.args.book.now c.requires.book c.requires.look c.args.who c.args.generation c.requires.traces

@@ -38,7 +38,7 @@ returns-in-Ok-clause-ok g c =
     let w =
     switched_on g.K.Naming.names _ _ c.args.book.now c.requires.tables c.args.who c.args.waiting.decision c.requires.holds c.requires.decided c.requires.none c.requires.look c.requires.traces c.take_room.new.modules c.take_room.ensures.table c.take_room.new.journal c.step_trace-stage.new.tables
     c.step_trace-stage.ensures.tables (c.step_trace-stage.ensures.exports ∙ c.requires.tables.exports) c.step_trace-stage.ensures.known (subst (λ (e : Entry). new_modules e.cmd ≤ c.take_room.new.modules.room) c.entry_of-entry.ensures c.in-Ok.ensures.room) numbers
-    (c.in-Ok.ensures.ok ∙ ap (λ (e : Entry). c.args.book.now.plain.journal ++ e ∷ []) c.entry_of-entry.ensures) c.enter.new.book c.step_trace-stage.result.0 c.step_trace-stage.result.1 c.enter.ensures c.step_trace-stage.ensures.answers in
+    (c.in-Ok.ensures.ok ∙ ap (λ (e : Entry). c.args.book.now.plain.journal ++ e ∷ []) c.entry_of-entry.ensures) c.enter.new.book c.step_trace-stage.result.0 c.step_trace-stage.result.1 c.enter.ensures c.step_trace-stage.ensures.need c.step_trace-stage.ensures.answers in
     w.ok
 
 pub returns-in-Ok-clause-look : goal.returns-in-Ok-clause-look
@@ -47,7 +47,7 @@ returns-in-Ok-clause-look g c =
     let w =
     switched_on g.K.Naming.names _ _ c.args.book.now c.requires.tables c.args.who c.args.waiting.decision c.requires.holds c.requires.decided c.requires.none c.requires.look c.requires.traces c.take_room.new.modules c.take_room.ensures.table c.take_room.new.journal c.step_trace-stage.new.tables
     c.step_trace-stage.ensures.tables (c.step_trace-stage.ensures.exports ∙ c.requires.tables.exports) c.step_trace-stage.ensures.known (subst (λ (e : Entry). new_modules e.cmd ≤ c.take_room.new.modules.room) c.entry_of-entry.ensures c.in-Ok.ensures.room) numbers
-    (c.in-Ok.ensures.ok ∙ ap (λ (e : Entry). c.args.book.now.plain.journal ++ e ∷ []) c.entry_of-entry.ensures) c.enter.new.book c.step_trace-stage.result.0 c.step_trace-stage.result.1 c.enter.ensures c.step_trace-stage.ensures.answers in
+    (c.in-Ok.ensures.ok ∙ ap (λ (e : Entry). c.args.book.now.plain.journal ++ e ∷ []) c.entry_of-entry.ensures) c.enter.new.book c.step_trace-stage.result.0 c.step_trace-stage.result.1 c.enter.ensures c.step_trace-stage.ensures.need c.step_trace-stage.ensures.answers in
     w.look
 
 pub returns-in-Ok-clause-book : goal.returns-in-Ok-clause-book
@@ -56,7 +56,7 @@ returns-in-Ok-clause-book g c =
     let w =
     switched_on g.K.Naming.names _ _ c.args.book.now c.requires.tables c.args.who c.args.waiting.decision c.requires.holds c.requires.decided c.requires.none c.requires.look c.requires.traces c.take_room.new.modules c.take_room.ensures.table c.take_room.new.journal c.step_trace-stage.new.tables
     c.step_trace-stage.ensures.tables (c.step_trace-stage.ensures.exports ∙ c.requires.tables.exports) c.step_trace-stage.ensures.known (subst (λ (e : Entry). new_modules e.cmd ≤ c.take_room.new.modules.room) c.entry_of-entry.ensures c.in-Ok.ensures.room) numbers
-    (c.in-Ok.ensures.ok ∙ ap (λ (e : Entry). c.args.book.now.plain.journal ++ e ∷ []) c.entry_of-entry.ensures) c.enter.new.book c.step_trace-stage.result.0 c.step_trace-stage.result.1 c.enter.ensures c.step_trace-stage.ensures.answers in
+    (c.in-Ok.ensures.ok ∙ ap (λ (e : Entry). c.args.book.now.plain.journal ++ e ∷ []) c.entry_of-entry.ensures) c.enter.new.book c.step_trace-stage.result.0 c.step_trace-stage.result.1 c.enter.ensures c.step_trace-stage.ensures.need c.step_trace-stage.ensures.answers in
     w.book
 
 pub returns-in-Err-clause-err : goal.returns-in-Err-clause-err
