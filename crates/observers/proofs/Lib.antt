@@ -1,0 +1,4 @@
+pub mod Mirrored
+pub mod Reading
+pub mod Exporting
+pub mod Seeing

@@ -1,0 +1,3 @@
+pub mod Watching
+pub mod Observing
+pub mod Laws
