@@ -1,5 +1,5 @@
 -- The end of a run by what its calls tell: the tokens that come in are those of all members, and the log is a history.
-use Rattle.std.proofs.Common.{◌≡◌, ◌<◌, ℕ, List, length, map, Option, Some, slice_get, sym, subst}
+use Rattle.std.proofs.Common.{◌≡◌, ◌<◌, ℕ, List, length, Option, refl, sym, subst}
 use Rattle.std.specs.Prelude.{Vec}
 use Rattle.std.specs.declared.alloc.Global.{Global}
 use Rattle.atomic_table.specs.Seated.{TableId}
@@ -10,22 +10,19 @@ use Rattle.shared_words.specs.declared.seats.Writer as writers
 use Rattle.shared_words.specs.declared.view.WriterView.{WriterView}
 use Rattle.shared_words.specs.Closing.{AreAllMembers, HasAllMembers, HaveMarks}
 use Rattle.progress_words.specs.Tokens.{IsWriterOf, written_by}
-use Rattle.server_core.specs.ServerState.{ServerState}
 use Rattle.script_core.specs.declared.script.Script.{Script}
 use Rattle.script_core.specs.Processes.{spawns_of}
 use Rattle.script_core.specs.Sound.{IsScript}
 use Rattle.run_log.specs.declared.logs.Entry.{Entry}
 use Rattle.run_log.specs.declared.logs.ProcessLog.{ProcessLog}
+use Rattle.run_log.specs.declared.logs.RunLog.{RunLog}
 use Rattle.run_log.specs.declared.logs.Snapshot.{Snapshot}
-use Rattle.run_log.specs.ExportedFunctions.{AreExportedFunctions}
-use Rattle.run_steps.specs.declared.observers.ObserverRun.{ObserverRun}
-use Rattle.run_steps.specs.Observers.{EachBecame, HaveObserved, TakesAll, shots_of}
 use Rattle.run_law.specs.Ended.{AreBeginnings}
 use Rattle.run_law.specs.Ends.{IsHistory}
 use Rattle.run_law.specs.Laws.{JournalsAreSaid, RunsAreHistories, TablesTell}
 use Rattle.run_law.specs.Newcomers.{Spawn}
+use Rattle.run_law.specs.Observing.{HaveWatched}
 use Rattle.inbox.specs.Ends.{Posting, Taking}
-use Rattle.write_permit.specs.Book.{shown}
 use Rattle.word_permit.specs.Books.{HasItsTables, KeepsRun}
 use Rattle.word_permit.specs.Runs.{IsOverWords, Run}
 use Rattle.word_permit.proofs.Runs.{over_words}
@@ -59,28 +56,22 @@ module _ {T I : Type 0} (names : List Mfa) (s : Script) (table : TableId) (openi
     pub writer_token : (writer : writers.Writer) → writer ≡ d.book.tables.writer → IsWriterOf table opening writer
     writer_token writer is = subst (IsWriterOf table opening) (sym is) has.tables.token
 
-    -- the last look of the observers
-    pub looked_last : (functions : List Mfa) → AreExportedFunctions s.names s.modules functions → (server : ServerState) → server ≡ d.book.plain.server → (held before after now : List ObserverRun) → before ≡ held → now ≡ after
-        → HaveObserved s d.book.plain.journal held → EachBecame (TakesAll server functions) before after → HaveObserved s d.book.plain.journal now
-    looked_last functions all server server_is held before after now was is observed looked =
-        ended.looked_true s (shown d.book.plain) has.book.permit run.script_is functions all server server_is held before after now was is observed looked
-
     -- the log is a history
     pub finished : (members : List tokens.Member) (takers : List (Taking Spawn)) (places : List (Vec (Option ProcessRun) Global)) → AreParted seats members takers places
         → JournalsAreSaid → TablesTell → TakenHaveRun → OthersHaveNotRun → RunsAreHistories
         → IsDesk d → IsDone d → AreAllIdle seats → (ends : List (Posting Spawn)) → ends ≡ d.posted → AreSettled ends takers
         → (writer : writers.Writer) → writer ≡ d.book.tables.writer → (w : WriterView) → HasAllMembers members (written_by writer) w → HaveMarks members w → AreBeginnings members w
         → (logs : List ProcessLog) → AreLogged places (length (spawns_of 0 s.loaders)) logs
-        → (observers : List ObserverRun) → HaveObserved s d.book.plain.journal observers → ((k : ℕ) (o : ObserverRun) → slice_get observers k ≡ Some o → o.left ≡ 0)
-        → (journal : List Entry) → journal ≡ d.book.plain.journal → (shots : List (List Snapshot)) → shots ≡ map shots_of observers
+        → (shots : List (List Snapshot)) → ((log : RunLog) → log.observers ≡ shots → HaveWatched names s log w.published)
+        → (journal : List Entry) → journal ≡ d.book.plain.journal
         → IsHistory names s (record { journal = journal; processes = logs; observers = shots }) w
-    finished members takers places parted said tell taken others histories desk done idle ends ends_are settled writer writer_is w closed marked seen logs logged observers observed all_looked journal journal_is shots shots_are =
+    finished members takers places parted said tell taken others histories desk done idle ends ends_are settled writer writer_is w closed marked seen logs logged shots watched journal journal_is =
         let own_settled : AreSettled d.posted takers = subst (λ (xs : List (Posting Spawn)). AreSettled xs takers) ends_are settled in
         let own_closed : HasAllMembers members (written_by d.book.tables.writer) w = subst (λ (t : writers.Writer). HasAllMembers members (written_by t) w) writer_is closed in
         let own_logged : AreLogged places (length (spawns_of 0 d.book.plain.script.loaders)) logs = subst (λ (x : Script). AreLogged places (length (spawns_of 0 x.loaders)) logs) (sym run.script_is) logged in
-        let own_observed : HaveObserved d.book.plain.script d.book.plain.journal observers = subst (λ (x : Script). HaveObserved x d.book.plain.journal observers) (sym run.script_is) observed in
-        let own : IsHistory names d.book.plain.script (record { journal = d.book.plain.journal; processes = logs; observers = map shots_of observers }) w =
-        ended.is_history names table opening d inboxes seats sight own_run members takers places parted desk own_settled has done w own_closed marked seen said tell taken others idle logs own_logged observers own_observed all_looked histories in
+        let log : RunLog = record { journal = d.book.plain.journal; processes = logs; observers = shots } in
+        let own_watched : HaveWatched names d.book.plain.script log w.published = subst (λ (x : Script). HaveWatched names x log w.published) (sym run.script_is) (watched log refl) in
+        let own : IsHistory names d.book.plain.script log w =
+        ended.is_history names table opening d inboxes seats sight own_run members takers places parted desk own_settled has done w own_closed marked seen said tell taken others idle logs own_logged shots histories own_watched in
         subst (λ (x : Script). IsHistory names x (record { journal = journal; processes = logs; observers = shots }) w) run.script_is
-        (subst (λ (j : List Entry). IsHistory names d.book.plain.script (record { journal = j; processes = logs; observers = shots }) w) (sym journal_is)
-        (subst (λ (xs : List (List Snapshot)). IsHistory names d.book.plain.script (record { journal = d.book.plain.journal; processes = logs; observers = xs }) w) (sym shots_are) own))
+        (subst (λ (j : List Entry). IsHistory names d.book.plain.script (record { journal = j; processes = logs; observers = shots }) w) (sym journal_is) own)

@@ -18,6 +18,7 @@ use Rattle.machine_core.specs.contracts.process.Process as Process
 use Rattle.machine_core.specs.contracts.process.Line as Line
 use Rattle.machine_core.specs.contracts.frames.FrameList as FrameList
 use Rattle.machine_core.specs.contracts.registers.ValueList as ValueList
+use Rattle.run_log.specs.contracts.logs.Snapshot as Snapshot
 use Rattle.run_log.specs.contracts.logs.Span as Span
 use Rattle.run_log.specs.contracts.logs.Entry as Entry
 use Rattle.server_core.specs.contracts.instance.LoadedModule as LoadedModule
@@ -42,6 +43,7 @@ use Rattle.atomic_table.proofs.send_lease.SendLease.TheSendSync as lease
 use Rattle.shared_words.specs.declared.law.Served as served
 use Rattle.shared_words.specs.contracts.seats.Member as Member
 use Rattle.shared_words.specs.contracts.seats.Note as Note
+use Rattle.shared_words.specs.contracts.seats.Watcher as Watcher
 use Rattle.shared_words.specs.contracts.seats.Writer as Writer
 use Rattle.shared_words.specs.contracts.table.Shared as Shared
 use Rattle.staging.specs.contracts.tables.Tables as Tables
@@ -66,6 +68,8 @@ use Rattle.word_lap.specs.contracts.process_run.ProcessRun as ProcessRun
 use Rattle.word_run.specs.declared.slicing.RoundName as rounds
 use Rattle.word_run.specs.contracts.desk.Desk as Desk
 use Rattle.word_run.specs.contracts.slicing.Slicing as Slicing
+use Rattle.observers.specs.contracts.observer.Observer as Observer
+use Rattle.word_run.specs.contracts.onlooker.Onlooker as Onlooker
 use Rattle.word_run.specs.contracts.scheduler.Scheduler as Scheduler
 use Rattle.word_run.specs.contracts.seat.Seat as Seat
 use Rattle.word_run.specs.contracts.sight.Sight as Sight
@@ -199,7 +203,7 @@ note_send = search (seat.the_send, sendable, crosses) depth 20
 exports_send : IsSend ExportTable.the_row
 exports_send = search (sendable, crosses) depth 40
 
-exports_sync : IsSync ExportTable.the_row
+pub exports_sync : IsSync ExportTable.the_row
 exports_sync = search (sendable, crosses) depth 40
 
 tables_send : IsSend (Tables.the_field).row
@@ -207,6 +211,19 @@ tables_send = let w = writer_send in let e = exports_send in search (sendable, c
 
 word_book_send : IsSend (WordBook.the_field).row
 word_book_send = let b = book_send in let t = tables_send in let w = waiting_send in search (sendable, crosses) depth 30
+
+-- ---- an observer
+watcher_send : IsSend (Watcher.the_field).row
+watcher_send = search (seat.the_send, sendable, crosses) depth 20
+
+snapshot_send : IsSend (Snapshot.the_field).row
+snapshot_send = search (sendable, crosses) depth 20
+
+observer_send : IsSend (Observer.the_field).row
+observer_send = let w = watcher_send in let s = snapshot_send in search (sendable, crosses) depth 20
+
+pub onlooker_send : IsSend Onlooker.the_row
+onlooker_send = let o = observer_send in search sendable depth 20
 
 -- ---- what schedulers share
 pub sight_sync : IsSync (Sight.the_field).row

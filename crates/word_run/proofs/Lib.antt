@@ -13,6 +13,7 @@ pub mod Rounding
 pub mod Crossing
 pub mod RoundLoop
 pub mod Joined
+pub mod Watching
 pub mod Stations
 pub mod Names
 pub mod Parting

@@ -1,8 +1,8 @@
 -- A run that has nothing left to do, once its table is closed: what the laws on the end of a run ask of it.
-use Rattle.std.proofs.Common.{◌≡◌, ℕ, zero, suc, ◌<◌, ◌≤◌, ◌%◌, Bool, true, false, List, [], ◌∷◌, length, map, Option, None, Some, IsSome, slice_get, refl, sym, ap, subst, ◌∙◌, arith}
+use Rattle.std.proofs.Common.{◌≡◌, ℕ, zero, suc, ◌<◌, ◌≤◌, ◌%◌, Bool, true, false, List, [], ◌∷◌, length, Option, None, Some, IsSome, slice_get, refl, sym, ap, subst, ◌∙◌, arith}
 use Rattle.std.specs.Prelude.{Vec}
 use Rattle.std.specs.declared.alloc.Global.{Global}
-use Rattle.std.proofs.lemmas.List.{length-map, take_all}
+use Rattle.std.proofs.lemmas.List.{take_all}
 use Rattle.std.proofs.lemmas.Nat.{mod_below}
 use Rattle.std.proofs.lemmas.Option.{none-some, same_Some, slice_get_within}
 use Rattle.atomic_table.specs.Seated.{TableId}
@@ -30,18 +30,14 @@ use Rattle.run_log.specs.declared.logs.Entry.{Entry}
 use Rattle.run_log.specs.declared.logs.ProcessLog.{ProcessLog}
 use Rattle.run_log.specs.declared.logs.RunLog.{RunLog}
 use Rattle.run_log.specs.declared.logs.Snapshot.{Snapshot}
-use Rattle.run_log.specs.ExportedFunctions.{AreExportedFunctions}
-use Rattle.run_log.specs.Journal.{newest_state, published_count}
 use Rattle.run_log.specs.Legal.{LoadersInOrder, PurgesGo, commands_in, commands_of}
 use Rattle.run_log.proofs.ListPlaces.{get_within}
-use Rattle.run_steps.specs.declared.observers.ObserverRun.{ObserverRun}
-use Rattle.run_steps.specs.Observers.{EachBecame, HaveObserved, TakesAll, shots_of}
-use Rattle.run_steps.proofs.Observing.{all_observe, seen_published, seen_true}
 use Rattle.run_law.specs.Answers.{AreAnswersKept}
 use Rattle.run_law.specs.Ended.{AreBeginnings, HasNotRun, HasRun, HaveCome, HaveRun, IsMemberOf}
 use Rattle.run_law.specs.Ends.{HasItsRest, IsHistory, IsOver}
 use Rattle.run_law.specs.Laws.{AreLearnt, JournalsAreSaid, RunsAreHistories, TablesTell}
 use Rattle.run_law.specs.Newcomers.{IsTaken, Spawn, spawn_for}
+use Rattle.run_law.specs.Observing.{HaveWatched}
 use Rattle.run_law.specs.Published.{ArePublished, IsJournal}
 use Rattle.inbox.specs.Ends.{Taking}
 use Rattle.write_permit.specs.declared.holder.Holder.{Holder}
@@ -58,7 +54,6 @@ use Rattle.word_run.specs.Desks.{DeskState, IsDesk, WasSpawned}
 use Rattle.word_run.specs.Finished.{AreLogged, AreParted, AreSettled}
 use Rattle.word_run.specs.Rounds.{AreAllIdle, IsDone, IsRun, NoneGoOn}
 use Rattle.word_run.specs.Schedulers.{Keeps, StandsBy}
-use Rattle.word_run.proofs.Noting.{generation_counted}
 
 -- ---- the journal
 
@@ -310,34 +305,19 @@ module _ {T I : Type 0} (names : List Mfa) (table : TableId) (opening : Opening)
           run = have_run shots;
         }
 
-        module _ (observers : List ObserverRun) (observed : HaveObserved s p.journal observers) (all_looked : (k : ℕ) (o : ObserverRun) → slice_get observers k ≡ Some o → o.left ≡ 0) where
+        module _ (shots : List (List Snapshot)) where
           abbrev the_log : RunLog
-          the_log = record { journal = p.journal; processes = logs; observers = map shots_of observers }
-
-          counted_low : (newest_state s.modules empty_state p.journal).generation ≤ published_count p.journal
-          counted_low = omega (arith, ap (λ (x : ServerState). x.generation) permit.log.server_is, generation_counted p permit)
+          the_log = record { journal = p.journal; processes = logs; observers = shots }
 
           pub has_rest : HasItsRest s the_log
           has_rest = record {
             loaders_in_order = loaders_done p permit done.commands;
-            snapshots_true = seen_true s p.journal observers observed logs all_looked;
             nothing_retired = ap (λ (x : ServerState). x.retired) (sym permit.log.server_is) ∙ done.retired;
-            observers = length-map observers shots_of ∙ observed.many;
-            snapshots = seen_published s p.journal observers observed (published_count p.journal) counted_low;
           }
 
           answers : AreAnswersKept s.modules p.journal w.looks
           answers = subst (AreAnswersKept s.modules p.journal) (sym (ap (λ (x : WriterView). x.looks) closed.same)) has.answered
 
           -- so its log is a history
-          pub is_history : RunsAreHistories → IsHistory names s the_log w
-          is_history histories = histories names s the_log w (is_over (map shots_of observers)) answers has_rest
-
--- ---- the last look
-
--- what the observers saw is true, and none lacks a snapshot
-pub looked_true : (s : Script) (p : PermitState) → IsPermit p → p.script ≡ s → (functions : List Mfa) → AreExportedFunctions s.names s.modules functions → (server : ServerState) → server ≡ p.server
-    → (held before after now : List ObserverRun) → before ≡ held → now ≡ after → HaveObserved s p.journal held → EachBecame (TakesAll server functions) before after → HaveObserved s p.journal now
-looked_true s p permit script functions all server server_is held before after now was is observed looked =
-    let newest : server ≡ newest_state s.modules empty_state p.journal = server_is ∙ permit.log.server_is ∙ ap (λ (x : Script). newest_state x.modules empty_state p.journal) script in
-    subst (HaveObserved s p.journal) (sym is) (all_observe s p.journal functions server (λ b. b.left) before after all newest (subst (HaveObserved s p.journal) (sym was) observed) looked)
+          pub is_history : RunsAreHistories → HaveWatched names s the_log w.published → IsHistory names s the_log w
+          is_history histories watched = histories names s the_log w (is_over shots) answers watched has_rest

@@ -1,18 +1,14 @@
--- A run from round to round: the script, the words and what was seen are the same things under other names.
+-- A run from round to round: the script and the words are the same things under other names.
 use Rattle.std.proofs.Common.{◌≡◌, ℕ, List, Option, Result, Ok, OnOk, sym, subst}
 use Rattle.atomic_table.specs.Seated.{TableId}
 use Rattle.term_core.specs.declared.atom.Mfa.{Mfa}
 use Rattle.shared_words.specs.declared.opening.Opening.{Opening}
 use Rattle.script_core.specs.declared.script.Script.{Script}
-use Rattle.run_log.specs.declared.logs.Entry.{Entry}
-use Rattle.run_steps.specs.declared.observers.ObserverRun.{ObserverRun}
-use Rattle.run_steps.specs.Observers.{HaveObserved, KeepsGenerations}
 use Rattle.word_permit.specs.Runs.{IsOverWords, Run}
 use Rattle.word_run.specs.declared.seat.Seat.{Seat}
 use Rattle.word_run.specs.declared.sight.Sight.{Sight}
 use Rattle.word_run.specs.Desks.{DeskState}
 use Rattle.word_run.specs.Rounds.{IsRun}
-use Rattle.word_run.proofs.Rounding.{seen_later}
 
 -- what an answer tells where it came
 pub on_at : {X E : Type 0} (P : Type 0) (r : Result X E) (x : X) → r ≡ Ok x → OnOk r P → P
@@ -21,10 +17,6 @@ on_at {X} {E} P r x is h = subst (λ (a : Result X E). OnOk a P) is h
 -- the words are those of the run
 pub words_as : (run : Option Run) (table fresh : TableId) (opening key : Opening) → fresh ≡ table → key ≡ opening → IsOverWords table opening run → IsOverWords fresh key run
 words_as run table fresh opening key t k h = subst (λ (x : Opening). IsOverWords fresh x run) (sym k) (subst (λ (x : TableId). IsOverWords x opening run) (sym t) h)
-
--- what was seen stays true, by the script
-pub seen_as : (s other : Script) (journal later : List Entry) (observers : List ObserverRun) → other ≡ s → KeepsGenerations other.modules journal later → HaveObserved s journal observers → HaveObserved s later observers
-seen_as s other journal later observers is kept observed = seen_later s journal later observers (subst (λ (x : Script). KeepsGenerations x.modules journal later) is kept) observed
 
 module _ {T I : Type 0} (functions : List Mfa) where
   -- the script is the one on the desk

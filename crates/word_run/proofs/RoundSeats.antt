@@ -6,7 +6,7 @@ use Rattle.atomic_table.specs.Seated.{TableId}
 use Rattle.term_core.specs.declared.atom.Mfa.{Mfa}
 use Rattle.shared_words.specs.declared.opening.Opening.{Opening}
 use Rattle.run_log.proofs.ListPlaces.{get_within}
-use Rattle.run_steps.specs.Observers.{EachBecame}
+use Rattle.word_run.specs.Places.{EachBecame}
 use Rattle.word_run.specs.declared.scheduler.Slice.{Slice}
 use Rattle.word_run.specs.declared.scheduler.Slice.TheVariants.{Idle}
 use Rattle.word_run.specs.declared.seat.Seat.{Seat}
@@ -15,14 +15,14 @@ use Rattle.word_run.specs.Schedulers.{Keeps}
 
 -- ---- answers
 
-on_if : {X E : Type 0} (P : Type 0) (r : Result X E) → OnOk r P → IfOk r (λ _. P)
+pub on_if : {X E : Type 0} (P : Type 0) (r : Result X E) → OnOk r P → IfOk r (λ _. P)
 on_if P (Ok x) h = h
 on_if P (Err e) h = tt
 
 pub if_at : {X E : Type 0} (P : X → Type 0) (r : Result X E) (x : X) → r ≡ Ok x → IfOk r P → P x
 if_at {X} {E} P r x is h = subst (λ (a : Result X E). IfOk a P) is h
 
-if_ok : {X E : Type 0} (P : Type 0) (r : Result X E) → IsOk r → IfOk r (λ _. P) → P
+pub if_ok : {X E : Type 0} (P : Type 0) (r : Result X E) → IsOk r → IfOk r (λ _. P) → P
 if_ok P (Ok x) ok h = h
 if_ok P (Err e) ok h = absurd (false≢true ok)
 

@@ -1,24 +1,14 @@
 -- A run over a round.
-use Rattle.std.proofs.Common.{◌≡◌, ℕ, ◌<◌, All, List, [], ◌∷◌, ◌++◌, append-nil, append_assoc, get_or, length, slice_get, Option, Some, IsOk, refl, sym, ap, subst, ◌∙◌, arith}
+use Rattle.std.proofs.Common.{◌≡◌, ℕ, ◌<◌, All, List, get_or, length, slice_get, Option, Some, IsOk, sym, subst, ◌∙◌, arith}
 use Rattle.std.proofs.lemmas.Option.{same_Some, slice_get-get_or, slice_get_within}
-use Rattle.std.specs.Prelude.{min}
 use Rattle.atomic_table.specs.Seated.{TableId}
 use Rattle.term_core.specs.declared.atom.Mfa.{Mfa}
-use Rattle.mod_core.specs.declared.code.Module.{Module}
-use Rattle.server_core.specs.ServerState.{ServerState, empty_state}
 use Rattle.shared_words.specs.declared.opening.Opening.{Opening}
 use Rattle.script_core.specs.declared.script.Script.{Script}
-use Rattle.run_log.specs.declared.logs.Entry.{Entry}
-use Rattle.run_log.specs.ExportedFunctions.{AreExportedFunctions}
-use Rattle.run_log.specs.Journal.{newest_state}
-use Rattle.run_steps.specs.declared.observers.ObserverRun.{ObserverRun}
-use Rattle.run_steps.specs.Observers.{EachBecame, HaveObserved, KeepsGenerations, TakesOne}
-use Rattle.run_steps.proofs.Generations.{generations_both, generations_more, generations_same}
-use Rattle.run_steps.proofs.Observing.{all_observe, still_observed}
-use Rattle.write_permit.specs.Book.{IsPermit, shown}
 use Rattle.word_run.specs.declared.seat.Seat.{Seat}
 use Rattle.word_run.specs.declared.sight.Sight.{Sight}
 use Rattle.word_run.specs.Desks.{AddsInSlices, DeskState, HasHomes, IsSliceOf}
+use Rattle.word_run.specs.Places.{EachBecame}
 use Rattle.word_run.specs.Rounds.{AreAllIdle, AreIdle, CanGo, HadSlice, IsRun}
 use Rattle.word_run.proofs.RoundSeats.{idle_sliced, kept_go, kept_sliced}
 use Rattle.word_run.proofs.Slices.{slices_none}
@@ -34,18 +24,6 @@ named_homes began d count is homes = subst (λ (o : Option DeskState). HasHomes 
 
 pub named_adds : (began : Option DeskState) (d e : DeskState) → began ≡ Some d → IsSliceOf began e → AddsInSlices d e
 named_adds began d e is h = subst (λ (o : Option DeskState). IsSliceOf o e) is h
-
--- ---- what lies on a desk
-
--- the journal's newest state is the server's
-pub newest_is : (d : DeskState) (s : Script) → d.book.plain.script ≡ s → IsPermit (shown d.book.plain) → d.book.plain.server ≡ newest_state s.modules empty_state d.book.plain.journal
-newest_is d s is permit = permit.log.server_is ∙ ap (λ (x : Script). newest_state x.modules empty_state d.book.plain.journal) is
-
--- one look of each observer
-pub looked_once : (s : Script) (d : DeskState) (server : ServerState) (functions : List Mfa) (before after : List ObserverRun) → d.book.plain.script ≡ s → IsPermit (shown d.book.plain) → server ≡ d.book.plain.server
-    → AreExportedFunctions s.names s.modules functions → HaveObserved s d.book.plain.journal before → EachBecame (TakesOne server functions) before after → HaveObserved s d.book.plain.journal after
-looked_once s d server functions before after is permit server_is all observed looked =
-    all_observe s d.book.plain.journal functions server (λ (b : ObserverRun). min 1 b.left) before after all (server_is ∙ newest_is d s is permit) observed looked
 
 -- ---- over a round
 
@@ -78,23 +56,6 @@ module _ {T I : Type 0} (functions : List Mfa) (table : TableId) (opening : Open
   -- a round that leaves no process
   pub idle_round : (seats after lent : List (Seat T I)) → lent ≡ after → EachBecame (HadSlice functions table opening) seats after → AreIdle lent → AreAllIdle after
   idle_round seats after lent is sliced idle = idle_sliced functions table opening seats after sliced (subst (λ (xs : List (Seat T I)). AreIdle xs) is idle)
-
--- ---- journals
-
--- entries more keep the states of the generations before
-kept_more : (texts : List Module) (journal more : List Entry) → KeepsGenerations texts journal (journal ++ more)
-kept_more texts journal [] = subst (KeepsGenerations texts journal) (sym (append-nil journal)) (generations_same texts journal)
-kept_more texts journal (e ∷ more) =
-    let one = journal ++ e ∷ [] in
-    subst (KeepsGenerations texts journal) (append_assoc journal (e ∷ []) more)
-    (generations_both texts journal one (one ++ more) (generations_more texts journal journal one e (generations_same texts journal) refl) (kept_more texts one more))
-
-pub kept_by : (texts : List Module) (journal now more : List Entry) → now ≡ journal ++ more → KeepsGenerations texts journal now
-kept_by texts journal now more is = subst (KeepsGenerations texts journal) (sym is) (kept_more texts journal more)
-
--- what was seen stays true as the journal grows
-pub seen_later : (s : Script) (journal later : List Entry) (observers : List ObserverRun) → KeepsGenerations s.modules journal later → HaveObserved s journal observers → HaveObserved s later observers
-seen_later s journal later observers kept observed = still_observed s journal later observers kept observed
 
 -- ---- each at its place
 

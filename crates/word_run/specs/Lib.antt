@@ -5,3 +5,5 @@ pub mod Schedulers
 pub mod Rounds
 pub mod Beginning
 pub mod Finished
+pub mod Places
+pub mod Onlookers

@@ -12,6 +12,7 @@ ghost use Rattle.word_run.specs.Beginning.{AddsSeat, AreOpened, BeginsRun, names
 ghost use Rattle.word_run.specs.Rounds.{IsRun};
 
 use crate::desk::Desk;
+use crate::onlooker::Onlooker;
 use crate::run::Run;
 use crate::scheduler::{Scheduler, Slice};
 use crate::seat::Seat;
@@ -74,7 +75,7 @@ pub fn open_inboxes<T: TableName>(
     Ok(openings)
 }
 
-/// A run before its first step, over these inboxes, with the tokens of all members by number. It takes memory.
+/// A run before its first step, over these inboxes, with the tokens of all members by number, and its observers. It takes memory.
 pub fn begin_run<K: Naming, N: RunName, T: TableName, I: InboxNames>(
     alloc: Global,
     script: &Script,
@@ -84,6 +85,7 @@ pub fn begin_run<K: Naming, N: RunName, T: TableName, I: InboxNames>(
     members: Vec<Member>,
     exports: ExportTable,
     openings: Vec<Opening<Newcomer<T>>>,
+    onlookers: Vec<Onlooker>,
 ) -> Result<Run<K, N, T, I>, NoMemory>
     requires script { IsScript script.now }
     // The names of functions have their numbers by the order of the script's exported functions.
@@ -101,6 +103,7 @@ pub fn begin_run<K: Naming, N: RunName, T: TableName, I: InboxNames>(
     ensures run { IfOk result (λ run. IsRun K.names script.now run.shared.table.shared.table_id run.shared.table.shared.key run.desk run.inboxes.items run.seats.items run.sight) }
     ensures journal { IfOk result (λ run. run.desk.book.plain.journal ≡ []) }
     ensures shared { IfOk result (λ run. run.shared ≡ shared) }
+    ensures onlookers { IfOk result (λ run. run.onlookers ≡ onlookers) }
 {
     schedulers_begin();
     let stations = open_seats::<T, I>(alloc, members, openings)?;
@@ -120,6 +123,7 @@ pub fn begin_run<K: Naming, N: RunName, T: TableName, I: InboxNames>(
         desk,
         inboxes,
         seats,
+        onlookers,
         sight,
     })
 }

@@ -1,12 +1,10 @@
 //! What lies under the lock of a run: the permit, and the ends that post to the schedulers' inboxes.
 
 ghost use Rattle.std.specs.Prelude.{◌≡◌, true};
-ghost use Rattle.word_permit.specs.Books.{KeepsRun};
 ghost use Rattle.word_run.specs.Rounds.{IsDone};
 
 use code_law::Naming;
 use inbox::{InboxNames, Poster};
-use server_core::Server;
 use std::marker::Model;
 use word_lap::{Newcomer, TableName};
 use word_permit::{Permit, RunName};
@@ -35,14 +33,6 @@ impl<K: Naming, N: RunName, T: TableName, I: InboxNames> Model for Desk<K, N, T,
 }
 
 impl<K: Naming, N: RunName, T: TableName, I: InboxNames> Desk<K, N, T, I> {
-    /// The server to which the journal leads.
-    pub fn server(&self) -> &Server
-        ensures value { result.now ≡ self.now.book.plain.server }
-        ensures kept { KeepsRun K.names N.run self.now.book }
-    {
-        self.permit.server()
-    }
-
     /// Whether all commands are done, and no area waits for its release.
     pub fn is_over(&self) -> bool
         ensures { result ≡ true → IsDone self.now }

@@ -1,8 +1,7 @@
 //! The end of a run: all tokens come in, and what was done is told.
 
-ghost use Rattle.std.specs.Prelude.{◌≡◌, ◌<◌, IfOk, OnOk, length, map};
+ghost use Rattle.std.specs.Prelude.{◌≡◌, ◌<◌, IfOk, OnOk, length};
 ghost use Rattle.run_law.specs.Ends.{IsHistory};
-ghost use Rattle.run_steps.specs.Observers.{HaveObserved, shots_of};
 ghost use Rattle.run_log.specs.ExportedFunctions.{AreExportedFunctions};
 ghost use Rattle.script_core.specs.Processes.{spawns_of};
 ghost use Rattle.script_core.specs.Sound.{IsScript};
@@ -13,9 +12,11 @@ ghost use Rattle.word_run.specs.Desks.{IsDesk};
 ghost use Rattle.word_run.specs.Finished.{AddsParts, AreLogged, AreParted, AreSettled, HasGathered};
 ghost use Rattle.word_run.specs.Loaders.{AreEnds, AreInboxes, AreTakers};
 ghost use Rattle.word_run.specs.Names.{HasTable};
+ghost use Rattle.word_run.specs.Onlookers.{AreOnlookers};
 ghost use Rattle.word_run.specs.Rounds.{AreAllIdle, HaveTakers, IsDone, IsRun};
 
 use crate::desk::Desk;
+use crate::looking::{Watched, take_rest};
 use crate::process_logs::process_logs;
 use crate::ran::Ran;
 use crate::run::Run;
@@ -24,8 +25,7 @@ use crate::seat::Seat;
 use code_law::Naming;
 use inbox::{Inbox, InboxNames, Poster, Taker};
 use run_law::{closed_tables_tell, journals_are_sound, runs_are_histories};
-use run_log::{EntryList, MfaList, RunLog};
-use run_steps::{ObserverRun, observe_rest, observer_logs};
+use run_log::{EntryList, MfaList, ObserverList, RunLog};
 use script_core::Script;
 use shared_words::{Member, Parts, Writer, close};
 use staging::Tables;
@@ -60,14 +60,13 @@ struct Gathered {
     processes: Vec<Vec<Option<ProcessRun>>>,
 }
 
-/// The log of a run that has nothing left to do, after the last look of its observers, and its words.
+/// The log of a run that has nothing left to do, once its observers took the snapshots that they lack, and its words.
 pub fn finish<K: Naming, N: RunName, T: TableName, I: InboxNames, R: Wait>(
     rt: &R,
     alloc: Global,
     script: &Script,
     functions: &MfaList,
     run: Run<K, N, T, I>,
-    observers: Vec<ObserverRun>,
 ) -> Result<Ran, NoMemory>
     requires words { IsOverWords run.shared.table.shared.table_id run.shared.table.shared.key N.run }
     requires table { HasTable N.run T.table }
@@ -75,7 +74,7 @@ pub fn finish<K: Naming, N: RunName, T: TableName, I: InboxNames, R: Wait>(
     requires done { IsDone run.desk }
     requires idle { AreAllIdle run.seats.items }
     requires functions { AreExportedFunctions script.now.names script.now.modules functions.now }
-    requires observed { HaveObserved script.now run.desk.book.plain.journal observers.items }
+    requires onlookers { AreOnlookers K.names functions.now run.shared.table.shared.table_id script.now.observers run.onlookers.items }
     ensures history { IfOk result (λ ran. IsHistory K.names script.now ran.log (writer_of ran.closed.writer.seat.me.0)) }
     ensures table { IfOk result (λ ran. ran.closed.writer.seat.table_id ≡ run.shared.table.shared.table_id) }
 {
@@ -83,15 +82,16 @@ pub fn finish<K: Naming, N: RunName, T: TableName, I: InboxNames, R: Wait>(
     closed_tables_tell();
     kept_processes_have_run();
     runs_are_histories();
-    let mut observers = observers;
-    observe_rest(alloc, run.desk.server(), functions, &mut observers)?;
     let Run {
         shared,
         desk,
         inboxes,
         seats,
-        ..
+        onlookers,
+        sight,
     } = run;
+    let watched = take_rest(alloc, &shared, functions, &sight.exports, onlookers)?;
+    let Watched { watchers, logs } = watched;
     let gathered = gather(rt, alloc, desk, inboxes, seats)?;
     let Gathered {
         journal,
@@ -99,8 +99,13 @@ pub fn finish<K: Naming, N: RunName, T: TableName, I: InboxNames, R: Wait>(
         members,
         processes,
     } = gathered;
-    let log = log_run(alloc, script, journal, processes, observers)?;
-    let closed = close(alloc, shared, Parts { writer, members })?;
+    let log = log_run(alloc, script, journal, processes, logs)?;
+    let parts = Parts {
+        writer,
+        members,
+        watchers,
+    };
+    let closed = close(alloc, shared, parts)?;
     Ok(Ran { log, closed })
 }
 
@@ -144,16 +149,15 @@ fn log_run(
     script: &Script,
     journal: EntryList,
     processes: Vec<Vec<Option<ProcessRun>>>,
-    observers: Vec<ObserverRun>,
+    observers: ObserverList,
 ) -> Result<RunLog, NoMemory>
     requires script { IsScript script.now }
     requires some { 0 < length processes.items }
     ensures journal { IfOk result (λ log. log.journal ≡ journal) }
     ensures processes { IfOk result (λ log. AreLogged processes.items (length (spawns_of 0 script.now.loaders)) log.processes) }
-    ensures observers { IfOk result (λ log. log.observers ≡ map shots_of observers.items) }
+    ensures observers { IfOk result (λ log. log.observers ≡ observers) }
 {
     let processes = process_logs(alloc, script, processes)?;
-    let observers = observer_logs(alloc, observers)?;
     Ok(RunLog {
         journal,
         processes,

@@ -7,6 +7,8 @@ mod finishing;
 mod lap;
 mod loaders;
 mod loading;
+mod looking;
+mod onlooker;
 mod posting;
 mod process_logs;
 mod ran;

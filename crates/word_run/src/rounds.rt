@@ -2,16 +2,18 @@
 
 ghost use Rattle.std.specs.Prelude.{◌≡◌, ℕ, true, slice_get, IfOk, IsOk, OnOk, Some};
 ghost use Rattle.run_law.specs.Ends.{IsHistory};
-ghost use Rattle.run_steps.specs.Observers.{HaveObserved, KeepsGenerations};
 ghost use Rattle.run_log.specs.ExportedFunctions.{AreExportedFunctions};
 ghost use Rattle.shared_words.specs.Seats.{writer_of};
 ghost use Rattle.word_permit.specs.Runs.{IsOverWords};
 ghost use Rattle.word_run.specs.Names.{HasTable};
+ghost use Rattle.word_run.specs.declared.onlooker.Onlooker.{Onlooker};
 ghost use Rattle.word_run.specs.declared.seat.Seat.{Seat};
+ghost use Rattle.word_run.specs.Onlookers.{AreOnlookers};
 ghost use Rattle.word_run.specs.Rounds.{AreAllIdle, AreIdle, IsDone, IsRun};
 
 use crate::desk::Desk;
 use crate::finishing::finish;
+use crate::onlooker::{Onlooker, have_looked};
 use crate::ran::Ran;
 use crate::round::whole_round;
 use crate::run::Run;
@@ -19,7 +21,6 @@ use crate::seat::{Seat, are_idle};
 use code_law::Naming;
 use inbox::InboxNames;
 use run_log::MfaList;
-use run_steps::{ObserverRun, observe};
 use script_core::Script;
 use std::alloc::Global;
 use std::sync::Wait;
@@ -37,7 +38,6 @@ pub fn run_rounds<K, N, T, I, R, G>(
     gate: &G,
     functions: &MfaList,
     run: Run<K, N, T, I>,
-    observers: Vec<ObserverRun>,
 ) -> Result<Ran, NoMemory>
 where
     K: Naming + Send + Sync,
@@ -50,44 +50,28 @@ where
     requires table { HasTable N.run T.table }
     requires run { IsRun K.names script.now run.shared.table.shared.table_id run.shared.table.shared.key run.desk run.inboxes.items run.seats.items run.sight }
     requires functions { AreExportedFunctions script.now.names script.now.modules functions.now }
-    requires observed { HaveObserved script.now run.desk.book.plain.journal observers.items }
+    requires onlookers { AreOnlookers K.names functions.now run.shared.table.shared.table_id script.now.observers run.onlookers.items }
     ensures history { IfOk result (λ ran. IsHistory K.names script.now ran.log (writer_of ran.closed.writer.seat.me.0)) }
     ensures table { IfOk result (λ ran. ran.closed.writer.seat.table_id ≡ run.shared.table.shared.table_id) }
 {
     let mut run = run;
-    let mut observers = observers;
     for _ in rt.forever() {
-        look_once(alloc, script, functions, &run.desk, &mut observers)?;
-        let turned = turn_round(rt, gate, run);
+        let turned = turn_round(rt, alloc, gate, functions, run);
         run = turned.0;
         let over = turned.1?;
         if over {
-            return finish(rt, alloc, script, functions, run, observers);
+            return finish(rt, alloc, script, functions, run);
         }
     }
     unreachable!()
 }
 
-/// What is done between two rounds, while no turn runs: each observer that lacks snapshots takes one.
-fn look_once<K: Naming, N: RunName, T: TableName, I: InboxNames>(
-    alloc: Global,
-    script: &Script,
-    functions: &MfaList,
-    desk: &Desk<K, N, T, I>,
-    observers: &mut [ObserverRun],
-) -> Result<(), NoMemory>
-    requires script { desk.now.book.plain.script ≡ script.now }
-    requires functions { AreExportedFunctions script.now.names script.now.modules functions.now }
-    requires observed { HaveObserved script.now desk.now.book.plain.journal observers.old }
-    ensures { OnOk result (HaveObserved script.now desk.now.book.plain.journal observers.new) }
-{
-    observe(alloc, desk.server(), functions, observers)
-}
-
 /// A round. Answers whether it ends the run: all commands were done as it began, and it left no process.
 fn turn_round<K, N, T, I, R, G>(
     rt: &R,
+    alloc: Global,
     gate: &G,
+    functions: &MfaList,
     run: Run<K, N, T, I>,
 ) -> (Run<K, N, T, I>, Result<bool, NoMemory>)
 where
@@ -100,27 +84,31 @@ where
     requires words { IsOverWords run.shared.table.shared.table_id run.shared.table.shared.key N.run }
     requires table { HasTable N.run T.table }
     requires run { IsRun K.names run.desk.book.plain.script run.shared.table.shared.table_id run.shared.table.shared.key run.desk run.inboxes.items run.seats.items run.sight }
+    requires onlookers { AreOnlookers K.names functions.now run.shared.table.shared.table_id run.desk.book.plain.script.observers run.onlookers.items }
     ensures run { OnOk result.1 (IsRun K.names run.desk.book.plain.script run.shared.table.shared.table_id run.shared.table.shared.key result.0.desk result.0.inboxes.items result.0.seats.items result.0.sight) }
     ensures shared { result.0.shared ≡ run.shared }
-    ensures kept { KeepsGenerations run.desk.book.plain.script.modules run.desk.book.plain.journal result.0.desk.book.plain.journal }
+    ensures onlookers { OnOk result.1 (AreOnlookers K.names functions.now run.shared.table.shared.table_id run.desk.book.plain.script.observers result.0.onlookers.items) }
     ensures over { IfOk result.1 (λ over. over ≡ true → IsDone result.0.desk × AreAllIdle result.0.seats.items) }
 {
     let made = run.desk.is_over();
-    let after = whole_round(rt, gate, run);
-    let over = was_last(made, &after.desk, &after.seats);
+    let after = whole_round(rt, alloc, gate, functions, run);
+    let over = was_last(made, &after.desk, &after.seats, &after.onlookers);
     (after, over)
 }
 
-/// Whether a round ended the run. Where a scheduler met want of memory this is told.
+/// Whether a round ended the run. Where a scheduler or an observer met want of memory this is told.
 fn was_last<K: Naming, N: RunName, T: TableName, I: InboxNames>(
     made: bool,
     desk: &Desk<K, N, T, I>,
     seats: &[Seat<T, I>],
+    onlookers: &[Onlooker],
 ) -> Result<bool, NoMemory>
     ensures ok { OnOk result ((k : ℕ) (seat : Seat T I) → slice_get seats.now k ≡ Some seat → IsOk seat.answer) }
+    ensures looked { OnOk result ((k : ℕ) (onlooker : Onlooker) → slice_get onlookers.now k ≡ Some onlooker → IsOk onlooker.answer) }
     ensures over { IfOk result (λ over. over ≡ true → IsDone desk.now × AreIdle seats.now) }
 {
     let idle = are_idle(seats)?;
+    have_looked(onlookers)?;
     Ok(is_last(made, idle, desk))
 }
 

@@ -1,6 +1,7 @@
 //! What a run has between two of its rounds.
 
 use crate::desk::Desk;
+use crate::onlooker::Onlooker;
 use crate::seat::Seat;
 use crate::sight::Sight;
 use code_law::{CodeLaw, Naming};
@@ -18,5 +19,7 @@ pub struct Run<K: Naming, N: RunName, T: TableName, I: InboxNames> {
     pub(crate) inboxes: Vec<Inbox<Newcomer<T>, I>>,
     /// The schedulers, by number.
     pub(crate) seats: Vec<Seat<T, I>>,
+    /// The observers, by number.
+    pub(crate) onlookers: Vec<Onlooker>,
     pub(crate) sight: Sight,
 }

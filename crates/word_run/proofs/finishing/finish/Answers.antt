@@ -1,9 +1,12 @@
 use Rattle.std.proofs.Common.{refl, ◌∙◌, arith}
-use Rattle.std.proofs.lemmas.List.{with_items_is}
-use Rattle.std.specs.Vec.{with_items}
-use Rattle.run_steps.proofs.Observing.{none_left}
-use Rattle.word_run.proofs.Closing.{all_members, finished, looked_last, places_some, script_sound, writer_token}
+use Rattle.progress_words.specs.Tokens.{IsWatcherOf}
+use Rattle.word_run.proofs.Closing.{all_members, finished, places_some, script_sound, writer_token}
+use Rattle.word_run.proofs.Watching.{have_watched, left_at, onlookers_observe}
 use Rattle.word_run.proofs.finishing.finish.Goals as goal
+
+-- each observer may look
+pub take_rest-requires-clause-observe : goal.take_rest-requires-clause-observe
+take_rest-requires-clause-observe g c = onlookers_observe g.K.Naming.names c.args.functions.now c.args.run.shared.table.shared.table_id c.args.script.now.observers c.args.run.onlookers.items c.requires.onlookers
 
 -- each inbox has its two ends
 pub gather-requires-clause-many : goal.gather-requires-clause-many
@@ -43,6 +46,12 @@ close-requires-clause-members g c =
     let is = c.in_ok-gathered.ensures in
     all_members g.K.Naming.names c.args.script.now here.table_id here.key c.args.run.desk c.args.run.inboxes.items c.args.run.seats.items c.args.run.sight c.requires.run had.members.items is.takers had.processes.items is.parted
 
+pub close-requires-clause-watchers : goal.close-requires-clause-watchers
+close-requires-clause-watchers g c =
+    let left = c.in_ok-watched.watched in
+    left_at g.K.Naming.names c.args.functions.now c.args.run.shared.table.shared.table_id c.args.run.onlookers.items left.watchers.items left.logs c.in_ok-watched.ensures
+    (λ token. IsWatcherOf c.args.run.shared.table.shared.table_id token) (λ o token shots h. h.token_of)
+
 -- the log is a history
 pub returns-clause-history : goal.returns-clause-history
 returns-clause-history g c =
@@ -50,17 +59,16 @@ returns-clause-history g c =
     let d = c.args.run.desk in
     let had = c.in_ok-gathered.gathered in
     let is = c.in_ok-gathered.ensures in
+    let left = c.in_ok-watched.watched in
     let log = c.in_ok-log.log in
-    let now = (with_items c.args.observers c.observe_rest.new.observers).items in
-    let items = with_items_is c.args.observers c.observe_rest.new.observers (c.observe_rest.auto.observers ∙ c.deref_mut.ensures.len) in
-    finished g.K.Naming.names c.args.script.now here.table_id here.key c.args.run.desk c.args.run.inboxes.items c.args.run.seats.items c.args.run.sight c.requires.run g.N.RunName.run c.requires.words is.kept
+    finished g.K.Naming.names c.args.script.now here.table_id here.key d c.args.run.inboxes.items c.args.run.seats.items c.args.run.sight c.requires.run g.N.RunName.run c.requires.words is.kept
     had.members.items is.takers had.processes.items is.parted
     c.journals_are_sound.ensures.said c.closed_tables_tell.ensures c.kept_processes_have_run.ensures.taken c.kept_processes_have_run.ensures.others c.runs_are_histories.ensures
     is.desk c.requires.done c.requires.idle d.posted refl is.settled
     had.writer is.writer_is _ c.in_ok-closed.ensures.members c.in_ok-closed.ensures.marks c.in_ok-closed.ensures.seen
     log.processes c.in_ok-log.ensures.processes
-    now
-    (looked_last g.K.Naming.names c.args.script.now here.table_id here.key c.args.run.desk c.args.run.inboxes.items c.args.run.seats.items c.args.run.sight c.requires.run g.N.RunName.run c.requires.words is.kept
-    c.args.functions.now c.requires.functions c.server.result.now c.server.ensures.value c.args.observers.items c.deref_mut.result.now c.observe_rest.new.observers now c.deref_mut.ensures.value items c.requires.observed c.in_ok-observe_rest.ensures)
-    (none_left c.server.result.now c.args.functions.now c.deref_mut.result.now c.observe_rest.new.observers now items c.in_ok-observe_rest.ensures)
-    log.journal (c.in_ok-log.ensures.journal ∙ is.journal_is) log.observers c.in_ok-log.ensures.observers
+    log.observers
+    (λ other is_other.
+    have_watched g.K.Naming.names c.args.functions.now here.table_id c.args.run.onlookers.items left.watchers.items left.logs c.in_ok-watched.ensures c.args.script.now c.args.script.now.observers refl c.requires.onlookers c.requires.functions _
+    c.in_ok-closed.ensures.watched other (is_other ∙ c.in_ok-log.ensures.observers))
+    log.journal (c.in_ok-log.ensures.journal ∙ is.journal_is)

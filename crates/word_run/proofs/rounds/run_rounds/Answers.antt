@@ -1,21 +1,20 @@
-use Rattle.std.proofs.Common.{◌∙◌, sym, subst}
-use Rattle.std.proofs.lemmas.List.{with_items_is}
+use Rattle.std.proofs.Common.{refl, sym, ap, ◌∙◌}
 use Rattle.std.proofs.lemmas.Result.{IfOk-weaker}
-use Rattle.run_steps.specs.Observers.{HaveObserved}
-use Rattle.word_run.proofs.RoundLoop.{on_at, own_run, run_as, seen_as, words_as}
+use Rattle.script_core.specs.declared.script.Script.{Script}
+use Rattle.word_run.proofs.RoundLoop.{on_at, own_run, run_as, words_as}
 use Rattle.word_run.proofs.RoundSeats.{if_at}
+use Rattle.word_run.proofs.Watching.{onlookers_as}
 use Rattle.word_run.proofs.rounds.run_rounds.Goals as goal
-
-pub look_once-requires-clause-script : goal.look_once-requires-clause-script
-look_once-requires-clause-script g c = c.loop.invariant.run.script_is
-
-pub look_once-requires-clause-observed : goal.look_once-requires-clause-observed
-look_once-requires-clause-observed g c = subst (HaveObserved c.args.script.now c.loop.run.desk.book.plain.journal) (sym c.deref_mut.ensures.value) c.loop.invariant.observed
 
 -- the script is the one on the desk
 pub turn_round-turned-requires-clause-run : goal.turn_round-turned-requires-clause-run
 turn_round-turned-requires-clause-run g c = λ κs within.
     own_run g.K.Naming.names c.args.script.now _ _ c.loop.run.desk c.loop.run.inboxes.items c.loop.run.seats.items c.loop.run.sight c.loop.invariant.run
+
+pub turn_round-turned-requires-clause-onlookers : goal.turn_round-turned-requires-clause-onlookers
+turn_round-turned-requires-clause-onlookers g c = λ κs within.
+    onlookers_as g.K.Naming.names c.args.functions.now c.loop.run.shared.table.shared.table_id c.loop.run.shared.table.shared.table_id c.args.script.now.observers c.loop.run.desk.book.plain.script.observers
+    c.loop.run.onlookers.items c.loop.run.onlookers.items refl (ap (λ (s : Script). s.observers) c.loop.invariant.run.script_is) refl c.loop.invariant.onlookers
 
 -- the next round begins as this one did
 pub loop-preserved : goal.loop-preserved
@@ -29,9 +28,10 @@ loop-preserved g c =
           run_as g.K.Naming.names c.loop.run.desk.book.plain.script c.args.script.now c.loop.run.shared.table.shared.table_id had.0.shared.table.shared.table_id c.loop.run.shared.table.shared.key had.0.shared.table.shared.key
           had.0.desk had.0.inboxes.items had.0.seats.items had.0.sight (sym c.loop.invariant.run.script_is)
           (λ i. (words i).table.shared.table_id) (λ i. (words i).table.shared.key) (on_at _ had.1 c.in_ok-over.over c.in_ok-over.was c.turn_round-turned.ensures.run);
-      observed =
-          subst (HaveObserved c.args.script.now had.0.desk.book.plain.journal) (sym (with_items_is c.loop.observers c.look_once.new.observers (c.look_once.auto.observers ∙ c.deref_mut.ensures.len)))
-          (seen_as c.args.script.now c.loop.run.desk.book.plain.script c.loop.run.desk.book.plain.journal had.0.desk.book.plain.journal c.look_once.new.observers c.loop.invariant.run.script_is c.turn_round-turned.ensures.kept c.in_ok-look_once.ensures);
+      onlookers =
+          onlookers_as g.K.Naming.names c.args.functions.now c.loop.run.shared.table.shared.table_id had.0.shared.table.shared.table_id c.loop.run.desk.book.plain.script.observers c.args.script.now.observers
+          had.0.onlookers.items had.0.onlookers.items (λ i. (words i).table.shared.table_id) (ap (λ (s : Script). s.observers) (sym c.loop.invariant.run.script_is)) refl
+          (on_at _ had.1 c.in_ok-over.over c.in_ok-over.was c.turn_round-turned.ensures.onlookers);
     }
 
 -- so does the end
@@ -54,11 +54,13 @@ finish-requires-clause-done g c = (if_at _ c.turn_round-turned.result.1 c.in_ok-
 pub finish-requires-clause-idle : goal.finish-requires-clause-idle
 finish-requires-clause-idle g c = (if_at _ c.turn_round-turned.result.1 c.in_ok-over.over c.in_ok-over.was c.turn_round-turned.ensures.over c.if-over.true).1
 
-pub finish-requires-clause-observed : goal.finish-requires-clause-observed
-finish-requires-clause-observed g c =
+pub finish-requires-clause-onlookers : goal.finish-requires-clause-onlookers
+finish-requires-clause-onlookers g c =
+    let words = c.turn_round-turned.ensures.shared in
     let had = c.turn_round-turned.result in
-    subst (HaveObserved c.args.script.now had.0.desk.book.plain.journal) (sym (with_items_is c.loop.observers c.look_once.new.observers (c.look_once.auto.observers ∙ c.deref_mut.ensures.len)))
-    (seen_as c.args.script.now c.loop.run.desk.book.plain.script c.loop.run.desk.book.plain.journal had.0.desk.book.plain.journal c.look_once.new.observers c.loop.invariant.run.script_is c.turn_round-turned.ensures.kept c.in_ok-look_once.ensures)
+    onlookers_as g.K.Naming.names c.args.functions.now c.loop.run.shared.table.shared.table_id had.0.shared.table.shared.table_id c.loop.run.desk.book.plain.script.observers c.args.script.now.observers
+    had.0.onlookers.items had.0.onlookers.items (λ i. (words i).table.shared.table_id) (ap (λ (s : Script). s.observers) (sym c.loop.invariant.run.script_is)) refl
+    (on_at _ had.1 c.in_ok-over.over c.in_ok-over.was c.turn_round-turned.ensures.onlookers)
 
 -- the words at the end are those of the beginning
 pub returns-then-over-clause-table : goal.returns-then-over-clause-table

@@ -2,7 +2,8 @@ use Rattle.std.proofs.Common.{ℕ, ap}
 use Rattle.std.proofs.lemmas.Result.{IfOk-weaker, on_ok_weaker}
 use Rattle.std.specs.Prelude.{Vec}
 use Rattle.std.specs.declared.alloc.Global.{Global}
-use Rattle.word_run.proofs.Rounding.{idle_round, kept_by, round_run}
+use Rattle.word_run.proofs.Rounding.{idle_round, round_run}
+use Rattle.word_run.proofs.Watching.{onlookers_kept}
 use Rattle.word_run.proofs.rounds.turn_round.Goals as goal
 
 pub returns-clause-run : goal.returns-clause-run
@@ -12,8 +13,12 @@ returns-clause-run g c =
     c.deref.result.now c.deref.ensures.value ok _ (ap (λ (v : Vec ℕ Global). v.items) c.whole_round-after.ensures.inboxes) _ c.whole_round-after.ensures.sight)
     c.was_last-over.ensures.ok
 
-pub returns-clause-kept : goal.returns-clause-kept
-returns-clause-kept g c = kept_by _ _ _ _ c.whole_round-after.ensures.adds.goes.journal
+pub returns-clause-onlookers : goal.returns-clause-onlookers
+returns-clause-onlookers g c =
+    on_ok_weaker c.was_last-over.result
+    (λ ok. onlookers_kept g.K.Naming.names c.args.functions.now c.args.run.shared.table.shared.table_id c.args.run.desk.book.plain.script.observers c.args.run.onlookers.items c.whole_round-after.result.onlookers.items c.deref-2.result.now
+    c.deref-2.ensures.value c.whole_round-after.ensures.onlookers c.requires.onlookers ok)
+    c.was_last-over.ensures.looked
 
 pub returns-clause-over : goal.returns-clause-over
 returns-clause-over g c =

@@ -1,7 +1,8 @@
-use Rattle.std.proofs.Common.{[], sym, ap, ◌∙◌}
+use Rattle.std.proofs.Common.{[], length, sym, ap, ◌∙◌, arith}
 use Rattle.std.proofs.lemmas.Result.{IfOk-weaker}
 use Rattle.word_run.specs.Beginning.{names_after}
 use Rattle.word_run.proofs.Made.{begins_run}
+use Rattle.word_run.proofs.Watching.{waiting_observe}
 use Rattle.word_run.proofs.running.run_on.Goals as goal
 
 -- the names are those of the functions
@@ -16,6 +17,16 @@ run_named-requires-clause-exports g c κs within =
 -- the words are new
 pub run_named-requires-clause-writer : goal.run_named-requires-clause-writer
 run_named-requires-clause-writer g c κs within = begins_run _ _ _ c.args.parts.writer c.requires.writer c.args.script.now c.requires.token
+
+-- there is a watcher for each observer
+pub open_onlookers-requires : goal.open_onlookers-requires
+open_onlookers-requires g c = omega (arith, ap length c.as_slice-2.ensures, c.requires.enough, c.requires.watchers.all)
+
+-- they may look
+pub run_named-requires-clause-onlookers : goal.run_named-requires-clause-onlookers
+run_named-requires-clause-onlookers g c κs within =
+    waiting_observe g.K.Naming.names c.in_ok-functions.functions c.args.shared.table.shared.table_id c.observers_begin.ensures c.args.shared.table.shared.key.watchers c.args.parts.watchers.items c.requires.watchers
+    c.args.script.now.observers c.as_slice-2.result.now c.as_slice-2.ensures c.requires.enough c.in_ok-onlookers.onlookers.items c.in_ok-onlookers.ensures
 
 pub returns-clause-legal : goal.returns-clause-legal
 returns-clause-legal g c = IfOk-weaker c.run_named.result _ _ (λ ran h. h.legal) c.run_named.ensures.history

@@ -1,5 +1,5 @@
-use Rattle.std.proofs.Common.{[], ◌<◌, sym, ap, subst, ◌∙◌}
-use Rattle.shared_words.specs.Making.{AreMembersBegun, IsHanding}
+use Rattle.std.proofs.Common.{◌+◌, [], ◌<◌, sym, ap, ap₂, subst, ◌∙◌, arith}
+use Rattle.shared_words.specs.Making.{AreMembersBegun, AreWatchersBegun, IsHanding}
 use Rattle.word_run.specs.Beginning.{names_after}
 use Rattle.word_run.proofs.Exported.{functions_are_one}
 use Rattle.word_run.proofs.running.run_over.Goals as goal
@@ -15,7 +15,17 @@ run_on-requires-clause-names g c κs within = λ functions exported.
 
 pub run_on-requires-clause-writer : goal.run_on-requires-clause-writer
 run_on-requires-clause-writer g c κs within =
-    subst (λ n. IsHanding c.in_ok-shared.shared.table.shared.table_id c.in_ok-shared.shared.table.shared.key n c.in_ok-shared.parts.writer.seat) (sym c.in_ok-shared.ensures.opening.0) c.in_ok-shared.ensures.writer
+    subst (λ n. IsHanding c.in_ok-shared.shared.table.shared.table_id c.in_ok-shared.shared.table.shared.key n c.in_ok-shared.parts.writer.seat) (ap₂ ◌+◌ (sym c.in_ok-shared.ensures.opening.0) (sym c.in_ok-shared.ensures.opening.1)) c.in_ok-shared.ensures.writer
 
 pub run_on-requires-clause-members : goal.run_on-requires-clause-members
 run_on-requires-clause-members g c κs within = subst (λ n. AreMembersBegun c.in_ok-shared.shared.table.shared.table_id n c.in_ok-shared.parts.members.items) (sym c.in_ok-shared.ensures.opening.0) c.in_ok-shared.ensures.members
+
+-- and a watcher for each observer
+pub new-requires-clause-watchers : goal.new-requires-clause-watchers
+new-requires-clause-watchers g c = omega (arith, c.len-observers.ensures, c.requires.script.few_observers)
+
+pub run_on-requires-clause-watchers : goal.run_on-requires-clause-watchers
+run_on-requires-clause-watchers g c κs within = subst (λ n. AreWatchersBegun c.in_ok-shared.shared.table.shared.table_id n c.in_ok-shared.parts.watchers.items) (sym c.in_ok-shared.ensures.opening.1) c.in_ok-shared.ensures.watchers
+
+pub run_on-requires-clause-enough : goal.run_on-requires-clause-enough
+run_on-requires-clause-enough g c κs within = omega (arith, c.in_ok-shared.ensures.opening.1, c.len-observers.ensures, c.requires.script.few_observers)
