@@ -144,7 +144,7 @@ fn run_beside<R: Threads + Sync>(
 }
 
 /// Ends the table. No anchor names an area that was released.
-#[tactic(auto, using(crate::proofs::Silent::silent_end))]
+#[tactic(auto, using(crate::proofs::Silent::silent_end, shared_words::proofs::WatchersTaken::none_are_watchers))]
 fn end_all(
     alloc: Global,
     shared: Shared<Any>,
@@ -170,7 +170,15 @@ fn end_all(
         leader,
     };
     let members = join_three(&shared, alloc, three)?;
-    let closed = close(alloc, shared, Parts { writer, members })?;
+    let closed = close(
+        alloc,
+        shared,
+        Parts {
+            writer,
+            members,
+            watchers: Vec::new(alloc),
+        },
+    )?;
     let words = closed.words();
     Ok(Told {
         released,
@@ -199,6 +207,7 @@ fn run_parts<R: Threads + Sync>(
     let Parts {
         mut writer,
         members,
+        watchers: _,
     } = parts;
     let Some(mut three) = take_three(&shared, members) else {
         return Ok(None);

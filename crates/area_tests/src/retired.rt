@@ -132,12 +132,13 @@ fn live_and_go(
 /// Once one of 55 areas for instances is retired, the next one has to wait until it is released, and then
 /// has its block and the next serial.
 #[test]
-#[tactic(auto, using(crate::proofs::Begun::begun_owned, crate::proofs::Serials::taken_first, crate::proofs::Serials::next_after, crate::proofs::Naming::one_begun))]
+#[tactic(auto, using(crate::proofs::Begun::begun_owned, crate::proofs::Serials::taken_first, crate::proofs::Serials::next_after))]
 fn a_retired_area_awaits_its_release(rt: HostRuntime) -> Result<(), Fail> {
     let (shared, parts) = Shared::<Any>::new(rt.alloc(), 1, 0)?;
     let Parts {
         mut writer,
         mut members,
+        watchers: _,
     } = parts;
     let Some(mut member) = members.pop() else {
         assert!(rt; false, "there is a member");

@@ -226,6 +226,7 @@ fn a_slot_holds_sixteen_areas(rt: HostRuntime) -> Result<(), Fail> {
     let Parts {
         mut writer,
         mut members,
+        watchers,
     } = parts;
     let Some(mut member) = members.pop() else {
         assert!(rt; false, "there is a member");
@@ -234,7 +235,15 @@ fn a_slot_holds_sixteen_areas(rt: HostRuntime) -> Result<(), Fail> {
     let answers = begin_and_fill(&shared, &mut writer, &mut member);
     assert_eq!(rt; answers, [true, false, true, true, true, true, true]);
     members.push(member)?;
-    let closed = close(rt.alloc(), shared, Parts { writer, members })?;
+    let closed = close(
+        rt.alloc(),
+        shared,
+        Parts {
+            writer,
+            members,
+            watchers,
+        },
+    )?;
     let words = closed.words();
     let slot = [
         1, 69, 9, 13, 17, 21, 25, 29, 33, 37, 41, 45, 49, 53, 57, 61, 64,

@@ -46,11 +46,20 @@ fn areas_stand_in_their_blocks(rt: HostRuntime) -> Result<(), Fail> {
     let Parts {
         mut writer,
         members,
+        watchers,
     } = parts;
     let mut pools = Pools::new(rt.alloc())?;
     write_next(&shared, &mut writer, &mut pools, Pool::Big, &[11, 12, 13]);
     write_next(&shared, &mut writer, &mut pools, Pool::Small, &[21, 22]);
-    let closed = close(rt.alloc(), shared, Parts { writer, members })?;
+    let closed = close(
+        rt.alloc(),
+        shared,
+        Parts {
+            writer,
+            members,
+            watchers,
+        },
+    )?;
     let words = closed.words();
     let cases = [
         (10_708, 0),

@@ -189,6 +189,7 @@ fn as_many_keys_as_the_limit_are_held(rt: HostRuntime) -> Result<(), Fail> {
     let Parts {
         mut writer,
         mut members,
+        watchers: _,
     } = parts;
     let Some(mut leader) = members.pop() else {
         assert!(rt; false, "there is a member");

@@ -48,10 +48,19 @@ fn staged_words_stand_in_the_staging_index(rt: HostRuntime) -> Result<(), Fail> 
     let Parts {
         mut writer,
         members,
+        watchers,
     } = parts;
     let mut index = CodeIndex::new();
     stage_and_abort(&shared, &mut writer, &mut index);
-    let closed = close(rt.alloc(), shared, Parts { writer, members })?;
+    let closed = close(
+        rt.alloc(),
+        shared,
+        Parts {
+            writer,
+            members,
+            watchers,
+        },
+    )?;
     let words = closed.words();
     let cases = [
         (1_498, 0),

@@ -149,6 +149,7 @@ fn a_breakpoint_is_set_beneath_reports(rt: HostRuntime) -> Result<(), Fail> {
     let Parts {
         mut writer,
         mut members,
+        watchers: _,
     } = parts;
     let Some(mut leader) = members.pop() else {
         assert!(rt; false, "there is a member");
@@ -166,6 +167,7 @@ fn a_breakpoint_is_cleared_beneath_reports(rt: HostRuntime) -> Result<(), Fail> 
     let Parts {
         mut writer,
         mut members,
+        watchers: _,
     } = parts;
     let Some(mut leader) = members.pop() else {
         assert!(rt; false, "there is a member");

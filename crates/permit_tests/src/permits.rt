@@ -212,6 +212,7 @@ fn over_words<K: Naming>(
     let Parts {
         writer,
         mut members,
+        watchers: _,
     } = parts;
     let Some(mut leader) = members.pop() else {
         return Err(NoMemory);

@@ -1,15 +1,17 @@
--- The tokens of a table of two members as they begin.
+-- The tokens of a table of few members and watchers as they begin.
 use Rattle.std.proofs.Common.{◌≡◌, ℕ, ◌<◌, List, [], ◌∷◌, ◌++◌, length, length-append, refl, sym, ap, subst, ◌∙◌, arith}
 use Rattle.std.specs.Prelude.{Some, slice_get}
 use Rattle.atomic_table.specs.Seated.{TableId}
 use Rattle.prgr_core.specs.declared.member.TheConstants.{MOST_MEMBERS}
 use Rattle.shared_words.specs.declared.table.TheConstants.{OPENING_ROOT}
 use Rattle.shared_words.specs.declared.seats.Member as tokens
+use Rattle.shared_words.specs.declared.seats.Watcher as watching
 use Rattle.shared_words.specs.declared.view.MemberView.{MemberView}
-use Rattle.shared_words.specs.declared.view.View.TheVariants.{Member}
-use Rattle.shared_words.specs.Seats.{IsRooted, member_of}
-use Rattle.shared_words.specs.Opening.{member_begun}
-use Rattle.shared_words.specs.Making.{IsMemberBegun, AreMembersBegun}
+use Rattle.shared_words.specs.declared.view.WatcherView.{WatcherView}
+use Rattle.shared_words.specs.declared.view.View.TheVariants.{Member, Watcher}
+use Rattle.shared_words.specs.Seats.{IsRooted, member_of, watcher_of, counts_held}
+use Rattle.shared_words.specs.Opening.{member_begun, watcher_begun}
+use Rattle.shared_words.specs.Making.{IsMemberBegun, AreMembersBegun, AreWatchersBegun}
 use Rattle.shared_words.specs.Kinds.{MayLead, MayWait}
 use Rattle.shared_words.proofs.ShownMembers.{still_at}
 use Rattle.marks.specs.Names.{IsAtRest}
@@ -18,7 +20,8 @@ use Rattle.marks.proofs.Opening.{opens}
 use Rattle.shared_words.specs.declared.view.ProcessSlot.{ProcessSlot}
 use Rattle.shared_words.specs.Processes.{slot_in, note_in, under_of, AreAtRest}
 use Rattle.shared_words.proofs.SlotFrames.{rests}
-use Rattle.progress_words.specs.Tokens.{view_of, IsMemberOf}
+use Rattle.progress_words.specs.Tokens.{view_of, watched_by, IsMemberOf, IsWatcherOf}
+use Rattle.progress_words.specs.Delays.{IsIdle}
 
 got_last : {A : Type 0} (xs : List A) (x : A) → slice_get (xs ++ x ∷ []) (length xs) ≡ Some x
 got_last [] x = refl
@@ -65,6 +68,31 @@ second_begun table all rest second taken begun =
     let long : length all ≡ length (rest ++ second ∷ []) = ap length taken in
     let one : length rest ≡ 1 = omega (arith, two, long, length-append rest (second ∷ [])) in
     fresh_of table 1 second (omega arith) (begun.each 1 second (ap (λ (xs : List tokens.Member). slice_get xs 1) taken ∙ ap (λ (i : ℕ). slice_get (rest ++ second ∷ []) i) (sym one) ∙ got_last rest second))
+
+-- the token that was taken out is the only member's
+pub only_begun : (table : TableId) (all rest : List tokens.Member) (member : tokens.Member) → all ≡ rest ++ member ∷ [] → AreMembersBegun table 1 all → IsFresh table 0 member
+only_begun table all rest member taken begun =
+    let one : length all ≡ 1 = begun.all in
+    let long : length all ≡ length (rest ++ member ∷ []) = ap length taken in
+    let none : length rest ≡ 0 = omega (arith, one, long, length-append rest (member ∷ [])) in
+    fresh_of table 0 member (omega arith) (begun.each 0 member (ap (λ (xs : List tokens.Member). slice_get xs 0) taken ∙ ap (λ (i : ℕ). slice_get (rest ++ member ∷ []) i) (sym none) ∙ got_last rest member))
+
+-- what is known of a watcher's token as it begins
+pub record IsReady (table : TableId) (token : watching.Watcher) : Type 0 where
+  pub of : IsWatcherOf table token
+  pub idle : IsIdle (watched_by token)
+
+-- the token that was taken out is the only watcher's
+pub only_watcher : (table : TableId) (all rest : List watching.Watcher) (token : watching.Watcher) → all ≡ rest ++ token ∷ [] → AreWatchersBegun table 1 all → IsReady table token
+only_watcher table all rest token taken begun =
+    let one : length all ≡ 1 = begun.all in
+    let long : length all ≡ length (rest ++ token ∷ []) = ap length taken in
+    let none : length rest ≡ 0 = omega (arith, one, long, length-append rest (token ∷ [])) in
+    let its = begun.each 0 token (ap (λ (xs : List watching.Watcher). slice_get xs 0) taken ∙ ap (λ (i : ℕ). slice_get (rest ++ token ∷ []) i) (sym none) ∙ got_last rest token) in
+    let view : watched_by token ≡ watcher_begun 0 = ap watcher_of its.view in record {
+      of = record { of_table = its.of_table; view = its.view ∙ ap Watcher (sym view); counted = its.holds_is ∙ ap counts_held (sym view) };
+      idle = ap (λ (v : WatcherView). v.watcher.phase) view;
+    }
 
 -- who begins is awake and follows
 pub begun_may_lead : (m : MemberView) (k : ℕ) → m ≡ member_begun k → MayLead m

@@ -9,12 +9,13 @@ use std::test::Fail;
 
 /// A note is made and learnt, and then the table is closed, whose root was never stored.
 #[test]
-#[tactic(auto, using(crate::proofs::Noted::begun_note, crate::proofs::Noted::note_own, crate::proofs::Noted::own_process, crate::proofs::Ended::both_again))]
+#[tactic(auto, using(crate::proofs::Noted::begun_note, crate::proofs::Noted::note_own, crate::proofs::Noted::own_process, crate::proofs::Ended::both_again, shared_words::proofs::WatchersTaken::begun_are_watchers))]
 fn a_table_is_made_and_closed(rt: HostRuntime) -> Result<(), Fail> {
-    let (shared, parts) = Shared::<Any>::new(rt.alloc(), 2, 0)?;
+    let (shared, parts) = Shared::<Any>::new(rt.alloc(), 2, 1)?;
     let Parts {
         mut writer,
         members,
+        watchers,
     } = parts;
     let Some((mut first, second)) = both_members(&shared, members) else {
         assert!(rt; false, "there are two members");
@@ -23,7 +24,15 @@ fn a_table_is_made_and_closed(rt: HostRuntime) -> Result<(), Fail> {
     let told = note(&shared, &mut writer, 0);
     learn(&shared, &mut first, told);
     let members = vec![in rt.alloc(); first, second]?;
-    let closed = close(rt.alloc(), shared, Parts { writer, members })?;
+    let closed = close(
+        rt.alloc(),
+        shared,
+        Parts {
+            writer,
+            members,
+            watchers,
+        },
+    )?;
     assert_eq!(rt; closed.published(), 0, "the root was never stored");
     let words = closed.words();
     assert_eq!(rt; words.len(), 83_413);

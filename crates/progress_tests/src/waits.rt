@@ -37,6 +37,7 @@ fn the_counter_follows_the_members(rt: HostRuntime) -> Result<(), Fail> {
     let Parts {
         mut writer,
         members,
+        watchers: _,
     } = parts;
     let Some((mut first, mut second)) = both_members(&shared, members) else {
         assert!(rt; false, "there are two members");

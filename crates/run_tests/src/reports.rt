@@ -45,6 +45,37 @@ end normal
 end report
 ";
 
+/// Two observers, of which the second has fewer snapshots to take, beside no commands.
+const TWO_OBSERVERS: &str = "beam script 1
+observer 2
+observer 1
+go
+";
+
+/// Its report, worked out by hand: generation 0 exports nothing.
+const TWO_OBSERVERS_REPORT: &str = "beam report 1
+generations 0
+observer 0
+snapshot 0
+snapshot 0
+observer 1
+snapshot 0
+end report
+";
+
+#[test]
+fn observers_have_their_snapshots(rt: HostRuntime) -> Result<(), Fail> {
+    let alloc = rt.alloc();
+    let script = read_script(alloc, TWO_OBSERVERS.as_bytes())?;
+    for schedulers in [1, 2, 16] {
+        let ran = run_script(&rt, alloc, &script, schedulers, &NoGate)?;
+        let report = report_of(alloc, &script, &ran.log)?;
+        assert_eq!(rt; report.as_slice(), TWO_OBSERVERS_REPORT.as_bytes());
+        assert_eq!(rt; ran.closed.published(), 0);
+    }
+    Ok(())
+}
+
 #[test]
 fn a_run_has_its_report(rt: HostRuntime) -> Result<(), Fail> {
     let alloc = rt.alloc();

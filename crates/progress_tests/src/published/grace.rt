@@ -152,7 +152,11 @@ fn run_beside<R: Threads + Sync>(
     ensures writer { IsWriterOf shared.now.table.shared.table_id shared.now.table.shared.key result.0 }
     ensures members { AreAllMembers shared.now.table.shared.table_id shared.now.table.shared.key.members result.1.items }
 {
-    let Parts { writer, members } = parts;
+    let Parts {
+        writer,
+        members,
+        watchers: _,
+    } = parts;
     join(
         rt,
         move || publish_often(shared, writer),
@@ -164,7 +168,7 @@ fn run_beside<R: Threads + Sync>(
 }
 
 /// Runs all threads to their ends, and closes the table.
-#[tactic(auto, using(crate::proofs::Emptied::handing_empty, crate::proofs::Emptied::handing_first, crate::proofs::Leading::begun_as))]
+#[tactic(auto, using(crate::proofs::Emptied::handing_empty, crate::proofs::Emptied::handing_first, crate::proofs::Leading::begun_as, shared_words::proofs::WatchersTaken::none_are_watchers))]
 fn run_to_end<R: Threads + Sync>(
     rt: &R,
     alloc: Global,
@@ -178,7 +182,15 @@ fn run_to_end<R: Threads + Sync>(
     requires members { AreMembersBegun shared.table.shared.table_id MEMBERS parts.members.items }
 {
     let (writer, members) = run_beside(rt, &shared, parts, tally);
-    close(alloc, shared, Parts { writer, members })
+    close(
+        alloc,
+        shared,
+        Parts {
+            writer,
+            members,
+            watchers: Vec::new(alloc),
+        },
+    )
 }
 
 #[test]

@@ -17,6 +17,7 @@ fn a_note_changes_nothing_that_is_held(rt: HostRuntime) -> Result<(), Fail> {
     let Parts {
         mut writer,
         members,
+        watchers: _,
     } = parts;
     let Some((mut first, second)) = both_members(&shared, members) else {
         assert!(rt; false, "there are two members");
