@@ -44,7 +44,11 @@ pub fn wait_beside<R: Threads + Wait + Sync>(
     requires few { readers ≤ MOST_READERS }
 {
     let (shared, parts) = Shared::<Any>::new(alloc, readers, 0)?;
-    let Parts { writer, members } = parts;
+    let Parts {
+        writer,
+        members,
+        watchers: _,
+    } = parts;
     let count = readers as usize;
     Ok(run_beside(rt, &shared, writer, members, count, times))
 }

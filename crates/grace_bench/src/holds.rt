@@ -28,6 +28,7 @@ pub fn hold_alone(alloc: Global, times: u32) -> Result<u32, NoMemory> {
     let Parts {
         mut writer,
         mut members,
+        watchers: _,
     } = parts;
     publish_used(&shared, &mut writer);
     let told = note(&shared, &mut writer, 0);

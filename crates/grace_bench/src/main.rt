@@ -3,6 +3,7 @@
 //! little of each.
 #![tactic(auto)]
 
+mod delays;
 mod grace;
 mod holds;
 mod reports;
@@ -12,6 +13,7 @@ mod tables;
 mod waits;
 mod works;
 
+use delays::delay_alone;
 use grace::{MOST_READERS, wait_beside};
 use holds::hold_alone;
 use reports::report_alone;
@@ -78,6 +80,7 @@ fn do_work<R: Threads + Wait + Sync + Print>(rt: &R, alloc: Global, work: Work) 
         Work::Report { times } => report_alone(alloc, times),
         Work::Hold { times } => hold_alone(alloc, times),
         Work::Scan { times } => scan_alone(rt, alloc, times),
+        Work::Delay { times } => delay_alone(alloc, times),
         Work::Load { times } => load_alone(alloc, times),
         Work::Wait { readers, times } if readers > 0 && readers <= MOST_READERS => {
             wait_beside(rt, alloc, readers, times)
@@ -104,6 +107,7 @@ fn write_done<R: Print>(rt: &R, work: Work, done: u32) -> io::Result<()> {
         Work::Report { .. } => println!(rt; "report {done}"),
         Work::Hold { .. } => println!(rt; "hold {done}"),
         Work::Scan { .. } => println!(rt; "scan {done}"),
+        Work::Delay { .. } => println!(rt; "delay {done}"),
         Work::Load { .. } => println!(rt; "load {done}"),
         Work::Wait { readers, .. } => println!(rt; "wait {readers} {done}"),
     }

@@ -14,6 +14,7 @@ pub fn report_alone(alloc: Global, times: u32) -> Result<u32, NoMemory> {
     let Parts {
         writer: _,
         mut members,
+        watchers: _,
     } = parts;
     match members.pop() {
         Some(mut member) => {

@@ -29,6 +29,7 @@ pub fn scan_alone<R: Wait>(rt: &R, alloc: Global, times: u32) -> Result<u32, NoM
     let Parts {
         mut writer,
         mut members,
+        watchers: _,
     } = parts;
     match members.pop() {
         Some(mut leader) => Ok(scan_after(rt, &shared, &mut writer, &mut leader, times)),

@@ -15,6 +15,7 @@ pub fn load_alone(alloc: Global, times: u32) -> Result<u32, NoMemory> {
     let Parts {
         mut writer,
         members: _,
+        watchers: _,
     } = parts;
     for _ in 0..times {
         load_all(&shared, &mut writer);

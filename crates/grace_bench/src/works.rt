@@ -14,12 +14,14 @@ pub enum Work {
     Hold { times: u32 },
     /// `scan N`: the writer looks through the slots of all processes for an area that none names.
     Scan { times: u32 },
+    /// `delay N`: a watcher delays progress and resumes.
+    Delay { times: u32 },
     /// `load N`: the writer loads all anchors of all processes.
     Load { times: u32 },
 }
 
 /// A little of each work.
-pub const LITTLE: [Work; 7] = [
+pub const LITTLE: [Work; 8] = [
     Work::Report { times: 1000 },
     Work::Wait {
         readers: 1,
@@ -35,6 +37,7 @@ pub const LITTLE: [Work; 7] = [
     },
     Work::Hold { times: 1000 },
     Work::Scan { times: 10 },
+    Work::Delay { times: 1000 },
     Work::Load { times: 10 },
 ];
 
@@ -56,6 +59,7 @@ fn work_named(name: &str, times: u32) -> Option<Work> {
         "report" => Some(Work::Report { times }),
         "hold" => Some(Work::Hold { times }),
         "scan" => Some(Work::Scan { times }),
+        "delay" => Some(Work::Delay { times }),
         "load" => Some(Work::Load { times }),
         _ => None,
     }
