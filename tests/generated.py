@@ -288,6 +288,20 @@ def counted_turns():
         yield is_judged(f"{turns}_turns", text, told, yes)
 
 
+def loads_beside_observers():
+    """The text of a script whose one loader publishes about 160 generations, and of four observers with 16 snapshots each."""
+    versions = "module m.1\nexport main/0\nret 1\nend\nmodule m.2\nexport main/0\nexport more/1\nend\n"
+    observers = "observer 16\n" * 4
+    puts = joined("put k #\n", range(80))
+    loads = "load m.1\nsoft_purge m\nload m.2\nsoft_purge m\n" * 20
+    return script(f"{versions}{observers}loader\n{puts}{loads}")
+
+
+def made_beside_observers():
+    """The text of the made script of seed 1 and size 2,000, with four observers of two snapshots each."""
+    return made(1, 2_000).replace("loader\n", "observer 2\n" * 4 + "loader\n", 1)
+
+
 def made_scripts():
     """A seed and a size make a script, whatever the input is."""
     for seed, size in ((1, 1), (1, 2), (1, 6), (0, 16), (7, 515), (4_294_967_295, 4_000)):
