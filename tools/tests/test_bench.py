@@ -89,6 +89,19 @@ class Times(unittest.TestCase):
             lines = text.split("\n")
             self.assertEqual(lines[lines.index("spawn n:none()") :], ["spawn n:none()", "spawn m:main()", "spawn m:main()", *commands, "put stop 1", "go", ""])
 
+    def test_observers_beside_commits(self):
+        with_them, without = bench.commits_beside(4)(3).split("\n"), bench.commits_beside(0)(3).split("\n")
+        self.assertEqual([line for line in with_them if line not in without], ["observer 16"] * 4)
+        self.assertEqual(sum(line.startswith("export f") for line in without), 256)
+        self.assertEqual(without[-5:], ["put tick 1", "put tick 2", "put stop 1", "go", ""])
+
+    def test_a_delay_with_its_resume(self):
+        seconds = {100_000: [2.0, 1.0], 1_000_000: [1.9, 1.5]}
+        with mock.patch.object(bench, "GRACE", self.script()), mock.patch.object(bench, "ran", lambda _program, words, _path: bench.Run(9.0, seconds[int(words[1])].pop(0), 0)):
+            self.assertEqual(bench.delay_row(self.folder, 2), "| a delay with its resume | 555.6 ns | - |")
+        with mock.patch.object(bench, "GRACE", self.folder / "none"):
+            self.assertIn("crates/grace_bench", bench.delay_row(self.folder, 2))
+
     def test_one_purge_kills_all_processes(self):
         with_it, without = bench.kills(1).split("\n"), bench.kills(0).split("\n")
         self.assertEqual(with_it.count("spawn m:main()"), 64)
