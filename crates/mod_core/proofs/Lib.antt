@@ -4,6 +4,7 @@ pub mod Heads
 pub mod ImageWords
 pub mod InPlace
 pub mod Lengths
+pub mod ListPlaces
 pub mod Marks
 pub mod OneFunction
 pub mod Places

@@ -130,9 +130,6 @@ pub struct Module {
     pub functions: FunctionList,
 }
 
-/// Modules in a row, as the texts of a script.
-pub type ModuleList = Items<Module>;
-
 impl Instr {
     /// An equal instruction.
     fn copy(&self) -> Result<Instr, NoMemory>

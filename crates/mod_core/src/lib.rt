@@ -8,14 +8,16 @@ mod image;
 mod instr_reading;
 mod laws;
 mod layout;
+mod module_list;
 mod validity;
 mod words;
 
 pub use code::{
     Function, FunctionList, GREATEST_VERSION, Instr, InstrList, LONGEST_IMAGE, MOST_ARGUMENTS,
-    MOST_FUNCTIONS, Module, ModuleList, Operand, REGISTERS,
+    MOST_FUNCTIONS, Module, Operand, REGISTERS,
 };
 pub use decoding::decode;
 pub use image::encode;
 pub use laws::{encoded_modules_are_read, images_are_of_one_module};
+pub use module_list::ModuleList;
 pub use validity::validate;
