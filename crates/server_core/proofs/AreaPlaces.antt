@@ -94,10 +94,6 @@ of_area serial (Some (Stored t)) = refl
 pub words_at : (areas : List Area) (serial : ℕ) → words_among areas serial ≡ option_map (words_in serial) (area_at areas serial)
 words_at areas serial = (λ i. first_words (option_map (instance_image serial) (code_at areas serial i)) (option_map image_of (term_at_serial areas serial i))) ∙ of_area serial (area_at areas serial)
 
--- the words of an area that was found
-pub words_found : (areas : List Area) (serial : ℕ) (o : Option Area) → o ≡ area_at areas serial → option_map (words_in serial) o ≡ words_among areas serial
-words_found areas serial o found = ap (option_map (words_in serial)) found ∙ sym (words_at areas serial)
-
 -- a word of an area that was found
 pub word_found : (areas : List Area) (serial at : ℕ) (o : Option Area) → o ≡ area_at areas serial → option_and_then (λ words. slice_get words at) (option_map (words_in serial) o) ≡ option_and_then (λ words. slice_get words at) (words_among areas serial)
 word_found areas serial at o found = ap (λ p. option_and_then (λ words. slice_get words at) (option_map (words_in serial) p)) found ∙ ap (option_and_then (λ words. slice_get words at)) (sym (words_at areas serial))

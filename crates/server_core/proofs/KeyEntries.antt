@@ -1,13 +1,10 @@
 -- The hash map of what keys hold as the plain list of persistent terms: what is looked up, put and erased, and how many areas there are.
-use Rattle.std.proofs.Common.{◌≡◌, ℕ, zero, suc, ◌+◌, ◌++◌, slice_get, take, Bool, true, false, cond, not, nat_eq, List, [], ◌∷◌, map, Option, Some, None, option_map, option_and_then, is_some, if◌then◌else◌, refl, sym, ap, ◌∙◌, arith}
+use Rattle.std.proofs.Common.{◌≡◌, ℕ, ◌+◌, Bool, true, false, cond, not, nat_eq, List, [], ◌∷◌, map, Option, Some, None, option_map, option_and_then, is_some, if◌then◌else◌, refl, sym, ap, ◌∙◌, arith}
 use Rattle.std.proofs.lemmas.Bool.Decides.{nat_tests}
-use Rattle.std.proofs.lemmas.List.{map-append}
-use Rattle.std.proofs.lemmas.Option.{same_Some, slice_get-map}
 use Rattle.std.specs.Map.{lookup, remove_entry}
 use Rattle.indexmap.specs.IndexMap.{insert_entry}
 use Rattle.server_core.specs.declared.keys.Held.{Held}
 use Rattle.server_core.specs.CommandTable.{with_key, without_key}
-use Rattle.server_core.specs.Generations.{key_term}
 use Rattle.server_core.specs.KeyTable.{persistent_in}
 use Rattle.server_core.specs.Rooms.{area_among}
 use Rattle.server_core.specs.ServerState.{Persistent, live_areas, persistent_among}
@@ -120,17 +117,3 @@ some_mapped key (Some h) = refl
 -- a key holds a term where the map has its atom
 pub holds_shown : (es : List (ℕ × Held)) (ps : List Persistent) (key : ℕ) (b : Bool) → map persistent_in es ≡ ps → b ≡ is_some (lookup (nat_eq key) es) → b ≡ is_some (persistent_among ps key)
 holds_shown es ps key b seen found = found ∙ some_mapped key (lookup (nat_eq key) es) ∙ ap is_some (held_shown es ps key (lookup (nat_eq key) es) seen refl)
-
-took_next : {X : Type 0} (xs : List X) (i : ℕ) (x : X) → slice_get xs i ≡ Some x → take (i + 1) xs ≡ take i xs ++ x ∷ []
-took_next [] i x e = absurd (cc)
-took_next (y ∷ ys) zero x e = ap (λ z. z ∷ []) (same_Some y x e)
-took_next (y ∷ ys) (suc i) x e =
-    let on : suc i + 1 ≡ suc (i + 1) = omega arith in
-    ap (λ n. take n (y ∷ ys)) on ∙ ap (λ zs. y ∷ zs) (took_next ys i x e)
-
--- one key more is written in plain numbers
-pub terms_next : (es : List (ℕ × Held)) (ps : List Persistent) (i : ℕ) (e : ℕ × Held) → map persistent_in es ≡ ps → slice_get es i ≡ Some e →
-    map key_term (take (i + 1) ps) ≡ map key_term (take i ps) ++ key_term (persistent_in e) ∷ []
-terms_next es ps i e seen at =
-    let there : slice_get ps i ≡ Some (persistent_in e) = ap (λ qs. slice_get qs i) (sym seen) ∙ slice_get-map persistent_in es i ∙ ap (option_map persistent_in) at in
-    ap (map key_term) (took_next ps i (persistent_in e) there) ∙ map-append key_term (take i ps) (persistent_in e ∷ [])

@@ -11,7 +11,7 @@ use crate::stored_term::StoredTerm;
 use mod_core::Module;
 use std::alloc::Global;
 use std::marker::Model;
-use term_core::{NoMemory, WordList};
+use term_core::NoMemory;
 
 /// What has an area of its own: an instance of a module, or a complex term.
 #[derive(Drop)]
@@ -78,17 +78,6 @@ impl AreaTable {
         match self.get(serial)? {
             Area::Loaded(instance) => instance.word(serial, at),
             Area::Stored(term) => term.word(at),
-        }
-    }
-
-    /// The words of the area with a serial.
-    pub fn words(&self, alloc: Global, serial: u64) -> Result<Option<WordList>, NoMemory>
-        ensures { IfOk result (λ words. words ≡ words_among self.now serial) }
-    {
-        match self.get(serial) {
-            Some(Area::Loaded(instance)) => Ok(Some(instance.words(alloc, serial)?)),
-            Some(Area::Stored(term)) => Ok(Some(term.words(alloc)?)),
-            None => Ok(None),
         }
     }
 

@@ -1,6 +1,4 @@
-ghost use Rattle.std.specs.Prelude.{◌≡◌, ◌<◌, ◌≤◌, ℕ, [], IfOk, IfSome, None, if◌then◌else◌, is_some, length, map, option_and_then, ◌+◌};
-ghost use Rattle.server_core.specs.Generations.{key_term};
-ghost use Rattle.server_core.specs.KeyTable.{persistent_in};
+ghost use Rattle.std.specs.Prelude.{◌≡◌, ◌<◌, ◌≤◌, [], IfOk, IfSome, None, if◌then◌else◌, is_some, length, option_and_then, ◌+◌};
 ghost use Rattle.term_core.specs.Image.{IsImmediate};
 ghost use Rattle.term_core.specs.Plain.{plain};
 ghost use Rattle.server_core.specs.CommandTable.{holds_equal, with_key, without_key};
@@ -11,7 +9,7 @@ use crate::command::MOST_TERMS;
 use indexmap::IndexMap;
 use std::alloc::Global;
 use std::marker::Model;
-use term_core::{AreaRef, AtomId, Found, Holding, KeyTerm, KeyTermList, NoMemory, Term};
+use term_core::{AreaRef, AtomId, Found, NoMemory, Term};
 
 /// What a key holds: the term, and the serial of its area where it is complex.
 #[derive(Drop)]
@@ -97,20 +95,6 @@ impl KeyTable {
         }
     }
 
-    /// Each key with what it holds, in plain numbers.
-    pub fn terms(&self, alloc: Global) -> Result<KeyTermList, NoMemory>
-        requires { (key : ℕ) → IfSome (persistent_among self.now.persistents key) HasWord }
-        ensures { IfOk result (λ terms. terms ≡ map key_term self.now.persistents) }
-    {
-        let mut terms = KeyTermList::new(alloc);
-        for at in 0..self.held.len() {
-            if let Some((key, held)) = self.held.get_index(at) {
-                terms.push(key_term(*key, held))?;
-            }
-        }
-        Ok(terms)
-    }
-
     /// A map for these keys and one more. As in Erlang/OTP, a put takes time in proportion to the number of keys.
     pub fn room(&self, alloc: Global) -> Result<IndexMap<u32, Held>, NoMemory>
         ensures { IfOk result (λ map. HasPlaces (length self.now.persistents + 1) map) }
@@ -152,21 +136,6 @@ impl KeyTable {
         let former = area_of(self.held.shift_remove(&key.0));
         self.areas -= count_of(former);
         former
-    }
-}
-
-/// A key with what it holds, in plain numbers.
-fn key_term(key: u32, held: &Held) -> KeyTerm
-    requires { held.now.area ≡ None → IsImmediate held.now.term }
-    ensures { result ≡ key_term (persistent_in (key, held.now)) }
-{
-    let holding = match held.area {
-        Some(serial) => Holding::Area(serial),
-        None => Holding::Word(held.term.word()),
-    };
-    KeyTerm {
-        key: AtomId(key),
-        holding,
     }
 }
 

@@ -8,7 +8,6 @@ mod change;
 mod command;
 mod fault;
 mod functions;
-mod generations;
 mod growth;
 mod instance;
 mod keys;

@@ -15,7 +15,7 @@ use crate::server::Server;
 use crate::texts::{are_given, repeated, stage};
 use crate::versions::{Serials, VersionTable};
 use indexmap::IndexMap;
-use mod_core::Module;
+use mod_core::ModuleList;
 use term_core::{AtomList, NoMemory};
 
 impl Server {
@@ -23,7 +23,7 @@ impl Server {
     pub(crate) fn decide_load(
         &self,
         refs: &[ModRef],
-        texts: &[Module],
+        texts: &ModuleList,
     ) -> Result<Change, ApplyFault>
         requires { All IsModule texts.now }
         ensures ok { IfOk result (λ change. while_none_doomed self.now (load_of texts.now self.now refs.now) ≡ Some (made self.now change)) }
@@ -37,7 +37,7 @@ impl Server {
     }
 
     /// The same, while no instance is being purged.
-    fn decide_at_rest(&self, refs: &[ModRef], texts: &[Module]) -> Result<Change, ApplyFault>
+    fn decide_at_rest(&self, refs: &[ModRef], texts: &ModuleList) -> Result<Change, ApplyFault>
         requires texts { All IsModule texts.now }
         requires rest { self.now.doomed ≡ [] }
         ensures ok { IfOk result (λ change. load_of texts.now self.now refs.now ≡ Some (made self.now change)) }

@@ -95,7 +95,7 @@ impl Server {
         ensures not_enabled { IsErrOf result ApplyFault.NotEnabled ↔ (apply_of texts.now self.now cmd.now ≡ None) }
     {
         match cmd {
-            Cmd::Load(refs) => self.decide_load(refs.as_slice(), texts.as_slice()),
+            Cmd::Load(refs) => self.decide_load(refs.as_slice(), texts),
             Cmd::Delete(module) => self.decide_delete(*module),
             Cmd::SoftPurge { module, lingers } => self.decide_soft_purge(*module, *lingers),
             Cmd::Doom(module) => self.decide_doom(*module),

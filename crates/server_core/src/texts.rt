@@ -1,28 +1,20 @@
 ghost use Rattle.std.specs.Prelude.{◌≡◌, [], IfOk, IsSome, Some, All, is_some};
-ghost use Rattle.std.specs.Option.{option_copied};
 ghost use Rattle.mod_core.specs.Module.{IsModule};
-ghost use Rattle.server_core.specs.CommandTable.{names_of, repeated_after, text_of, texts_of};
+ghost use Rattle.server_core.specs.CommandTable.{names_of, repeated_after, texts_of};
 
 use crate::command::ModRef;
 use crate::instance::LoadedModule;
 use indexmap::IndexSet;
-use mod_core::Module;
+use mod_core::ModuleList;
 use std::alloc::Global;
 use term_core::{AtomId, NoMemory};
 
-/// The text with this name and version.
-fn text_of(texts: &[Module], to: ModRef) -> Option<&Module>
-    ensures { option_copied result ≡ text_of texts.now to }
-{
-    texts.iter().find(|text| text.name.0 == to.name.0 && text.version == to.version)
-}
-
 /// Whether each text of the list is given. It takes no memory.
-pub fn are_given(texts: &[Module], refs: &[ModRef]) -> bool
+pub fn are_given(texts: &ModuleList, refs: &[ModRef]) -> bool
     ensures { result ≡ is_some (texts_of texts.now refs.now) }
 {
     for to in refs {
-        if text_of(texts, *to).is_none() {
+        if texts.find(to.name, to.version).is_none() {
             return false;
         }
     }
@@ -45,7 +37,7 @@ pub fn repeated(alloc: Global, refs: &[ModRef]) -> Result<Option<AtomId>, NoMemo
 /// The modules of the list, each with its image.
 pub fn stage(
     alloc: Global,
-    texts: &[Module],
+    texts: &ModuleList,
     refs: &[ModRef],
 ) -> Result<Vec<LoadedModule>, NoMemory>
     requires sound { All IsModule texts.now }
@@ -54,7 +46,7 @@ pub fn stage(
 {
     let mut staged = Vec::new(alloc);
     for to in refs {
-        let text = text_of(texts, *to).unwrap();
+        let text = texts.find(to.name, to.version).unwrap();
         staged.push(LoadedModule::new(alloc, text)?)?;
     }
     Ok(staged)

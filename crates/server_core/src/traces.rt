@@ -1,12 +1,11 @@
-ghost use Rattle.std.specs.Prelude.{◌≡◌, [], ◌∷◌, ◌++◌, ◌==◌, filter, map, not, IfOk, ◌+◌, length};
-ghost use Rattle.server_core.specs.Generations.{function_ref};
+ghost use Rattle.std.specs.Prelude.{◌≡◌, [], ◌∷◌, ◌++◌, ◌==◌, filter, not, IfOk, ◌+◌, length};
 ghost use Rattle.std.specs.List.{list_any};
 ghost use Rattle.server_core.specs.Rooms.{IsBlock};
 ghost use Rattle.server_core.specs.ServerState.{entry_of, is_same_entry};
 
 use std::alloc::Global;
 use std::marker::Model;
-use term_core::{CodeRef, FunctionRef, FunctionRefList, NoMemory};
+use term_core::{CodeRef, NoMemory};
 
 /// The functions with a breakpoint, the newest last. Contracts see where they stand, their blocks left out.
 #[derive(Drop)]
@@ -40,17 +39,6 @@ impl TraceTable {
         self.functions.iter().any(|other| is_same(at, *other))
     }
 
-    /// The functions in plain numbers.
-    pub fn functions(&self, alloc: Global) -> Result<FunctionRefList, NoMemory>
-        ensures { IfOk result (λ functions. functions ≡ map function_ref self.now) }
-    {
-        let mut functions = FunctionRefList::new(alloc);
-        for at in self.functions.iter() {
-            functions.push(in_numbers(*at))?;
-        }
-        Ok(functions)
-    }
-
     /// A block for these functions and one more.
     pub fn room(&self, alloc: Global) -> Result<Vec<CodeRef>, NoMemory>
         ensures { IfOk result (λ block. IsBlock (length self.now + 1) block) }
@@ -81,16 +69,6 @@ impl TraceTable {
         ensures { self.new ≡ filter (λ e. not (e.serial == serial)) self.old }
     {
         self.functions.retain(|other| other.area.serial != serial);
-    }
-}
-
-/// The function in plain numbers.
-pub(crate) fn in_numbers(at: CodeRef) -> FunctionRef
-    ensures { result ≡ function_ref (entry_of at) }
-{
-    FunctionRef {
-        serial: at.area.serial,
-        function: at.function,
     }
 }
 

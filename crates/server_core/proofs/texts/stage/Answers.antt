@@ -5,4 +5,4 @@ use Rattle.server_core.proofs.GivenTexts.{text_sound}
 use Rattle.server_core.proofs.texts.stage.Goals as goal
 
 pub new-requires : goal.new-requires
-new-requires c = text_sound c.args.texts.now _ c.unwrap-text.result.now c.requires.sound (sym c.text_of.ensures ∙ ap option_copied c.unwrap-text.ensures)
+new-requires c = text_sound c.args.texts.now _ c.unwrap-text.result.now c.requires.sound (sym c.find.ensures ∙ ap option_copied c.unwrap-text.ensures)
