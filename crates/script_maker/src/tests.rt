@@ -12,7 +12,7 @@ fn six_commands_of_seed_1(rt: HostRuntime) -> Result<(), Fail> {
             "at {atom}"
         );
     }
-    assert_eq!(rt; script.modules.len(), 16);
+    assert_eq!(rt; script.modules.as_slice().len(), 16);
     let blocks = script.loaders.as_slice();
     assert_eq!(rt; blocks.len(), 2);
     let cases = [
