@@ -107,5 +107,6 @@ module _ (at : CodeRef) (w : WriterView) (value : ℕ) (after : List ℕ) (can :
     long = set.long;
     others = λ place decision entry. set.there place (decision (staging_breakpoints w) (behind_fits (active_breakpoints w)));
     more = λ pair among. among;
+    longer = omega (arith);
     rising = omega (arith);
   }

@@ -64,5 +64,6 @@ module _ (at : CodeRef) (w : WriterView) (value : ℕ) (after : List ℕ) (can :
     long = set.long;
     others = λ place decision entry. set.there place entry;
     more = λ pair among. among;
+    longer = omega (arith);
     rising = omega (arith);
   }

@@ -1,5 +1,5 @@
 -- What steps leave that store no decision on a function that is called: the indices, and a patch at its phase.
-use Rattle.std.proofs.Common.{◌≡◌, ℕ, ◌+◌, ◌%◌, ◌<◌, ◌≤◌, inl, inr, Bool, true, List, refl, sym, ap, subst, ◌∙◌, arith}
+use Rattle.std.proofs.Common.{◌≡◌, ℕ, ◌+◌, ◌%◌, ◌<◌, ◌≤◌, inl, inr, Bool, true, List, length, length-append, refl, sym, ap, subst, ◌∙◌, arith}
 use Rattle.std.specs.Prelude.{◌==◌, Option, Some, None, slice_get}
 use Rattle.std.specs.List.{list_any}
 use Rattle.std.proofs.lemmas.Bool.{cases_Bool, eq-eqb, eqb-true, true≢false}
@@ -22,7 +22,7 @@ use Rattle.breakpoints.specs.declared.patch.Patch.{Patch}
 use Rattle.breakpoints.specs.declared.patch.Phase.{Phase}
 use Rattle.breakpoints.specs.declared.patch.Phase.TheVariants.{Begun, Staged, Entered, Published as IsSwitched, Restored, Finished}
 use Rattle.breakpoints.specs.Indices.{AreIndices, BreakpointsRest, IsOther, IsStagingUnread, IsUnkept, active_breakpoints, decision_place, staging_breakpoints}
-use Rattle.breakpoints.specs.Patches.{HasPatched, IsDecisionStaged, IsPatchOf, IsPatchable, IsPatching, PhaseStands, entry_place}
+use Rattle.breakpoints.specs.Patches.{HasPatched, LoadsCounter, IsDecisionStaged, IsPatchOf, IsPatchable, IsPatching, PhaseStands, entry_place}
 use Rattle.breakpoints.specs.Laws.{LeavesDecisions}
 use Rattle.breakpoints.proofs.Standing.{patch_for}
 use Rattle.breakpoints.proofs.Spots.{behind_fits}
@@ -183,6 +183,16 @@ counted_here old counter rises = record {
 pub counted_leaves : (old new : WriterView) → HasLoadedCounter old new → LeavesDecisions old new
 counted_leaves old new loaded = subst (LeavesDecisions old) (sym loaded.view) (counted_here old loaded.counter loaded.rising)
 
+-- it keeps one pair more
+pub kept_longer : (counter : ℕ) (w : WriterView) → length (counter_kept counter w).pairs ≡ length w.pairs + 1
+kept_longer counter w = length-append w.pairs _
+
+pub counted_longer : (old new : WriterView) → HasLoadedCounter old new → length new.pairs ≡ length old.pairs + 1
+counted_longer old new loaded = ap (λ (w : WriterView). length w.pairs) loaded.view ∙ kept_longer loaded.counter old
+
+pub counted_loads : (old new : WriterView) → HasLoadedCounter old new → LoadsCounter old new
+counted_loads old new loaded = (let one = counted_longer old new loaded in omega (arith, one))
+
 pub counted_patched : (at : CodeRef) (old new : WriterView) → HasLoadedCounter old new → HasPatched at old new
 counted_patched at old new loaded =
     let here : HasPatched at old (counter_kept loaded.counter old) = record {
@@ -190,6 +200,7 @@ counted_patched at old new loaded =
       long = refl;
       others = λ place decision entry. refl;
       more = λ pair among. (among.0, still_at old.pairs _ among.0 pair among.1);
+      longer = (let one = kept_longer loaded.counter old in omega (arith, one));
       rising = loaded.rising;
     } in
     subst (HasPatched at old) (sym loaded.view) here

@@ -9,7 +9,7 @@ use Rattle.breakpoints.specs.declared.patch.Phase.{Phase}
 use Rattle.breakpoints.specs.declared.patch.Phase.TheVariants.{Begun, Staged, Entered, Published as IsSwitched, Restored, Finished}
 use Rattle.breakpoints.specs.Patches.{HasPatched, IsLastPhase, IsPatchOf, MovesTo, PhaseStands, phase_need}
 use Rattle.breakpoints.specs.Switched.{NeedIsReached, PatchEnds, PatchMoves, PatchWaits}
-use Rattle.breakpoints.proofs.Others.{counted_leaves, counted_patched, phase_still}
+use Rattle.breakpoints.proofs.Others.{counted_leaves, counted_loads, counted_patched, phase_still}
 
 -- the patch is at the phase that it was given
 pub at_phase : (x : Patch) (w : WriterView) (phase : Phase) → x.phase ≡ phase → IsPatchOf x w → PhaseStands x.at x.on phase w
@@ -28,6 +28,7 @@ waits_on x old new need answer is loaded below = record {
   patched = counted_patched x.at old new loaded;
   words = ap (λ (w : WriterView). w.words) loaded.view;
   need = is ∙ ap Some (sym below.asked);
+  loads = counted_loads old new loaded;
   loaded = below.loaded;
   below = below.below;
 }

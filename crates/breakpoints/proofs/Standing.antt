@@ -100,5 +100,6 @@ patched_then at a b c first second = record {
   long = second.long ∙ first.long;
   others = λ place decision entry. second.others place decision entry ∙ first.others place decision entry;
   more = λ pair among. second.more pair (first.more pair among);
+  longer = (let one = first.longer in let two = second.longer in omega (arith, one, two));
   rising = (let one = first.rising in let two = second.rising in omega (arith, one, two));
 }

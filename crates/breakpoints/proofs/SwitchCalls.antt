@@ -23,7 +23,7 @@ use Rattle.breakpoints.specs.declared.patch.Phase.TheVariants.{Staged, Entered, 
 use Rattle.breakpoints.specs.Indices.{AreIndices}
 use Rattle.breakpoints.specs.Patches.{IsDecisionStaged, IsPatchOf, IsPatchable, IsPatching, PhaseStands, Switches, entry_place, phase_need}
 use Rattle.breakpoints.specs.Switched.{MaySwitch, NeedIsReached, PatchSwitches, switched_over}
-use Rattle.breakpoints.proofs.Others.{counted_leaves, counted_patched, entry_still, indices_still, patchable_still, staged_still, traced_still}
+use Rattle.breakpoints.proofs.Others.{counted_leaves, counted_longer, counted_patched, entry_still, indices_still, patchable_still, staged_still, traced_still}
 use Rattle.breakpoints.proofs.Switching.{may_publish, switched_indices, switched_patchable, switched_traced}
 
 -- what is so where the root is stored next
@@ -126,6 +126,7 @@ module _ (Served : Published → Type 0) (x : Patch) (old w : WriterView) (need 
       phase = phase;
       view = view_is;
       more = λ pair among. (counted_leaves mid new last).more pair (subst (λ (v : WriterView). Among v.pairs pair) (sym mid_is) among);
+      longer = (let one = counted_longer mid new last in let same = ap (λ (v : WriterView). length v.pairs) mid_is in omega (arith, one, same));
       rising = (let rises = (counted_leaves mid new last).rising in let same = ap (λ (v : WriterView). v.counter) mid_is in omega (arith, rises, same));
       number = number ∙ sym root.number ∙ ap (λ (v : WriterView). length v.published) first.view;
     }

@@ -74,7 +74,7 @@ module _ (w : WriterView) (at : CodeRef) (can : IsPatchable w at) (own : AreIndi
 
 -- where nothing is stored, nothing is changed
 pub nothing_patched : (at : CodeRef) (w : WriterView) → HasPatched at w w
-nothing_patched at w = record { view = refl; long = refl; others = λ place decision entry. refl; more = λ pair among. among; rising = omega (arith) }
+nothing_patched at w = record { view = refl; long = refl; others = λ place decision entry. refl; more = λ pair among. among; longer = omega (arith); rising = omega (arith) }
 
 -- a patch that has published nothing is at one of three phases
 pub none_later : (phase : Phase) → IsUnpublished phase → (phase ≡ Begun → ⊥) → ((need : ℕ) → phase ≡ Staged need → ⊥) → ((need : ℕ) → phase ≡ Entered need → ⊥) → ⊥

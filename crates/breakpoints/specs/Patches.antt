@@ -107,10 +107,15 @@ IsLastPhase on phase = ⊥
 
 -- ---- what a step leaves
 
+-- the counter was loaded in between: each load of it keeps a pair more
+abbrev pub LoadsCounter : WriterView → WriterView → Type 0
+LoadsCounter old new = length old.pairs < length new.pairs
+
 -- the writer has loaded the counter, and stored no words but the decisions on the function and its entry word
 pub record HasPatched (at : CodeRef) (old new : WriterView) : Type 0 where
   pub view : new ≡ record old { words = new.words; pairs = new.pairs; counter = new.counter }
   pub long : length new.words ≡ length old.words
   pub others : (place : ℕ) → ((bp : ℕ) → bp < BREAKPOINT_INDICES → place ≢ decision_place bp at) → place ≢ entry_place at → word_at new.words place ≡ word_at old.words place
   pub more : (pair : Retirement) → Among old.pairs pair → Among new.pairs pair
+  pub longer : length old.pairs ≤ length new.pairs
   pub rising : old.counter ≤ new.counter

@@ -23,7 +23,7 @@ use Rattle.breakpoints.specs.declared.patch.Phase.TheVariants.{Finished, Publish
 use Rattle.breakpoints.specs.declared.patch.PatchStep.{PatchStep}
 use Rattle.breakpoints.specs.declared.patch.PatchStep.TheVariants as steps
 use Rattle.breakpoints.specs.Indices.{staging_breakpoints}
-use Rattle.breakpoints.specs.Patches.{IsLastPhase, HasPatched, MovesTo, Switches, phase_need}
+use Rattle.breakpoints.specs.Patches.{IsLastPhase, HasPatched, LoadsCounter, MovesTo, Switches, phase_need}
 
 -- the generation over the staging index, and over the other blocks of the newest one
 abbrev pub switched_over : WriterView → Generation → List AreaRef → Published
@@ -60,6 +60,7 @@ pub record PatchWaits (x y : Patch) (old new : WriterView) (answer : NotYet) : T
   pub patched : HasPatched x.at old new
   pub words : new.words ≡ old.words
   pub need : phase_need x.phase ≡ Some answer.need
+  pub loads : LoadsCounter old new
   pub loaded : answer.current ≡ new.counter
   pub below : answer.current < answer.need
 
@@ -87,6 +88,7 @@ pub record PatchSwitches (x y : Patch) (p : Published) (old new : WriterView) (g
   pub phase : y.phase ≡ IsSwitched need
   pub view : new ≡ record (with_next p waited) { pairs = new.pairs; counter = new.counter }
   pub more : (pair : Retirement) → Among waited.pairs pair → Among new.pairs pair
+  pub longer : length waited.pairs ≤ length new.pairs
   pub rising : waited.counter ≤ new.counter
   pub number : generation ≡ length old.published
 
