@@ -15,5 +15,3 @@ pub mod StateExports
 pub mod SortedFunctions
 pub mod KeptTexts
 pub mod ListPlaces
-pub mod HistoryLists
-pub mod HistoryEnd

@@ -8,4 +8,3 @@ pub mod Report
 pub mod Summary
 pub mod WholeSpans
 pub mod WellFormed
-pub mod History
