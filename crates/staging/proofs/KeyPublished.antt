@@ -146,7 +146,7 @@ published_retired (Some serial) old new before later is = ap (λ (x : WriterView
 
 pub known_retired : (former : Option ℕ) (old new : Areas) (before after : WriterView) → FormerRetired former old before new after → KeepsKnown before after
 known_retired None old new before later is = known_same before later is.1
-known_retired (Some serial) old new before later is = subst (KeepsKnown before) (sym is.stored) (record { notes = refl; looks = refl; waits = λ pair had. had })
+known_retired (Some serial) old new before later is = subst (KeepsKnown before) (sym is.stored) (record { notes = refl; looks = refl; waits = λ pair had. had; longer = omega (arith) })
 
 -- so its block is a small one
 pub former_high : (names : List Mfa) (s : ServerState) (change : Change) (rest pools : Areas) (w : WriterView) (taken : List AreaRef) → IsSound s → IsKeyChange change → StandFor names s rest w → ArePlaced (incoming change) rest pools w taken → areas.IsSound pools

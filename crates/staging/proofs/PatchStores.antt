@@ -61,6 +61,7 @@ module _ (w : WriterView) (pairs : List Retirement) (counter : ℕ) (more : (pai
 pub record IsLater (old new : WriterView) : Type 0 where
   pub view : new ≡ record old { pairs = new.pairs; counter = new.counter }
   pub more : (pair : Retirement) → Among old.pairs pair → Among new.pairs pair
+  pub longer : length old.pairs ≤ length new.pairs
   pub rising : old.counter ≤ new.counter
 
 -- whose tables they are: nothing is staged in them
@@ -84,7 +85,7 @@ pub stands_later : (names : List Mfa) (s : ServerState) (pools : Areas) (old new
 stands_later names s pools old new later stands = subst (StandFor names s pools) (sym later.view) (stands_counted new.pairs new.counter old names s pools stands)
 
 pub known_later : (old new : WriterView) → IsLater old new → KeepsKnown old new
-known_later old new later = record { notes = ap (λ (w : WriterView). w.notes) later.view; looks = ap (λ (w : WriterView). w.looks) later.view; waits = later.more }
+known_later old new later = record { notes = ap (λ (w : WriterView). w.notes) later.view; looks = ap (λ (w : WriterView). w.looks) later.view; waits = later.more; longer = later.longer }
 
 -- ---- the stores of a patch
 
@@ -151,4 +152,4 @@ module _ (at : CodeRef) (old new : WriterView) (for : IsForInstances at.area.blo
   }
 
   pub patch_later : IsLater mid new
-  patch_later = record { view = patched.view; more = patched.more; rising = patched.rising }
+  patch_later = record { view = patched.view; more = patched.more; longer = patched.longer; rising = patched.rising }

@@ -170,7 +170,7 @@ module _ (names : List Mfa) (table : TableId) (opening : Opening) (t : Tables) (
           settling = settles_on new said.index said.terms said.pools said.by_index said.by_terms waits.patched y said.patch (subst (λ (x : Patch). IsSettling x.phase) (sym waits.same) behind) s was;
           why = patch_late t new y z answer is said.patch said.stands waits;
         };
-        need = need_kept t new y z is said.patch waits.same waits.patched.rising;
+        need = need_kept t new y z is said.patch waits.same waits.patched.rising waits.patched.longer;
         published = step_one.published;
         known = step_one.known;
       }
@@ -183,13 +183,13 @@ module _ (names : List Mfa) (old mid new : Tables) where
   rest_from (Ok done) goes rest = λ s had. rest s (goes s had)
   rest_from (Err answer) goes rest = rest
 
-  waits_still : (answer : NotYet) → NeedGoesOn old new → (s : ServerState) → Settles names s mid new answer → Settles names s old new answer
-  waits_still answer need s waits = record { settling = waits.settling; why = late_from old mid new answer need waits.why }
+  waits_still : (answer : NotYet) → NeedGoesOn old mid → NeedGoesOn old new → (s : ServerState) → Settles names s mid new answer → Settles names s old new answer
+  waits_still answer first need s waits = record { settling = waits.settling; why = late_from old mid new answer first need waits.why }
 
-  pub waiting_from : (r : Result (Unit {0}) NotYet) → ((s : ServerState) → AreSettling names s old → AreSettling names s mid) → NeedGoesOn old new → IfErr r (λ answer. (s : ServerState) → AreSettling names s mid → Settles names s mid new answer)
+  pub waiting_from : (r : Result (Unit {0}) NotYet) → ((s : ServerState) → AreSettling names s old → AreSettling names s mid) → NeedGoesOn old mid → NeedGoesOn old new → IfErr r (λ answer. (s : ServerState) → AreSettling names s mid → Settles names s mid new answer)
       → IfErr r (λ answer. (s : ServerState) → AreSettling names s old → Settles names s old new answer)
-  waiting_from (Ok done) goes need waits = waits
-  waiting_from (Err answer) goes need waits = λ s had. waits_still answer need s (waits s (goes s had))
+  waiting_from (Ok done) goes first need waits = waits
+  waiting_from (Err answer) goes first need waits = λ s had. waits_still answer first need s (waits s (goes s had))
 
 -- at the last phase the step is the last one
 pub at_last : (names : List Mfa) (old new : Tables) (step : PatchStep) → IsAtLast old → SettleAnswers names old new step → (step ≡ patch_steps.Finished → ⊥) → ⊥

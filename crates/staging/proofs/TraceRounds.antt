@@ -75,11 +75,11 @@ switched_from names s first now new generation same done = record {
   settling = done.settling;
 }
 
-pub waits_from : (names : List Mfa) (s : ServerState) (change : Change) (first now new : Tables) (stage : Stage) (answer : NotYet) → (written_by now.writer).published ≡ (written_by first.writer).published → NeedGoesOn first new → Waits names s change now new stage (IsPatchLate now new answer) → Waits names s change first new stage (IsPatchLate first new answer)
-waits_from names s change first now new stage answer same need waits = record { published = waits.published ∙ same; stands = waits.stands; why = late_from first now new answer need waits.why }
+pub waits_from : (names : List Mfa) (s : ServerState) (change : Change) (first now new : Tables) (stage : Stage) (answer : NotYet) → (written_by now.writer).published ≡ (written_by first.writer).published → NeedGoesOn first now → NeedGoesOn first new → Waits names s change now new stage (IsPatchLate now new answer) → Waits names s change first new stage (IsPatchLate first new answer)
+waits_from names s change first now new stage answer same before need waits = record { published = waits.published ∙ same; stands = waits.stands; why = late_from first now new answer before need waits.why }
 
 -- whatever the answer is
-pub traced_from : (names : List Mfa) (s : ServerState) (change : Change) (first now new : Tables) (stage : Stage) (step : Step) → (written_by now.writer).published ≡ (written_by first.writer).published → NeedGoesOn first new → TraceAnswers names s change now new stage step → TraceAnswers names s change first new stage step
-traced_from names s change first now new stage (steps.Published generation) same need said = switched_from names (made s change).state first now new generation same said
-traced_from names s change first now new stage (steps.NotYet answer) same need said = waits_from names s change first now new stage answer same need said
-traced_from names s change first now new stage steps.AwaitRelease same need said = said
+pub traced_from : (names : List Mfa) (s : ServerState) (change : Change) (first now new : Tables) (stage : Stage) (step : Step) → (written_by now.writer).published ≡ (written_by first.writer).published → NeedGoesOn first now → NeedGoesOn first new → TraceAnswers names s change now new stage step → TraceAnswers names s change first new stage step
+traced_from names s change first now new stage (steps.Published generation) same before need said = switched_from names (made s change).state first now new generation same said
+traced_from names s change first now new stage (steps.NotYet answer) same before need said = waits_from names s change first now new stage answer same before need said
+traced_from names s change first now new stage steps.AwaitRelease same before need said = said

@@ -24,7 +24,6 @@ use Rattle.code_law.specs.Served.{IsServed}
 use Rattle.breakpoints.specs.declared.patch.Patch.{Patch}
 use Rattle.breakpoints.specs.declared.patch.PatchStep.{PatchStep}
 use Rattle.breakpoints.specs.declared.patch.PatchStep.TheVariants as patch_steps
-use Rattle.breakpoints.specs.declared.patch.Phase.TheVariants.{Finished}
 use Rattle.breakpoints.specs.Patches.{IsPatchOf, IsUnpublished}
 use Rattle.breakpoints.specs.Switched.{MaySwitch, PatchAnswers, PatchMoves, PatchSwitches, PatchWaits, switched_over}
 use Rattle.breakpoints.proofs.Spots.{behind_fits}
@@ -220,6 +219,7 @@ module _ (names : List Mfa) (s : ServerState) (change : Change) (table : TableId
     later = record {
       view = done.view ∙ ap (λ (x : WriterView). record (with_next p x) { pairs = v.pairs; counter = v.counter }) waited_is;
       more = done.more;
+      longer = done.longer;
       rising = done.rising;
     }
 
@@ -229,7 +229,7 @@ module _ (names : List Mfa) (s : ServerState) (change : Change) (table : TableId
       stands = stands_later names after t.pools (with_next p u) v later (stands_next names after t.pools u p comes_u up (behind_fits (newest_of w).root.bp));
       published = ap (λ (x : WriterView). x.published) later.view;
       known = known_on w done.waited v step.known
-          (known_on done.waited (with_next p done.waited) v (known_next done.waited p) (known_later (with_next p done.waited) v (record { view = done.view; more = done.more; rising = done.rising })));
+          (known_on done.waited (with_next p done.waited) v (known_next done.waited p) (known_later (with_next p done.waited) v (record { view = done.view; more = done.more; longer = done.longer; rising = done.rising })));
     }
 
   -- what each answer leaves
@@ -279,7 +279,7 @@ module _ (names : List Mfa) (s : ServerState) (change : Change) (table : TableId
           };
         };
         waits = tt;
-        need = need_reached t new z done.waited is (let first = done.counted.rising in let second = done.rising in omega (arith, first, second)) done.rising done.reached;
+        need = need_reached t new z done.waited is (let first = done.counted.rising in let second = done.rising in omega (arith, first, second)) all.known.longer done.rising done.reached;
         known = all.known;
       }
   advanced exports new y (Ok patch_steps.Finished) said = absurd (not_last z.on z.phase before said.answers.last)
@@ -294,6 +294,6 @@ module _ (names : List Mfa) (s : ServerState) (change : Change) (table : TableId
           stands = patched_still new y said.index said.terms said.pools said.patch said.at said.on (subst (λ (x : Patch). IsUnpublished x.phase) (sym waits.same) before) step;
           why = patch_late t new y z answer is said.patch said.stands waits;
         };
-        need = need_kept t new y z is said.patch waits.same waits.patched.rising;
+        need = need_kept t new y z is said.patch waits.same waits.patched.rising waits.patched.longer;
         known = step.known;
       }

@@ -40,6 +40,12 @@ abbrev pub SettlingAreReleasable : List Mfa → Type 0
 SettlingAreReleasable names =
     (s : ServerState) (t : Tables) (serial : ℕ) → AreSettling names s t → IsTrue (is_retired s serial) → IsClear (written_by t.writer) Both serial → IsReleasable serial t.pools (written_by t.writer)
 
+-- what is staged, and what a commit, a key and a patch wait for, is as before
+pub record IsStagedStill (old new : Tables) : Type 0 where
+  pub index : new.index ≡ old.index
+  pub terms : new.terms ≡ old.terms
+  pub patch : new.patch ≡ old.patch
+
 -- the words stand for each state that they stood for, once it has released the area
 abbrev pub StandReleased : List Mfa → ℕ → Tables → Tables → Type 0
 StandReleased names serial old new = (s : ServerState) → AreAtRest names s old → AreAtRest names (with_released s serial) new

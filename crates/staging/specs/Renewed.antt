@@ -1,4 +1,4 @@
--- A change that leaves what calls reach, what keys hold and what is traced of code that stays is published over the blocks of the newest generation, between rounds and with no wait.
+-- A change that leaves what calls reach, what keys hold and what is traced of code that stays is published over the blocks of the newest generation, with no wait.
 -- Source: Erlang/OTP erts internal documentation, CodeLoading, and the manual page code (purge, soft_purge).
 use Rattle.std.specs.Prelude.{◌≡◌, ℕ, ◌<◌, List, length, Option, Some, None, IsSomeAnd}
 use Rattle.term_core.specs.declared.area.AreaRef.{AreaRef}

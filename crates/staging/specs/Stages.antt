@@ -15,7 +15,7 @@ use Rattle.server_core.specs.declared.change.Change.TheVariants.{BringIn, MakeOl
 use Rattle.server_core.specs.Decided.{made}
 use Rattle.server_core.specs.ServerState.{ServerState, entry_of}
 use Rattle.breakpoints.specs.declared.patch.Patch.{Patch}
-use Rattle.breakpoints.specs.Patches.{IsSettling, IsUnpublished, phase_need}
+use Rattle.breakpoints.specs.Patches.{IsSettling, IsUnpublished, LoadsCounter, phase_need}
 use Rattle.code_index.specs.declared.index.Staging.{Staging}
 use Rattle.code_index.specs.declared.index.Staging.TheVariants.{Nothing, Staged, Committing}
 use Rattle.literal_areas.specs.declared.areas.Areas.{Areas}
@@ -176,13 +176,14 @@ pub record Waits (names : List Mfa) (s : ServerState) (change : Change) (old new
   pub why : Why
 
 -- the counter that was loaded in this call is below what is awaited
-pub record IsLate (new : Tables) (answer : NotYet) : Type 0 where
+pub record IsLate (old new : Tables) (answer : NotYet) : Type 0 where
+  pub loads : LoadsCounter (written_by old.writer) (written_by new.writer)
   pub loaded : answer.current ≡ (written_by new.writer).counter
   pub below : answer.current < answer.need
 
 -- and what is awaited is the value that the change waits for
 pub record IsLateFor (change : Change) (old new : Tables) (answer : NotYet) : Type 0 where
-  pub late : IsLate new answer
+  pub late : IsLate old new answer
   pub awaited : awaited_by change new ≡ Some answer.need
   -- it is the one that the change waited for before this call, if it did
   pub kept : (need : ℕ) → awaited_by change old ≡ Some need → answer.need ≡ need

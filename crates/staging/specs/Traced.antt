@@ -39,7 +39,7 @@ KeepsNeed old answer = (need : ℕ) → patch_need old.patch ≡ Some need → (
 
 -- the counter that was loaded in this call is below the value that the next phase waits for, which was taken while the newest generation was this one
 pub record IsPatchLate (old new : Tables) (answer : NotYet) : Type 0 where
-  pub late : IsLate new answer
+  pub late : IsLate old new answer
   pub awaited : patch_need new.patch ≡ Some answer.need
   pub taken : HasTaken (written_by new.writer) (newest (written_by new.writer).published) answer.need
   -- it is the one that the patch waited for before this call, unless the counter has reached that one
@@ -47,8 +47,9 @@ pub record IsPatchLate (old new : Tables) (answer : NotYet) : Type 0 where
 
 -- whatever the answer is: the value that the patch waited for is awaited still, or the newest counter that the writer loaded has reached it
 pub record NeedGoesOn (old new : Tables) : Type 0 where
-  -- that counter never falls
+  -- that counter never falls, and each load of it is kept
   pub rising : (written_by old.writer).counter ≤ (written_by new.writer).counter
+  pub longer : length (written_by old.writer).pairs ≤ length (written_by new.writer).pairs
   pub kept : (need : ℕ) → patch_need old.patch ≡ Some need → (patch_need new.patch ≡ Some need) ⊎ (need ≤ (written_by new.writer).counter)
 
 -- one generation more is published, which is that of the state, and the switch is not over

@@ -1,6 +1,6 @@
 -- The tables by which the one writer of the shared words changes them, and whose they are.
 -- Source: this project's own.
-use Rattle.std.specs.Prelude.{◌≡◌, ℕ, Option, Some, None}
+use Rattle.std.specs.Prelude.{◌≡◌, ℕ, ◌≤◌, length, Option, Some, None}
 use Rattle.atomic_table.specs.Seated.{TableId}
 use Rattle.prgr_core.specs.declared.member.Retirement.{Retirement}
 use Rattle.area_core.specs.Map.{word_at}
@@ -46,8 +46,9 @@ pub record StoresExports (old new : WriterView) : Type 0 where
 abbrev pub KeepsWaits : WriterView → WriterView → Type 0
 KeepsWaits old new = (pair : Retirement) → Among old.pairs pair → Among new.pairs pair
 
--- the writer keeps its notes, what it has looked at in slots, and what it waits for
+-- the writer keeps its notes, what it has looked at in slots, and what it waits for, with each load of the counter
 pub record KeepsKnown (old new : WriterView) : Type 0 where
   pub notes : new.notes ≡ old.notes
   pub looks : new.looks ≡ old.looks
   pub waits : KeepsWaits old new
+  pub longer : length old.pairs ≤ length new.pairs

@@ -5,7 +5,7 @@ ghost use Rattle.area_core.specs.Blocks.{IsForInstances};
 ghost use Rattle.progress_words.specs.Tokens.{written_by};
 ghost use Rattle.breakpoints.specs.Laws.{HasNoDecisions, IsCalledByNone, IsUncalled};
 ghost use Rattle.literal_areas.specs.Released.{MayRelease};
-ghost use Rattle.staging.specs.Released.{ClearAreReleasable, IsReleasable, KeepsRelease, SettlingAreReleasable, SettlingReleased, StagesReleased, StandReleased, StandStill};
+ghost use Rattle.staging.specs.Released.{ClearAreReleasable, IsReleasable, IsStagedStill, KeepsRelease, SettlingAreReleasable, SettlingReleased, StagesReleased, StandReleased, StandStill};
 ghost use Rattle.staging.specs.Renewed.{IsSameButWords};
 ghost use Rattle.staging.specs.Whose.{AreTablesOf};
 
@@ -39,6 +39,7 @@ pub fn release<K: Naming>(tables: &mut Tables, shared: &Shared<CodeLaw<K>>, seri
     requires may { IsReleasable serial tables.old.pools (written_by tables.old.writer) }
     ensures tables { AreTablesOf shared.now.table.shared.table_id shared.now.table.shared.key tables.new }
     ensures exports { tables.new.exports ≡ tables.old.exports }
+    ensures staged { IsStagedStill tables.old tables.new }
     // the words stand for the state that has released it, at rest and at each stage of a change that waits
     ensures stands { StandReleased K.names serial tables.old tables.new }
     ensures stages { StagesReleased K.names serial tables.old tables.new }
@@ -61,6 +62,7 @@ fn clear_block<K: Naming>(tables: &mut Tables, shared: &Shared<CodeLaw<K>>, area
     requires uncalled { IsUncalled (written_by tables.old.writer) area.block }
     ensures tables { AreTablesOf shared.now.table.shared.table_id shared.now.table.shared.key tables.new }
     ensures exports { tables.new.exports ≡ tables.old.exports }
+    ensures staged { IsStagedStill tables.old tables.new }
     // the area may be released still, and its block has no decisions
     ensures may { MayRelease tables.new.pools (written_by tables.new.writer) area }
     ensures cleared { IsForInstances area.block → HasNoDecisions (written_by tables.new.writer) area.block }
@@ -83,6 +85,7 @@ fn free_block<K: Naming>(tables: &mut Tables, shared: &Shared<CodeLaw<K>>, area:
     requires cleared { IsForInstances area.block → HasNoDecisions (written_by tables.old.writer) area.block }
     ensures tables { AreTablesOf shared.now.table.shared.table_id shared.now.table.shared.key tables.new }
     ensures exports { tables.new.exports ≡ tables.old.exports }
+    ensures staged { IsStagedStill tables.old tables.new }
     // the words stand for the state that has released it, at rest and at each stage of a change that waits
     ensures stands { StandReleased K.names area.serial tables.old tables.new }
     ensures stages { StagesReleased K.names area.serial tables.old tables.new }

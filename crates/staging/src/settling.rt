@@ -77,9 +77,11 @@ fn settle_last<K: Naming>(tables: &mut Tables, shared: &Shared<CodeLaw<K>>) -> R
     requires room { length (written_by tables.old.writer).published < 2 ^ 40 }
     ensures tables { AreTablesOf shared.now.table.shared.table_id shared.now.table.shared.key tables.new }
     ensures exports { tables.new.exports ≡ tables.old.exports }
+    // the switch is over, or goes on to wait
     ensures rest { IfOk result (λ _. (s : ServerState) → AreSettling K.names s tables.old → AreAtRest K.names s tables.new) }
     ensures waits { IfErr result (λ answer. (s : ServerState) → AreSettling K.names s tables.old → Settles K.names s tables.old tables.new answer) }
     ensures need { NeedGoesOn tables.old tables.new }
+    // the newest generation stays, and what the writer knew
     ensures published { (written_by tables.new.writer).published ≡ (written_by tables.old.writer).published }
     ensures known { KeepsKnown (written_by tables.old.writer) (written_by tables.new.writer) }
 {

@@ -35,7 +35,7 @@ returns-in-Moved-clause-rest g c =
 pub returns-in-Moved-clause-waits : goal.returns-in-Moved-clause-waits
 returns-in-Moved-clause-waits g c =
     let said = subst (λ (step : PatchStep). SettleAnswers g.K.Naming.names c.args.tables.now c.settle_once.new.tables step) c.in-Moved.is c.in-Ok.ensures.answers in
-    waiting_from g.K.Naming.names c.args.tables.now c.settle_once.new.tables c.settle_last.new.tables c.settle_last.result said.0 (need_on c.args.tables.now c.settle_once.new.tables c.settle_last.new.tables c.settle_once.ensures.need c.settle_last.ensures.need) c.settle_last.ensures.waits
+    waiting_from g.K.Naming.names c.args.tables.now c.settle_once.new.tables c.settle_last.new.tables c.settle_last.result said.0 c.settle_once.ensures.need (need_on c.args.tables.now c.settle_once.new.tables c.settle_last.new.tables c.settle_once.ensures.need c.settle_last.ensures.need) c.settle_last.ensures.waits
 
 pub returns-in-Moved-clause-need : goal.returns-in-Moved-clause-need
 returns-in-Moved-clause-need g c = need_on c.args.tables.now c.settle_once.new.tables c.settle_last.new.tables c.settle_once.ensures.need c.settle_last.ensures.need

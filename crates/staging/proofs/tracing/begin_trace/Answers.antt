@@ -20,6 +20,7 @@ pub returns-clause-answers : goal.returns-clause-answers
 returns-clause-answers g c =
     traced_from g.K.Naming.names c.args.server.now c.args.change.now c.args.tables.now c.begin_patch.new.tables c.go_on.new.tables c.go_on.result.0 c.go_on.result.1
     (ap (λ (w : writers.Writer). (written_by w).published) c.begin_patch.ensures.writer)
+    (need_none c.args.tables.now c.begin_patch.new.tables c.requires.rest.staged.patch c.begin_patch.ensures.writer)
     (need_on c.args.tables.now c.begin_patch.new.tables c.go_on.new.tables (need_none c.args.tables.now c.begin_patch.new.tables c.requires.rest.staged.patch c.begin_patch.ensures.writer) c.go_on.ensures.need) c.go_on.ensures.answers
 
 pub returns-clause-need : goal.returns-clause-need

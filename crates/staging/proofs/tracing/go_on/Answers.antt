@@ -52,7 +52,7 @@ unreachable-requires g c = subst (λ (step : PatchStep). AdvanceAnswers g.K.Nami
 
 pub returns-in-Err-clause-answers : goal.returns-in-Err-clause-answers
 returns-in-Err-clause-answers g c =
-    waits_from g.K.Naming.names c.args.server.now c.args.change.now c.args.tables.now c.loop-round.tables c.advance_patch.new.tables Patching c.in-Err.answer c.loop-round.invariant.published
+    waits_from g.K.Naming.names c.args.server.now c.args.change.now c.args.tables.now c.loop-round.tables c.advance_patch.new.tables Patching c.in-Err.answer c.loop-round.invariant.published c.loop-round.invariant.need
     (need_on c.args.tables.now c.loop-round.tables c.advance_patch.new.tables c.loop-round.invariant.need c.advance_patch.ensures.need) c.in-Err.ensures.waits
 
 pub returns-in-Err-clause-need : goal.returns-in-Err-clause-need
