@@ -38,7 +38,6 @@ use Rattle.machine_core.specs.Turn.{MayTurn, turn_by}
 use Rattle.machine_core.specs.View.{Shown}
 use Rattle.machine_core.proofs.TurnLaws.{again_counts_by, limit_ends_by, turn_ended_by, turn_holds_by}
 use Rattle.run_log.specs.declared.logs.Span.{Span}
-use Rattle.run_log.specs.History.{fin_after}
 use Rattle.run_log.proofs.ListPlaces.{all_push, all_weaker}
 use Rattle.run_steps.specs.MadeTurns.{turned_by}
 use Rattle.run_steps.specs.Stands.{phase_after, phase_of}
@@ -50,7 +49,7 @@ use Rattle.word_view.proofs.Lapping.{known_on}
 use Rattle.word_lap.specs.declared.process_run.ProcessRun.{ProcessRun}
 use Rattle.word_lap.specs.Reading.{stand_under}
 use Rattle.word_lap.specs.Schedulers.{HasEnded, IsAtHand, MayGoOn}
-use Rattle.word_lap.specs.Turning.{HadItsTurn, HasEndedWith, HasMarkedEnd, IsReady, JoinsTurn, reads_held}
+use Rattle.word_lap.specs.Turning.{HadItsTurn, HasEndedWith, HasMarkedEnd, IsReady, JoinsTurn, fin_after, reads_held}
 use Rattle.word_lap.proofs.Spans.{few_taken, joined_with}
 use Rattle.word_lap.proofs.TakenTurns.{number_kept, on_ok}
 use Rattle.word_lap.proofs.TurnEnds.{marks_ended}

@@ -31,7 +31,6 @@ use Rattle.machine_core.specs.View.{Shown}
 use Rattle.machine_core.proofs.Killing.{killed_for}
 use Rattle.machine_core.proofs.TurnLaws.{limit_ends_by, turn_counts_by}
 use Rattle.run_log.specs.declared.logs.Span.{Span}
-use Rattle.run_log.specs.History.{fin_after}
 use Rattle.run_steps.specs.Turns.{IsTaken}
 use Rattle.word_view.specs.Anchored.{holds_by}
 use Rattle.word_view.specs.Turned.{IsTurn}
@@ -39,7 +38,7 @@ use Rattle.word_view.specs.Views.{HasGoneOn, IsReading, IsView, MayBegin, Viewed
 use Rattle.word_view.proofs.Anchoring.{held_names}
 use Rattle.word_lap.specs.declared.process_run.ProcessRun.{ProcessRun}
 use Rattle.word_lap.specs.Schedulers.{IsToken}
-use Rattle.word_lap.specs.Turning.{CountsOn, HasMarkedEnd, IsReady, JoinsTurn, MadeTurn, MayEndWith}
+use Rattle.word_lap.specs.Turning.{CountsOn, HasMarkedEnd, IsReady, JoinsTurn, MadeTurn, MayEndWith, fin_after}
 use Rattle.word_lap.proofs.Spans.{few_taken}
 
 -- ---- before the turn

@@ -1,6 +1,6 @@
 -- What a turn leaves of a process and of what its member knows.
 -- Source: Erlang/OTP erts internal documentation, CodeLoading: a turn sees one state of the code.
-use Rattle.std.specs.Prelude.{◌≡◌, ◌≢◌, ℕ, ◌+◌, ◌≤◌, ◌⊎◌, List, [], ◌∷◌, ◌++◌, length, None, IsSome}
+use Rattle.std.specs.Prelude.{◌≡◌, ◌≢◌, ℕ, ◌+◌, ◌≤◌, ◌⊎◌, List, [], ◌∷◌, ◌++◌, length, Option, Some, None, IsSome}
 use Rattle.atomic_table.specs.Seated.{TableId}
 use Rattle.term_core.specs.declared.atom.Mfa.{Mfa}
 use Rattle.shared_words.specs.declared.opening.Opening.{Opening}
@@ -10,6 +10,7 @@ use Rattle.shared_words.specs.Processes.{held_by_view, process_of}
 use Rattle.shared_words.specs.Slots.{with_slot}
 use Rattle.anchors.specs.Holds.{anchors_of, view_of}
 use Rattle.anchors.specs.Turns.{LAST_TURN}
+use Rattle.machine_core.specs.declared.process.End.{End}
 use Rattle.machine_core.specs.declared.process.Line.{Line}
 use Rattle.machine_core.specs.declared.process.Process.{Process}
 use Rattle.machine_core.specs.declared.process.TurnEnd.{TurnEnd}
@@ -19,7 +20,6 @@ use Rattle.machine_core.specs.Process.{names_of}
 use Rattle.machine_core.specs.Reads.{Reads}
 use Rattle.machine_core.specs.Turn.{ArePlaced, MayTurn}
 use Rattle.run_log.specs.declared.logs.Span.{Span}
-use Rattle.run_log.specs.History.{fin_after}
 use Rattle.run_steps.specs.MadeTurns.{turned_by}
 use Rattle.word_view.specs.Anchored.{holds_by}
 use Rattle.word_view.specs.Turned.{IsTurn}
@@ -28,6 +28,11 @@ use Rattle.word_lap.specs.declared.process_run.ProcessRun.{ProcessRun}
 use Rattle.word_lap.specs.Laps.{HasEndedIn, MayEndBy}
 use Rattle.word_lap.specs.Reading.{stand_under}
 use Rattle.word_lap.specs.Schedulers.{HasCounted, HasEnded, MayGoOn}
+
+-- the end of a process whose turn ended so, if it is one
+abbrev pub fin_after : TurnEnd → Option End
+fin_after Again = None
+fin_after (Ended end) = Some end
 
 -- what a turn reads of the generation that the member holds
 abbrev pub reads_held : List Mfa → MemberView → Reads

@@ -1,7 +1,6 @@
 //! Turns of a scheduler's processes, each under the generation that its member holds. None of these calls can wait.
 
 ghost use Rattle.std.specs.Prelude.{◌≡◌, ◌+◌, ◌++◌, ◌∷◌, [], ◌≤◌, IfOk, length};
-ghost use Rattle.run_log.specs.History.{fin_after};
 ghost use Rattle.run_steps.specs.Turns.{IsTaken};
 ghost use Rattle.shared_words.specs.Processes.{held_by_view, process_of};
 ghost use Rattle.machine_core.specs.Turn.{MayTurn};
@@ -10,7 +9,7 @@ ghost use Rattle.word_view.specs.Views.{MayBegin, shown_by};
 ghost use Rattle.anchors.specs.Holds.{IsUnkilled, MayRun, anchors_of, view_of};
 ghost use Rattle.anchors.specs.Turns.{LAST_TURN};
 ghost use Rattle.word_lap.specs.Schedulers.{IsToken};
-ghost use Rattle.word_lap.specs.Turning.{CountsOn, HadItsTurn, HasEndedWith, HasMarkedEnd, IsReady, JoinsTurn, MadeTurn, MayEndWith};
+ghost use Rattle.word_lap.specs.Turning.{CountsOn, HadItsTurn, HasEndedWith, HasMarkedEnd, IsReady, JoinsTurn, MadeTurn, MayEndWith, fin_after};
 
 use crate::ending::end_names;
 use crate::process_run::ProcessRun;
