@@ -59,6 +59,7 @@ module _ (names : List Mfa) (old : WatcherView) (root g : ℕ) (mid : WatcherVie
               ∙ ap (λ (n : ℕ). exports_read (reads_in names (published_at mid.seen n).state) functions) (generation_is ∙ sym numbered)
               ∙ ap (λ (xs : List Published). exports_read (reads_under names xs shot.generation) functions) (sym seen);
         };
+        served = subst (λ (z : List Published × ℕ). IsServed names (published_at z.0 z.1)) (λ i. (sym seen i, sym numbered i)) d.served;
       }
     where
       within : (n many last : ℕ) → n ≡ many - 1 → 0 < many → last ≡ many → n < last
@@ -109,8 +110,8 @@ module _ (names functions : List Mfa) (table : TableId) (old new : Observer) (sh
         (more_seen names functions (watched_by old.watcher).seen (watched_by new.watcher).seen s.learnt shot s.newest s.seen old.shots h.saw);
   }
 
-  pub takes_one : old.left ≡ new.left + 1 → TakesOne old new
-  takes_one left = record { shot = shot; newest = s.newest; learnt = s.learnt; shots = shots; left = left }
+  pub takes_one : old.left ≡ new.left + 1 → TakesOne names old new
+  takes_one left = record { shot = shot; newest = s.newest; served = s.served; learnt = s.learnt; shots = shots; left = left }
 
 -- with a token as it begins
 pub observer_begins : (names functions : List Mfa) (table : TableId) (number left : ℕ) (token : watching.Watcher) → IsWatcherBegun table number token → Observes names functions table (record { watcher = token; left = left; shots = [] })
@@ -127,12 +128,12 @@ observer_begins names functions table number left token begun = record {
 -- ---- looks
 
 -- where no snapshot is lacking, none is taken
-pub nothing_lacking : (o : Observer) → o.left ≡ 0 → HasLooked o o
-nothing_lacking o none = (λ some. absurd (omega (arith, none, some)), λ is. (is, refl))
+pub nothing_lacking : (names : List Mfa) (o : Observer) → o.left ≡ 0 → HasLooked names o o
+nothing_lacking names o none = (λ some. absurd (omega (arith, none, some)), λ is. (is, refl))
 
 -- and where one is, one is taken
-pub looked_one : (old new : Observer) → TakesOne old new → HasLooked old new
-looked_one old new taken = (λ some. taken, λ none. absurd (let left = taken.left in omega (arith, none, left)))
+pub looked_one : (names : List Mfa) (old new : Observer) → TakesOne names old new → HasLooked names old new
+looked_one names old new taken = (λ some. taken, λ none. absurd (let left = taken.left in omega (arith, none, left)))
 
 -- so many looks were made, each with its snapshot
 pub record HaveLooked (first : Observer) (looks : ℕ) (o : Observer) : Type 0 where
@@ -142,8 +143,8 @@ pub record HaveLooked (first : Observer) (looks : ℕ) (o : Observer) : Type 0 w
 pub not_looked : (o : Observer) → HaveLooked o 0 o
 not_looked o = record { left = omega (arith); shots = omega (arith) }
 
-pub looked_more : (first old new : Observer) (looks : ℕ) → looks < first.left → HaveLooked first looks old → HasLooked old new → HaveLooked first (looks + 1) new
-looked_more first old new looks more h (some, none) =
+pub looked_more : (names : List Mfa) (first old new : Observer) (looks : ℕ) → looks < first.left → HaveLooked first looks old → HasLooked names old new → HaveLooked first (looks + 1) new
+looked_more names first old new looks more h (some, none) =
     let left = h.left in
     let taken = some (omega (arith, left, more)) in
     let less = taken.left in

@@ -35,7 +35,7 @@ impl Observer {
         requires exports { exports.now ≡ K.names }
         requires observes { Observes K.names functions.now shared.now.table.shared.table_id self.old }
         ensures observes { OnOk result (Observes K.names functions.now shared.now.table.shared.table_id self.new) }
-        ensures looked { OnOk result (HasLooked self.old self.new) }
+        ensures looked { OnOk result (HasLooked K.names self.old self.new) }
     {
         if self.left == 0 {
             return Ok(());

@@ -9,7 +9,7 @@ pub look-requires-clause-observes : goal.look-requires-clause-observes
 look-requires-clause-observes g c = c.loop-shot.invariant.0
 
 pub loop-shot-preserved : goal.loop-shot-preserved
-loop-shot-preserved g c = (c.in_ok-look.ensures.observes, looked_more c.args.self.now c.loop-shot.self c.look.new.self c.loop-shot._shot c.loop-shot-test.true c.loop-shot.invariant.1 c.in_ok-look.ensures.looked)
+loop-shot-preserved g c = (c.in_ok-look.ensures.observes, looked_more g.K.Naming.names c.args.self.now c.loop-shot.self c.look.new.self c.loop-shot._shot c.loop-shot-test.true c.loop-shot.invariant.1 c.in_ok-look.ensures.looked)
 
 pub returns-clause-counted : goal.returns-clause-counted
 returns-clause-counted g c = (looked_all c.args.self.now c.loop-shot.self c.loop-shot._shot c.loop-shot-test.false c.loop-shot.invariant.1).0
