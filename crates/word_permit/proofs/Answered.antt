@@ -16,11 +16,11 @@ use Rattle.script_core.specs.declared.script.ScriptCmd.TheVariants.{Load, Delete
 use Rattle.run_log.specs.declared.logs.Entry.{Entry}
 use Rattle.run_log.specs.Journal.{newest_state, published_count}
 use Rattle.run_log.specs.Legal.{published_to, state_before}
-use Rattle.run_log.proofs.HistoryLists.{PushedAt, at_end, before, pushed_at}
 use Rattle.run_law.specs.Answers.{AreAnswersKept, HasDrop, HasLingering, HasPurge, IsAnswerKept}
 use Rattle.write_permit.specs.Permit.{opening}
 use Rattle.word_permit.specs.Books.{TellsNone}
 use Rattle.word_permit.specs.Waiting.{GoesOverWords}
+use Rattle.word_permit.proofs.PushedLists.{PushedAt, at_end, before, pushed_at}
 
 -- ---- the journal
 

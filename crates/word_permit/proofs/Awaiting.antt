@@ -20,6 +20,7 @@ use Rattle.progress_words.specs.declared.answers.NotYet.{NotYet}
 use Rattle.progress_words.specs.Needs.{HasLoadedCounter, HasTaken, IsBelow}
 use Rattle.progress_words.specs.Roots.{newest_of}
 use Rattle.progress_words.specs.Tokens.{written_by}
+use Rattle.breakpoints.specs.Patches.{LoadsCounter}
 use Rattle.server_core.specs.declared.change.Change.{Change}
 use Rattle.server_core.specs.ServerState.{ServerState, is_retired}
 use Rattle.literal_areas.specs.declared.areas.Areas.{Areas}
@@ -38,6 +39,7 @@ use Rattle.word_permit.specs.Books.{IsWordBook}
 use Rattle.word_permit.specs.Needs.{IsAwaited}
 use Rattle.word_permit.specs.Pumped.{IsAwaitedStill}
 use Rattle.word_permit.specs.Waiting.{WordsStand}
+use Rattle.word_permit.proofs.Looked.{counter_loads}
 use Rattle.word_permit.proofs.Resting.{stands_by}
 
 -- ---- what is retired
@@ -69,7 +71,9 @@ pub waits_loaded : (old new : WriterView) → HasLoadedCounter old new → Keeps
 waits_loaded old new loaded pair had = subst (λ (w : WriterView). Among w.pairs pair) (sym loaded.view) (had.0, still_at old.pairs _ had.0 pair had.1)
 
 pub known_loaded : (old new : WriterView) → HasLoadedCounter old new → KeepsKnown old new
-known_loaded old new loaded = record { notes = ap (λ (w : WriterView). w.notes) loaded.view; looks = ap (λ (w : WriterView). w.looks) loaded.view; waits = waits_loaded old new loaded }
+known_loaded old new loaded =
+    let more = counter_loads old new loaded in
+    record { notes = ap (λ (w : WriterView). w.notes) loaded.view; looks = ap (λ (w : WriterView). w.looks) loaded.view; waits = waits_loaded old new loaded; longer = omega (arith, more) }
 
 pub counter_rises : (old new : WriterView) → HasLoadedCounter old new → old.counter ≤ new.counter
 counter_rises old new loaded = subst (λ (w : WriterView). old.counter ≤ w.counter) (sym loaded.view) loaded.rising
@@ -147,13 +151,13 @@ reached_begins (Err answer) old new n h loaded reached = tt
 
 -- or the counter is below it, and the value is awaited still
 pub told_late : (b m c : WordBook) (need : AreaNeed) (answer : NotYet) → m.need ≡ Some need → c.need ≡ m.need → IsTrue (is_retired b.plain.server need.serial) → IsAwaited (written_by c.tables.writer) need
-    → ((before : AreaNeed) → b.need ≡ Some before → IsTrue (is_retired b.plain.server before.serial) → Some need ≡ Some before) → IsBelow need.value (written_by c.tables.writer) answer → IsAwaitedStill b c answer
-told_late b m c need answer taken kept waits awaited same below = record {
+    → ((before : AreaNeed) → b.need ≡ Some before → IsTrue (is_retired b.plain.server before.serial) → Some need ≡ Some before) → LoadsCounter (written_by b.tables.writer) (written_by c.tables.writer) → IsBelow need.value (written_by c.tables.writer) answer → IsAwaitedStill b c answer
+told_late b m c need answer taken kept waits awaited same loads below = record {
   need = need;
   kept = kept ∙ taken;
   waits = waits;
   taken = awaited;
   same = λ before had retired. same_Some need before (same before had retired);
   value = below.asked;
-  below = record { loaded = below.loaded; below = below.below };
+  below = record { loads = loads; loaded = below.loaded; below = below.below };
 }

@@ -9,10 +9,10 @@ use Rattle.server_core.specs.ServerState.{ServerState, empty_state}
 use Rattle.run_log.specs.declared.logs.Entry.{Entry}
 use Rattle.run_log.specs.Journal.{newest_state, next_state, published_count, publishes, state_at}
 use Rattle.run_log.specs.Legal.{Replays}
-use Rattle.run_log.proofs.HistoryLists.{PushedAt, at_end, before, pushed_at}
 use Rattle.run_log.proofs.Journals.{count-cons, counted, later, state_kept}
 use Rattle.server_core.specs.Generations.{generation_of}
 use Rattle.run_law.specs.Published.{ArePublished, shown_at}
+use Rattle.word_permit.proofs.PushedLists.{PushedAt, at_end, before, pushed_at}
 
 -- ---- states of a journal with one entry more
 

@@ -37,6 +37,7 @@ use Rattle.run_law.specs.Published.{ArePublished}
 use Rattle.word_permit.specs.Waiting.{GoesOverWords, IsDecided, WordsStand}
 use Rattle.word_permit.proofs.Awaiting.{need_still}
 use Rattle.word_permit.proofs.Calls.{no_look}
+use Rattle.word_permit.proofs.Looked.{as_many}
 use Rattle.word_permit.proofs.Resting.{IsNoTrace, rests_by}
 
 -- ---- a book that shows the same
@@ -50,6 +51,7 @@ known_same a b is = record {
   notes = ap (λ (w : WriterView). w.notes) is;
   looks = ap (λ (w : WriterView). w.looks) is;
   waits = λ pair had. subst (λ (w : WriterView). Among w.pairs pair) (sym is) had;
+  longer = as_many a b (ap (λ (w : WriterView). w.pairs) is);
 }
 
 -- a change that is given up leaves all but words
@@ -64,6 +66,7 @@ words_known a b is = record {
     notes = ap (λ (w : WriterView). w.notes) is;
     looks = ap (λ (w : WriterView). w.looks) is;
     waits = λ pair had. subst (λ (w : WriterView). Among w.pairs pair) (sym is) had;
+    longer = as_many a b (ap (λ (w : WriterView). w.pairs) is);
   };
 }
 

@@ -25,3 +25,4 @@ pub mod PurgeCalls
 pub mod Switched
 pub mod Grown
 mod PumpedThrough
+mod PushedLists

@@ -1,5 +1,5 @@
 -- On which wait a look for frames stands, and what it leaves of what the writer knows.
-use Rattle.std.proofs.Common.{◌≡◌, ℕ, ◌+◌, ◌<◌, Bool, true, false, IfSome, cond, List, [], ◌∷◌, ◌++◌, length, slice_get, unwrap_or, Option, Some, None, is_some, All, if◌then◌else◌, ◌⊎◌, inl, inr, refl, sym, ap, subst, ◌∙◌, arith}
+use Rattle.std.proofs.Common.{◌≡◌, ℕ, ◌+◌, ◌<◌, ◌≤◌, Bool, true, false, IfSome, cond, List, [], ◌∷◌, ◌++◌, length, length-append, slice_get, unwrap_or, Option, Some, None, is_some, All, if◌then◌else◌, ◌⊎◌, inl, inr, refl, sym, ap, subst, ◌∙◌, arith}
 use Rattle.std.specs.Prelude.{IsTrue, nat_le}
 use Rattle.std.proofs.lemmas.Bool.{and_from, le-leb}
 use Rattle.std.proofs.lemmas.List.{append_assoc}
@@ -24,6 +24,7 @@ use Rattle.shared_words.specs.Lingering.{lingering_found, with_lingering}
 use Rattle.progress_words.specs.Roots.{newest_of}
 use Rattle.progress_words.specs.Needs.{HasLoadedCounter}
 use Rattle.progress_words.specs.Tokens.{written_by}
+use Rattle.breakpoints.specs.Patches.{LoadsCounter}
 use Rattle.script_core.proofs.JoinedPlaces.{get_behind}
 use Rattle.staging.specs.declared.tables.Tables.{Tables}
 use Rattle.staging.specs.Whose.{AreTablesOf}
@@ -120,6 +121,27 @@ found_newest old new serial scan is over same cause =
 -- no word of a slot was loaded where the counter was
 pub looks_loaded : (old new : WriterView) → HasLoadedCounter old new → KeepsLooks old new
 looks_loaded old new loaded = record { looks = ap (λ (w : WriterView). w.looks) loaded.view; named = ap (λ (w : WriterView). w.named) loaded.view }
+
+-- each load of the counter is kept
+pub counter_loads : (old new : WriterView) → HasLoadedCounter old new → LoadsCounter old new
+counter_loads old new loaded =
+    let more : length new.pairs ≡ length old.pairs + 1 = ap (λ (w : WriterView). length w.pairs) loaded.view ∙ length-append old.pairs _ in
+    omega (arith, more)
+
+-- no more were made where as many are kept
+pub as_many : (old new : WriterView) → new.pairs ≡ old.pairs → length old.pairs ≤ length new.pairs
+as_many old new same =
+    let many : length new.pairs ≡ length old.pairs = ap length same in
+    omega (arith, many)
+
+pub still_longer : (a b c : WriterView) → length a.pairs ≤ length b.pairs → length b.pairs ≤ length c.pairs → length a.pairs ≤ length c.pairs
+still_longer a b c first second = omega (arith, first, second)
+
+pub loads_then : (a b c : WriterView) → LoadsCounter a b → length b.pairs ≤ length c.pairs → LoadsCounter a c
+loads_then a b c first second = omega (arith, first, second)
+
+pub then_loads : (a b c : WriterView) → length a.pairs ≤ length b.pairs → LoadsCounter b c → LoadsCounter a c
+then_loads a b c first second = omega (arith, first, second)
 
 pub looks_same : (w : WriterView) → KeepsLooks w w
 looks_same w = record { looks = refl; named = refl }

@@ -18,6 +18,7 @@ use Rattle.progress_words.specs.declared.answers.NotYet as late
 use Rattle.progress_words.specs.Needs.{IsBelow}
 use Rattle.progress_words.specs.Roots.{newest_of}
 use Rattle.progress_words.specs.Tokens.{written_by}
+use Rattle.breakpoints.specs.Patches.{LoadsCounter}
 use Rattle.anchors.specs.declared.answers.Scan.{Scan}
 use Rattle.anchors.specs.declared.answers.Scan.TheVariants as scans
 use Rattle.server_core.specs.declared.command.Applied.{Applied}
@@ -59,13 +60,14 @@ use Rattle.word_permit.specs.declared.purging.Purged.TheVariants.{Softly, Wholly
 use Rattle.word_permit.specs.Books.{HasGivenUp, HasTakenBack, IsWordBook}
 use Rattle.word_permit.specs.Looks.{HasLooked, HasLookedFor, IsLookTaken, IsReached, before_look}
 use Rattle.word_permit.specs.Notes.{AreOfSpawned}
-use Rattle.word_permit.specs.Purged.{AwaitsFound, EndAnswers, EndsNext, EndsPurge, HasDoomedCode, HasGrown, IsLookLate, IsOldCodeOf, IsToldBy, IsToldByDrop, JustLooks, LeavesServer, LingersIn, LookAnswers, PurgeAnswers, Purges, StillWaits, is_purge, purged_by, purging_command}
+use Rattle.word_permit.specs.Purged.{AwaitsFound, EndAnswers, EndsNext, EndsPurge, HasBegun, HasDoomedCode, HasGrown, IsLookLate, IsOldCodeOf, IsToldBy, IsToldByDrop, JustLooks, LeavesServer, LingersIn, LookAnswers, PurgeAnswers, Purges, StillWaits, is_purge, purged_by, purging_command}
 use Rattle.word_permit.specs.Waiting.{GoesOverWords, WordsStand}
 use Rattle.word_permit.proofs.Answered.{answered_joined}
 use Rattle.word_permit.proofs.Calls.{counts_none}
 use Rattle.word_permit.proofs.Dropped.{ended_grown, was_ended}
 use Rattle.word_permit.proofs.Followed.{at_rest}
 use Rattle.word_permit.proofs.Growing.{published_same}
+use Rattle.word_permit.proofs.Looked.{as_many, still_longer}
 use Rattle.word_permit.proofs.OldCode.{old_gone}
 use Rattle.word_permit.proofs.Resting.{ends_no_trace, free_no_trace, none_waiting, rests_by, stands_by}
 use Rattle.word_permit.proofs.SpawnedBefore.{notes_later}
@@ -166,6 +168,23 @@ goes_apart (Some command) goes purges = absurd goes
 -- a purge of old code in its second half is the loader's next command
 pub second_next : (b : Book) (known : IsBook b) (who : ℕ) (code : OldCode) → b.holder ≡ Purging who code.«module» → next_of (shown b) who ≡ Some (Purge code.«module»)
 second_next b known who code held = let k : PurgeWaits (shown b) who code.«module» = subst (HoldsJust (shown b)) held known.permit.holds in k.next
+
+-- ---- whether it has begun
+
+-- a soft purge is none that dooms
+pub soft_begun : (b : WordBook) (who : ℕ) (name : AtomId) → next_of (shown b.plain) who ≡ Some (SoftPurge name) → HasBegun who b
+soft_begun b who name next other is = absurd (apart (same_Some (SoftPurge name) (Purge other) (sym next ∙ is)))
+  where
+    apart : SoftPurge name ≡ Purge other → ⊥
+    apart e = cc
+
+-- a purge in its second half has doomed its code
+pub second_begun : (b : WordBook) (who : ℕ) (name : AtomId) → b.plain.holder ≡ Purging who name → next_of (shown b.plain) who ≡ Some (Purge name) → HasBegun who b
+second_begun b who name held next other is = held ∙ ap (Purging who) (same_Some name other (ap name_of (same_Some (Purge name) (Purge other) (sym next ∙ is))))
+  where
+    name_of : ScriptCmd → Option AtomId
+    name_of (Purge purged) = Some purged
+    name_of command = None
 
 -- ---- the last command of the server
 
@@ -278,8 +297,8 @@ module _ (b m : WordBook) (looks : JustLooks b m) where
   looks_ok who scan c (Err fault) h = tt
 
   -- the purge waits still
-  pub late_behind : (who : ℕ) (answer : late.NotYet) → b.waiting ≡ None → IsLookLate m answer → IfSome b.look (λ value. value ≡ answer.need) → PurgeAnswers who b m (NotYet answer)
-  late_behind who answer none is still = record { waits = is; none = looks.waiting ∙ none; since = inl (record { same = shown_same; published = looks.published; still = still }) }
+  pub late_behind : (who : ℕ) (answer : late.NotYet) → b.waiting ≡ None → HasBegun who b → IsLookLate m answer → IfSome b.look (λ value. value ≡ answer.need) → LoadsCounter (written_by b.tables.writer) (written_by m.tables.writer) → PurgeAnswers who b m (NotYet answer)
+  late_behind who answer none begun is still loads = record { waits = is; none = looks.waiting ∙ none; since = inl (begun, record { same = shown_same; published = looks.published; still = still; loads = loads }) }
 
 -- a purge that has begun waits
 pub doom_waits : (who : ℕ) (b m c : WordBook) (name : AtomId) → b.plain.holder ≡ Held who → next_of (shown b.plain) who ≡ Some (Purge name) → doomed_by (shown b.plain) who name ≡ Some (shown m.plain) → m.waiting ≡ None → JustLooks m c → (answer : late.NotYet) → IsLookLate c answer
@@ -292,10 +311,15 @@ doom_waits who b m c name holds next doomed none looks answer is = record {
 
 -- nothing was looked at
 pub none_looked : (b : WordBook) → JustLooks b b
-none_looked b = record { plain = refl; published = refl; waiting = refl }
+none_looked b = record { plain = refl; published = refl; waiting = refl; longer = as_many (written_by b.tables.writer) (written_by b.tables.writer) refl }
 
 pub two_looks : (b m c : WordBook) → JustLooks b m → JustLooks m c → JustLooks b c
-two_looks b m c first second = record { plain = second.plain ∙ first.plain; published = second.published ∙ first.published; waiting = second.waiting ∙ first.waiting }
+two_looks b m c first second = record {
+  plain = second.plain ∙ first.plain;
+  published = second.published ∙ first.published;
+  waiting = second.waiting ∙ first.waiting;
+  longer = still_longer (written_by b.tables.writer) (written_by m.tables.writer) (written_by c.tables.writer) first.longer second.longer;
+}
 
 -- the old code is as it was
 pub code_still : (b m : WordBook) (name serial : ℕ) → JustLooks b m → old_of b.plain.server name ≡ Some serial → old_of m.plain.server name ≡ Some serial
@@ -334,10 +358,11 @@ pub value_taken : (names : List Mfa) (table : TableId) (opening : Opening) (c : 
 value_taken names table opening c need known look = subst (λ (o : Option ℕ). IfSome o (IsLookTaken (written_by c.tables.writer))) look known.looked
 
 -- the purge waits for whom the look of this call found
-module _ (who : ℕ) (b m : WordBook) (command : ScriptCmd) (serial : ℕ) (scan : Scan) (next : next_of (shown b.plain) who ≡ Some command) (code : IsOldCodeOf b.plain.server command serial) (looks : JustLooks b m)
+module _ (who : ℕ) (b m : WordBook) (command : ScriptCmd) (serial : ℕ) (scan : Scan) (begun : HasBegun who b) (next : next_of (shown b.plain) who ≡ Some command) (code : IsOldCodeOf b.plain.server command serial) (looks : JustLooks b m)
     (found : HasLookedFor serial (written_by b.tables.writer) (written_by m.tables.writer) scan) where
   lingers_behind : (c : WordBook) (process turn place word : ℕ) → AwaitsFound scan m c process turn place word → LingersIn who b c process turn place word
   lingers_behind c process turn place word h = record {
+    begun = begun;
     same = h.same ∙ ap shown looks.plain;
     published = ap (λ (w : WriterView). w.published) h.view ∙ looks.published;
     none = h.none;
@@ -450,8 +475,8 @@ pub grown_by : (who : ℕ) (b c : WordBook) (step : CommandStep) → PurgeAnswer
 grown_by who b c (Done applied) h = ended_grown b.plain c.plain who h.cmd (steps.Done applied) h.step
 grown_by who b c (NotYet answer) h = by h.since
   where
-    by : StillWaits b c answer.need ⊎ HasDoomedCode who b c → HasGrown b.plain c.plain
-    by (inl still) = grown_same b.plain c.plain still.same
+    by : (HasBegun who b × StillWaits b c answer.need) ⊎ HasDoomedCode who b c → HasGrown b.plain c.plain
+    by (inl still) = grown_same b.plain c.plain still.1.same
     by (inr doomed) = grown_doomed b.plain c.plain who doomed.name doomed.doomed
 grown_by who b c AwaitRelease h = absurd h
 grown_by who b c (Lingers process turn place word) h = grown_same b.plain c.plain h.same

@@ -1,5 +1,5 @@
 -- What is made of a step's answer: the newest entry is taken back, or the change is made.
-use Rattle.std.proofs.Common.{◌≡◌, ℕ, ◌<◌, List, [], ◌∷◌, ◌++◌, length, slice_set, MatchOption, Option, Some, None, Result, Err, refl, sym, ap, subst, ◌∙◌, arith}
+use Rattle.std.proofs.Common.{◌≡◌, ℕ, ◌<◌, List, [], ◌∷◌, ◌++◌, length, slice_set, MatchOption, Option, Some, None, Result, Ok, Err, refl, sym, ap, subst, ◌∙◌, arith}
 use Rattle.std.proofs.lemmas.List.{same_from_push}
 use Rattle.term_core.specs.declared.no_memory.NoMemory.{NoMemory}
 use Rattle.server_core.specs.declared.change.Change.{Change}
@@ -11,15 +11,18 @@ use Rattle.run_log.specs.declared.logs.Entry.{Entry}
 use Rattle.module_table.specs.Modules.{Modules}
 use Rattle.staging.specs.declared.stage.Stage.{Stage}
 use Rattle.staging.specs.declared.stage.Step.{Step}
+use Rattle.staging.specs.declared.stage.Step.TheVariants as steps
 use Rattle.write_permit.specs.declared.book.Book.{Book}
 use Rattle.write_permit.specs.declared.holder.Holder.TheVariants.{Free}
 use Rattle.write_permit.specs.declared.loader_run.LoaderRun.{LoaderRun}
 use Rattle.write_permit.specs.Agreement.{newest_followed, newest_of}
 use Rattle.write_permit.specs.Book.{shown}
 use Rattle.write_permit.specs.Permit.{PermitState}
+use Rattle.word_permit.specs.declared.answers.CommandStep.{CommandStep}
 use Rattle.word_permit.specs.declared.book.Decision.{Decision}
 use Rattle.word_permit.specs.declared.book.WordBook.{WordBook}
 use Rattle.word_permit.specs.Settled.{IsFinished, IsSettled, WaitsAt, decision_of, waiting_with, without_newest}
+use Rattle.word_permit.specs.Traced.{IsEntered}
 
 -- the newest entry is taken back, and what was decided for it waits
 pub waits_at : (b : WordBook) (change : Change) (stage : Stage) (journal : List Entry) (last : Entry) (d : Decision) → b.plain.journal ≡ journal ++ last ∷ [] → d ≡ decision_of last change
@@ -49,6 +52,20 @@ popped b journal None joined h before e is =
 module _ (who : ℕ) (change : Change) (stage : Stage) (after : LoaderRun) (b c : WordBook) (step : Result Step NoMemory) where
   pub settled_back : (fault : NoMemory) → step ≡ Err fault → ((before : List Entry) (e : Entry) → b.plain.journal ≡ before ++ e ∷ [] → c ≡ without_newest b before) → IsSettled who change stage after b c step (Err fault)
   settled_back fault is back = subst (λ x. IsSettled who change stage after b c x (Err fault)) (sym is) (refl, back)
+
+-- ---- what a release waits for
+
+-- it is as before, whatever is made of the answer
+pub settled_need : (who : ℕ) (change : Change) (stage : Stage) (after : LoaderRun) (b c : WordBook) (step : Result Step NoMemory) (told : Result CommandStep NoMemory) (before : List Entry) (e : Entry) → b.plain.journal ≡ before ++ e ∷ [] → IsSettled who change stage after b c step told → c.need ≡ b.need
+settled_need who change stage after b c (Ok (steps.Published generation)) told before e joined h = ap (λ (x : WordBook). x.need) h.1.1.1
+settled_need who change stage after b c (Ok (steps.NotYet answer)) told before e joined h = ap (λ (x : WordBook). x.need) (h.1 before e joined)
+settled_need who change stage after b c (Ok steps.AwaitRelease) told before e joined h = ap (λ (x : WordBook). x.need) (h.1 before e joined)
+settled_need who change stage after b c (Err fault) told before e joined h = ap (λ (x : WordBook). x.need) (h.1 before e joined)
+
+pub entered_need : (who : ℕ) (change : Change) (stage : Stage) (b c : WordBook) (step : Step) (before : List Entry) (e : Entry) → b.plain.journal ≡ before ++ e ∷ [] → IsEntered who change stage b c step → c.need ≡ b.need
+entered_need who change stage b c (steps.Published generation) before e joined h = ap (λ (x : WordBook). x.need) h.1
+entered_need who change stage b c (steps.NotYet answer) before e joined h = ap (λ (x : WordBook). x.need) (h before e joined)
+entered_need who change stage b c steps.AwaitRelease before e joined h = ap (λ (x : WordBook). x.need) (h before e joined)
 
 -- ---- the change is made
 

@@ -14,7 +14,6 @@ use Rattle.script_core.proofs.JoinedPlaces.{get_behind, get_front}
 use Rattle.script_core.proofs.SpawnLines.{all_counted, spawn_at}
 use Rattle.run_log.specs.declared.logs.Entry.{Entry}
 use Rattle.run_log.specs.Legal.{commands_in, commands_of}
-use Rattle.run_log.proofs.HistoryLists.{PushedAt, at_end, before, pushed_at}
 use Rattle.run_log.proofs.Journals.{commands_more}
 use Rattle.run_log.proofs.SpanRuns.{some_and, some_at}
 use Rattle.write_permit.specs.declared.spawned.Spawned as plain
@@ -23,6 +22,7 @@ use Rattle.write_permit.specs.Permit.{PermitState, done_of, entered_by, is_spawn
 use Rattle.write_permit.proofs.Entered.{entered_done}
 use Rattle.write_permit.proofs.Kept.{holder_apart}
 use Rattle.word_permit.specs.Notes.{AreOfSpawned, IsSpawnedIn}
+use Rattle.word_permit.proofs.PushedLists.{PushedAt, at_end, before, pushed_at}
 
 -- ---- spawn lines
 

@@ -195,7 +195,7 @@ module _ (names : List Mfa) (table : TableId) (opening : Opening) (b : WordBook)
 pub entered_ends : (who generation : ℕ) (b m c : WordBook) (step : CommandStep) → IsBook b.plain → HasEntered who b m → NeedGoesOn b.tables m.tables → m.plain.holder ≡ Tracing who generation → c.waiting ≡ None → SettleAnswers who m c step → OpAnswers who b c step
 entered_ends who generation b m c (told.Done applied) known entered need tracing none ends = both_ends who generation b.plain m.plain c.plain applied entered.target entered.on known entered.holds entered.next entered.entered tracing ends
 entered_ends who generation b m c (told.NotYet answer) known entered need tracing none ends = inr (record {
-  late = late_from b.tables m.tables c.tables answer (need_on b.tables m.tables c.tables need ends.need) ends.late;
+  late = late_from b.tables m.tables c.tables answer need (need_on b.tables m.tables c.tables need ends.need) ends.late;
   none = none;
   since = inr (record { target = entered.target; on = entered.on; holds = entered.holds; next = entered.next; entered = entered.entered ∙ ap Some (sym ends.still.same) });
 })

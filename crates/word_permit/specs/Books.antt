@@ -84,6 +84,12 @@ KeepsRun names run b = IsSomeAnd run (λ r. IsWordBook names r.table r.opening b
 
 -- ---- what a call leaves
 
+-- what waits to be published, and the values that a release and a look wait for, are as before
+pub record IsWaitingStill (old new : WordBook) : Type 0 where
+  pub waiting : new.waiting ≡ old.waiting
+  pub need : new.need ≡ old.need
+  pub look : new.look ≡ old.look
+
 -- as many generations are published as before
 abbrev pub PublishesNone : WordBook → WordBook → Type 0
 PublishesNone old new = (written_by new.tables.writer).published ≡ (written_by old.tables.writer).published
@@ -118,7 +124,7 @@ IsLateBy (SetTrace generation at traced) old new answer = IsPatchLate old new an
 IsLateBy (ClearTrace generation at) old new answer = IsPatchLate old new answer
 IsLateBy change old new answer = IsLateFor change old new answer
 
--- the command waits on as it was decided, for the value that its change waits for, and the newest counter that the writer loaded is below it
+-- the command waits on as it was decided, for the value that its change waits for, and the counter that was loaded in this call is below it
 pub record IsLateStill (old new : WordBook) (answer : told.NotYet) : Type 0 where
   pub waiting : Waiting
   pub waits : new.waiting ≡ Some waiting

@@ -54,3 +54,4 @@ pub record KeepsButNote (made : Option plain.Spawned) (old new : Tables) : Type 
   pub index : new.index ≡ old.index
   pub terms : new.terms ≡ old.terms
   pub pools : new.pools ≡ old.pools
+  pub patch : new.patch ≡ old.patch

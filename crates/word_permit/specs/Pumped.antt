@@ -13,6 +13,7 @@ use Rattle.anchors.specs.declared.answers.Scan.{Scan}
 use Rattle.anchors.specs.declared.answers.Scan.TheVariants as scans
 use Rattle.anchors.specs.Scans.{IsSlotNamed}
 use Rattle.server_core.specs.ServerState.{is_retired}
+use Rattle.staging.specs.Released.{IsStagedStill}
 use Rattle.staging.specs.Stages.{IsLate}
 use Rattle.write_permit.specs.declared.answers.Pumped.TheVariants as plain
 use Rattle.write_permit.specs.Book.{shown}
@@ -39,25 +40,27 @@ abbrev pub LooksFound : ℕ → WriterView → WriterView → Scan → Type 0
 LooksFound serial old new (scans.Named process turn place word) = IsNamedBy serial old new process turn place word
 LooksFound serial old new (scans.Clear killed) = IsClear new Both serial
 
--- an area that waited is released: its entry joined the journal by the runtime, and the server made it; what a loader waits for is as before, but for the
+-- an area that waited is released: its entry joined the journal by the runtime, and the server made it; what is staged and what a loader waits for is as before, but for the
 -- value of the counter that a purge waits for before it looks: that is forgotten
 pub record HasReleased (serial : ℕ) (old new : WordBook) : Type 0 where
   pub waited : IsTrue (is_retired old.plain.server serial)
   pub step : pumped (shown old.plain) (Some serial) ≡ Some (record { state = shown new.plain; answer = plain.Released serial })
   pub published : PublishesNone old new
+  pub staged : IsStagedStill old.tables new.tables
   pub waiting : new.waiting ≡ old.waiting
   pub forgets : new.look ≡ None
 
--- nothing is released: what the permit shows, the blocks, and what a loader waits for, are as before
+-- nothing is released: what the permit shows, the blocks, what is staged, and what a loader waits for, are as before
 pub record ReleasesNone (old new : WordBook) : Type 0 where
   pub same : shown new.plain ≡ shown old.plain
   pub pools : new.tables.pools ≡ old.tables.pools
   pub published : PublishesNone old new
+  pub staged : IsStagedStill old.tables new.tables
   pub waiting : new.waiting ≡ old.waiting
   pub look : new.look ≡ old.look
 
 -- the value was taken for an area that waits for its release, while the newest generation had that retired; it is the one that was awaited before this call,
--- if its area waits still; and the newest counter that the writer loaded is below it
+-- if its area waits still; and the counter that was loaded in this call is below it
 pub record IsAwaitedStill (old new : WordBook) (answer : late.NotYet) : Type 0 where
   pub need : AreaNeed
   pub kept : new.need ≡ Some need
@@ -65,7 +68,7 @@ pub record IsAwaitedStill (old new : WordBook) (answer : late.NotYet) : Type 0 w
   pub taken : IsAwaited (written_by new.tables.writer) need
   pub same : (before : AreaNeed) → old.need ≡ Some before → IsTrue (is_retired old.plain.server before.serial) → need ≡ before
   pub value : answer.need ≡ need.value
-  pub below : IsLate new.tables answer
+  pub below : IsLate old.tables new.tables answer
 
 -- what each answer says
 abbrev pub PumpAnswers : WordBook → WordBook → Pumped → Type 0

@@ -1,6 +1,6 @@
 -- What soft purges and purges leave, call by call: each waits at the newest generation, looks through all slots, and ends once a look tells how.
 -- Source: Erlang/OTP, the manual pages code (soft_purge, purge) and erlang (purge_module); that each call gives one answer is this project's own.
-use Rattle.std.specs.Prelude.{◌≡◌, ◌⊎◌, ℕ, ◌<◌, ◌≤◌, Bool, true, false, List, ◌++◌, Option, Some, None, IfSome, IsSomeAnd}
+use Rattle.std.specs.Prelude.{◌≡◌, ◌⊎◌, ℕ, ◌<◌, ◌≤◌, Bool, true, false, List, ◌++◌, length, Option, Some, None, IfSome, IsSomeAnd}
 use Rattle.term_core.specs.declared.atom.AtomId.{AtomId}
 use Rattle.mod_core.specs.declared.code.Module.{Module}
 use Rattle.marks.specs.declared.kept.LookKind.TheVariants.{Frame}
@@ -24,6 +24,7 @@ use Rattle.script_core.specs.declared.script.ScriptCmd.{ScriptCmd}
 use Rattle.script_core.specs.declared.script.ScriptCmd.TheVariants.{Purge, SoftPurge}
 use Rattle.run_log.specs.declared.logs.Entry.{Entry}
 use Rattle.run_law.specs.Answers.{IsAnswerKept}
+use Rattle.breakpoints.specs.Patches.{LoadsCounter}
 use Rattle.write_permit.specs.declared.answers.OpStep.TheVariants as steps
 use Rattle.write_permit.specs.declared.book.Book.{Book}
 use Rattle.write_permit.specs.declared.holder.Holder.TheVariants.{Held, Purging}
@@ -100,19 +101,25 @@ pub record JustLooks (old new : WordBook) : Type 0 where
   pub plain : new.plain ≡ old.plain
   pub published : PublishesNone old new
   pub waiting : new.waiting ≡ old.waiting
+  pub longer : length (written_by old.tables.writer).pairs ≤ length (written_by new.tables.writer).pairs
 
--- the counter that was loaded in this call is below the value that is waited for, which is the last that was taken, at the newest generation
+-- the newest counter that the writer loaded is below the value that is waited for, which is the last that was taken, at the newest generation
 pub record IsLookLate (new : WordBook) (answer : late.NotYet) : Type 0 where
   pub looks : new.look ≡ Some answer.need
   pub taken : IsLookTaken (written_by new.tables.writer) answer.need
   pub loaded : answer.current ≡ (written_by new.tables.writer).counter
   pub below : answer.current < answer.need
 
--- nothing changes, and it is the value that was waited for before
+-- nothing changes but that the counter was loaded in this call, and it is the value that was waited for before
 pub record StillWaits (old new : WordBook) (need : ℕ) : Type 0 where
   pub same : shown new.plain ≡ shown old.plain
   pub published : PublishesNone old new
   pub still : IfSome old.look (λ value. value ≡ need)
+  pub loads : LoadsCounter (written_by old.tables.writer) (written_by new.tables.writer)
+
+-- a purge dooms in its first call: one that goes on has doomed its code before
+abbrev pub HasBegun : ℕ → WordBook → Type 0
+HasBegun who b = (name : AtomId) → next_of (shown b.plain) who ≡ Some (Purge name) → b.plain.holder ≡ Purging who name
 
 -- the loader's purge has begun: the old code is doomed, and the generation that shows it is published
 pub record HasDoomedCode (who : ℕ) (old new : WordBook) : Type 0 where
@@ -121,14 +128,15 @@ pub record HasDoomedCode (who : ℕ) (old new : WordBook) : Type 0 where
   pub next : next_of (shown old.plain) who ≡ Some (Purge name)
   pub doomed : doomed_by (shown old.plain) who name ≡ Some (shown new.plain)
 
--- the purge waits before it looks, as it did or since its old code is doomed
+-- the purge waits before it looks, as it did, or since its old code is doomed: then its value was taken behind that, in this call
 pub record AwaitsLook (who : ℕ) (old new : WordBook) (answer : late.NotYet) : Type 0 where
   pub waits : IsLookLate new answer
   pub none : new.waiting ≡ None
-  pub since : StillWaits old new answer.need ⊎ HasDoomedCode who old new
+  pub since : (HasBegun who old × StillWaits old new answer.need) ⊎ HasDoomedCode who old new
 
 -- the purge waits: a look that was made in this call, behind a wait at the newest generation, found an anchor that names its old code for a frame
 pub record LingersIn (who : ℕ) (old new : WordBook) (process turn place word : ℕ) : Type 0 where
+  pub begun : HasBegun who old
   pub same : shown new.plain ≡ shown old.plain
   pub published : PublishesNone old new
   pub none : new.waiting ≡ None

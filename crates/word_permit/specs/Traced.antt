@@ -47,7 +47,7 @@ pub record SwitchWaits (d : Decision) (old new : WordBook) (answer : NotYet) : T
   pub is : new.waiting ≡ Some waiting
   pub decision : waiting.decision ≡ d
 
--- the trace is published by this generation, no command waits to be published, and the counter has reached what the patch waited for
+-- the trace is published by this generation, and no command waits to be published; what the patch waited for it awaits still, or the counter has reached it
 pub record IsSwitched (who generation : ℕ) (old new : WordBook) : Type 0 where
   pub entered : HasEntered who old new
   pub need : NeedGoesOn old.tables new.tables

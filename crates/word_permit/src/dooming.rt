@@ -40,6 +40,7 @@ pub fn doom_code<K: Naming>(
     requires code { old_of book.old.plain.server code.«module».0 ≡ Some code.serial }
     ensures ok { IfOk result (PurgeAnswers who book.old book.new) }
     ensures err { OnErr result (HasTakenBack book.old book.new) }
+    ensures need { book.new.need ≡ book.old.need }
     ensures book { IsWordBook K.names shared.now.table.shared.table_id shared.now.table.shared.key book.new }
 {
     match decide_doom(&book.plain, who, code) {
@@ -88,6 +89,7 @@ fn begin_doom<K: Naming>(
     requires cmd { decision.cmd ≡ cmds.Doom code.«module» }
     ensures ok { IfOk result (PurgeAnswers who book.old book.new) }
     ensures err { OnErr result (HasTakenBack book.old book.new) }
+    ensures need { book.new.need ≡ book.old.need }
     ensures book { IsWordBook K.names shared.now.table.shared.table_id shared.now.table.shared.key book.new }
 {
     match publish_doom(book, shared, who, code, decision) {
@@ -101,6 +103,7 @@ fn begin_look<K: Naming>(book: &mut WordBook, shared: &Shared<CodeLaw<K>>) -> No
     requires book { IsWordBook K.names shared.now.table.shared.table_id shared.now.table.shared.key book.old }
     ensures late { IsLookLate book.new result }
     ensures same { JustLooks book.old book.new }
+    ensures need { book.new.need ≡ book.old.need }
     ensures book { IsWordBook K.names shared.now.table.shared.table_id shared.now.table.shared.key book.new }
 {
     let need = take_look(book, shared);
@@ -129,6 +132,7 @@ fn publish_doom<K: Naming>(
     ensures ok { OnOk result (doomed_by (shown book.old.plain) who code.«module» ≡ Some (shown book.new.plain)) }
     ensures none { book.new.waiting ≡ None }
     ensures err { OnErr result (HasTakenBack book.old book.new) }
+    ensures need { book.new.need ≡ book.old.need }
     ensures book { IsWordBook K.names shared.now.table.shared.table_id shared.now.table.shared.key book.new }
 {
     match ask_doom(&decision.change) {
@@ -157,6 +161,7 @@ fn join_doom<K: Naming>(
     ensures ok { OnOk result (doomed_by (shown book.old.plain) who code.«module» ≡ Some (shown book.new.plain)) }
     ensures none { book.new.waiting ≡ None }
     ensures err { OnErr result (HasTakenBack book.old book.new) }
+    ensures need { book.new.need ≡ book.old.need }
     ensures book { IsWordBook K.names shared.now.table.shared.table_id shared.now.table.shared.key book.new }
 {
     let Decision {

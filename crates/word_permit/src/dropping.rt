@@ -38,6 +38,7 @@ pub fn end_quietly<K: Naming>(
     requires told { IsToldBy book.old.plain.server (written_by book.old.tables.writer) (written_by book.old.tables.writer).looks cmd }
     ensures ok { IfOk result (EndAnswers who book.old book.new) }
     ensures err { OnErr result (HasTakenBack book.old book.new) }
+    ensures need { book.new.need ≡ book.old.need }
     ensures book { IsWordBook K.names _shared.now.table.shared.table_id _shared.now.table.shared.key book.new }
 {
     match end_with(&mut book.plain, who, cmd) {
@@ -80,6 +81,7 @@ pub fn drop_code<K: Naming>(
     requires told { IsToldByDrop book.old.plain.server (written_by book.old.tables.writer) serial cmd }
     ensures ok { IfOk result (EndAnswers who book.old book.new) }
     ensures err { OnErr result (HasTakenBack book.old book.new) }
+    ensures need { book.new.need ≡ book.old.need }
     ensures book { IsWordBook K.names shared.now.table.shared.table_id shared.now.table.shared.key book.new }
 {
     match decide_last(&book.plain, who, cmd) {
@@ -135,6 +137,7 @@ fn end_dropped<K: Naming>(
     requires told { IsToldByDrop book.old.plain.server (written_by book.old.tables.writer) serial decision.cmd }
     ensures ok { IfOk result (EndAnswers who book.old book.new) }
     ensures err { OnErr result (HasTakenBack book.old book.new) }
+    ensures need { book.new.need ≡ book.old.need }
     ensures book { IsWordBook K.names shared.now.table.shared.table_id shared.now.table.shared.key book.new }
 {
     match ask_drop(&decision.change, serial) {
@@ -162,6 +165,7 @@ fn publish_drop<K: Naming>(
     requires told { IsToldByDrop book.old.plain.server (written_by book.old.tables.writer) _serial decision.cmd }
     ensures ok { IfOk result (EndAnswers who book.old book.new) }
     ensures err { OnErr result (HasTakenBack book.old book.new) }
+    ensures need { book.new.need ≡ book.old.need }
     ensures book { IsWordBook K.names shared.now.table.shared.table_id shared.now.table.shared.key book.new }
 {
     let after = after_next(&book.plain, who);

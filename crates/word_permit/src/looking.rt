@@ -6,6 +6,7 @@ ghost use Rattle.anchors.specs.declared.answers.Scan.TheVariants as scans;
 ghost use Rattle.shared_words.specs.Views.{newest};
 ghost use Rattle.progress_words.specs.Needs.{IsBelow};
 ghost use Rattle.progress_words.specs.Tokens.{written_by};
+ghost use Rattle.breakpoints.specs.Patches.{LoadsCounter};
 ghost use Rattle.area_core.specs.Generations.{names_frame};
 ghost use Rattle.run_law.specs.Answers.{HasLingering};
 ghost use Rattle.word_permit.specs.Books.{IsWordBook};
@@ -36,7 +37,9 @@ pub fn look_for_code<K: Naming>(
     ensures late { IfErr result (IsLookLate book.new) }
     ensures still { IfErr result (λ answer. IfSome book.old.look (λ value. value ≡ answer.need)) }
     ensures found { IfOk result (HasLookedFor serial (written_by book.old.tables.writer) (written_by book.new.tables.writer)) }
+    ensures loads { LoadsCounter (written_by book.old.tables.writer) (written_by book.new.tables.writer) }
     ensures same { JustLooks book.old book.new }
+    ensures need { book.new.need ≡ book.old.need }
     ensures book { IsWordBook K.names shared.now.table.shared.table_id shared.now.table.shared.key book.new }
 {
     let value = awaited_look(book, shared);
@@ -53,6 +56,7 @@ fn awaited_look<K: Naming>(book: &mut WordBook, shared: &Shared<CodeLaw<K>>) -> 
     ensures still { IfSome book.old.look (λ value. value ≡ result) }
     ensures same { JustLooks book.old book.new }
     ensures looks { KeepsLooks (written_by book.old.tables.writer) (written_by book.new.tables.writer) }
+    ensures need { book.new.need ≡ book.old.need }
     ensures book { IsWordBook K.names shared.now.table.shared.table_id shared.now.table.shared.key book.new }
 {
     match book.look {
@@ -65,9 +69,10 @@ fn awaited_look<K: Naming>(book: &mut WordBook, shared: &Shared<CodeLaw<K>>) -> 
 pub fn take_look<K: Naming>(book: &mut WordBook, shared: &Shared<CodeLaw<K>>) -> u64
     requires book { IsWordBook K.names shared.now.table.shared.table_id shared.now.table.shared.key book.old }
     ensures look { book.new.look ≡ Some result }
-    ensures need { result ≡ (written_by book.new.tables.writer).counter + 2 }
+    ensures value { result ≡ (written_by book.new.tables.writer).counter + 2 }
     ensures same { JustLooks book.old book.new }
     ensures looks { KeepsLooks (written_by book.old.tables.writer) (written_by book.new.tables.writer) }
+    ensures need { book.new.need ≡ book.old.need }
     ensures book { IsWordBook K.names shared.now.table.shared.table_id shared.now.table.shared.key book.new }
 {
     counters_keep_index();
@@ -89,8 +94,10 @@ fn is_look_reached<K: Naming>(
     ensures ok { OnOk result (IsReached (written_by book.new.tables.writer)) }
     ensures late { IfErr result (IsLookLate book.new) }
     ensures asked { IfErr result (IsBelow value (written_by book.new.tables.writer)) }
+    ensures loads { LoadsCounter (written_by book.old.tables.writer) (written_by book.new.tables.writer) }
     ensures same { JustLooks book.old book.new }
     ensures looks { KeepsLooks (written_by book.old.tables.writer) (written_by book.new.tables.writer) }
+    ensures need { book.new.need ≡ book.old.need }
     ensures book { IsWordBook K.names shared.now.table.shared.table_id shared.now.table.shared.key book.new }
 {
     counters_keep_index();
@@ -112,6 +119,7 @@ fn look_through_frames<K: Naming>(
     requires code { old_of book.old.plain.server _module.0 ≡ Some serial }
     ensures found { HasLookedFor serial (written_by book.old.tables.writer) (written_by book.new.tables.writer) result }
     ensures same { JustLooks book.old book.new }
+    ensures need { book.new.need ≡ book.old.need }
     ensures book { IsWordBook K.names shared.now.table.shared.table_id shared.now.table.shared.key book.new }
 {
     looks_keep_pools();
@@ -153,6 +161,7 @@ pub fn keep_lingering<K: Naming>(
     ensures kept { IfSome result (HasLingering (written_by book.new.tables.writer).looks serial (newest (written_by book.old.tables.writer).published)) }
     ensures left { result ≡ None → written_by book.new.tables.writer ≡ written_by book.old.tables.writer }
     ensures same { JustLooks book.old book.new }
+    ensures need { book.new.need ≡ book.old.need }
     ensures book { IsWordBook K.names shared.now.table.shared.table_id shared.now.table.shared.key book.new }
 {
     looks_keep_pools();

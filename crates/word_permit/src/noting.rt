@@ -5,7 +5,7 @@ ghost use Rattle.shared_words.specs.Notes.{MaySplitNote};
 ghost use Rattle.progress_words.specs.Tokens.{IsWriterOf, written_by};
 ghost use Rattle.write_permit.specs.Book.{shown};
 ghost use Rattle.write_permit.specs.Permit.{at_once_of, needs_permission, next_of};
-ghost use Rattle.word_permit.specs.Books.{IsWordBook};
+ghost use Rattle.word_permit.specs.Books.{IsWaitingStill, IsWordBook};
 ghost use Rattle.word_permit.specs.Notes.{HandsOut, KeepsButNote, next_spawned, noted_for};
 
 use crate::answers::{AtOnce, Spawned};
@@ -32,6 +32,7 @@ pub fn make_next<K: Naming>(
     ensures tables { OnOk result (KeepsButNote (next_spawned (shown book.old.plain) who) book.old.tables book.new.tables) }
     ensures err { OnErr result (shown book.new.plain ≡ shown book.old.plain) }
     ensures err_tables { OnErr result (book.new.tables ≡ book.old.tables) }
+    ensures waits { IsWaitingStill book.old book.new }
     ensures script { book.new.plain.script ≡ book.old.plain.script }
     ensures book { IsWordBook K.names shared.now.table.shared.table_id shared.now.table.shared.key book.new }
 {

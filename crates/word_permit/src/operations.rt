@@ -39,6 +39,7 @@ pub fn advance_run<K: Naming, N: RunName>(
     ensures ok { IfOk result (CommandAnswers who book.old book.new) }
     ensures err { OnErr result (HasGivenUp book.old book.new) }
     ensures grown { HasGrown book.old.plain book.new.plain }
+    ensures need { book.new.need ≡ book.old.need }
     ensures kept { KeepsRun K.names N.run book.new }
 {
     match purged_next(&book.plain, who) {
@@ -59,6 +60,7 @@ fn advance<K: Naming>(
     requires goes { IsSomeAnd (next_of (shown book.old.plain) who) GoesOverWords }
     ensures ok { IfOk result (OpAnswers who book.old book.new) }
     ensures err { OnErr result (HasGivenUp book.old book.new) }
+    ensures need { book.new.need ≡ book.old.need }
     ensures book { IsWordBook K.names shared.now.table.shared.table_id shared.now.table.shared.key book.new }
 {
     book.look = None;
@@ -90,6 +92,7 @@ fn go_on<K: Naming>(
     requires goes { IsSomeAnd (next_of (shown book.old.plain) who) GoesOverWords }
     ensures ok { IfOk result (OpAnswers who book.old book.new) }
     ensures err { OnErr result (HasTakenBack book.old book.new) }
+    ensures need { book.new.need ≡ book.old.need }
     ensures book { IsWordBook K.names shared.now.table.shared.table_id shared.now.table.shared.key book.new }
 {
     match book.plain.holder {
@@ -112,6 +115,7 @@ fn go_on_held<K: Naming>(
     requires goes { IsSomeAnd (next_of (shown book.old.plain) who) GoesOverWords }
     ensures ok { IfOk result (OpAnswers who book.old book.new) }
     ensures err { OnErr result (HasTakenBack book.old book.new) }
+    ensures need { book.new.need ≡ book.old.need }
     ensures book { IsWordBook K.names shared.now.table.shared.table_id shared.now.table.shared.key book.new }
 {
     match book.waiting.take() {
@@ -138,6 +142,7 @@ fn go_on_waiting<K: Naming>(
     // where it waits on, it does so as it was decided
     ensures decision { IfOk result (λ step. IfSome book.new.waiting (λ w. w.decision ≡ waiting.decision)) }
     ensures err { OnErr result (HasTakenBack book.old book.new) }
+    ensures need { book.new.need ≡ book.old.need }
     ensures book { IsWordBook K.names shared.now.table.shared.table_id shared.now.table.shared.key book.new }
 {
     if changes_trace(&waiting.decision.change) {
@@ -161,6 +166,7 @@ fn begin<K: Naming>(
     requires goes { IsSomeAnd (next_of (shown book.old.plain) who) GoesOverWords }
     ensures ok { IfOk result (OpAnswers who book.old book.new) }
     ensures err { OnErr result (HasTakenBack book.old book.new) }
+    ensures need { book.new.need ≡ book.old.need }
     ensures book { IsWordBook K.names shared.now.table.shared.table_id shared.now.table.shared.key book.new }
 {
     match decide_next(book, who) {
@@ -199,6 +205,7 @@ fn follow<K: Naming>(
     requires decided { IsDecided (shown book.old.plain) who decision }
     ensures ok { IfOk result (OpAnswers who book.old book.new) }
     ensures err { OnErr result (HasTakenBack book.old book.new) }
+    ensures need { book.new.need ≡ book.old.need }
     ensures book { IsWordBook K.names shared.now.table.shared.table_id shared.now.table.shared.key book.new }
 {
     match course_of(&decision.change) {

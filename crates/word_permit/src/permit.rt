@@ -10,7 +10,7 @@ ghost use Rattle.script_core.specs.Sound.{IsScript};
 ghost use Rattle.staging.specs.Stages.{AreAtRest};
 ghost use Rattle.write_permit.specs.Book.{shown};
 ghost use Rattle.write_permit.specs.Permit.{at_once_of, holder_of, needs_permission, next_of, seize_answer, seized_by};
-ghost use Rattle.word_permit.specs.Books.{HasGivenUp, IsBegun, KeepsRun};
+ghost use Rattle.word_permit.specs.Books.{HasGivenUp, IsBegun, IsWaitingStill, KeepsRun};
 ghost use Rattle.word_permit.specs.Notes.{HandsOut, KeepsButNote, next_spawned};
 ghost use Rattle.word_permit.specs.Pumped.{PumpAnswers, ReleasesNone};
 ghost use Rattle.word_permit.specs.Purged.{CommandAnswers, HasGrown};
@@ -96,7 +96,7 @@ impl<K: Naming, N: RunName> Permit<K, N> {
         all_done(&self.book.plain)
     }
 
-    /// Gives the permission to a loader whose next command needs it, unless another one has it.
+    /// Gives the permission to a loader whose next command needs it, unless another one has it. What waits is as before.
     pub fn seize(&mut self, who: u32) -> Seize
         requires { IsSomeAnd (next_of (shown self.old.plain) who) (λ command. needs_permission command ≡ true) }
         ensures answer { result ≡ seize_answer self.old.plain.holder }
@@ -104,6 +104,7 @@ impl<K: Naming, N: RunName> Permit<K, N> {
         ensures tables { self.new.tables ≡ self.old.tables }
         ensures seized { result ≡ Seize.Seized → holder_of self.new.plain.holder ≡ Some who }
         ensures held { result ≡ Seize.Held who → holder_of self.new.plain.holder ≡ Some who }
+        ensures waits { IsWaitingStill self.old self.new }
         ensures kept { KeepsRun K.names N.run self.new }
     {
         seize(&mut self.book, who)
@@ -121,7 +122,7 @@ impl<K: Naming, N: RunName> Permit<K, N> {
     /// `Done` gives the permission up. Its entry joined the journal in the call that stored the root. Until then nothing of the command is published but
     /// the doom of a purge and the generation of a trace, and else `NotYet` and `AwaitRelease` leave all but the phase as it was. After `NoMemory` what was
     /// staged is taken back, the active generation stays, and the loader gives the permission up unless its old code is doomed; behind the root no phase of a
-    /// trace takes memory. The gate is passed once for each entry that published.
+    /// trace takes memory. The gate is passed once for each entry that published. What a release waits for stays as it is.
     ///
     /// Rule: erts internal documentation, CodeLoading: stage, wait for thread progress, commit; and Tracing; and the manual page code (purge, soft_purge).
     pub fn advance_op<G: Gate>(
@@ -135,6 +136,7 @@ impl<K: Naming, N: RunName> Permit<K, N> {
         ensures ok { IfOk result (CommandAnswers who self.old self.new) }
         ensures err { OnErr result (HasGivenUp self.old self.new) }
         ensures grown { HasGrown self.old.plain self.new.plain }
+        ensures need { self.new.need ≡ self.old.need }
         ensures kept { KeepsRun K.names N.run self.new }
     {
         let before = self.book.plain.server.generation();
@@ -144,7 +146,8 @@ impl<K: Naming, N: RunName> Permit<K, N> {
     }
 
     /// Makes the next command of a loader, which is a spawn or a look for old code. The process of a spawn is handed out with its note, by which it learns
-    /// of the generations that were published at the spawn. After `NoMemory` the permit is as before.
+    /// of the generations that were published at the spawn. What waits to be published, for a release or for a look is as before; after `NoMemory` the whole
+    /// permit is.
     pub fn at_once(&mut self, shared: &Shared<CodeLaw<K>>, who: u32) -> Result<AtOnce, NoMemory>
         requires words { IsOverWords shared.now.table.shared.table_id shared.now.table.shared.key N.run }
         requires next { IsSomeAnd (next_of (shown self.old.plain) who) (λ command. needs_permission command ≡ false) }
@@ -153,6 +156,7 @@ impl<K: Naming, N: RunName> Permit<K, N> {
         ensures tables { OnOk result (KeepsButNote (next_spawned (shown self.old.plain) who) self.old.tables self.new.tables) }
         ensures err { OnErr result (shown self.new.plain ≡ shown self.old.plain) }
         ensures err_tables { OnErr result (self.new.tables ≡ self.old.tables) }
+        ensures waits { IsWaitingStill self.old self.new }
         ensures kept { KeepsRun K.names N.run self.new }
     {
         make_next(&mut self.book, shared, who)

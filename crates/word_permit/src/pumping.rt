@@ -1,10 +1,11 @@
 //! A retired area is released once no thread reads it and no slot names it.
 
-ghost use Rattle.std.specs.Prelude.{◌≡◌, ◌≤◌, [], IfErr, IfOk, IfSome, IsTrue, None, OnErr, OnOk, Some};
+ghost use Rattle.std.specs.Prelude.{◌≡◌, ◌≤◌, [], length, IfErr, IfOk, IfSome, IsTrue, None, OnErr, OnOk, Some};
 ghost use Rattle.marks.specs.declared.kept.LookKind.TheVariants.{Both};
 ghost use Rattle.shared_words.specs.Slots.{IsClear, LookMayBegin};
 ghost use Rattle.progress_words.specs.Needs.{IsBelow};
 ghost use Rattle.progress_words.specs.Tokens.{written_by};
+ghost use Rattle.breakpoints.specs.Patches.{LoadsCounter};
 ghost use Rattle.server_core.specs.ServerState.{is_retired, is_serial_in};
 ghost use Rattle.staging.specs.Whose.{KeepsKnown};
 ghost use Rattle.word_permit.specs.declared.book.AreaNeed.{AreaNeed};
@@ -59,8 +60,9 @@ fn awaited<K: Naming>(book: &mut WordBook, shared: &Shared<CodeLaw<K>>) -> Optio
     // it is kept, and is the one before, if that is of an area that waits still
     ensures kept { IfSome result (λ n. book.new.need ≡ Some n) }
     ensures same { (before : AreaNeed) → book.old.need ≡ Some before → IsTrue (is_retired book.old.plain.server before.serial) → result ≡ Some before }
-    // nothing is released, and no slot is looked at
+    // nothing is released, no slot is looked at, and no load of the counter is forgotten
     ensures none_released { ReleasesNone book.old book.new }
+    ensures longer { length (written_by book.old.tables.writer).pairs ≤ length (written_by book.new.tables.writer).pairs }
     ensures looks { KeepsLooks (written_by book.old.tables.writer) (written_by book.new.tables.writer) }
     ensures plain { book.new.plain ≡ book.old.plain }
     ensures book { IsWordBook K.names shared.now.table.shared.table_id shared.now.table.shared.key book.new }
@@ -101,6 +103,7 @@ fn take_need<K: Naming>(book: &mut WordBook, shared: &Shared<CodeLaw<K>>, serial
     // the writer keeps what it knew, has looked at no slot, and has released nothing
     ensures known { KeepsKnown (written_by book.old.tables.writer) (written_by book.new.tables.writer) }
     ensures counter { (written_by book.old.tables.writer).counter ≤ (written_by book.new.tables.writer).counter }
+    ensures longer { length (written_by book.old.tables.writer).pairs ≤ length (written_by book.new.tables.writer).pairs }
     ensures looks { KeepsLooks (written_by book.old.tables.writer) (written_by book.new.tables.writer) }
     ensures none_released { ReleasesNone book.old book.new }
     ensures plain { book.new.plain ≡ book.old.plain }
@@ -125,6 +128,7 @@ fn is_reached<K: Naming>(
     requires awaited { IsAwaited (written_by book.old.tables.writer) need }
     ensures ok { OnOk result (LookMayBegin (written_by book.new.tables.writer) Both need.serial) }
     ensures late { IfErr result (IsBelow need.value (written_by book.new.tables.writer)) }
+    ensures loads { LoadsCounter (written_by book.old.tables.writer) (written_by book.new.tables.writer) }
     // it is waited for as before
     ensures awaited { IsAwaited (written_by book.new.tables.writer) need }
     ensures kept { book.new.need ≡ book.old.need }

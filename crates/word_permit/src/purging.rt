@@ -53,6 +53,7 @@ pub fn advance_purge<K: Naming>(
     ensures ok { IfOk result (PurgeAnswers who book.old book.new) }
     ensures err { OnErr result (HasGivenUp book.old book.new) }
     ensures grown { HasGrown book.old.plain book.new.plain }
+    ensures need { book.new.need ≡ book.old.need }
     ensures book { IsWordBook K.names shared.now.table.shared.table_id shared.now.table.shared.key book.new }
 {
     match go_on_purge(book, shared, who, purged) {
@@ -76,6 +77,7 @@ fn go_on_purge<K: Naming>(
     requires next { next_of (shown book.old.plain) who ≡ Some (purging_command purged) }
     ensures ok { IfOk result (PurgeAnswers who book.old book.new) }
     ensures err { OnErr result (HasTakenBack book.old book.new) }
+    ensures need { book.new.need ≡ book.old.need }
     ensures book { IsWordBook K.names shared.now.table.shared.table_id shared.now.table.shared.key book.new }
 {
     match book.plain.holder {
@@ -103,6 +105,7 @@ fn begin_purge<K: Naming>(
     requires next { next_of (shown book.old.plain) who ≡ Some (purging_command purged) }
     ensures ok { IfOk result (PurgeAnswers who book.old book.new) }
     ensures err { OnErr result (HasTakenBack book.old book.new) }
+    ensures need { book.new.need ≡ book.old.need }
     ensures book { IsWordBook K.names shared.now.table.shared.table_id shared.now.table.shared.key book.new }
 {
     match purged {
@@ -123,6 +126,7 @@ fn begin_wholly<K: Naming>(
     requires next { next_of (shown book.old.plain) who ≡ Some (commands.Purge «module») }
     ensures ok { IfOk result (PurgeAnswers who book.old book.new) }
     ensures err { OnErr result (HasTakenBack book.old book.new) }
+    ensures need { book.new.need ≡ book.old.need }
     ensures book { IsWordBook K.names shared.now.table.shared.table_id shared.now.table.shared.key book.new }
 {
     match old_code(module, &book.plain.server) {
@@ -146,6 +150,7 @@ fn close_purge<K: Naming>(
     requires code { old_of book.old.plain.server code.«module».0 ≡ Some code.serial }
     ensures ok { IfOk result (PurgeAnswers who book.old book.new) }
     ensures err { OnErr result (HasTakenBack book.old book.new) }
+    ensures need { book.new.need ≡ book.old.need }
     ensures book { IsWordBook K.names shared.now.table.shared.table_id shared.now.table.shared.key book.new }
 {
     match look_for_code(book, shared, code.module, code.serial) {
@@ -169,6 +174,7 @@ fn end_wholly<K: Naming>(
     requires found { HasLooked code.serial (written_by book.old.tables.writer) scan }
     ensures ok { IfOk result (LookAnswers who scan book.old book.new) }
     ensures err { OnErr result (HasTakenBack book.old book.new) }
+    ensures need { book.new.need ≡ book.old.need }
     ensures book { IsWordBook K.names shared.now.table.shared.table_id shared.now.table.shared.key book.new }
 {
     let module = code.module;

@@ -36,6 +36,7 @@ pub fn begin_softly<K: Naming>(
     requires next { next_of (shown book.old.plain) who ≡ Some (commands.SoftPurge «module») }
     ensures ok { IfOk result (PurgeAnswers who book.old book.new) }
     ensures err { OnErr result (HasTakenBack book.old book.new) }
+    ensures need { book.new.need ≡ book.old.need }
     ensures book { IsWordBook K.names shared.now.table.shared.table_id shared.now.table.shared.key book.new }
 {
     match old_code(module, &book.plain.server) {
@@ -60,6 +61,7 @@ fn purge_softly<K: Naming>(
     requires code { old_of book.old.plain.server code.«module».0 ≡ Some code.serial }
     ensures ok { IfOk result (PurgeAnswers who book.old book.new) }
     ensures err { OnErr result (HasTakenBack book.old book.new) }
+    ensures need { book.new.need ≡ book.old.need }
     ensures book { IsWordBook K.names shared.now.table.shared.table_id shared.now.table.shared.key book.new }
 {
     match look_for_code(book, shared, code.module, code.serial) {
@@ -84,6 +86,7 @@ fn end_softly<K: Naming>(
     requires found { HasLooked code.serial (written_by book.old.tables.writer) scan }
     ensures ok { IfOk result (LookAnswers who scan book.old book.new) }
     ensures err { OnErr result (HasTakenBack book.old book.new) }
+    ensures need { book.new.need ≡ book.old.need }
     ensures book { IsWordBook K.names shared.now.table.shared.table_id shared.now.table.shared.key book.new }
 {
     let module = code.module;
@@ -133,6 +136,7 @@ fn end_lingering<K: Naming>(
     requires lingers { HasLingering (written_by book.old.tables.writer).looks code.serial (newest (written_by book.old.tables.writer).published) linger }
     ensures ok { IfOk result (EndAnswers who book.old book.new) }
     ensures err { OnErr result (HasTakenBack book.old book.new) }
+    ensures need { book.new.need ≡ book.old.need }
     ensures book { IsWordBook K.names shared.now.table.shared.table_id shared.now.table.shared.key book.new }
 {
     let module = code.module;

@@ -12,7 +12,7 @@ ghost use Rattle.staging.specs.Stages.{AreAtRest};
 ghost use Rattle.staging.specs.Whose.{AreTablesOf};
 ghost use Rattle.write_permit.specs.Book.{shown};
 ghost use Rattle.write_permit.specs.Permit.{needs_permission, next_of, seize_answer, seized_by};
-ghost use Rattle.word_permit.specs.Books.{IsBegun, IsKept, IsWordBook};
+ghost use Rattle.word_permit.specs.Books.{IsBegun, IsKept, IsWaitingStill, IsWordBook};
 
 use crate::answers::Finished;
 use crate::book::WordBook;
@@ -53,6 +53,7 @@ pub fn seize(book: &mut WordBook, who: u32) -> Seize
     requires { IsSomeAnd (next_of (shown book.old.plain) who) (λ command. needs_permission command ≡ true) }
     ensures answer { result ≡ seize_answer book.old.plain.holder }
     ensures state { shown book.new.plain ≡ record (shown book.old.plain) { holder = seized_by who book.old.plain.holder } }
+    ensures waits { IsWaitingStill book.old book.new }
     ensures kept { IsKept book.old book.new }
 {
     match book.plain.holder {

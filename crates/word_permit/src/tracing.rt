@@ -44,6 +44,7 @@ pub fn go_on_traced<K: Naming>(
     // where it waits on, it does so as it was decided
     ensures decision { IfOk result (λ step. IfSome book.new.waiting (λ w. w.decision ≡ waiting.decision)) }
     ensures err { OnErr result (HasTakenBack book.old book.new) }
+    ensures need { book.new.need ≡ book.old.need }
     ensures book { IsWordBook K.names shared.now.table.shared.table_id shared.now.table.shared.key book.new }
 {
     match switch(book, shared, who, waiting) {
@@ -73,6 +74,7 @@ fn switch<K: Naming>(
     ensures ok { IfOk result (SwitchAnswers who waiting.decision book.old book.new) }
     ensures err { OnErr result (HasTakenBack book.old book.new) }
     ensures look { book.new.look ≡ None }
+    ensures need { book.new.need ≡ book.old.need }
     ensures book { IsWordBook K.names shared.now.table.shared.table_id shared.now.table.shared.key book.new }
 {
     changes_keep_numbers();
@@ -137,6 +139,7 @@ pub fn settle_traced<K: Naming>(
     requires traces { book.old.plain.holder ≡ holders.Tracing who generation }
     ensures answers { SettleAnswers who book.old book.new result }
     ensures none { book.new.waiting ≡ None }
+    ensures need { book.new.need ≡ book.old.need }
     ensures book { IsWordBook K.names shared.now.table.shared.table_id shared.now.table.shared.key book.new }
 {
     match settle(&mut book.tables, shared) {

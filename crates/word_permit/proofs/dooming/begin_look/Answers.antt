@@ -7,6 +7,6 @@ pub returns-clause-late : goal.returns-clause-late
 returns-clause-late g c = record {
   looks = c.take_look-need.ensures.look;
   taken = value_taken g.K.Naming.names _ _ c.take_look-need.new.book c.take_look-need.result c.take_look-need.ensures.book c.take_look-need.ensures.look;
-  loaded = omega (arith, c.take_look-need.ensures.need);
-  below = omega (arith, c.take_look-need.ensures.need);
+  loaded = omega (arith, c.take_look-need.ensures.value);
+  below = omega (arith, c.take_look-need.ensures.value);
 }

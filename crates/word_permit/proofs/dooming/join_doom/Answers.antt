@@ -78,5 +78,5 @@ pub returns-in-Err-clause-book : goal.returns-in-Err-clause-book
 returns-in-Err-clause-book g c =
     rests g.K.Naming.names _ _ c.args.book.now (record (c.args.book.now) { plain = record (c.args.book.now.plain) { journal = c.take_room.new.journal; modules = c.take_room.new.modules }; look = None }) c.requires.book.has
     (ap (λ js. record (shown c.args.book.now.plain) { journal = js }) c.in-Err.ensures.err)
-    c.take_room.ensures.table c.requires.book.has.tables c.requires.book.has.exports refl (record { notes = refl; looks = refl; waits = λ pair among. among }) refl c.requires.none refl (held_no_trace c.args.book.now.plain.holder c.args.who c.requires.holds)
+    c.take_room.ensures.table c.requires.book.has.tables c.requires.book.has.exports refl (record { notes = refl; looks = refl; waits = λ pair among. among; longer = omega (arith) }) refl c.requires.none refl (held_no_trace c.args.book.now.plain.holder c.args.who c.requires.holds)
     (at_rest g.K.Naming.names (shown c.args.book.now.plain) c.args.book.now.tables c.args.book.now.waiting c.requires.none (held_no_trace c.args.book.now.plain.holder c.args.who c.requires.holds) c.requires.book.words)

@@ -85,5 +85,5 @@ pub returns-in-Err-clause-book : goal.returns-in-Err-clause-book
 returns-in-Err-clause-book g c =
     rests g.K.Naming.names _ _ c.args.book.now (record (c.args.book.now) { plain = record (c.args.book.now.plain) { journal = c.take_room.new.journal; modules = c.take_room.new.modules }; look = None }) c.requires.book.has
     (ap (λ js. record (shown c.args.book.now.plain) { journal = js }) c.in-Err.ensures.err)
-    c.take_room.ensures.table c.requires.book.has.tables c.requires.book.has.exports refl (record { notes = refl; looks = refl; waits = λ pair among. among }) refl c.requires.none refl (ends_no_trace (shown c.args.book.now.plain) c.args.who c.args.decision.cmd c.requires.ends)
+    c.take_room.ensures.table c.requires.book.has.tables c.requires.book.has.exports refl (record { notes = refl; looks = refl; waits = λ pair among. among; longer = omega (arith) }) refl c.requires.none refl (ends_no_trace (shown c.args.book.now.plain) c.args.who c.args.decision.cmd c.requires.ends)
     (at_rest g.K.Naming.names (shown c.args.book.now.plain) c.args.book.now.tables c.args.book.now.waiting c.requires.none (ends_no_trace (shown c.args.book.now.plain) c.args.who c.args.decision.cmd c.requires.ends) c.requires.book.words)

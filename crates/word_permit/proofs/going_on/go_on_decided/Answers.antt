@@ -6,6 +6,7 @@ use Rattle.write_permit.specs.Book.{shown}
 use Rattle.word_permit.proofs.Ended.{can_follow}
 use Rattle.word_permit.proofs.Kept.{known_abandoned, made_numbered, numbers_left, rests}
 use Rattle.word_permit.proofs.Resting.{held_no_trace}
+use Rattle.word_permit.proofs.Settling.{settled_need}
 use Rattle.word_permit.proofs.Went.{went_on}
 use Rattle.word_permit.proofs.going_on.go_on_decided.Goals as goal
 
@@ -82,3 +83,9 @@ returns-in-Err-clause-book g c =
     c.requires.look
     (held_no_trace c.args.book.now.plain.holder c.args.who c.requires.holds)
     c.abandon.ensures.rest
+
+pub returns-in-Ok-clause-need : goal.returns-in-Ok-clause-need
+returns-in-Ok-clause-need g c =
+    settled_need c.args.who c.args.waiting.decision.change c.step-stage.result.0 c.after_next-after.result
+    (record (c.args.book.now) { plain = record (c.args.book.now.plain) { journal = c.take_room.new.journal; modules = c.take_room.new.modules }; tables = c.step-stage.new.tables }) c.settle.new.book c.step-stage.result.1 c.settle.result
+    c.args.book.now.plain.journal c.entry_of-entry.result c.in-Ok.ensures.ok c.settle.ensures

@@ -4,7 +4,7 @@ use Rattle.shared_words.specs.declared.view.WriterView.{WriterView}
 use Rattle.shared_words.specs.Lingering.{lingering_of}
 use Rattle.shared_words.specs.Seats.{writer_of}
 use Rattle.progress_words.specs.Tokens.{written_by}
-use Rattle.word_permit.proofs.Looked.{linger_same}
+use Rattle.word_permit.proofs.Looked.{as_many, linger_same}
 use Rattle.word_permit.proofs.Lingered.{book_lingered, if_kept, if_left, may_linger}
 use Rattle.word_permit.proofs.looking.keep_lingering.Goals as goal
 
@@ -29,11 +29,14 @@ returns-clause-left g c =
     if_left (written_by c.args.book.now.tables.writer) (written_by c.load_lingering-word.new.writer) c.load_lingering-word.result c.args.serial c.args.process c.args.turn (ap writer_of c.load_lingering-word.ensures.view) c.named_by.result c.named_by.ensures
 
 pub returns-clause-same : goal.returns-clause-same
-returns-clause-same g c = record {
-  plain = refl;
-  published = ap (λ (w : WriterView). w.published) (linger_same c.load_lingering-word.result (lingering_of (written_by c.args.book.now.tables.writer) c.args.process c.args.serial c.args.turn) (written_by c.args.book.now.tables.writer) (written_by c.load_lingering-word.new.writer) (ap writer_of c.load_lingering-word.ensures.view));
-  waiting = refl;
-}
+returns-clause-same g c =
+    let same = linger_same c.load_lingering-word.result (lingering_of (written_by c.args.book.now.tables.writer) c.args.process c.args.serial c.args.turn) (written_by c.args.book.now.tables.writer) (written_by c.load_lingering-word.new.writer) (ap writer_of c.load_lingering-word.ensures.view) in
+    record {
+      plain = refl;
+      published = ap (λ (w : WriterView). w.published) same;
+      waiting = refl;
+      longer = as_many (written_by c.args.book.now.tables.writer) (written_by c.load_lingering-word.new.writer) (ap (λ (w : WriterView). w.pairs) same);
+    }
 
 pub returns-clause-book : goal.returns-clause-book
 returns-clause-book g c =

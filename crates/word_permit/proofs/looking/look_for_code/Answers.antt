@@ -1,7 +1,7 @@
 -- The value is waited for, and then slots are looked through.
 use Rattle.std.proofs.Common.{◌∙◌}
 use Rattle.progress_words.specs.Tokens.{written_by}
-use Rattle.word_permit.proofs.Looked.{found_since, looks_kept, still_asked}
+use Rattle.word_permit.proofs.Looked.{found_since, loads_then, looks_kept, still_asked, then_loads}
 use Rattle.word_permit.proofs.PurgeCalls.{code_still, two_looks}
 use Rattle.word_permit.proofs.looking.look_for_code.Goals as goal
 
@@ -27,3 +27,18 @@ returns-in-Err-clause-same g c = two_looks c.args.book.now c.awaited_look-value.
 
 pub returns-in-Err-clause-still : goal.returns-in-Err-clause-still
 returns-in-Err-clause-still g c = still_asked c.args.book.now.look c.awaited_look-value.result c.in-Err.answer.need c.awaited_look-value.ensures.still c.in-Err.ensures.asked.asked
+
+pub returns-in-Err-clause-loads : goal.returns-in-Err-clause-loads
+returns-in-Err-clause-loads g c =
+    then_loads (written_by c.args.book.now.tables.writer) (written_by c.awaited_look-value.new.book.tables.writer) (written_by c.is_look_reached.new.book.tables.writer) c.awaited_look-value.ensures.same.longer c.is_look_reached.ensures.loads
+
+pub returns-in-Ok-clause-loads : goal.returns-in-Ok-clause-loads
+returns-in-Ok-clause-loads g c =
+    let loads = then_loads (written_by c.args.book.now.tables.writer) (written_by c.awaited_look-value.new.book.tables.writer) (written_by c.is_look_reached.new.book.tables.writer) c.awaited_look-value.ensures.same.longer c.is_look_reached.ensures.loads in
+    loads_then (written_by c.args.book.now.tables.writer) (written_by c.is_look_reached.new.book.tables.writer) (written_by c.look_through_frames.new.book.tables.writer) loads c.look_through_frames.ensures.same.longer
+
+pub returns-in-Err-clause-need : goal.returns-in-Err-clause-need
+returns-in-Err-clause-need g c = c.is_look_reached.ensures.need ∙ c.awaited_look-value.ensures.need
+
+pub returns-in-Ok-clause-need : goal.returns-in-Ok-clause-need
+returns-in-Ok-clause-need g c = c.look_through_frames.ensures.need ∙ c.is_look_reached.ensures.need ∙ c.awaited_look-value.ensures.need

@@ -1,4 +1,5 @@
 -- The command leaves the server and the next commands of other loaders, and then the note of its process is split.
+use Rattle.std.proofs.Common.{refl}
 use Rattle.word_permit.proofs.Calls.{made_at_once}
 use Rattle.word_permit.proofs.Noted.{book_after}
 use Rattle.word_permit.proofs.noting.make_next.Goals as goal
@@ -17,3 +18,9 @@ returns-clause-book g c =
     c.in_ok-made.ensures.spawned in
     book_after g.K.Naming.names _ _ (record (c.args.book.now) { plain = c.make_at_once.new.book }) c.noted-spawned.new.writer c.noted-spawned.ensures.token c.notes_keep_index.ensures c.notes_keep_tables.ensures c.notes_keep_pools.ensures
     c.in_ok-made.made.spawned c.noted-spawned.ensures.none c.noted-spawned.ensures.view m.spawned m.book
+
+pub returns-clause-waits : goal.returns-clause-waits
+returns-clause-waits g c = record { waiting = refl; need = refl; look = refl }
+
+pub returns-in_err-made-clause-waits : goal.returns-in_err-made-clause-waits
+returns-in_err-made-clause-waits g c = record { waiting = refl; need = refl; look = refl }

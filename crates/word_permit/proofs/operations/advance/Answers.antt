@@ -1,4 +1,6 @@
 -- No look is waited for; after want of memory the words are at rest, and the loader gives the permission up.
+use Rattle.std.proofs.Common.{ap, ◌∙◌}
+use Rattle.word_permit.specs.declared.book.WordBook.{WordBook}
 use Rattle.word_permit.proofs.Followed.{answers_unlooked, given_up_by, given_word_book, taken_unlooked, unlooked}
 use Rattle.word_permit.proofs.operations.advance.Goals as goal
 
@@ -15,3 +17,6 @@ pub returns-in-Err-clause-book : goal.returns-in-Err-clause-book
 returns-in-Err-clause-book g c =
     let e = taken_unlooked c.args.book.now c.go_on.new.book c.in-Err.ensures.err in
     given_word_book g.K.Naming.names _ _ c.go_on.new.book c.give_up.new.book c.go_on.ensures.book e.none c.give_up.ensures
+
+pub returns-in-Err-clause-need : goal.returns-in-Err-clause-need
+returns-in-Err-clause-need g c = ap (λ (x : WordBook). x.need) c.give_up.ensures ∙ c.go_on.ensures.need

@@ -1,8 +1,7 @@
 -- A look that was clear leaves what was waited for; behind one that was not the counter is loaded.
-use Rattle.std.proofs.Common.{◌∙◌}
 use Rattle.progress_words.specs.Tokens.{written_by}
 use Rattle.word_permit.proofs.AreaLooks.{named_loaded}
-use Rattle.word_permit.proofs.PumpedThrough.{released_through}
+use Rattle.word_permit.proofs.PumpedThrough.{none_twice, released_through}
 use Rattle.word_permit.proofs.pumping.look_for.Goals as goal
 
 pub returns-in_ok-release_area-in-Clear-clause-ok : goal.returns-in_ok-release_area-in-Clear-clause-ok
@@ -13,7 +12,7 @@ pub returns-in-Named-clause-ok : goal.returns-in-Named-clause-ok
 returns-in-Named-clause-ok g c =
     let a = c.in-Named.ensures.none_released in
     let b = c.take_need.ensures.none_released in (
-      record { same = b.same ∙ a.same; pools = b.pools ∙ a.pools; published = b.published ∙ a.published; waiting = b.waiting ∙ a.waiting; look = b.look ∙ a.look },
+      none_twice c.args.book.now c.look_through.new.book c.take_need.new.book a b,
       (
         c.requires.waits,
         named_loaded c.args.serial (written_by c.args.book.now.tables.writer) (written_by c.look_through.new.book.tables.writer) (written_by c.take_need.new.book.tables.writer) c.in-Named.process c.in-Named.turn c.in-Named.place c.in-Named.word

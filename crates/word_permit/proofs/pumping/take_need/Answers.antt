@@ -1,9 +1,9 @@
 -- The counter was loaded, and nothing else.
-use Rattle.std.proofs.Common.{refl, ap}
+use Rattle.std.proofs.Common.{refl, ap, arith}
 use Rattle.shared_words.specs.declared.view.WriterView.{WriterView}
 use Rattle.progress_words.specs.Tokens.{written_by}
 use Rattle.word_permit.proofs.Awaiting.{counter_rises, known_loaded, need_taken}
-use Rattle.word_permit.proofs.Looked.{looks_loaded}
+use Rattle.word_permit.proofs.Looked.{counter_loads, looks_loaded}
 use Rattle.word_permit.proofs.Quiet.{book_loaded, look_asked}
 use Rattle.word_permit.proofs.pumping.take_need.Goals as goal
 
@@ -13,6 +13,11 @@ returns-clause-awaited g c = need_taken g.K.Naming.names _ _ c.args.book.now (wr
 pub returns-clause-known : goal.returns-clause-known
 returns-clause-known g c = known_loaded (written_by c.args.book.now.tables.writer) (written_by c.later-value.new.writer) c.later-value.ensures.loaded
 
+pub returns-clause-longer : goal.returns-clause-longer
+returns-clause-longer g c =
+    let more = counter_loads (written_by c.args.book.now.tables.writer) (written_by c.later-value.new.writer) c.later-value.ensures.loaded in
+    omega (arith, more)
+
 pub returns-clause-looks : goal.returns-clause-looks
 returns-clause-looks g c = looks_loaded (written_by c.args.book.now.tables.writer) (written_by c.later-value.new.writer) c.later-value.ensures.loaded
 
@@ -20,7 +25,7 @@ pub returns-clause-counter : goal.returns-clause-counter
 returns-clause-counter g c = counter_rises (written_by c.args.book.now.tables.writer) (written_by c.later-value.new.writer) c.later-value.ensures.loaded
 
 pub returns-clause-none_released : goal.returns-clause-none_released
-returns-clause-none_released g c = record { same = refl; pools = refl; published = ap (λ (w : WriterView). w.published) c.later-value.ensures.loaded.view; waiting = refl; look = refl }
+returns-clause-none_released g c = record { same = refl; pools = refl; published = ap (λ (w : WriterView). w.published) c.later-value.ensures.loaded.view; staged = record { index = refl; terms = refl; patch = refl }; waiting = refl; look = refl }
 
 pub returns-clause-book : goal.returns-clause-book
 returns-clause-book g c =

@@ -1,4 +1,6 @@
 -- After want of memory the words are at rest, and the loader gives the permission up unless its old code is doomed.
+use Rattle.std.proofs.Common.{ap, ◌∙◌}
+use Rattle.word_permit.specs.declared.book.WordBook.{WordBook}
 use Rattle.word_permit.specs.Books.{HasTakenBack}
 use Rattle.word_permit.proofs.Followed.{given_up_by, given_word_book}
 use Rattle.word_permit.proofs.PurgeCalls.{grown_by, grown_given}
@@ -17,3 +19,6 @@ pub returns-in-Err-clause-book : goal.returns-in-Err-clause-book
 returns-in-Err-clause-book g c =
     let e : HasTakenBack c.args.book.now c.go_on_purge.new.book = c.in-Err.ensures.err in
     given_word_book g.K.Naming.names _ _ c.go_on_purge.new.book c.give_up.new.book c.go_on_purge.ensures.book e.none c.give_up.ensures
+
+pub returns-in-Err-clause-need : goal.returns-in-Err-clause-need
+returns-in-Err-clause-need g c = ap (λ (x : WordBook). x.need) c.give_up.ensures ∙ c.go_on_purge.ensures.need

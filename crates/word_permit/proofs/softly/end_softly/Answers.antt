@@ -53,3 +53,6 @@ returns-in-None-clause-ok g c = record {
   view = c.in-None.ensures.left refl;
   none = c.keep_lingering.ensures.same.waiting ∙ c.requires.none;
 }
+
+pub returns-in-Some-clause-need : goal.returns-in-Some-clause-need
+returns-in-Some-clause-need g c = c.end_lingering.ensures.need ∙ c.keep_lingering.ensures.need

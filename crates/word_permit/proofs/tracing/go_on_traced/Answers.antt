@@ -1,5 +1,5 @@
 -- A trace waits, or it is published and goes on behind that.
-use Rattle.std.proofs.Common.{subst}
+use Rattle.std.proofs.Common.{subst, ◌∙◌}
 use Rattle.staging.specs.declared.stage.Step.{Step}
 use Rattle.word_permit.specs.Traced.{SwitchAnswers}
 use Rattle.word_permit.proofs.Switched.{answers_switched, decided_still, entered_ends, none_decided}
@@ -30,3 +30,6 @@ pub returns-in-NotYet-clause-decision : goal.returns-in-NotYet-clause-decision
 returns-in-NotYet-clause-decision g c =
     let s = subst (λ (step : Step). SwitchAnswers c.args.who c.args.waiting.decision c.args.book.now c.switch.new.book step) c.in-NotYet.is c.in-Ok.ensures.ok in
     decided_still c.args.waiting.decision c.args.book.now c.switch.new.book c.in-NotYet.answer s
+
+pub returns-in-Published-clause-need : goal.returns-in-Published-clause-need
+returns-in-Published-clause-need g c = c.settle_traced.ensures.need ∙ c.switch.ensures.need

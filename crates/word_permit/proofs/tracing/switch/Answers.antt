@@ -6,6 +6,7 @@ use Rattle.write_permit.specs.Book.{shown}
 use Rattle.word_permit.proofs.Ended.{can_follow}
 use Rattle.word_permit.proofs.Kept.{known_abandoned, made_numbered, numbers_left, rests}
 use Rattle.word_permit.proofs.Resting.{held_no_trace}
+use Rattle.word_permit.proofs.Settling.{entered_need}
 use Rattle.word_permit.proofs.Switched.{switched_on}
 use Rattle.word_permit.proofs.TraceCode.{trace_decided}
 use Rattle.word_permit.proofs.tracing.switch.Goals as goal
@@ -70,3 +71,9 @@ returns-in-Err-clause-book g c =
     rests g.K.Naming.names _ _ c.args.book.now (record (c.args.book.now) { plain = record (c.args.book.now.plain) { journal = c.take_room.new.journal; modules = c.take_room.new.modules }; tables = c.abandon.new.tables }) c.requires.tables
     (ap (λ js. record (shown c.args.book.now.plain) { journal = js }) c.in-Err.ensures.err)
     c.take_room.ensures.table c.abandon.ensures.tables (c.abandon.ensures.exports ∙ c.requires.tables.exports) k.published k.known refl c.requires.none c.requires.look (held_no_trace c.args.book.now.plain.holder c.args.who c.requires.holds) c.abandon.ensures.rest
+
+pub returns-in-Ok-clause-need : goal.returns-in-Ok-clause-need
+returns-in-Ok-clause-need g c =
+    entered_need c.args.who c.args.waiting.decision.change c.step_trace-stage.result.0
+    (record (c.args.book.now) { plain = record (c.args.book.now.plain) { journal = c.take_room.new.journal; modules = c.take_room.new.modules }; tables = c.step_trace-stage.new.tables }) c.enter.new.book c.step_trace-stage.result.1
+    c.args.book.now.plain.journal c.entry_of-entry.result c.in-Ok.ensures.ok c.enter.ensures
