@@ -35,8 +35,8 @@ all_lent {X} P xs lent is h = subst (λ (ys : List X). All P ys) (sym is) h
 -- ---- a look
 
 -- a look leaves the count of all snapshots that an observer takes
-taken_counted : (old new : Observer) → HasLooked old new → taken_in_all new ≡ taken_in_all old
-taken_counted old new looked =
+taken_counted : (names : List Mfa) (old new : Observer) → HasLooked names old new → taken_in_all new ≡ taken_in_all old
+taken_counted names old new looked =
     dite (ℕ_discrete old.left 0)
     (λ (none : old.left ≡ 0).
     let h = looked.1 none in
@@ -49,10 +49,10 @@ taken_counted old new looked =
 
 module _ (names functions : List Mfa) (table : TableId) where
   -- a look as its answer tells of it
-  pub had_look : (before after : Onlooker) → OnOk after.answer (Observes names functions table after.observer) → OnOk after.answer (HasLooked before.observer after.observer) → HadLook names functions table before after
+  pub had_look : (before after : Onlooker) → OnOk after.answer (Observes names functions table after.observer) → OnOk after.answer (HasLooked names before.observer after.observer) → HadLook names functions table before after
   had_look before after observes looked = record {
     observes = on_if (Observes names functions table after.observer) after.answer observes;
-    counted = on_if (taken_in_all after.observer ≡ taken_in_all before.observer) after.answer (on_ok_weaker after.answer (taken_counted before.observer after.observer) looked);
+    counted = on_if (taken_in_all after.observer ≡ taken_in_all before.observer) after.answer (on_ok_weaker after.answer (taken_counted names before.observer after.observer) looked);
   }
 
   -- ---- a round
