@@ -5,6 +5,8 @@ mod check_form;
 #[cfg(test)]
 mod check_tests;
 mod form;
+#[cfg(test)]
+mod held_tests;
 mod make_form;
 #[cfg(test)]
 mod outside_tests;

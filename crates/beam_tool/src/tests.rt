@@ -7,7 +7,7 @@ use std::sync::Wait;
 use std::test::Fail;
 use std::thread::Threads;
 use term_core::{ByteList, CountList, NoMemory};
-use write_permit::NoGate;
+use write_permit::{Gate, NoGate};
 
 /// The words of a run.
 pub const RUN: &[&str] = &["run", "--schedulers", "1"];
@@ -111,6 +111,17 @@ fn called<R: Threads + Wait + Sync + AllocGlobal>(
     input: &[u8],
     outside: Outside,
 ) -> Result<Outcome, NoMemory> {
+    called_through(rt, words, input, outside, &NoGate)
+}
+
+/// What a call came to whose run passes a gate.
+pub fn called_through<R: Threads + Wait + Sync + AllocGlobal, G: Gate>(
+    rt: &R,
+    words: &[&str],
+    input: &[u8],
+    outside: Outside,
+    gate: &G,
+) -> Result<Outcome, NoMemory> {
     let alloc = rt.alloc();
     let words = words_of(alloc, words)?;
     let mut source = MemSource {
@@ -128,7 +139,7 @@ fn called<R: Threads + Wait + Sync + AllocGlobal>(
         calls: 0,
         faults: 0,
     };
-    let finish = beam_top(rt, alloc, words.as_slice(), &mut source, &mut sink, &NoGate);
+    let finish = beam_top(rt, alloc, words.as_slice(), &mut source, &mut sink, gate);
     Ok(Outcome {
         status: finish.status,
         logged: finish.log.is_some(),
@@ -200,30 +211,6 @@ fn words_of_no_form_are_not_understood(rt: HostRuntime) -> Result<(), Fail> {
 }
 
 #[test]
-fn a_sink_that_fails_got_a_prefix(rt: HostRuntime) -> Result<(), Fail> {
-    for call in 1..=19 {
-        let outside = Outside {
-            write_piece: 8,
-            write_fails: call,
-            ..CALM
-        };
-        let run = outcome_of(&rt, RUN, FIRST.as_bytes(), outside)?;
-        let wanted = (8 * (call as usize - 1)).min(143);
-        assert_eq!(rt;
-            run.status,
-            if call == 19 { 0 } else { 5 },
-            "fails at {call}"
-        );
-        assert_eq!(rt;
-            Some(run.got.as_slice()),
-            FIRST_REPORT.as_bytes().get(..wanted)
-        );
-        assert!(rt; run.logged, "fails at {call}");
-    }
-    Ok(())
-}
-
-#[test]
 fn the_report_of_the_empty_script_is_cut(rt: HostRuntime) -> Result<(), Fail> {
     let outside = Outside {
         write_piece: 8,
@@ -236,35 +223,62 @@ fn the_report_of_the_empty_script_is_cut(rt: HostRuntime) -> Result<(), Fail> {
     Ok(())
 }
 
-#[test]
-fn a_source_that_fails_leaves_nothing_written(rt: HostRuntime) -> Result<(), Fail> {
-    // The 97 bytes of the script are read in calls up to this one, which is not made: the one before finds the end.
-    for (piece, unmade) in [(1, 99), (7, 16), (65_536, 3)] {
-        for call in 1..=unmade {
-            let outside = Outside {
-                read_piece: piece,
-                read_fails: call,
-                ..CALM
-            };
-            let run = outcome_of(&rt, RUN, FIRST.as_bytes(), outside)?;
-            let wanted = if call == unmade { 0 } else { 4 };
-            assert_eq!(rt; run.status, wanted, "pieces of {piece}, fails at {call}");
-            assert_eq!(rt; run.got.is_empty(), call != unmade);
-        }
-    }
-    Ok(())
+/// The first script by a source and a sink of these pieces, of which a call fails: its status, and how many bytes of its report the sink got.
+fn falls_short<R: Threads + Wait + Sync + AllocGlobal + Abort>(
+    rt: &R,
+    outside: Outside,
+    status: u8,
+    got: usize,
+) -> Result<bool, NoMemory> {
+    let run = outcome_of(rt, RUN, FIRST.as_bytes(), outside)?;
+    let written = FIRST_REPORT.as_bytes().get(..got);
+    Ok(run.status == status && Some(run.got.as_slice()) == written && run.logged == (status != 4))
 }
 
+/// The script has 97 bytes, and its report 143.
 #[test]
-fn single_bytes_on_both_sides_are_enough(rt: HostRuntime) -> Result<(), Fail> {
-    let outside = Outside {
-        read_piece: 1,
-        write_piece: 1,
-        ..CALM
-    };
-    let run = outcome_of(&rt, RUN, FIRST.as_bytes(), outside)?;
-    assert_eq!(rt; run.status, 0);
-    assert_eq!(rt; run.got.as_slice(), FIRST_REPORT.as_bytes());
+fn outside_faults(rt: HostRuntime) -> Result<(), Fail> {
+    // The piece, and the first call of the source that is not made: the one before finds the end.
+    for (read_piece, unmade) in [(1, 99), (7, 16), (65_536, 3)] {
+        for read_fails in 1..=unmade {
+            let outside = Outside {
+                read_piece,
+                read_fails,
+                ..CALM
+            };
+            let (status, got) = if read_fails == unmade {
+                (0, 143)
+            } else {
+                (4, 0)
+            };
+            assert!(rt;
+                falls_short(&rt, outside, status, got)?,
+                "pieces of {read_piece}, fails at {read_fails}"
+            );
+        }
+    }
+    for write_fails in 1..=18 {
+        let outside = Outside {
+            write_piece: 8,
+            write_fails,
+            ..CALM
+        };
+        let got = 8 * (write_fails as usize - 1);
+        assert!(rt;
+            falls_short(&rt, outside, 5, got)?,
+            "fails at {write_fails}"
+        );
+    }
+    // No call fails that is made.
+    for (piece, write_fails) in [(8, 19), (1, 0)] {
+        let outside = Outside {
+            read_piece: piece,
+            write_piece: piece,
+            write_fails,
+            ..CALM
+        };
+        assert!(rt; falls_short(&rt, outside, 0, 143)?, "pieces of {piece}");
+    }
     Ok(())
 }
 
