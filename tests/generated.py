@@ -253,6 +253,26 @@ def changes_of_a_lawful_report():
     yield is_judged("no_command_was_made", text, EMPTY, False)
 
 
+def every_reply_with_every_command():
+    """Each reply may stand in form with each command; of a code server without code and keys one of them is lawful, published or not."""
+    text = "module m.1\nexport main/0\nend\nloader\n#\n"
+    lawful = {
+        "load m.1": "ok @1", "delete m": "false -", "soft_purge m": "true -", "purge m": "false -", "check_old m": "false -", "put k 1": "ok @1",
+        "erase k": "false -", "trace m:main/0 on": "false -", "trace m:main/0 off": "false -", "spawn m:main()": "ok -",
+    }
+    replies = (
+        "ok", "true", "false", "false 0 1", "not_purged [m]", "duplicated m", "system_limit instances", "system_limit keys", "system_limit areas",
+    )
+    for command, right in lawful.items():
+        process = "process 0 m:main()\nspan 0 1\nend undef m:main/0\n" if command.startswith("spawn") else ""
+        for reply in replies:
+            for published, generations in (("-", 0), ("@1", 1)):
+                told = f"{reply} {published}"
+                log = report(generations, f"entry L0 {command} = {told}\n{process}")
+                name = f"{command} = {told}".translate(str.maketrans(" :/.=@-[]()", "_" * 11))
+                yield is_judged(name, script(text.replace("#", command)), log, told == right)
+
+
 def between_the_halves_of_a_purge():
     """A command of another loader: few may stand there. The purge publishes the next generation."""
     for name, command, reply, published, yes in (
@@ -332,6 +352,7 @@ GROUPS = (
     functions,
     images,
     changes_of_a_lawful_report,
+    every_reply_with_every_command,
     between_the_halves_of_a_purge,
     counted_turns,
     made_scripts,
