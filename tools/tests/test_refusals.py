@@ -1,6 +1,7 @@
 """Tests of tools/refusals: which growth is refused, and which answers have no explanation."""
 
 import pathlib
+import shutil
 import subprocess
 import tempfile
 import unittest
@@ -20,6 +21,7 @@ int main(int many, char **words) {
 """
 
 
+@unittest.skipUnless(shutil.which("cc"), "there is no C compiler")
 class Refused(unittest.TestCase):
     def setUp(self):
         folder = tempfile.TemporaryDirectory()
@@ -47,6 +49,7 @@ class Places(unittest.TestCase):
     def test_all_or_spread(self):
         self.assertEqual(refusals.places(4, 9), [1, 2, 3, 4])
         self.assertEqual(refusals.places(101, 3), [1, 51, 101])
+        self.assertEqual(refusals.places(101, 1), [1])
 
     def test_each_form_has_its_turn(self):
         forms = {case.words[0] for case in refusals.cases(1)}

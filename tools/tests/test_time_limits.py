@@ -13,7 +13,12 @@ class Texts(unittest.TestCase):
         for name, made in {**limits.READ, **limits.RUN}.items():
             with self.subTest(name):
                 self.assertLessEqual(len(made(MOST)), MOST)
-                self.assertGreater(len(made(MOST)), MOST * 3 // 4)
+                # Of held back areas the script's limit comes first.
+                self.assertGreater(len(made(MOST)), MOST // 4 if made is limits.held_back else MOST * 3 // 4)
+
+    def test_held_back_areas_fill_the_script(self):
+        script = limits.held_back(limits.INPUT).partition("go\n")[0] + "go\n"
+        self.assertTrue(limits.SCRIPT - 10 < len(script) <= limits.SCRIPT)
 
     def test_releases_come_last_and_the_newest_area_first(self):
         lines = limits.held_back_of(4).splitlines()
